@@ -55,9 +55,9 @@ pub record Wired (t : Tables) (W n : ℕ) : Type 0 where
   pub results : n ≤ length (t .results)
   pub each : (i : ℕ) → i < n → Named W (getD (t .operands) i 0) (getD (t .results) i 0)
 
--- a gate put at place n
-abbrev pub putGate : Tables → ℕ → ℕ → ℕ → ℕ → ℕ → Tables
-putGate t n k a b c = tables (set (t .operands) n (a + b * half)) (set (t .results) n (c + k * half))
+-- two entries put at place n
+abbrev pub putEntry : Tables → ℕ → ℕ → ℕ → Tables
+putEntry t n o r = tables (set (t .operands) n o) (set (t .results) n r)
 
 -- the tables' first m gates, W wires, n input and o output bits are those of a netlist
 pub record Holds (t : Tables) (m W n o : ℕ) (N : Netlist) : Type 0 where
