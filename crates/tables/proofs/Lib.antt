@@ -1,0 +1,3 @@
+-- Laws of reading a whole text.
+pub mod Marking
+pub mod Entries

@@ -1,0 +1,19 @@
+-- A gate as two table entries.
+use Prim.Native.Nat.{ℕ, _<_}
+use mathlib.Core.Path.{_≡_}
+use Rattle.netlist.specs.declared.Gate.{Gate}
+use Rattle.netlist.specs.declared.Gate.the-variants.{Xor, And, Inv, Eqw, Eq}
+use Rattle.netlist.specs.Table.{gateIn, Named}
+
+-- the gate names wires below W, or a constant that is a bit
+abbrev pub Names : ℕ → Gate → Type 0
+Names W (Xor a b c) = (a < W) × (b < W) × (c < W)
+Names W (And a b c) = (a < W) × (b < W) × (c < W)
+Names W (Inv a c) = (a < W) × (c < W)
+Names W (Eqw a c) = (a < W) × (c < W)
+Names W (Eq v c) = (v < 2) × (c < W)
+
+-- the two entries hold the gate
+pub record Entered (W : ℕ) (g : Gate) (operands results : ℕ) : Type 0 where
+  pub gate : gateIn operands results ≡ g
+  pub named : Named W operands results

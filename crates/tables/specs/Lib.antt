@@ -1,0 +1,3 @@
+-- What the contracts of reading a whole text cite.
+pub mod Marks
+pub mod Entry

@@ -1,0 +1,3 @@
+// A whole text into lent tables: questions 2 to 9.
+mod entry;
+mod marks;
