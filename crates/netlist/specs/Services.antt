@@ -2,14 +2,15 @@
 -- the lists, and the lengths of its result buffers (document 01, "The four services" and "Questions, in order").
 use Prim.Native.Nat.{ℕ, _-_}
 use mathlib.Core.Bool.{Bool, _&&_}
-use mathlib.Core.List.{List, map}
+use mathlib.Core.List.{List, [], map}
 use mathlib.Core.Option.{Option}
 use lib.Dec.{eqb, leb}
-use lib.ListN.{length, getD}
+use mathlib.Core.Path.{_≡_}
+use lib.ListN.{length, getD, replicate}
 use Rattle.netlist.specs.declared.Limits.{Limits}
 use Rattle.netlist.specs.Lists.{every}
 use Rattle.netlist.specs.Netlist.{Netlist, inputBits, outputBits}
-use Rattle.netlist.specs.Outcome.{Outcome, done, ask, andThen}
+use Rattle.netlist.specs.Outcome.{Outcome, refused, done, ask, andThen}
 use Rattle.netlist.specs.Read.{readNetlist}
 use Rattle.netlist.specs.Write.{writeNetlist}
 use Rattle.netlist.specs.Eval.{outputsOf}
@@ -27,6 +28,15 @@ listGood p n list = eqb (length list) n && every p list
 -- question 14: a buffer can hold its whole result
 abbrev pub holds : ℕ → List ℕ → Bool
 holds room result = leb (length result) room
+
+-- what a call writes at the front of its result buffer; the rest of it stays as it was
+abbrev pub written : Outcome (List ℕ) → List ℕ
+written (refused q) = []
+written (done result) = result
+
+-- what a working table holds on return from every call: zero in each entry
+abbrev pub Cleared : List ℕ → List ℕ → Type 0
+Cleared before after = after ≡ replicate (length before) 0
 
 -- ---- Rewrite
 
