@@ -6,3 +6,7 @@ pub mod Decimal
 pub mod Lines
 pub mod RoundTrip
 pub mod Accepted
+pub mod Size
+pub mod Settings
+pub mod Search
+pub mod LeakSearch
