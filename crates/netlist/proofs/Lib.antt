@@ -5,8 +5,10 @@ pub mod Words
 pub mod Decimal
 pub mod Lines
 pub mod RoundTrip
+pub mod HeaderFacts
 pub mod Accepted
 pub mod Size
 pub mod Settings
 pub mod Search
 pub mod LeakSearch
+pub mod ReaderCalls

@@ -77,7 +77,7 @@ module _ {D : ℕ} (pos : 0 < D) (few : D ≤ 20) where
 
 -- limits whose text admits the written form of every netlist that they admit, each of its numbers having at most D digits
 pub record Roomy (D : ℕ) (L : Limits) : Type 0 where
-  pub some : 0 < D
+  pub positive : 0 < D
   pub digits : D ≤ maxDigits
   pub wires : L .wires < 10 ^ D
   pub text : lengthBound D (L .wires) (L .inputs) (L .outputs) ≤ L .text
@@ -95,17 +95,18 @@ module _ {D : ℕ} {L : Limits} (R : Roomy D L) (N : Netlist) where
     wires-below = let w = I .wires in let l = R .wires in omega arith
 
     two≤ : 2 ≤ 10 ^ D
-    two≤ = le-trans (lit≤ {m = 2} {n = 10 ^ 1} tt) (pow-le-pow-right (lit< tt) (R .some))
+    two≤ = le-trans (lit≤ {m = 2} {n = 10 ^ 1} tt) (pow-le-pow-right (lit< tt) (R .positive))
 
-    fits : length (writeNetlist N) ≤ L .text
-    fits =
+    -- their written form is one that the limits admit
+    pub written-within : length (writeNetlist N) ≤ L .text
+    written-within =
         let w = I .wires in
         let g : length (N .gates) ≤ L .wires = omega (arith, F .gateCount) in
-        le-trans (written-length (R .some) (le-trans (R .digits) (lit≤ tt)) N (numbers-below N (10 ^ D) F wires-below two≤)) (le-trans (bound-rises D g (I .inputs) (I .outputs)) (R .text))
+        le-trans (written-length (R .positive) (le-trans (R .digits) (lit≤ tt)) N (numbers-below N (10 ^ D) F wires-below two≤)) (le-trans (bound-rises D g (I .inputs) (I .outputs)) (R .text))
 
     -- a well-formed netlist within the limits reads back from its text
     pub reads-back : readNetlist L (writeNetlist N) ≡ done N
-    reads-back = round-trip L N F (lt-of-lt-of-le wires-below (pow-le-pow-right (lit< tt) (R .digits))) I fits
+    reads-back = round-trip L N F (lt-of-lt-of-le wires-below (pow-le-pow-right (lit< tt) (R .digits))) I written-within
 
   -- a text that the limits admit is rewritten within them
   pub rewritten : (t : List ℕ) → readNetlist L t ≡ done N → readNetlist L (writeNetlist N) ≡ done N
@@ -114,10 +115,10 @@ module _ {D : ℕ} {L : Limits} (R : Roomy D L) (N : Netlist) where
 -- ---- the large and the small limits
 
 pub roomy-large : Roomy 5 large
-roomy-large = record { some = lit< tt; digits = lit≤ tt; wires = lit< tt; text = lit≤ tt }
+roomy-large = record { positive = lit< tt; digits = lit≤ tt; wires = lit< tt; text = lit≤ tt }
 
 pub roomy-small : Roomy 5 small
-roomy-small = record { some = lit< tt; digits = lit≤ tt; wires = lit< tt; text = lit≤ tt }
+roomy-small = record { positive = lit< tt; digits = lit≤ tt; wires = lit< tt; text = lit≤ tt }
 
 pub reads-back-large : (N : Netlist) → WellFormed N → Within large N → readNetlist large (writeNetlist N) ≡ done N
 reads-back-large = reads-back roomy-large
