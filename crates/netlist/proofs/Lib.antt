@@ -1,3 +1,15 @@
 pub mod Tests
 pub mod Puts
 pub mod KnownResults
+pub mod Questions
+pub mod Words
+pub mod Decimal
+pub mod Lines
+pub mod RoundTrip
+pub mod HeaderFacts
+pub mod Accepted
+pub mod Size
+pub mod Settings
+pub mod Search
+pub mod LeakSearch
+pub mod ReaderCalls

@@ -4,6 +4,7 @@ use mathlib.Core.Bool.{Bool, true, false, cond}
 use mathlib.Core.List.{List, [], _∷_}
 use mathlib.Core.Option.{Option, none, some}
 use mathlib.Core.Path.{_≡_}
+use mathlib.Core.Logic.{_≢_}
 use lib.Dec.{eqb}
 use lib.ListN.{length}
 use Rattle.netlist.specs.Netlist.{Netlist}
@@ -72,3 +73,15 @@ countAt N codes w s = count N codes w (setting (length codes) s)
 -- the lowest wire, then the smallest setting, whose count differs from setting 0's; none where the netlist is clean
 unfoldable pub leak : Netlist → List ℕ → Option Found
 leak N codes = firstWire (λ w s. countAt N codes w 0) (countAt N codes) (2 ^ length codes) (N .wires) 0
+
+-- what a reported leak says: its wire is the lowest that does not meet the rule, its setting the smallest whose count differs
+-- from setting 0's, and the two counts are those
+pub record LowestLeak (N : Netlist) (codes : List ℕ) (f : Found) : Type 0 where
+  pub wire : f .wire < N .wires
+  pub lower : (w : ℕ) → w < f .wire → EqualCounts N codes w
+  pub breaks : EqualCounts N codes (f .wire) → ⊥
+  pub at : f .at < 2 ^ length codes
+  pub smaller : (s : ℕ) → s < f .at → countAt N codes (f .wire) s ≡ countAt N codes (f .wire) 0
+  pub other : countAt N codes (f .wire) (f .at) ≢ countAt N codes (f .wire) 0
+  pub base : f .base ≡ countAt N codes (f .wire) 0
+  pub own : f .own ≡ countAt N codes (f .wire) (f .at)
