@@ -1,3 +1,2 @@
--- What the contracts of reading a whole text cite.
 pub mod Marks
 pub mod Entry

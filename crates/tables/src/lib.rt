@@ -1,3 +1,3 @@
 // A whole text into lent tables: questions 2 to 9.
-mod entry;
+pub mod entry;
 mod marks;
