@@ -76,9 +76,9 @@ opened L t H e =
 -- ---- questions 7 to 9
 
 -- what they say of gates that follow the results rs
-pub record GatesGood (n W : ℕ) (rs : List ℕ) (lines : ℕ) (gs : List Gate) : Type 0 where
-  pub tests : T (gatesGood n W rs gs)
-  pub count : length gs ≡ lines
+record GatesGood (n W : ℕ) (rs : List ℕ) (lines : ℕ) (gs : List Gate) : Type 0 where
+  tests : T (gatesGood n W rs gs)
+  count : length gs ≡ lines
 
 -- the first line's gate and the gates of the others
 pub record FirstLine (n W : ℕ) (rs : List ℕ) (l : List (List ℕ)) (ls : List (List (List ℕ))) (gs : List Gate) : Type 0 where

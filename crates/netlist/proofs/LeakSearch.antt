@@ -23,29 +23,29 @@ module _ (N : Netlist) (codes : List ℕ) where
   equal-level w h s l = h (setting (length codes) 0) (setting (length codes) s) (length-setting (length codes) 0) (length-setting (length codes) s)
 
   level-equal : (w : ℕ) → Level w → EqualCounts N codes w
-  level-equal w h x y p q = sym (zero x p) ∙ zero y q
+  level-equal w h x y p q = sym (numbered x p) ∙ numbered y q
     where
-      zero : (z : List Bool) → length z ≡ length codes → countAt N codes w 0 ≡ count N codes w z
-      zero z e =
+      numbered : (z : List Bool) → length z ≡ length codes → countAt N codes w 0 ≡ count N codes w z
+      numbered z e =
           h (numberOf z) (subst (λ (k : ℕ). numberOf z < 2 ^ k) e (numberOf-below z))
           ∙ ap (count N codes w) (ap (λ (k : ℕ). setting k (numberOf z)) (sym e) ∙ setting-numberOf z)
 
-  -- what the search's answer says
-  abbrev pub Says : Option Found → Type 0
-  Says none = Clean N codes
-  Says (some f) = LowestLeak N codes f
+  -- what an answer to the search says of the netlist
+  abbrev pub Judged : Option Found → Type 0
+  Judged none = Clean N codes
+  Judged (some f) = LowestLeak N codes f
 
-  says-searched : (o : Option Found) → Says o → Searched countZero (countAt N codes) (2 ^ length codes) (N .wires) o
-  says-searched none h = λ w l. equal-level w (h w l)
-  says-searched (some f) h = record {
+  judged-searched : (o : Option Found) → Judged o → Searched countZero (countAt N codes) (2 ^ length codes) (N .wires) o
+  judged-searched none h = λ w l. equal-level w (h w l)
+  judged-searched (some f) h = record {
     wire = h .wire;
     lower = λ w l. equal-level w (h .lower w l);
     differs = record { at = h .at; smaller = λ s l. sym (h .smaller s l); other = λ e. h .other (sym e); base = h .base; own = h .own };
   }
 
-  searched-says : (o : Option Found) → Searched countZero (countAt N codes) (2 ^ length codes) (N .wires) o → Says o
-  searched-says none h = λ w l. level-equal w (h w l)
-  searched-says (some f) h =
+  searched-judged : (o : Option Found) → Searched countZero (countAt N codes) (2 ^ length codes) (N .wires) o → Judged o
+  searched-judged none h = λ w l. level-equal w (h w l)
+  searched-judged (some f) h =
       let d = h .differs in
       record {
         wire = h .wire;
@@ -58,24 +58,24 @@ module _ (N : Netlist) (codes : List ℕ) where
         own = d .own;
       }
 
-  -- the answer says so
-  pub leak-says : (o : Option Found) → leak N codes ≡ o → Says o
+  -- the answer is right
+  pub leak-judged : (o : Option Found) → leak N codes ≡ o → Judged o
   unfolding leak
-  leak-says o e = subst Says e (searched-says (leak N codes) (search countZero (countAt N codes) (2 ^ length codes) (N .wires)))
+  leak-judged o e = subst Judged e (searched-judged (leak N codes) (search countZero (countAt N codes) (2 ^ length codes) (N .wires)))
 
-  -- only this answer does
-  pub says-leak : (o : Option Found) → Says o → leak N codes ≡ o
+  -- no other answer is
+  pub judged-leak : (o : Option Found) → Judged o → leak N codes ≡ o
   unfolding leak
-  says-leak o h = sym (search-is countZero (countAt N codes) (2 ^ length codes) (N .wires) o (says-searched o h))
+  judged-leak o h = sym (search-is countZero (countAt N codes) (2 ^ length codes) (N .wires) o (judged-searched o h))
 
   pub none-clean : leak N codes ≡ none → Clean N codes
-  none-clean = leak-says none
+  none-clean = leak-judged none
 
   pub clean-none : Clean N codes → leak N codes ≡ none
-  clean-none = says-leak none
+  clean-none = judged-leak none
 
   pub found-lowest : (f : Found) → leak N codes ≡ some f → LowestLeak N codes f
-  found-lowest f = leak-says (some f)
+  found-lowest f = leak-judged (some f)
 
   pub lowest-found : (f : Found) → LowestLeak N codes f → leak N codes ≡ some f
-  lowest-found f = says-leak (some f)
+  lowest-found f = judged-leak (some f)

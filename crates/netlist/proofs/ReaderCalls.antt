@@ -22,7 +22,7 @@ use Rattle.netlist.proofs.Accepted.{first-line, parts}
 -- ---- the same again
 
 -- an answer that is no gate: the end, or a no
-abbrev pub Last : Said → Type 0
+abbrev Last : Said → Type 0
 Last s = (g : Gate) → s ≡ gate g → ⊥
 
 end-last : Last end
@@ -47,7 +47,7 @@ says-again ls e zero = refl
 says-again ls e (suc k) = ap (callSays k) e ∙ says-again ls e k
 
 -- and says it again at every later call
-pub calls-again : (ls : List (List (List ℕ))) (k : ℕ) → Last (callSays k ls) → (j : ℕ) → callSays (k + j) ls ≡ callSays k ls
+calls-again : (ls : List (List (List ℕ))) (k : ℕ) → Last (callSays k ls) → (j : ℕ) → callSays (k + j) ls ≡ callSays k ls
 unfolding callSays
 calls-again ls zero h j = rw zero-add (says-again ls (stays ls h) j)
 calls-again ls (suc k) h j = rw suc-add (calls-again (onward ls) k h j)

@@ -50,13 +50,13 @@ module _ {n W : ℕ} {rs : List ℕ} (nW : n ≤ W) (rsW : All (Below W) rs) whe
     gate-below (Eq v c) h k = each (lt-of-lt-of-le (ltb→lt v 2 h) two≤B) (each (lt-of-lt-of-le k WB) empty)
 
 -- what gatesGood says of the first gate and of the others
-pub record FirstGood (n W : ℕ) (rs : List ℕ) (g : Gate) (gs : List Gate) : Type 0 where
-  pub operands : T (operandsGiven (isGiven n rs) g)
-  pub resultOk : T (resultGood n W rs g)
-  pub below : result g < W
-  pub others : T (gatesGood n W (result g ∷ rs) gs)
+record FirstGood (n W : ℕ) (rs : List ℕ) (g : Gate) (gs : List Gate) : Type 0 where
+  operands : T (operandsGiven (isGiven n rs) g)
+  resultOk : T (resultGood n W rs g)
+  below : result g < W
+  others : T (gatesGood n W (result g ∷ rs) gs)
 
-pub first-good : (n W : ℕ) (rs : List ℕ) (g : Gate) (gs : List Gate) → T (gatesGood n W rs (g ∷ gs)) → FirstGood n W rs g gs
+first-good : (n W : ℕ) (rs : List ℕ) (g : Gate) (gs : List Gate) → T (gatesGood n W rs (g ∷ gs)) → FirstGood n W rs g gs
 first-good n W rs g gs h =
     let o = operandsGiven (isGiven n rs) g in
     let low = leb n (result g) in
@@ -66,7 +66,8 @@ first-good n W rs g gs h =
     let q = both o (resultGood n W rs g) (p .0) in
     record { operands = q .0; resultOk = q .1; below = ltb→lt (result g) W (both low high (both (low && high) fresh (q .1) .0) .1); others = p .1 }
 
-gates-below : {n W B : ℕ} {rs : List ℕ} (gs : List Gate) → n ≤ W → W ≤ B → 2 ≤ B → All (Below W) rs → T (gatesGood n W rs gs) → All (GateBelow B) gs
+-- every number of gates that they admit is below B, where W and 2 are at most B
+pub gates-below : {n W B : ℕ} {rs : List ℕ} (gs : List Gate) → n ≤ W → W ≤ B → 2 ≤ B → All (Below W) rs → T (gatesGood n W rs gs) → All (GateBelow B) gs
 gates-below [] nW WB two≤B rsW h = empty
 gates-below {n} {W} {B} {rs} (g ∷ gs) nW WB two≤B rsW h =
     let s = first-good n W rs g gs h in

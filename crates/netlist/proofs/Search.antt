@@ -1,5 +1,5 @@
 -- The search for the first wire, and its first setting, whose count differs from the one that it is compared with: what it
--- gives, and that nothing else is so.
+-- finds, and that there is one such answer. Every search of counts, in whatever order it goes, is held against this one.
 use Prim.Native.Nat.{ℕ, zero, suc, _+_, _<_}
 use mathlib.Core.Path.{_≡_, refl, sym, ap, _∙_, subst}
 use mathlib.Core.Logic.{_≢_}
@@ -14,7 +14,7 @@ use Rattle.netlist.proofs.Tests.{onBool}
 below-more : (P : ℕ → Type 0) (n : ℕ) → ((u : ℕ) → u < n → P u) → P n → (u : ℕ) → u < n + 1 → P u
 below-more P n h p u l = onBool (ltb u n) (λ t. h u (ltb-true u n t)) (λ t. let k = ltb-false u n t in let e : n ≡ u = omega arith in subst P e p)
 
--- the first number that lacks a property is one
+-- there is one first number that lacks a property
 least-unique : (P : ℕ → Type 0) (i j : ℕ) → ((u : ℕ) → u < i → P u) → (P i → ⊥) → ((u : ℕ) → u < j → P u) → (P j → ⊥) → i ≡ j
 least-unique P i j hi ni hj nj =
     onBool (ltb i j) (λ t. absurd (ni (hj i (ltb-true i j t))))
@@ -57,7 +57,7 @@ module _ (f g : ℕ → ℕ → ℕ) where
       (λ t. rw (t, firstSetting) (settled w left (s + 1) (below-more (λ u. f w u ≡ g w u) s h (eqb-true (f w s) (g w s) t)) (omega arith)))
       (λ t. rw (t, firstSetting) (refl, record { at = omega arith; smaller = h; other = eqb-false (f w s) (g w s) t; base = refl; own = refl }))
 
-  pub searched : {S W : ℕ} (left w : ℕ) → ((v : ℕ) → v < w → Agree S v) → w + left ≡ W → Searched S W (firstWire f g S left w)
+  searched : {S W : ℕ} (left w : ℕ) → ((v : ℕ) → v < w → Agree S v) → w + left ≡ W → Searched S W (firstWire f g S left w)
   searched zero w h e = λ v l. h v (omega arith)
   searched {S} {W} (suc left) w h e = go (firstSetting f g w S 0) (settled w S 0 (λ u l. absurd (omega arith)) (omega arith)) (searched left (w + 1))
     where
@@ -71,7 +71,7 @@ module _ (f g : ℕ → ℕ → ℕ) where
   pub search : (S W : ℕ) → Searched S W (firstWire f g S W 0)
   search S W = searched W 0 (λ v l. absurd (omega arith)) (omega arith)
 
-  -- ---- nothing else is so
+  -- ---- there is one such answer
 
   first-unique : {S W : ℕ} {x y : Found} → First S W x → First S W y → x ≡ y
   first-unique {S} {W} {x} {y} a b =

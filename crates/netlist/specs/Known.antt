@@ -4,6 +4,7 @@ use mathlib.Core.Bool.{Bool, true, false}
 use mathlib.Core.List.{List, [], _∷_, map}
 use mathlib.Core.Option.{Option, none, some}
 use mathlib.Core.Path.{_≡_}
+use lib.ListN.{replicate}
 use Rattle.netlist.specs.declared.Limits.{Limits}
 use Rattle.netlist.specs.Lists.{ascii}
 use Rattle.netlist.specs.Netlist.{Netlist, small, large}
@@ -76,6 +77,7 @@ stepCounts = done (are (1 ∷ 1 ∷ 1 ∷ 2 ∷ 1 ∷ 2 ∷ 2 ∷ []))
 abbrev pub m4 : Bool → Bool → KnownResult
 m4 a b = known (counts andSource (1 ∷ 2 ∷ []) (0 ∷ []) stepWires (a ∷ b ∷ [])) stepCounts
 
+-- M1 to M9 in order; the empty text of M8 comes once with thirteen codes, more than question 12 admits: 4 is put first
 abbrev pub rows : List KnownResult
 rows =
     known (mask maskTables andSource (1 ∷ 2 ∷ []) (0 ∷ []) 180 1) (done (masks andMasked (1 ∷ [])))
@@ -92,5 +94,6 @@ rows =
     ∷ known (check checkTables (ascii "1 4\n2 1 2\n1 1\n2 1 0 1 3 AND\n") (1 ∷ [])) (done (leaks 3 1 2 0))
     ∷ known (mask maskTables [] (1 ∷ []) (0 ∷ []) 60000 1) (refused 4)
     ∷ known (check checkTables [] (1 ∷ [])) (refused 4)
+    ∷ known (check checkTables [] (replicate 13 1)) (refused 4)
     ∷ known (mask maskTables (ascii "1 3\n2 1 1\n1 1\n2 1 0 1 2 MAND\n") (1 ∷ 2 ∷ []) (0 ∷ []) 60000 1) (refused 7)
     ∷ []
