@@ -6,8 +6,10 @@ use mathlib.Core.List.{List, [], map}
 use mathlib.Core.Option.{Option}
 use lib.Dec.{eqb, leb}
 use mathlib.Core.Path.{_≡_}
-use lib.ListN.{length, getD, replicate}
+use lib.ListN.{length, getD, take, replicate}
 use Rattle.netlist.specs.declared.Limits.{Limits}
+use Rattle.netlist.specs.declared.Answer.{Answer}
+use Rattle.netlist.specs.declared.Answer.the-variants.{Done, Refused}
 use Rattle.netlist.specs.Lists.{every}
 use Rattle.netlist.specs.Netlist.{Netlist, inputBits, outputBits}
 use Rattle.netlist.specs.Outcome.{Outcome, refused, done, ask, andThen}
@@ -28,6 +30,11 @@ listGood p n list = eqb (length list) n && every p list
 -- question 14: a buffer can hold its whole result
 abbrev pub holds : ℕ → List ℕ → Bool
 holds room result = leb (length result) room
+
+-- the outcome that an answer stands for, with the result buffer as the call leaves it
+abbrev pub outcomeOf : List ℕ → Answer → Outcome (List ℕ)
+outcomeOf out (Done n) = done (take n out)
+outcomeOf out (Refused q) = refused q
 
 -- what a call writes at the front of its result buffer; the rest of it stays as it was
 abbrev pub written : Outcome (List ℕ) → List ℕ

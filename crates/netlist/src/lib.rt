@@ -1,5 +1,4 @@
-// A netlist's gates, the limits of a call, and the twin of a source wire: the types that the
-// definitions in specs/ and all code share.
+// The types that the definitions in specs/ and all code share.
 ghost use mathlib.Core.Path.{_≡_};
 ghost use Rattle.netlist.specs.Netlist.{small as smallLimits, large as largeLimits};
 
@@ -26,6 +25,13 @@ pub struct Limits {
 pub struct Twin {
     pub wire: u32,
     pub code: u8,
+}
+
+// The answer of a service with one result buffer: how many entries at its front are the result, or the first question that
+// gets a no.
+pub enum Answer {
+    Done(usize),
+    Refused(u8),
 }
 
 // Mask's limits.

@@ -1,0 +1,25 @@
+-- `write`: the header, and behind it the gate lines.
+use Rattle.writer.proofs.Wrote.{wrote-then}
+use native.Mathlib.Omega.{arith}
+use borrow.Author.Needs.{needs}
+use Rattle.rewrite.proofs.form.write.Statement.{statement}
+use Rattle.rewrite.proofs.form.write.Tie as tie
+use Rattle.rewrite.proofs.form.write.Reads as reads
+use Rattle.rewrite.proofs.form.write.Lts as lts
+use Rattle.rewrite.proofs.form.gates.Reads as gates-reads
+use Rattle.writer.proofs.header.header.Reads as header-reads
+
+header-requires : tie.Need-header-requires
+header-requires c κs = search needs
+
+gates-requires : tie.Need-gates-requires
+gates-requires c κs = search needs
+
+same-length : tie.Need-same-length
+same-length c = search needs
+
+returns : tie.Need-returns
+returns c = wrote-then (c .before .before .before .before .before .before .header .ensures) (c .before .before .gates .ensures .wrote)
+
+pub write-spec : {M : Type 1} → statement M
+write-spec = tie.close (tie.spec header-requires gates-requires same-length returns)

@@ -1,0 +1,2 @@
+-- What Rewrite's contracts cite.
+pub mod Form

@@ -1,0 +1,2 @@
+// Rewrite: the same netlist in the written form.
+mod form;
