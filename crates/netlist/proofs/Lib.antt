@@ -13,3 +13,4 @@ pub mod Settings
 pub mod Search
 pub mod LeakSearch
 pub mod ReaderCalls
+pub mod Answering

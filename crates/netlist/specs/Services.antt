@@ -7,6 +7,7 @@ use mathlib.Core.Option.{Option}
 use lib.Dec.{eqb, leb}
 use mathlib.Core.Path.{_≡_}
 use lib.ListN.{length, getD, take, replicate}
+use lib.Seq.{sets}
 use Rattle.netlist.specs.declared.Limits.{Limits}
 use Rattle.netlist.specs.declared.Answer.{Answer}
 use Rattle.netlist.specs.declared.Answer.the-variants.{Done, Refused}
@@ -31,6 +32,9 @@ listGood p n list = eqb (length list) n && every p list
 abbrev pub holds : ℕ → List ℕ → Bool
 holds room result = leb (length result) room
 
+abbrev pub delivered : ℕ → List ℕ → Outcome (List ℕ)
+delivered room result = ask 14 (holds room result) (done result)
+
 -- the outcome that an answer stands for, with the result buffer as the call leaves it
 abbrev pub outcomeOf : List ℕ → Answer → Outcome (List ℕ)
 outcomeOf out (Done n) = done (take n out)
@@ -41,6 +45,15 @@ abbrev pub written : Outcome (List ℕ) → List ℕ
 written (refused q) = []
 written (done result) = result
 
+-- the answer and the result buffer are those of a call's outcome
+pub record Answers (call : Outcome (List ℕ)) (before after : List ℕ) (a : Answer) : Type 0 where
+  pub outcome : outcomeOf after a ≡ call
+  pub buffer : after ≡ sets before 0 (written call)
+
+-- question 14 of a result, and then the result at the front of its buffer
+pub record Delivers (result before after : List ℕ) (a : Answer) : Type 0 where
+  pub answers : Answers (delivered (length before) result) before after a
+
 -- what a working table holds on return from every call: zero in each entry
 abbrev pub Cleared : List ℕ → List ℕ → Type 0
 Cleared before after = after ≡ replicate (length before) 0
@@ -49,7 +62,7 @@ Cleared before after = after ≡ replicate (length before) 0
 
 -- question 14 of the written form
 abbrev pub rewriteOutcome : ℕ → Netlist → Outcome (List ℕ)
-rewriteOutcome room N = ask 14 (holds room (writeNetlist N)) (done (writeNetlist N))
+rewriteOutcome room N = delivered room (writeNetlist N)
 
 -- questions 1 to 9, and 14
 unfoldable pub rewriteCall : Limits → List ℕ → List ℕ → ℕ → Outcome (List ℕ)
@@ -73,10 +86,7 @@ outputList N list = map bit (outputsOf N (bools list))
 
 -- questions 11 and 14 of a netlist
 abbrev pub runOutcome : List ℕ → ℕ → Netlist → Outcome (List ℕ)
-runOutcome list room N =
-    ask 11 (listGood isBit (inputBits N) list)
-    (ask 14 (holds room (outputList N list))
-    (done (outputList N list)))
+runOutcome list room N = ask 11 (listGood isBit (inputBits N) list) (delivered room (outputList N list))
 
 -- questions 1 to 9, 11 and 14
 unfoldable pub runCall : Limits → List ℕ → List ℕ → List ℕ → ℕ → Outcome (List ℕ)

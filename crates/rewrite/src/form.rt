@@ -1,13 +1,12 @@
 // The written form of the netlist that the tables hold.
+use netlist::Answer;
 ghost use Prim.Native.Nat.{_≤_};
 ghost use mathlib.Core.Path.{_≡_};
-ghost use mathlib.Core.List.{_++_};
 ghost use lib.ListN.{length};
-ghost use Rattle.netlist.specs.Write.{gateText};
+ghost use Rattle.netlist.specs.Services.{Delivers};
 ghost use Rattle.netlist.specs.Table.{tables, gatesOf};
 ghost use Rattle.writer.specs.Wrote.{Wrote, cap};
 ghost use Rattle.writer.specs.Gates.{WroteGates};
-ghost use Rattle.writer.specs.Header.{headerText};
 ghost use Rattle.rewrite.specs.Form.{formText};
 
 // The lines of the tables' first gates.
@@ -25,7 +24,7 @@ fn gates(out: &mut [u8], at: usize, operands: &[u64], results: &[u64], count: us
 }
 
 // The header, the blank line and the gate lines, from the buffer's first place on; answers the place behind them.
-pub fn write(
+fn write(
     out: &mut [u8],
     count: usize,
     wires: usize,
@@ -42,7 +41,7 @@ pub fn write(
 }
 
 // How long it is.
-pub fn measure(
+fn measure(
     count: usize,
     wires: usize,
     ins: &[u32],
@@ -55,4 +54,25 @@ pub fn measure(
 {
     let mut none = [0u8; 1];
     write(&mut none, count, wires, ins, outs, operands, results)
+}
+
+// Question 14, and then the text.
+pub fn deliver(
+    out: &mut [u8],
+    count: usize,
+    wires: usize,
+    ins: &[u32],
+    outs: &[u32],
+    operands: &[u64],
+    results: &[u64],
+) -> Answer
+    requires { ⌜ (count ≤ length (now operands)) × (count ≤ length (now results)) ⌝ }
+    ensures { λ r. ⌜ Delivers (formText count wires (now (ins .entry)) (now (outs .entry)) (tables (now (operands .entry)) (now (results .entry)))) (now (out .entry)) (now (out .exit)) r ⌝ }
+{
+    let size = measure(count, wires, ins, outs, operands, results);
+    if out.len() < size {
+        return Answer::Refused(14);
+    }
+    write(out, count, wires, ins, outs, operands, results);
+    Answer::Done(size)
 }

@@ -4,3 +4,4 @@ pub mod Wrote
 pub mod Gates
 pub mod Headers
 pub mod Digits
+pub mod Delivering
