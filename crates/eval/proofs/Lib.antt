@@ -1,0 +1,7 @@
+-- Laws that several proofs cite.
+pub mod Below
+pub mod Lanes
+pub mod Made
+pub mod Steps
+pub mod Fronts
+pub mod Runs

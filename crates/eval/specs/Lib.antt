@@ -1,0 +1,3 @@
+-- What the evaluator's contracts cite.
+pub mod Lane
+pub mod Bare

@@ -1,0 +1,54 @@
+// One gate on words: lane j of each word belongs to setting j.
+ghost use mathlib.Core.Path.{_≡_};
+ghost use Prim.Native.Nat.{ℕ, _<_};
+ghost use mathlib.Core.List.{[], _∷_};
+ghost use lib.ListN.{length};
+ghost use Rattle.netlist.specs.Eval.{runGates};
+ghost use Rattle.netlist.specs.Table.{gateIn, madeOf, Named};
+ghost use Rattle.eval.specs.Lane.{lane, lanes};
+
+const ALL: u64 = 0xffff_ffff_ffff_ffff;
+
+// What a gate takes of its left operand, of its right one and of both, and what it adds: bit k is
+// for kind k. Kinds 1 to 4 are XOR, AND, INV and EQW, 5 is EQ 0, the others are EQ 1.
+const LEFT: u64 = 0b0001_1010;
+
+const RIGHT: u64 = 0b0000_0010;
+
+const BOTH: u64 = 0b0000_0100;
+
+const ADDED: u64 = 0b1100_1001;
+
+// Bit i of a number, in every lane.
+pub fn spread(bits: u64, i: usize) -> u64
+    requires { ⌜ i < 64 ⌝ }
+    ensures { λ r. ⌜ ((j : ℕ) → j < 64 → lane j r ≡ lane i bits) ⌝ }
+{
+    ((bits >> i) & 1) * ALL
+}
+
+// What a kind makes of its operands' words. The kind is no branch, so that none can be mispredicted.
+fn made(kind: usize, a: u64, b: u64) -> u64
+    requires { ⌜ kind < 8 ⌝ }
+    ensures { λ r. ⌜ ((j : ℕ) → j < 64 → lane j r ≡ madeOf kind (lane j a) (lane j b)) ⌝ }
+{
+    (a & spread(LEFT, kind))
+        ^ (b & spread(RIGHT, kind))
+        ^ (a & b & spread(BOTH, kind))
+        ^ spread(ADDED, kind)
+}
+
+// 2^32, which parts the two numbers of an entry.
+const HALF: u64 = 4294967296;
+
+// The gate of two entries, on the wires' words.
+pub fn step(words: &mut [u64], operands: u64, results: u64)
+    requires { ⌜ Named (length (now words)) operands results ⌝ }
+    ensures { λ _. ⌜ ((j : ℕ) → j < 64 → lanes j (now (words .exit)) ≡ runGates (lanes j (now (words .entry))) (gateIn operands results ∷ [])) ⌝ }
+{
+    let a = (operands % HALF) as usize;
+    let b = (operands / HALF) as usize;
+    let c = (results % HALF) as usize;
+    let kind = (results / HALF) as usize;
+    words[c] = made(kind, words[a], words[b]);
+}

@@ -1,0 +1,163 @@
+-- The lines and words of a text, one after another: each law takes one line or one word off what is left.
+use Prim.Native.Nat.{ℕ}
+use mathlib.Core.Path.{_≡_, refl, sym, ap, ap₂, _∙_}
+use mathlib.Core.Bool.{Bool, true, false, cond, _||_, not}
+use mathlib.Core.List.{List, [], _∷_, map}
+use borrow.Author.Tests.{eqb-true}
+use Rattle.netlist.specs.Text.{space, lf, words, wordLines, split, onto, filled}
+use Rattle.text.specs.Line.{isSpace, isLineEnd, isBlank, inWord, firstLine, afterLine, takeWhile, dropWhile, nextWord, pastWord, lineWords}
+
+-- ---- lines
+
+-- a line without words is none
+abbrev pub addLine : List (List ℕ) → List (List (List ℕ)) → List (List (List ℕ))
+addLine [] ls = ls
+addLine (w ∷ ws) ls = (w ∷ ws) ∷ ls
+
+-- the lines behind the first
+rest : List ℕ → List (List ℕ)
+rest [] = []
+rest (x ∷ xs) = cond (isLineEnd x) (split lf xs) (rest xs)
+
+split-line : (s : List ℕ) → split lf s ≡ firstLine s ∷ rest s
+unfolding rest
+split-line [] = refl
+split-line (x ∷ xs) = go (isLineEnd x) (split-line xs)
+  where
+    go : (b : Bool) → split lf xs ≡ firstLine xs ∷ rest xs → cond b ([] ∷ split lf xs) (onto x (split lf xs)) ≡ cond b [] (x ∷ firstLine xs) ∷ cond b (split lf xs) (rest xs)
+    go true e = refl
+    go false e = ap (onto x) e
+
+rest-lines : (s : List ℕ) → filled (map words (rest s)) ≡ wordLines (afterLine s)
+unfolding rest wordLines words
+rest-lines [] = refl
+rest-lines (x ∷ xs) = go (isLineEnd x) (rest-lines xs)
+  where
+    go : (b : Bool) → filled (map words (rest xs)) ≡ wordLines (afterLine xs) → filled (map words (cond b (split lf xs) (rest xs))) ≡ wordLines (cond b xs (afterLine xs))
+    go true e = refl
+    go false e = e
+
+filled-line : (p : List (List ℕ)) (ps : List (List (List ℕ))) → filled (p ∷ ps) ≡ addLine p (filled ps)
+filled-line [] ps = refl
+filled-line (w ∷ ws) ps = refl
+
+-- the lines of a text are its first line's words and the lines behind it
+pub lines-step : (s : List ℕ) → wordLines s ≡ addLine (lineWords s) (wordLines (afterLine s))
+unfolding wordLines lineWords
+lines-step s = ap (λ (ls : List (List ℕ)). filled (map words ls)) (split-line s) ∙ filled-line (lineWords s) (map words (rest s)) ∙ ap (addLine (lineWords s)) (rest-lines s)
+
+-- ---- words
+
+-- an empty word is none
+abbrev pub addWord : List ℕ → List (List ℕ) → List (List ℕ)
+addWord [] ws = ws
+addWord (x ∷ w) ws = (x ∷ w) ∷ ws
+
+-- the parts of the first line behind the first word
+restOfLine : List ℕ → List (List ℕ)
+restOfLine [] = []
+restOfLine (x ∷ xs) = cond (isLineEnd x) [] (cond (isSpace x) (split space (firstLine xs)) (restOfLine xs))
+
+split-word : (s : List ℕ) → split space (firstLine s) ≡ takeWhile inWord s ∷ restOfLine s
+unfolding restOfLine
+split-word [] = refl
+split-word (x ∷ xs) = go (isLineEnd x) (isSpace x) refl (split-word xs)
+  where
+    go : (a b : Bool) → isSpace x ≡ b → split space (firstLine xs) ≡ takeWhile inWord xs ∷ restOfLine xs
+        → split space (cond a [] (x ∷ firstLine xs)) ≡ cond (not (b || a)) (x ∷ takeWhile inWord xs) [] ∷ cond a [] (cond b (split space (firstLine xs)) (restOfLine xs))
+    go true true q e = refl
+    go true false q e = refl
+    go false true q e = rw q
+    go false false q e = rw q (ap (onto x) e)
+
+rest-words : (s : List ℕ) → filled (restOfLine s) ≡ lineWords (dropWhile inWord s)
+unfolding restOfLine lineWords words
+rest-words [] = refl
+rest-words (x ∷ xs) = go (isLineEnd x) (isSpace x) refl refl (rest-words xs)
+  where
+    go : (a b : Bool) → isLineEnd x ≡ a → isSpace x ≡ b → filled (restOfLine xs) ≡ lineWords (dropWhile inWord xs)
+        → filled (cond a [] (cond b (split space (firstLine xs)) (restOfLine xs))) ≡ lineWords (cond (not (b || a)) (dropWhile inWord xs) (x ∷ xs))
+    go true true p q e = rw p
+    go true false p q e = rw p
+    go false true p q e = rw p (rw q)
+    go false false p q e = e
+
+filled-word : (p : List ℕ) (ps : List (List ℕ)) → filled (p ∷ ps) ≡ addWord p (filled ps)
+filled-word [] ps = refl
+filled-word (x ∷ w) ps = refl
+
+-- the words of a line are the one that it starts with, if it does, and the words behind it
+pub words-front : (s : List ℕ) → lineWords s ≡ addWord (takeWhile inWord s) (lineWords (dropWhile inWord s))
+unfolding lineWords words
+words-front s = ap filled (split-word s) ∙ filled-word (takeWhile inWord s) (restOfLine s) ∙ ap (addWord (takeWhile inWord s)) (rest-words s)
+
+-- ---- spaces and words passed over
+
+space-no-end : (x : ℕ) → isSpace x ≡ true → isLineEnd x ≡ false
+space-no-end x q = ap isLineEnd (eqb-true x space q)
+
+space-words : (x : ℕ) (xs : List ℕ) → isSpace x ≡ true → lineWords (x ∷ xs) ≡ lineWords xs
+unfolding lineWords words
+space-words x xs q = rw (space-no-end x q) (rw q)
+
+space-after : (x : ℕ) (xs : List ℕ) → isSpace x ≡ true → afterLine (x ∷ xs) ≡ afterLine xs
+space-after x xs q = rw (space-no-end x q)
+
+pub skip-words : (s : List ℕ) → lineWords (dropWhile isSpace s) ≡ lineWords s
+skip-words [] = refl
+skip-words (x ∷ xs) = go (isSpace x) refl (skip-words xs)
+  where
+    go : (b : Bool) → isSpace x ≡ b → lineWords (dropWhile isSpace xs) ≡ lineWords xs → lineWords (cond b (dropWhile isSpace xs) (x ∷ xs)) ≡ lineWords (x ∷ xs)
+    go true q e = e ∙ sym (space-words x xs q)
+    go false q e = refl
+
+pub skip-after : (s : List ℕ) → afterLine (dropWhile isSpace s) ≡ afterLine s
+skip-after [] = refl
+skip-after (x ∷ xs) = go (isSpace x) refl (skip-after xs)
+  where
+    go : (b : Bool) → isSpace x ≡ b → afterLine (dropWhile isSpace xs) ≡ afterLine xs → afterLine (cond b (dropWhile isSpace xs) (x ∷ xs)) ≡ afterLine (x ∷ xs)
+    go true q e = e ∙ sym (space-after x xs q)
+    go false q e = refl
+
+word-after : (s : List ℕ) → afterLine (dropWhile inWord s) ≡ afterLine s
+word-after [] = refl
+word-after (x ∷ xs) = go (isLineEnd x) (isSpace x) refl (word-after xs)
+  where
+    go : (a b : Bool) → isLineEnd x ≡ a → afterLine (dropWhile inWord xs) ≡ afterLine xs → afterLine (cond (not (b || a)) (dropWhile inWord xs) (x ∷ xs)) ≡ cond a xs (afterLine xs)
+    go true true p e = rw p
+    go true false p e = rw p
+    go false true p e = rw p
+    go false false p e = e
+
+-- the words of a line are the next word and the words behind it
+pub words-step : (s : List ℕ) → lineWords s ≡ addWord (nextWord s) (lineWords (pastWord s))
+unfolding nextWord pastWord
+words-step s = sym (skip-words s) ∙ words-front (dropWhile isSpace s)
+
+-- taking a word stays on the line
+pub after-step : (s : List ℕ) → afterLine (pastWord s) ≡ afterLine s
+unfolding pastWord
+after-step s = word-after (dropWhile isSpace s) ∙ skip-after s
+
+-- a line whose next word is empty has no words
+pub no-word : (s : List ℕ) → nextWord s ≡ [] → lineWords s ≡ []
+unfolding nextWord lineWords words
+no-word [] h = refl
+no-word (x ∷ xs) h = go (isLineEnd x) (isSpace x) refl refl h (no-word xs)
+  where
+    go : (a b : Bool) → isLineEnd x ≡ a → isSpace x ≡ b → takeWhile inWord (cond b (dropWhile isSpace xs) (x ∷ xs)) ≡ [] → (takeWhile inWord (dropWhile isSpace xs) ≡ [] → lineWords xs ≡ [])
+        → lineWords (x ∷ xs) ≡ []
+    go a true p q h f = space-words x xs q ∙ f h
+    go true false p q h f = rw p
+    go false false p q h f = let k : _≡_ {A = List ℕ} (x ∷ takeWhile inWord xs) [] = simp (p, q) at h in cc
+
+-- blank lines count for nothing
+pub blank-lines : (s : List ℕ) → wordLines (dropWhile isBlank s) ≡ wordLines s
+unfolding lineWords words
+blank-lines [] = refl
+blank-lines (x ∷ xs) = go (isLineEnd x) (isSpace x) refl refl (blank-lines xs)
+  where
+    go : (a b : Bool) → isLineEnd x ≡ a → isSpace x ≡ b → wordLines (dropWhile isBlank xs) ≡ wordLines xs → wordLines (cond (b || a) (dropWhile isBlank xs) (x ∷ xs)) ≡ wordLines (x ∷ xs)
+    go a true p q e = e ∙ lines-step xs ∙ ap₂ addLine (sym (space-words x xs q)) (ap wordLines (sym (space-after x xs q))) ∙ sym (lines-step (x ∷ xs))
+    go true false p q e = e ∙ sym (lines-step (x ∷ xs) ∙ rw p)
+    go false false p q e = refl
