@@ -1,13 +1,14 @@
 -- The two entries of each kind of gate.
-use Prim.Native.Nat.{ℕ, _+_, _*_, _/_, _%_, _<_}
-use mathlib.Core.Path.{_≡_, refl, sym, ap, _∙_}
+use Prim.Native.Nat.{ℕ, _+_, _*_, _<_}
+use mathlib.Core.Path.{_≡_, refl, ap, _∙_}
+use mathlib.Core.List.{List, [], _∷_, _++_}
 use native.Mathlib.Omega.{arith}
 use lib.Dec.{lit<}
-use borrow.Author.Tests.{eqb-true}
 use Rattle.netlist.specs.declared.Gate.{Gate}
 use Rattle.netlist.specs.declared.Gate.the-variants.{Xor, And, Inv, Eqw, Eq}
-use Rattle.netlist.specs.Table.{half, gateOf, gateIn, Named}
-use Rattle.netlist.proofs.Puts.{entry-low, entry-high}
+use Rattle.netlist.specs.Table.{Tables, half, gateOf, gatesOf, putEntry}
+use Rattle.netlist.proofs.Puts.{entry-low, entry-high, Room, gates-put, wired-put}
+use Rattle.tables.specs.Gates.{Stored}
 use Rattle.tables.specs.Entry.{Names, Entered}
 
 -- a kind, two operands and a result as two entries
@@ -52,3 +53,10 @@ module _ {g : Gate} {v c o r : ℕ} (fc : c < half) where
       let m : Names W (Eq v c) = rw e at n in
       let y : v ≡ 1 = omega (arith, m .0) in
       rw e (entered W 6 0 0 c (lit< tt) (omega (arith, m .1)) (omega (arith, m .1)) (m .1) (lit< tt) fc (Eq v c) (rw y) h)
+
+-- a gate's entries, put behind the first n gates
+pub stored : {W n o r : ℕ} {g : Gate} {u : Tables} (t : Tables) → Room t n → Entered W g o r → u ≡ putEntry t n o r → Stored W t n g u
+stored {W} {n} {o} {r} {g} {u} t room e p = rw p (record {
+  gates = gates-put t n o r room ∙ ap (λ (h : Gate). gatesOf t n ++ (h ∷ [])) (e .gate);
+  wired = λ w. wired-put t n o r room W w (e .named);
+})

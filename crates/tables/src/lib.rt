@@ -1,3 +1,4 @@
 // A whole text into lent tables: questions 2 to 9.
 pub mod entry;
+pub mod gates;
 mod marks;

@@ -1,0 +1,28 @@
+-- `store`: the gate's entries are put behind the first.
+use Rattle.tables.proofs.Entries.{stored}
+use native.Mathlib.Omega.{arith}
+use borrow.Author.Needs.{needs}
+use Rattle.tables.proofs.gates.store.Statement.{statement}
+use Rattle.tables.proofs.gates.store.Tie as tie
+use Rattle.tables.proofs.gates.store.Reads as reads
+use Rattle.tables.proofs.gates.store.Lts as lts
+use Rattle.tables.proofs.entry.entry_of.Reads as entry-of-reads
+use Rattle.tables.proofs.entry.put.Reads as put-reads
+
+entry-of-requires : tie.Need-entry-of-requires
+entry-of-requires c κs = search needs
+
+put-requires : tie.Need-put-requires
+put-requires c κs = search needs
+
+same-length : tie.Need-same-length
+same-length c = search needs
+
+same-length-2 : tie.Need-same-length-2
+same-length-2 c = search needs
+
+returns : tie.Need-returns
+returns c = λ W n. stored _ (record { operands = c .before .before .before .before .before .before .before .before .before .before .pre .0; results = c .before .before .before .before .before .before .before .before .before .before .pre .1 }) (c .before .before .before .before .before .entry-of .ensures W n) (c .before .before .before .before .put .ensures)
+
+pub store-spec : {M : Type 1} → statement M
+store-spec = tie.close (tie.spec entry-of-requires put-requires same-length same-length-2 returns)
