@@ -48,4 +48,3 @@ fn refuse(text: &[u8], at: Cursor, left: usize, question: u8) -> Gates
         Gates::Refused(6)
     }
 }
-
