@@ -1,2 +1,9 @@
 pub mod Tests
 pub mod KnownResults
+pub mod Codes
+pub mod MaskedBits
+pub mod GoodGates
+pub mod Models
+pub mod Order
+pub mod AndRows
+pub mod Placed
