@@ -120,8 +120,8 @@ free-results n W rs (g ∷ gs) t e =
     free-results n W (result g ∷ rs) gs (G .rest) (omega (arith, free-take n (W - n) rs (result g) l (omega arith) (G .fresh)))
 
 -- a netlist's inputs and gates give every wire
-pub every-wire-given : (N : Netlist) → WellFormed N → (w : ℕ) → w < N .wires → T (isGiven (inputBits N) (results [] (N .gates)) w)
-every-wire-given N F w h =
+pub every-wire-given : {N : Netlist} → WellFormed N → (w : ℕ) → w < N .wires → T (isGiven (inputBits N) (results [] (N .gates)) w)
+every-wire-given {N} F w h =
     let n = inputBits N in
     let k = N .wires - n in
     let rs = results [] (N .gates) in

@@ -7,3 +7,10 @@ pub mod Models
 pub mod Order
 pub mod AndRows
 pub mod Placed
+pub mod OutputGates
+pub mod MaskInputs
+pub mod Shape
+pub mod Carries
+pub mod GateTwins
+pub mod OutputTwins
+pub mod Masking

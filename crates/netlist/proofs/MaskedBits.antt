@@ -1,11 +1,15 @@
--- Laws of bits that travel under the mask of a code.
-use Prim.Native.Nat.{ℕ}
+-- Laws of bits under the mask of a code, one at a time and as the lists that go into and come out of a masked netlist.
+use Prim.Native.Nat.{ℕ, zero, suc, _+_, _<_}
 use mathlib.Core.Path.{_≡_, refl, _∙_}
 use mathlib.Core.Bool.{Bool, true, false, not, _&&_, _||_}
+use mathlib.Core.List.{List, [], _∷_}
+use native.Mathlib.Omega.{arith}
 use lib.Dec.{T, eqb, eqb→eq}
+use lib.ListN.{length, getD}
 use Rattle.netlist.specs.Eval.{differs}
 use Rattle.netlist.specs.Mask.{isCode, third}
-use Rattle.netlist.specs.Leak.{maskOf, countOf}
+use Rattle.netlist.specs.Leak.{maskOf, masked, countOf}
+use Rattle.netlist.specs.Unmask.{unmasked}
 use Rattle.netlist.proofs.Codes.{everyBit, everyBit-at, every4, every4-at, same, same-eq, everyCode, everyCode-at, everyTwo-at, third-code, third-other, third-back}
 
 -- a bit of no mask is the bit, and a mask put on twice is none
@@ -71,3 +75,35 @@ carriedTest e s = eqb (countOf (λ m0 m1. differs s (maskOf m0 m1 e))) 2
 pub carried-count : (e : ℕ) → T (isCode e) → (s : Bool) → countOf (λ m0 m1. differs s (maskOf m0 m1 e)) ≡ 2
 unfolding carriedTest
 carried-count e c s = eqb→eq _ _ (everyBit-at (carriedTest e) (everyCode-at (λ e. everyBit (carriedTest e)) tt e c) s)
+
+-- the masked input wires: each bit under its code, then the mask pair
+pub length-masked : (m0 m1 : Bool) (es : List ℕ) (x : List Bool) → length (masked m0 m1 es x) ≡ length es + 2
+length-masked m0 m1 [] x = refl
+length-masked m0 m1 (e ∷ es) [] = let h = length-masked m0 m1 es [] in omega arith
+length-masked m0 m1 (e ∷ es) (b ∷ x) = let h = length-masked m0 m1 es x in omega arith
+
+pub masked-at : (m0 m1 : Bool) (es : List ℕ) (x : List Bool) → length x ≡ length es → (w : ℕ) → w < length es
+    → getD (masked m0 m1 es x) w false ≡ differs (getD x w false) (maskOf m0 m1 (getD es w 0))
+masked-at m0 m1 [] x l w h = absurd (omega arith)
+masked-at m0 m1 (e ∷ es) [] l w h = absurd (omega arith)
+masked-at m0 m1 (e ∷ es) (b ∷ x) l zero h = refl
+masked-at m0 m1 (e ∷ es) (b ∷ x) l (suc w) h = masked-at m0 m1 es x (omega arith) w (omega arith)
+
+pub masked-pair : (m0 m1 : Bool) (es : List ℕ) (x : List Bool) (k w : ℕ) → w ≡ length es + k → getD (masked m0 m1 es x) w false ≡ getD (m0 ∷ m1 ∷ []) k false
+masked-pair m0 m1 [] x k w e = let z : w ≡ k = omega arith in rw z refl
+masked-pair m0 m1 (e ∷ es) [] k zero z = absurd (omega arith)
+masked-pair m0 m1 (e ∷ es) (b ∷ x) k zero z = absurd (omega arith)
+masked-pair m0 m1 (e ∷ es) [] k (suc w) z = masked-pair m0 m1 es [] k w (omega arith)
+masked-pair m0 m1 (e ∷ es) (b ∷ x) k (suc w) z = masked-pair m0 m1 es x k w (omega arith)
+
+-- unmasked bits are the bits that were masked
+pub unmasked-are : (m0 m1 : Bool) (es : List ℕ) (bits ys : List Bool) → length bits ≡ length es → length ys ≡ length es
+    → ((i : ℕ) → i < length es → getD bits i false ≡ differs (getD ys i false) (maskOf m0 m1 (getD es i 0))) → unmasked m0 m1 es bits ≡ ys
+unmasked-are m0 m1 [] bits [] k l h = refl
+unmasked-are m0 m1 [] bits (y ∷ ys) k l h = absurd (omega arith)
+unmasked-are m0 m1 (e ∷ es) [] ys k l h = absurd (omega arith)
+unmasked-are m0 m1 (e ∷ es) (b ∷ bits) [] k l h = absurd (omega arith)
+unmasked-are m0 m1 (e ∷ es) (b ∷ bits) (y ∷ ys) k l h =
+    let p : b ≡ differs y (maskOf m0 m1 e) = h 0 (omega arith) in
+    let q : unmasked m0 m1 es bits ≡ ys = unmasked-are m0 m1 es bits ys (omega arith) (omega arith) (λ i b. h (suc i) (omega arith)) in
+    rw (p, q, unmask y (maskOf m0 m1 e)) refl

@@ -55,7 +55,7 @@ run-models n W rs (g ∷ gs) v t l =
     ∙ made-same (isGiven n rs) (bitsAt v) (bitsAt (runGates v′ gs)) g (G .operands) (λ a p. sym (run-keeps n W rs (g ∷ gs) v t a p)))
     (run-models n W (result g ∷ rs) gs v′ (G .rest) l′)
 
-module _ (N : Netlist) (F : WellFormed N) where
+module _ {N : Netlist} (F : WellFormed N) where
   pub bits-satisfy : (ins : List Bool) → Models (bitsAt (wireBits N ins)) (N .gates)
   unfolding wireBits
   bits-satisfy ins = run-models (inputBits N) (N .wires) [] (N .gates) (ins ++ replicate (N .wires - length ins) false) (F .good) (simp (length-append, length-replicate) (omega arith))

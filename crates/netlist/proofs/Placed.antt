@@ -57,19 +57,14 @@ prepare n c A B r P Q =
     })
     (λ e. record { grows = rw e (omega arith); ordered = rw e end; second = rw e Q; other = rw e (false-T (changes A B) e) })
 
--- the places of a masked AND's operands
-abbrev pub andPlaces : ℕ → ℕ → Twin → Twin → List ℕ
-andPlaces n c A B = A .wire ∷ changed c A B .wire ∷ maskWire n (A .code) ∷ maskWire n (changed c A B .code) ∷ (n + 4) ∷ []
+-- places 0 to 4 of a masked AND, with operands under different codes
+abbrev pub andPlaces : ℕ → Twin → Twin → List ℕ
+andPlaces n A D = A .wire ∷ D .wire ∷ maskWire n (A .code) ∷ maskWire n (D .code) ∷ (n + 4) ∷ []
 
-places-below : (n c : ℕ) (A B : Twin) → n + 5 ≤ c → Placed c A → Prepared n c A B → All (λ p. p < past c A B) (andPlaces n c A B)
-places-below n c A B r P E =
-    let d = past c A B in
-    let up : c ≤ d = E .grows in
-    let a : A .wire < d = placed-later up P .below in
-    let p : maskWire n (A .code) < d = maskWire-below n d (A .code) (omega arith) (P .code) in
-    let q : maskWire n (changed c A B .code) < d = maskWire-below n d (changed c A B .code) (omega arith) (E .second .code) in
+places-below : (n d : ℕ) (A D : Twin) → n + 5 ≤ d → Placed d A → Placed d D → All (λ p. p < d) (andPlaces n A D)
+places-below n d A D r P Q =
     let o : n + 4 < d = omega arith in
-    each a (each (E .second .below) (each p (each q (each o empty))))
+    each (P .below) (each (Q .below) (each (maskWire-below n d (A .code) r (P .code)) (each (maskWire-below n d (D .code) r (Q .code)) (each o empty))))
 
 -- the masked gates of a source gate
 record Emitted (n : ℕ) (S : State) (g : Gate) : Type 0 where
@@ -81,26 +76,26 @@ emitted : (n : ℕ) (S : State) (has : ℕ → Bool) (g : Gate) → n + 5 ≤ S 
 emitted n S has (Xor a b c) r t h =
     let A = twin S a in
     let B = twin S b in
+    let D = changed (S .next) A B in
     let d = past (S .next) A B in
     let P = h a (both (has a) (has b) t .0) in
     let E = prepare n (S .next) A B r P (h b (both (has a) (has b) t .1)) in
-    let x : A .wire < S .next = P .below in
-    let up : S .next ≤ d = E .grows in
     record {
-      ordered = ordered-append (E .ordered) (step refl (two-below (A .wire) (changed (S .next) A B .wire) d (omega arith) (E .second .below)) end);
-      grows = up;
-      code = third-code (A .code) (changed (S .next) A B .code) (P .code) (E .second .code) (E .other);
+      ordered = ordered-append (E .ordered) (step refl (two-below (A .wire) (D .wire) d (placed-later (E .grows) P .below) (E .second .below)) end);
+      grows = E .grows;
+      code = third-code (A .code) (D .code) (P .code) (E .second .code) (E .other);
     }
 emitted n S has (And a b c) r t h =
     let A = twin S a in
     let B = twin S b in
+    let D = changed (S .next) A B in
     let d = past (S .next) A B in
     let P = h a (both (has a) (has b) t .0) in
     let E = prepare n (S .next) A B r P (h b (both (has a) (has b) t .1)) in
     let up : S .next ≤ d = E .grows in
     let len : d + 7 ≡ d + 6 + 1 = omega arith in
     record {
-      ordered = ordered-append (E .ordered) (rw len at (rows-ordered rows (andPlaces n (S .next) A B) d tt (places-below n (S .next) A B r P E)));
+      ordered = ordered-append (E .ordered) (rw len at (rows-ordered rows (andPlaces n A D) d tt (places-below n d A D (omega arith) (placed-later up P) (E .second))));
       grows = omega arith;
       code = P .code;
     }
