@@ -10,7 +10,7 @@ use Rattle.netlist.specs.declared.Gate.{Gate}
 use Rattle.netlist.specs.declared.Gate.the-variants.{Xor, And}
 use Rattle.netlist.specs.Netlist.{result}
 use Rattle.netlist.specs.Eval.{differs, made}
-use Rattle.netlist.specs.Mask.{isCode, Row, rows, rowGate, rowGates}
+use Rattle.netlist.specs.Mask.{isCode, Row, rows, rowGates}
 use Rattle.netlist.specs.Leak.{maskOf, countOf}
 use Rattle.netlist.proofs.Tests.{both, All, empty, each, all-head, all-tail, all-map, all-append, all-at}
 use Rattle.netlist.proofs.Codes.{everyBit, everyBit-at, every4, every4-at, below, below-at, same, same-eq, everyTwo-at}

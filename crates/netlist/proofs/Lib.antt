@@ -13,4 +13,7 @@ pub mod Shape
 pub mod Carries
 pub mod GateTwins
 pub mod OutputTwins
+pub mod MaskedWires
 pub mod Masking
+pub mod LeakSearch
+pub mod GateCount

@@ -1,7 +1,6 @@
 -- What Mask is handed when questions 4 to 13 get a yes: the premise of every law about the masked netlist.
 use Prim.Native.Nat.{ℕ}
 use mathlib.Core.Path.{_≡_}
-use mathlib.Core.Bool.{Bool, _&&_}
 use mathlib.Core.List.{List}
 use lib.Dec.{T, eqb, eqb→eq}
 use lib.ListN.{length}

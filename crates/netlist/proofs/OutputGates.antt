@@ -2,7 +2,7 @@
 use Prim.Native.Nat.{ℕ, zero, suc, _+_, _≤_, _<_}
 use mathlib.Core.Path.{_≡_, refl, ap}
 use mathlib.Core.Logic.{_≢_}
-use mathlib.Core.Bool.{Bool, false, not}
+use mathlib.Core.Bool.{false, not}
 use mathlib.Core.List.{List, [], _∷_}
 use native.Mathlib.Omega.{arith}
 use lib.Dec.{T, eqb, lt→ltb}
@@ -11,7 +11,6 @@ use lib.ListN.{length, getD}
 use Rattle.netlist.specs.declared.Gate.{Gate}
 use Rattle.netlist.specs.declared.Twin.{Twin}
 use Rattle.netlist.specs.Lists.{every}
-use Rattle.netlist.specs.Netlist.{result}
 use Rattle.netlist.specs.Mask.{isCode, isWanted, third, maskWire, outGate, outCode, outGates, outCodes}
 use Rattle.netlist.proofs.Tests.{both, pair, onBool, false-T, All, all-head, all-tail, all-map}
 use Rattle.netlist.proofs.Codes.{wanted-code, third-code}

@@ -1,25 +1,20 @@
 -- The masked netlist is well formed, and a source of the small limits gives one of the large limits.
-use Prim.Native.Nat.{ℕ, zero, suc, _+_, _-_, _*_, _≤_, _<_}
+use Prim.Native.Nat.{ℕ, zero, suc, _+_, _-_, _≤_, _<_}
 use mathlib.Core.Path.{_≡_, refl, sym, ap, _∙_}
-use mathlib.Core.Bool.{Bool, true, false, not, _&&_}
+use mathlib.Core.Bool.{Bool, true}
 use mathlib.Core.List.{List, [], _∷_, _++_}
 use native.Mathlib.Omega.{arith}
-use lib.Dec.{T, eqb, leb, leb→le, lt→ltb}
-use borrow.Author.Tests.{eqb-false, ne-eqb}
-use lib.ListN.{length, getD, drop, length-append, length-drop, length-replicate, List·getD-append}
+use lib.Dec.{T, leb}
+use lib.ListN.{length, getD, length-append, length-drop, length-replicate, List·getD-append}
 use lib.Seq.{getD-drop}
-use Rattle.netlist.specs.declared.Gate.{Gate}
-use Rattle.netlist.specs.declared.Gate.the-variants.{Xor, And, Inv, Eqw, Eq}
-use Rattle.netlist.specs.declared.Twin.{Twin}
 use Rattle.netlist.specs.Lists.{every, sum}
-use Rattle.netlist.specs.Netlist.{Netlist, inputBits, outputBits, small, large}
-use Rattle.netlist.specs.Read.{isGiven, WellFormed, Within}
-use Rattle.netlist.specs.Mask.{isCode, isWanted, third, maskWire, past, State, twin, noTwin, advance, emitAll, advanceAll, inputTwins, maskGates, start, outGate, outGates, finish, outTwins, maskNetlist}
-use Rattle.netlist.proofs.Tests.{both, pair, onBool, false-T, every-at, All, empty, each, all-head, all-tail, all-map, all-from}
-use Rattle.netlist.proofs.Codes.{wanted-code, third-code}
+use Rattle.netlist.specs.Netlist.{Netlist, inputBits, outputBits}
+use Rattle.netlist.specs.Read.{WellFormed}
+use Rattle.netlist.specs.Mask.{isCode, twin, noTwin, inputTwins, maskGates, start, finish, outTwins, maskNetlist}
+use Rattle.netlist.proofs.Tests.{both, pair, every-at, All, all-from}
 use Rattle.netlist.proofs.GoodGates.{given-none, results, every-wire-given}
 use Rattle.netlist.proofs.Order.{Ordered, end, step, ordered-append, ordered-length, ordered-good, two-below}
-use Rattle.netlist.proofs.Placed.{Placed, placed-later, maskWire-below, AllPlaced, place-all, emit-ordered}
+use Rattle.netlist.proofs.Placed.{Placed, AllPlaced, place-all, emit-ordered}
 use Rattle.netlist.proofs.OutputGates.{outs-ordered}
 use Rattle.netlist.proofs.MaskInputs.{MaskInputs}
 
@@ -58,25 +53,6 @@ every-snoc p (y ∷ ys) x s t = let q = both (p y) (every p ys) s in pair (p y) 
 sum-snoc : (xs : List ℕ) (x : ℕ) → sum (xs ++ (x ∷ [])) ≡ sum xs + x
 sum-snoc [] x = omega arith
 sum-snoc (y ∷ ys) x = let h = sum-snoc ys x in omega arith
-
--- a source gate becomes at most eight
-past-bound : (c : ℕ) (A B : Twin) → past c A B ≤ c + 1
-past-bound c A B = onBool (eqb (A .code) (B .code)) (λ e. rw e (omega arith)) (λ e. rw e (omega arith))
-
-next-bound : (S : State) (g : Gate) → advance S g .next ≤ S .next + 8
-next-bound S (Xor a b c) = let h = past-bound (S .next) (twin S a) (twin S b) in omega arith
-next-bound S (And a b c) = let h = past-bound (S .next) (twin S a) (twin S b) in omega arith
-next-bound S (Inv a c) = omega arith
-next-bound S (Eqw a c) = omega arith
-next-bound S (Eq v c) = omega arith
-
-pub end-bound : (S : State) (gs : List Gate) → advanceAll S gs .next ≤ S .next + 8 * length gs
-end-bound S [] = omega arith
-end-bound S (g ∷ gs) = let h = end-bound (advance S g) gs in let l = next-bound S g in omega arith
-
-sum-some : (xs : List ℕ) → 1 ≤ length xs → T (every (leb 1) xs) → 1 ≤ sum xs
-sum-some [] s t = absurd (omega arith)
-sum-some (x ∷ xs) s t = let h = leb→le 1 x (both (leb 1 x) (every (leb 1) xs) t .0) in omega arith
 
 -- an output's twin is that of its source wire
 pub out-twin : (N : Netlist) (codes : List ℕ) (i : ℕ) → getD (outTwins N codes) i noTwin ≡ twin (finish N codes) (N .wires - outputBits N + i)
@@ -158,24 +134,3 @@ module _ {N : Netlist} {codes wanted : List ℕ} (C : MaskInputs N codes wanted)
         gateCount = omega arith;
         good = rw i (ordered-good (inputBits N + 2) (M .wires) (M .gates) masked-ordered);
       }
-
-  -- its wires: at most 2 less than nine times the source's
-  pub masked-wires : maskNetlist N codes wanted .netlist .wires + 2 ≤ 9 * N .wires
-  unfolding maskNetlist
-  masked-wires =
-      let F = C .source in
-      let i : inputBits N ≤ N .wires = F .inputsFit in
-      let o : outputBits N ≤ N .wires = F .outputsFit in
-      let c : length (N .gates) ≡ N .wires - inputBits N = F .gateCount in
-      let b = end-bound (start N codes) (N .gates) in
-      let s = sum-some (N .inputs) (F .someInput) (F .inputsPositive) in
-      omega arith
-
-  -- so a source of the small limits becomes one of the large limits
-  pub masked-within : Within small N → Within large (maskNetlist N codes wanted .netlist)
-  masked-within H =
-      let w : N .wires ≤ 2048 = H .wires in
-      let v : length (N .inputs) ≤ 16 = H .inputs in
-      let b = masked-wires in
-      let l = masked-inputs in
-      record { wires = omega arith; inputs = omega arith; outputs = rw masked-outputs (H .outputs) }
