@@ -10,7 +10,7 @@ use Rattle.netlist.specs.declared.Gate.{Gate}
 use Rattle.netlist.specs.declared.Gate.the-variants.{Xor, And}
 use Rattle.netlist.specs.Netlist.{result}
 use Rattle.netlist.specs.Eval.{differs, made}
-use Rattle.netlist.specs.Mask.{isCode, Row, rows, rowGates}
+use Rattle.netlist.specs.Mask.{isCode, Row, rows, rowGates, andTwin}
 use Rattle.netlist.specs.Leak.{maskOf, countOf}
 use Rattle.netlist.proofs.Tests.{both, All, empty, each, all-head, all-tail, all-map, all-append, all-at}
 use Rattle.netlist.proofs.Codes.{everyBit, everyBit-at, every4, every4-at, below, below-at, same, same-eq, everyTwo-at}
@@ -33,11 +33,15 @@ operandBits e f s t m0 m1 = differs s (maskOf m0 m1 e) ∷ differs t (maskOf m0 
 unfoldable pub stepBits : ℕ → ℕ → Bool → Bool → Bool → Bool → List Bool
 stepBits e f s t m0 m1 = rowBits rows (operandBits e f s t m0 m1)
 
--- s7 is the product under the first code
-andTest : ℕ → ℕ → Bool → Bool → Bool → Bool → Bool
-andTest e f s t m0 m1 = same (getD (stepBits e f s t m0 m1) 6 false) (differs (s && t) (maskOf m0 m1 e))
+-- s7 is the product, under the code of the AND's twin
+abbrev andCode : ℕ → ℕ → ℕ
+andCode e f = andTwin 0 (record { wire = 0; code = e }) (record { wire = 0; code = f }) .code
 
-pub and-law : (e f : ℕ) → T (isCode e) → T (isCode f) → T (not (eqb e f)) → (s t m0 m1 : Bool) → getD (stepBits e f s t m0 m1) 6 false ≡ differs (s && t) (maskOf m0 m1 e)
+andTest : ℕ → ℕ → Bool → Bool → Bool → Bool → Bool
+andTest e f s t m0 m1 = same (getD (stepBits e f s t m0 m1) 6 false) (differs (s && t) (maskOf m0 m1 (andCode e f)))
+
+pub and-law : (e f : ℕ) → T (isCode e) → T (isCode f) → T (not (eqb e f)) → (s t m0 m1 : Bool)
+    → getD (stepBits e f s t m0 m1) 6 false ≡ differs (s && t) (maskOf m0 m1 (andCode e f))
 unfolding andTest stepBits
 and-law e f c d n s t m0 m1 = same-eq _ _ (every4-at (andTest e f) (everyTwo-at (λ e f. every4 (andTest e f)) tt e f c d n) s t m0 m1)
 

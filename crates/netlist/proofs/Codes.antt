@@ -71,15 +71,18 @@ everyCode-at p t =
     let s = both (p 2) (p 3) (r .1) in
     onCode (λ e. T (p e)) (r .0) (s .0) (s .1)
 
--- a test of every two different codes
+-- a test of every two codes, and of every two different codes
+abbrev pub everyPair : (ℕ → ℕ → Bool) → Bool
+everyPair p = everyCode λ e. everyCode (p e)
+
+pub everyPair-at : (p : ℕ → ℕ → Bool) → T (everyPair p) → (e f : ℕ) → T (isCode e) → T (isCode f) → T (p e f)
+everyPair-at p t e f c d = everyCode-at (p e) (everyCode-at (λ e. everyCode (p e)) t e c) f d
+
 abbrev pub everyTwo : (ℕ → ℕ → Bool) → Bool
-everyTwo p = everyCode λ e. everyCode λ f. eqb e f || p e f
+everyTwo p = everyPair λ e f. eqb e f || p e f
 
 pub everyTwo-at : (p : ℕ → ℕ → Bool) → T (everyTwo p) → (e f : ℕ) → T (isCode e) → T (isCode f) → T (not (eqb e f)) → T (p e f)
-everyTwo-at p t e f c d n =
-    let te = everyCode-at (λ e. everyCode λ f. eqb e f || p e f) t e c in
-    let tf = everyCode-at (λ f. eqb e f || p e f) te f d in
-    either (eqb e f) (p e f) (λ s. absurd (T-not (eqb e f) n s)) (λ r. r) tf
+everyTwo-at p t e f c d n = either (eqb e f) (p e f) (λ s. absurd (T-not (eqb e f) n s)) (λ r. r) (everyPair-at (λ e f. eqb e f || p e f) t e f c d)
 
 -- the third of two different codes is a code, another than the first, and with the first it leads back to the second
 pub third-code : (e f : ℕ) → T (isCode e) → T (isCode f) → T (not (eqb e f)) → T (isCode (third e f))

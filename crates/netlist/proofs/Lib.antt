@@ -15,5 +15,7 @@ pub mod GateTwins
 pub mod OutputTwins
 pub mod MaskedWires
 pub mod Masking
+pub mod Search
 pub mod LeakSearch
 pub mod GateCount
+pub mod Breaks

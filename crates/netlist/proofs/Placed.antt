@@ -2,11 +2,10 @@
 use Prim.Native.Nat.{ℕ, _+_, _≤_, _<_}
 use mathlib.Core.Path.{_≡_, refl, _∙_}
 use mathlib.Core.Logic.{_≢_}
-use mathlib.Core.Bool.{Bool, not}
+use mathlib.Core.Bool.{Bool, true, false, cond, not}
 use mathlib.Core.List.{List, [], _∷_}
 use native.Mathlib.Omega.{arith}
 use lib.Dec.{T, eqb, lt→ltb}
-use borrow.Author.Tests.{eqb-true}
 use lib.ListN.{length, length-set}
 use lib.Seq.{getD-set-same, getD-set-other}
 use Rattle.netlist.specs.declared.Gate.{Gate}
@@ -14,9 +13,9 @@ use Rattle.netlist.specs.declared.Gate.the-variants.{Xor, And, Inv, Eqw,
 use Rattle.netlist.specs.declared.Twin.{Twin}
 use Rattle.netlist.specs.Netlist.{result}
 use Rattle.netlist.specs.Read.{operandsGiven, isGiven, gatesGood}
-use Rattle.netlist.specs.Mask.{isCode, third, after, maskWire, rows, changes, changeGates, changed, past, State, twin, noTwin, emit, resultTwin, advance, emitAll, advanceAll}
-use Rattle.netlist.proofs.Tests.{both, onBool, false-T, All, empty, each}
-use Rattle.netlist.proofs.Codes.{code-most, third-code, third-other, after-code, after-other}
+use Rattle.netlist.specs.Mask.{isCode, after, maskWire, rows, changes, changeGates, changed, past, State, twin, noTwin, emit, resultTwin, advance, emitAll, advanceAll}
+use Rattle.netlist.proofs.Tests.{both, onBool, All, empty, each}
+use Rattle.netlist.proofs.Codes.{everyPair-at, code-most, third-code, after-code}
 use Rattle.netlist.proofs.GoodGates.{GoodGate, goodGate, results, given-cases}
 use Rattle.netlist.proofs.Order.{Ordered, end, step, ordered-append, two-below}
 use Rattle.netlist.proofs.AndRows.{rows-ordered}
@@ -32,7 +31,24 @@ placed-later {c} {d} {A} h P = let b : A .wire < c = P .below in record { below 
 pub maskWire-below : (n c e : ℕ) → n + 5 ≤ c → T (isCode e) → maskWire n e < c
 maskWire-below n c e r p = omega (arith, code-most e p)
 
--- two operands behind the mask change of the second, which stands at wire c if there is one
+-- the code of the second operand behind the mask change: another code than the first operand's
+abbrev changedCode : ℕ → ℕ → ℕ
+changedCode e f = changed 0 (record { wire = 0; code = e }) (record { wire = 0; code = f }) .code
+
+cond-code : (t : Bool) (A B C D : Twin) → A .code ≡ C .code → B .code ≡ D .code → cond t A B .code ≡ cond t C D .code
+cond-code true A B C D p q = p
+cond-code false A B C D p q = q
+
+changed-code : (c : ℕ) (A B : Twin) → changed c A B .code ≡ changedCode (A .code) (B .code)
+changed-code c A B = cond-code (changes A B) _ _ _ _ refl refl
+
+changed-good : (e f : ℕ) → T (isCode e) → T (isCode f) → T (isCode (changedCode e f))
+changed-good = everyPair-at (λ e f. isCode (changedCode e f)) tt
+
+changed-other : (e f : ℕ) → T (isCode e) → T (isCode f) → T (not (eqb e (changedCode e f)))
+changed-other = everyPair-at (λ e f. not (eqb e (changedCode e f))) tt
+
+-- two operands behind the mask change, whose gate stands at wire c if there is one
 pub record Prepared (n c : ℕ) (A B : Twin) : Type 0 where
   pub grows : c ≤ past c A B
   pub ordered : Ordered c (changeGates n c A B) (past c A B)
@@ -41,21 +57,18 @@ pub record Prepared (n c : ℕ) (A B : Twin) : Type 0 where
 
 pub prepare : (n c : ℕ) (A B : Twin) → n + 5 ≤ c → Placed c A → Placed c B → Prepared n c A B
 prepare n c A B r P Q =
-    let q = Q .code in
+    let code : T (isCode (changed c A B .code)) = rw (changed-code c A B) (changed-good (A .code) (B .code) (P .code) (Q .code)) in
+    let other : T (not (eqb (A .code) (changed c A B .code))) = rw (changed-code c A B) (changed-other (A .code) (B .code) (P .code) (Q .code)) in
     onBool (changes A B)
-    (λ e. let same : A .code ≡ B .code = eqb-true (A .code) (B .code) e in
-    let f = after (B .code) in
-    let q′ : T (isCode f) = after-code (B .code) q in
-    let d : T (not (eqb (B .code) f)) = after-other (B .code) q in
-    let o : T (not (eqb (A .code) (third (B .code) f))) = rw same (third-other (B .code) f q q′ d) in
-    let s : Placed (c + 1) (record { wire = c; code = third (B .code) f }) = record { below = omega arith; code = third-code (B .code) f q q′ d } in
+    (λ e. let m = maskWire-below n c (after (B .code)) r (after-code (B .code) (Q .code)) in
+    let below : changed c A B .wire < past c A B = rw e (omega arith) in
     record {
       grows = rw e (omega arith);
-      ordered = rw e (step refl (two-below (B .wire) (maskWire n f) c (Q .below) (maskWire-below n c f r q′)) end);
-      second = rw e s;
-      other = rw e o;
+      ordered = rw e (step refl (two-below (B .wire) (maskWire n (after (B .code))) c (Q .below) m) end);
+      second = record { below = below; code = code };
+      other = other;
     })
-    (λ e. record { grows = rw e (omega arith); ordered = rw e end; second = rw e Q; other = rw e (false-T (changes A B) e) })
+    (λ e. record { grows = rw e (omega arith); ordered = rw e end; second = rw e Q; other = other })
 
 -- places 0 to 4 of a masked AND, with operands under different codes
 abbrev pub andPlaces : ℕ → Twin → Twin → List ℕ
