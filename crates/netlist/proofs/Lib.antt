@@ -1,7 +1,7 @@
+-- The theorems about the definitions. Tests and questions taken apart
 pub mod Tests
-pub mod Puts
-pub mod KnownResults
 pub mod Questions
+-- reading and writing
 pub mod Words
 pub mod Decimal
 pub mod Lines
@@ -9,8 +9,32 @@ pub mod RoundTrip
 pub mod HeaderFacts
 pub mod Accepted
 pub mod Size
+pub mod ReaderCalls
+-- masking
+pub mod Codes
+pub mod MaskedBits
+pub mod GoodGates
+pub mod Models
+pub mod Order
+pub mod AndRows
+pub mod Placed
+pub mod OutputGates
+pub mod MaskInputs
+pub mod Shape
+pub mod Carries
+pub mod GateTwins
+pub mod OutputTwins
+pub mod MaskedWires
+-- the leak search
 pub mod Settings
 pub mod Search
 pub mod LeakSearch
-pub mod ReaderCalls
+-- what Mask promises
+pub mod Masking
+pub mod GateCount
+pub mod Breaks
+-- tables and answers
+pub mod Puts
 pub mod Answering
+-- known results
+pub mod KnownResults

@@ -70,3 +70,16 @@ module _ {A : Type 0} {P : A → Type 0} where
   pub all-append : {xs ys : List A} → All P xs → All P ys → All P (xs ++ ys)
   all-append empty qs = qs
   all-append (each p ps) qs = each p (all-append ps qs)
+
+  pub all-split : (xs : List A) {ys : List A} → All P (xs ++ ys) → All P xs × All P ys
+  all-split [] ps = (empty, ps)
+  all-split (x ∷ xs) (each p ps) = let r = all-split xs ps in (each p (r .0), r .1)
+
+  pub all-at : {xs : List A} → All P xs → (d : A) (i : ℕ) → i < length xs → P (getD xs i d)
+  all-at empty d i h = absurd (omega arith)
+  all-at (each p ps) d zero h = p
+  all-at (each p ps) d (suc i) h = all-at ps d i (omega arith)
+
+  pub all-from : (xs : List A) (d : A) → ((i : ℕ) → i < length xs → P (getD xs i d)) → All P xs
+  all-from [] d h = empty
+  all-from (x ∷ xs) d h = each (h 0 (omega arith)) (all-from xs d (λ i l. h (suc i) (omega arith)))
