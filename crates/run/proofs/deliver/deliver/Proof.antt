@@ -1,3 +1,7 @@
+-- `deliver`: questions 11 and 14 in order.
+use mathlib.Core.Path.{sym, _∙_}
+use borrow.Author.Tests.{not-true, not-false}
+use Rattle.run.proofs.Delivered.{list-length, holds-ins, run-11, run-14, run-done}
 use native.Mathlib.Omega.{arith}
 use borrow.Author.Needs.{needs}
 use Rattle.run.proofs.deliver.deliver.Statement.{statement}
@@ -7,33 +11,29 @@ use Rattle.run.proofs.deliver.deliver.Lts as lts
 use Rattle.eval.proofs.single.outputs.Reads as outputs-reads
 use Rattle.lists.proofs.bits.Reads as bits-reads
 
--- src/deliver.rt:23:9
 bits-requires : tie.Need-bits-requires
 bits-requires c κs = search needs
 
--- src/deliver.rt:24:9
 returns : tie.Need-returns
-returns c = ?
+returns c = λ N h. run-11 h (c .before .before .before .before .before .before .before .args .list .now) _ (sym (c .before .bits .ensures) ∙ not-true _ (c .if1 .taken))
 
--- src/deliver.rt:27:9
 returns-2 : tie.Need-returns-2
-returns-2 c = ?
+returns-2 c = λ N h. run-14 h (c .before .before .before .before .before .before .before .before .args .list .now) (sym (c .before .before .bits .ensures) ∙ not-false _ (c .before .if1 .left)) (c .before .before .before .before .before .before .before .before .pre .1) (c .before .before .before .before .before .before .before .before .pre .2) _ (c .if2 .taken)
 
--- src/deliver.rt:29:5
 outputs-requires : tie.Need-outputs-requires
-outputs-requires c κs = ?
+outputs-requires c κs =
+    let p = c .before .before .before .before .before .before .before .before .before .before .pre in
+    let l = list-length _ (c .before .before .before .before .before .before .before .before .before .before .args .list .now) (sym (c .before .before .before .before .bits .ensures) ∙ not-false _ (c .before .before .before .if1 .left)) in
+    (p .0, (omega (arith, l, p .1), p .2, omega arith))
 
--- src/deliver.rt:10:1
 same-length : tie.Need-same-length
 same-length c = search needs
 
--- src/deliver.rt:10:1
 same-length-2 : tie.Need-same-length-2
 same-length-2 c = search needs
 
--- src/deliver.rt:10:1
 returns-3 : tie.Need-returns-3
-returns-3 c = ?
+returns-3 c = λ N h. run-done h (c .before .before .before .before .before .before .before .before .before .before .before .before .before .before .before .args .list .now) (sym (c .before .before .before .before .before .before .before .before .before .bits .ensures) ∙ not-false _ (c .before .before .before .before .before .before .before .before .if1 .left)) (c .before .before .before .before .before .before .before .before .before .before .before .before .before .before .before .pre .1) (c .before .before .before .before .before .before .before .before .before .before .before .before .before .before .before .pre .2) (c .before .before .before .before .before .before .before .if2 .left) (c .before .before .before .before .outputs .ensures N (holds-ins (list-length _ (c .before .before .before .before .before .before .before .before .before .before .before .before .before .before .before .args .list .now) (sym (c .before .before .before .before .before .before .before .before .before .bits .ensures) ∙ not-false _ (c .before .before .before .before .before .before .before .before .if1 .left))) h))
 
 pub deliver-spec : {M : Type 1} → statement M
 deliver-spec =
