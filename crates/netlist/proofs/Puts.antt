@@ -5,7 +5,7 @@ use Prim.Native.Nat.{ℕ, zero, suc, _+_, _*_, _/_, _%_, _≤_, _<_}
 use native.Mathlib.Numerals.{add-one}
 use native.Mathlib.Omega.{arith}
 use borrow.Author.Count.{below-more}
-use lib.ListN.{length, getD, length-set}
+use lib.ListN.{length, getD, length-set, length-append}
 use lib.Seq.{getD-set-same, getD-set-other}
 use Rattle.netlist.specs.declared.Gate.{Gate}
 use Rattle.netlist.specs.Table.{Tables, half, gateIn, gateAt, gatesOf, putEntry, Named, Wired}
@@ -65,3 +65,7 @@ module _ (t : Tables) (n o r : ℕ) (room : Room t n) where
         (λ i l. rw (kept-operands i l, kept-results i l) (w .each i l))
         (rw (here-operands, here-results) e);
   }
+
+pub length-gates : (t : Tables) (n : ℕ) → length (gatesOf t n) ≡ n
+length-gates t zero = refl
+length-gates t (suc n) = let h = length-gates t n in rw length-append (omega arith)
