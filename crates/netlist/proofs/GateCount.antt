@@ -1,4 +1,4 @@
--- How many gates and wires the masked netlist has (document 01, the end of "How a source becomes a masked netlist").
+-- How many gates the masked netlist has (document 01, the end of "How a source becomes a masked netlist"), and how many wires.
 use Prim.Native.Nat.{ℕ, suc, _+_, _-_, _*_, _≤_}
 use mathlib.Core.Path.{_≡_, refl, sym, ap, _∙_}
 use mathlib.Core.List.{List, [], _∷_, _++_}
