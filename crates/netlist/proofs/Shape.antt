@@ -74,7 +74,7 @@ module _ {N : Netlist} {codes wanted : List ℕ} (C : MaskInputs N codes wanted)
             rw (start-twin N codes w (omega arith)) p;
       }
 
-  pub finish-placed : AllPlaced (inputBits N) (N .wires) (results [] (N .gates)) (finish N codes)
+  finish-placed : AllPlaced (inputBits N) (N .wires) (results [] (N .gates)) (finish N codes)
   finish-placed = place-all (N .gates) (C .source .good) start-placed
 
   -- every source wire has a twin
