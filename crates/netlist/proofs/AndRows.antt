@@ -18,7 +18,7 @@ use Rattle.netlist.proofs.Models.{Models}
 use Rattle.netlist.proofs.Order.{Ordered, end, step, two-below, AllWires}
 
 -- the bit that a row makes of the bits of the places, and the bits that rows make, each of them the next place
-abbrev pub rowBit : Row → List Bool → Bool
+abbrev rowBit : Row → List Bool → Bool
 rowBit r vs = cond (r .isAnd) (getD vs (r .first) false && getD vs (r .second) false) (differs (getD vs (r .first) false) (getD vs (r .second) false))
 
 abbrev pub rowBits : List Row → List Bool → List Bool
@@ -62,7 +62,7 @@ and-count e f c d n s t j h =
     eqb→eq _ _ (below-at 7 (countTest e f s t) tt′ j h)
 
 -- rows that read only places before them
-abbrev pub rowsFit : List Row → ℕ → Bool
+abbrev rowsFit : List Row → ℕ → Bool
 rowsFit [] k = true
 rowsFit (r ∷ rs) k = ltb (r .first) k && ltb (r .second) k && rowsFit rs (suc k)
 

@@ -1,6 +1,7 @@
--- How many gates and wires the masked netlist has (document 01, the end of "How a source becomes a masked netlist").
+-- How many gates the masked netlist has (document 01, the end of "How a source becomes a masked netlist"), and how many wires.
 use Prim.Native.Nat.{ℕ, suc, _+_, _-_, _*_, _≤_}
 use mathlib.Core.Path.{_≡_, refl, sym, ap, _∙_}
+use mathlib.Core.Bool.{Bool, true, false}
 use mathlib.Core.List.{List, [], _∷_, _++_}
 use native.Mathlib.Omega.{arith}
 use lib.Dec.{T, leb, leb→le}
@@ -14,7 +15,6 @@ use Rattle.netlist.specs.Read.{Within}
 use Rattle.netlist.specs.Mask.{Row, rowGates, changes, changeGates, past, State, twin, emit, advance, emitAll, advanceAll, start, finish, outTwins, maskNetlist}
 use Rattle.netlist.specs.Leak.{bit}
 use Rattle.netlist.proofs.Tests.{both, onBool}
-use Rattle.netlist.proofs.MaskedBits.{bit-most}
 use Rattle.netlist.proofs.OutputGates.{length-outGates}
 use Rattle.netlist.proofs.MaskInputs.{MaskInputs}
 use Rattle.netlist.proofs.Shape.{length-outTwins, masked-inputs, masked-outputs}
@@ -80,6 +80,10 @@ next-emitAll n S [] = omega arith
 next-emitAll n S (g ∷ gs) = rw length-append (omega (arith, next-emit n S g, next-emitAll n (advance S g) gs))
 
 -- a source gate becomes at most eight
+bit-most : (b : Bool) → bit b ≤ 1
+bit-most true = omega arith
+bit-most false = omega arith
+
 emit-most : (n : ℕ) (S : State) (g : Gate) → length (emit n S g) ≤ 8
 emit-most n S (Xor a b c) = omega (arith, length-emit n S (Xor a b c), bit-most (changes (twin S a) (twin S b)))
 emit-most n S (And a b c) = omega (arith, length-emit n S (And a b c), bit-most (changes (twin S a) (twin S b)))

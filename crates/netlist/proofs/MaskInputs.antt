@@ -1,4 +1,4 @@
--- What Mask is handed when questions 4 to 13 get a yes: the premise of every law about the masked netlist.
+-- What Mask is handed: the premise of every law about the masked netlist.
 use Prim.Native.Nat.{ℕ}
 use mathlib.Core.Path.{_≡_}
 use mathlib.Core.List.{List}
@@ -11,6 +11,7 @@ use Rattle.netlist.specs.Mask.{isCode, isWanted}
 use Rattle.netlist.specs.Services.{listGood}
 use Rattle.netlist.proofs.Tests.{both}
 
+-- a source that questions 4 to 9 admit, a list of codes that question 11 admits, and a wanted list that 13 admits
 pub record MaskInputs (N : Netlist) (codes wanted : List ℕ) : Type 0 where
   pub source : WellFormed N
   pub codesLength : length codes ≡ inputBits N

@@ -1,5 +1,5 @@
 -- Laws of bits under the mask of a code, one at a time and as the lists that go into and come out of a masked netlist.
-use Prim.Native.Nat.{ℕ, zero, suc, _+_, _≤_, _<_}
+use Prim.Native.Nat.{ℕ, zero, suc, _+_, _<_}
 use mathlib.Core.Path.{_≡_, refl, _∙_}
 use mathlib.Core.Bool.{Bool, true, false, not, _&&_, _||_}
 use mathlib.Core.List.{List, [], _∷_}
@@ -8,12 +8,12 @@ use lib.Dec.{T, eqb, eqb→eq}
 use lib.ListN.{length, getD}
 use Rattle.netlist.specs.Eval.{differs}
 use Rattle.netlist.specs.Mask.{isCode, third}
-use Rattle.netlist.specs.Leak.{maskOf, masked, bit, countOf}
+use Rattle.netlist.specs.Leak.{maskOf, masked, countOf}
 use Rattle.netlist.specs.Unmask.{unmasked}
 use Rattle.netlist.proofs.Codes.{everyBit, everyBit-at, every4-at, same, same-eq, everyCode-at, everyTwo-at, third-code, third-other, third-back}
 
 -- a bit of no mask is the bit, and a mask put on twice is none
-pub differs-false : (s : Bool) → differs s false ≡ s
+differs-false : (s : Bool) → differs s false ≡ s
 differs-false true = refl
 differs-false false = refl
 
@@ -64,11 +64,7 @@ pub wanted-law : (e f : ℕ) → T (isCode e) → T (isCode f) → T (not (eqb e
     → differs (differs s (maskOf m0 m1 e)) (maskOf m0 m1 (third e f)) ≡ differs s (maskOf m0 m1 f)
 wanted-law e f c d n s m0 m1 = change-law e (third e f) c (third-code e f c d n) (third-other e f c d n) s m0 m1 ∙ rw (third-back e f c d n) refl
 
--- a bit counts at most one, and equal bits have equal counts
-pub bit-most : (b : Bool) → bit b ≤ 1
-bit-most true = omega arith
-bit-most false = omega arith
-
+-- equal bits have equal counts
 pub countOf-same : (f g : Bool → Bool → Bool) → ((m0 m1 : Bool) → f m0 m1 ≡ g m0 m1) → countOf f ≡ countOf g
 countOf-same f g h = cc (h false false, h true false, h false true, h true true)
 

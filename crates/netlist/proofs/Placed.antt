@@ -1,4 +1,4 @@
--- The masked gates of source gates, at the next free wires: each stands above its operands, and twins stay below the next wire.
+-- The masked gates of source gates take the next wires in order, each above its operands, and all twins stay below the next wire.
 use Prim.Native.Nat.{ℕ, _+_, _≤_, _<_}
 use mathlib.Core.Path.{_≡_, refl, _∙_}
 use mathlib.Core.Logic.{_≢_}
@@ -13,7 +13,7 @@ use Rattle.netlist.specs.declared.Gate.the-variants.{Xor, And, Inv, Eqw,
 use Rattle.netlist.specs.declared.Twin.{Twin}
 use Rattle.netlist.specs.Netlist.{result}
 use Rattle.netlist.specs.Read.{operandsGiven, isGiven, gatesGood}
-use Rattle.netlist.specs.Mask.{isCode, after, maskWire, rows, changes, changeGates, changed, past, State, twin, noTwin, emit, resultTwin, advance, emitAll, advanceAll}
+use Rattle.netlist.specs.Mask.{isCode, after, maskWire, rows, changes, changeGates, changed, past, xorGates, xorTwin, andGates, andTwin, State, twin, noTwin, emit, resultTwin, advance, emitAll, advanceAll}
 use Rattle.netlist.proofs.Tests.{both, onBool, All, empty, each}
 use Rattle.netlist.proofs.Codes.{everyPair-at, code-most, third-code, after-code}
 use Rattle.netlist.proofs.GoodGates.{GoodGate, goodGate, results, given-cases}
@@ -79,39 +79,41 @@ places-below n d A D r P Q =
     let o : n + 4 < d = omega arith in
     each (P .below) (each (Q .below) (each (maskWire-below n d (A .code) r (P .code)) (each (maskWire-below n d (D .code) r (Q .code)) (each o empty))))
 
--- the masked gates of a source gate
-record Emitted (n : ℕ) (S : State) (g : Gate) : Type 0 where
-  ordered : Ordered (S .next) (emit n S g) (advance S g .next)
-  grows : S .next ≤ resultTwin S g .wire
-  code : T (isCode (resultTwin S g .code))
+-- gates in order from wire c on, the last of which gives a twin
+record Emitted (c : ℕ) (gs : List Gate) (A : Twin) : Type 0 where
+  ordered : Ordered c gs (A .wire + 1)
+  grows : c ≤ A .wire
+  code : T (isCode (A .code))
 
-emitted : (n : ℕ) (S : State) (has : ℕ → Bool) (g : Gate) → n + 5 ≤ S .next → T (operandsGiven has g) → ((w : ℕ) → T (has w) → Placed (S .next) (twin S w)) → Emitted n S g
-emitted n S has (Xor a b c) r t h =
-    let A = twin S a in
-    let B = twin S b in
-    let D = changed (S .next) A B in
-    let d = past (S .next) A B in
-    let P = h a (both (has a) (has b) t .0) in
-    let E = prepare n (S .next) A B r P (h b (both (has a) (has b) t .1)) in
-    record {
-      ordered = ordered-append (E .ordered) (step refl (two-below (A .wire) (D .wire) d (placed-later (E .grows) P .below) (E .second .below)) end);
-      grows = E .grows;
-      code = third-code (A .code) (D .code) (P .code) (E .second .code) (E .other);
-    }
-emitted n S has (And a b c) r t h =
-    let A = twin S a in
-    let B = twin S b in
-    let D = changed (S .next) A B in
-    let d = past (S .next) A B in
-    let P = h a (both (has a) (has b) t .0) in
-    let E = prepare n (S .next) A B r P (h b (both (has a) (has b) t .1)) in
-    let up : S .next ≤ d = E .grows in
-    let len : d + 7 ≡ d + 6 + 1 = omega arith in
-    record {
-      ordered = ordered-append (E .ordered) (rw len at (rows-ordered rows (andPlaces n A D) d tt (places-below n d A D (omega arith) (placed-later up P) (E .second))));
-      grows = omega arith;
-      code = P .code;
-    }
+module _ (n c : ℕ) (A B : Twin) (r : n + 5 ≤ c) (P : Placed c A) (Q : Placed c B) where
+  xor-emitted : Emitted c (xorGates n c A B) (xorTwin c A B)
+  xor-emitted =
+      let D = changed c A B in
+      let E = prepare n c A B r P Q in
+      record {
+        ordered = ordered-append (E .ordered) (step refl (two-below (A .wire) (D .wire) (past c A B) (placed-later (E .grows) P .below) (E .second .below)) end);
+        grows = E .grows;
+        code = third-code (A .code) (D .code) (P .code) (E .second .code) (E .other);
+      }
+
+  and-emitted : Emitted c (andGates n c A B) (andTwin c A B)
+  and-emitted =
+      let D = changed c A B in
+      let d = past c A B in
+      let E = prepare n c A B r P Q in
+      let up : c ≤ d = E .grows in
+      let len : d + 7 ≡ d + 6 + 1 = omega arith in
+      record {
+        ordered = ordered-append (E .ordered) (rw len at (rows-ordered rows (andPlaces n A D) d tt (places-below n d A D (omega arith) (placed-later up P) (E .second))));
+        grows = omega arith;
+        code = P .code;
+      }
+
+-- the masked gates of a source gate, where the twins of its operands are placed
+emitted : (n : ℕ) (S : State) (has : ℕ → Bool) (g : Gate) → n + 5 ≤ S .next → T (operandsGiven has g) → ((w : ℕ) → T (has w) → Placed (S .next) (twin S w))
+    → Emitted (S .next) (emit n S g) (resultTwin S g)
+emitted n S has (Xor a b c) r t h = let o = both (has a) (has b) t in xor-emitted n (S .next) (twin S a) (twin S b) r (h a (o .0)) (h b (o .1))
+emitted n S has (And a b c) r t h = let o = both (has a) (has b) t in and-emitted n (S .next) (twin S a) (twin S b) r (h a (o .0)) (h b (o .1))
 emitted n S has (Inv a c) r t h = record { ordered = step refl (lt→ltb _ _ (h a t .below)) end; grows = omega arith; code = h a t .code }
 emitted n S has (Eqw a c) r t h = record { ordered = step refl (lt→ltb _ _ (h a t .below)) end; grows = omega arith; code = h a t .code }
 emitted n S has (Eq v c) r t h =

@@ -1,4 +1,4 @@
--- The masked netlist is well formed, and a source of the small limits gives one of the large limits.
+-- The masked netlist: its gates stand in order, its values are the source's and the mask pair, and it is well formed.
 use Prim.Native.Nat.{ℕ, zero, suc, _+_, _-_, _≤_, _<_}
 use mathlib.Core.Path.{_≡_, refl, sym, ap, _∙_}
 use mathlib.Core.Bool.{Bool, true}
@@ -35,6 +35,7 @@ start-twin N codes w h =
     let z : 0 + w ≡ w = omega arith in
     List·getD-append (inputTwins 0 codes) _ noTwin w (rw length-inputTwins h) ∙ getD-inputTwins 0 codes w h ∙ (λ i. record { wire = z i; code = getD codes w 0 })
 
+-- the three gates of the masks
 mask-ordered : (n : ℕ) → Ordered (n + 2) (maskGates n) (n + 5)
 mask-ordered n =
     let product : n + 3 ≡ n + 2 + 1 = omega arith in
@@ -59,6 +60,7 @@ pub out-twin : (N : Netlist) (codes : List ℕ) (i : ℕ) → getD (outTwins N c
 out-twin N codes i = getD-drop (N .wires - outputBits N) (finish N codes .twins) i noTwin
 
 module _ {N : Netlist} {codes wanted : List ℕ} (C : MaskInputs N codes wanted) where
+  -- the state behind the three gates, and behind all source gates
   pub start-placed : AllPlaced (inputBits N) (N .wires) [] (start N codes)
   start-placed =
       let l : length codes ≡ inputBits N = C .codesLength in
@@ -72,13 +74,14 @@ module _ {N : Netlist} {codes wanted : List ℕ} (C : MaskInputs N codes wanted)
             rw (start-twin N codes w (omega arith)) p;
       }
 
-  pub finish-placed : AllPlaced (inputBits N) (N .wires) (results [] (N .gates)) (finish N codes)
+  finish-placed : AllPlaced (inputBits N) (N .wires) (results [] (N .gates)) (finish N codes)
   finish-placed = place-all (N .gates) (C .source .good) start-placed
 
   -- every source wire has a twin
   pub wire-placed : (w : ℕ) → w < N .wires → Placed (finish N codes .next) (twin (finish N codes) w)
   wire-placed w h = finish-placed .placed w (every-wire-given (C .source) w h)
 
+  -- so has every output
   pub length-outTwins : length (outTwins N codes) ≡ outputBits N
   length-outTwins =
       let f : outputBits N ≤ N .wires = C .source .outputsFit in
@@ -91,6 +94,7 @@ module _ {N : Netlist} {codes wanted : List ℕ} (C : MaskInputs N codes wanted)
       let l = length-outTwins in
       all-from (outTwins N codes) noTwin (λ i h. rw (out-twin N codes i) (wire-placed (N .wires - outputBits N + i) (omega arith)))
 
+  -- the gates give the wires behind the mask pair, in order
   pub masked-ordered : Ordered (inputBits N + 2) (maskNetlist N codes wanted .netlist .gates) (maskNetlist N codes wanted .netlist .wires)
   unfolding maskNetlist
   masked-ordered =
