@@ -32,6 +32,7 @@ pub mod LeakSearch
 -- what Mask promises
 pub mod Masking
 pub mod GateCount
+pub mod MaskedText
 pub mod Breaks
 -- tables and answers
 pub mod Puts

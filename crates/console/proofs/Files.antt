@@ -1,0 +1,97 @@
+-- The bytes of a list file that count, and the list that they are.
+use Prim.Native.Nat.{ℕ, zero, suc, _+_, _-_, _≤_, _<_}
+use mathlib.Core.Path.{_≡_, refl, sym, ap, ap₂, _∙_}
+use mathlib.Core.Bool.{cond}
+use mathlib.Core.List.{List, [], _∷_, _++_, map}
+use native.Mathlib.Numerals.{add-one}
+use native.Mathlib.Omega.{arith}
+use lib.Dec.{eqb}
+use lib.ListN.{length, getD, set, take, drop, length-set}
+use lib.Seq.{take-all, drop-cons, take-suc, take-suc-set, drop-set-lt}
+use borrow.Author.Tests.{eq-eqb, ne-eqb, le-leb, lt-leb}
+use Rattle.netlist.specs.Text.{lf}
+use Rattle.netlist.specs.Programs.{withoutLF, listBytes, entry, listFile}
+use Rattle.console.specs.File.{Cut, Counts}
+
+pub cut-all : (s : List ℕ) → length s ≤ 60000 → Cut s (length s)
+cut-all s h = record { within = omega arith; same = take-all (length s) s (omega arith) ∙ sym (take-all 60000 s h) }
+
+pub cut-long : (s : List ℕ) → 60000 < length s → Cut s 60000
+cut-long s h = record { within = omega arith; same = refl }
+
+without-end : (s : List ℕ) (n : ℕ) → n < length s → getD s n 0 ≡ lf → withoutLF (take (suc n) s) ≡ take n s
+without-end [] n h e = absurd (omega arith)
+without-end (b ∷ s) zero h e = rw (eq-eqb b lf e)
+without-end (b ∷ []) (suc n) h e = absurd (omega arith)
+without-end (b ∷ (c ∷ s)) (suc n) h e = ap (λ (l : List ℕ). b ∷ l) (without-end (c ∷ s) n (omega arith) e)
+
+without-none : (s : List ℕ) (n : ℕ) → n < length s → (getD s n 0 ≡ lf → ⊥) → withoutLF (take (suc n) s) ≡ take (suc n) s
+without-none [] n h e = absurd (omega arith)
+without-none (b ∷ s) zero h e = rw (ne-eqb b lf e)
+without-none (b ∷ []) (suc n) h e = absurd (omega arith)
+without-none (b ∷ (c ∷ s)) (suc n) h e = ap (λ (l : List ℕ). b ∷ l) (without-none (c ∷ s) n (omega arith) e)
+
+module _ {s : List ℕ} {n : ℕ} (c : Cut s n) where
+  cut : withoutLF (take n s) ≡ listBytes s
+  cut = ap withoutLF (c .same)
+
+  pub counts-none : n ≡ 0 → Counts s 0
+  counts-none z = record { within = omega arith; same = sym (ap (λ (k : ℕ). withoutLF (take k s)) z) ∙ cut }
+
+  pub counts-end : (n ≡ 0 → ⊥) → getD s (n - 1) 0 ≡ lf → Counts s (n - 1)
+  counts-end z e =
+      let k : suc (n - 1) ≡ n = omega arith in
+      record { within = omega (arith, c .within); same = sym (without-end s (n - 1) (omega (arith, c .within)) e) ∙ ap (λ (m : ℕ). withoutLF (take m s)) k ∙ cut }
+
+  pub counts-all : (n ≡ 0 → ⊥) → (getD s (n - 1) 0 ≡ lf → ⊥) → Counts s n
+  counts-all z e =
+      let k : suc (n - 1) ≡ n = omega arith in
+      record { within = c .within; same = ap (λ (m : ℕ). take m s) (sym k) ∙ sym (without-none s (n - 1) (omega (arith, c .within)) e) ∙ ap (λ (m : ℕ). withoutLF (take m s)) k ∙ cut }
+
+-- a list byte as an entry
+pub entry-low : (b : ℕ) → b < 48 → 9 ≡ entry b
+entry-low b h = rw (lt-leb 48 b h)
+
+pub entry-high : (b : ℕ) → 48 ≤ b → 57 < b → 9 ≡ entry b
+entry-high b h k = rw (le-leb 48 b h, lt-leb b 57 k)
+
+pub entry-digit : (b : ℕ) → 48 ≤ b → b ≤ 57 → b - 48 ≡ entry b
+entry-digit b h k = rw (le-leb 48 b h, le-leb b 57 k)
+
+-- the first i bytes are entries, the others as they were
+pub record Listing (file₀ file : List ℕ) (n i : ℕ) : Type 0 where
+  pub passed : i ≤ n
+  pub within : n ≤ length file₀
+  pub long : length file ≡ length file₀
+  pub entries : take i file ≡ map entry (take i file₀)
+  pub left : drop i file ≡ drop i file₀
+
+pub listing-none : {file : List ℕ} {n : ℕ} → Counts file n → Listing file file n 0
+listing-none c = record { passed = omega arith; within = c .within; long = refl; entries = refl; left = refl }
+
+map-snoc : (s : List ℕ) (b : ℕ) → map entry (s ++ (b ∷ [])) ≡ map entry s ++ (entry b ∷ [])
+map-snoc [] b = refl
+map-snoc (x ∷ s) b = ap (λ (r : List ℕ). entry x ∷ r) (map-snoc s b)
+
+module _ {file₀ file : List ℕ} {n i : ℕ} (l : Listing file₀ file n i) where
+  pub listing-more : {v : ℕ} → i < n → v ≡ entry (getD file i 0) → Listing file₀ (set file i v) n (i + 1)
+  listing-more {v} h e =
+      let w = l .within in
+      let k = l .long in
+      let tails : getD file i 0 ∷ drop (suc i) file ≡ getD file₀ i 0 ∷ drop (suc i) file₀ = sym (drop-cons file i 0 (omega arith)) ∙ l .left ∙ drop-cons file₀ i 0 (omega arith) in
+      let b : getD file i 0 ≡ getD file₀ i 0 = cc in
+      record {
+        passed = omega arith;
+        within = w;
+        long = length-set file i v ∙ k;
+        entries =
+            rw add-one (take-suc-set file i v (omega arith) ∙ ap₂ (λ (u : List ℕ) (x : ℕ). u ++ (x ∷ [])) (l .entries) (e ∙ ap entry b)
+            ∙ sym (map-snoc (take i file₀) (getD file₀ i 0)) ∙ ap (map entry) (sym (take-suc file₀ i 0 (omega arith))));
+        left = rw add-one (drop-set-lt (suc i) file i v (omega arith) ∙ (cc));
+      }
+
+  pub listing-all : Counts file₀ n → n ≤ i → take n file ≡ listFile file₀
+  unfolding listFile
+  listing-all c h =
+      let z : i ≡ n = omega (arith, l .passed) in
+      ap (λ (j : ℕ). take j file) (sym z) ∙ l .entries ∙ ap (λ (j : ℕ). map entry (take j file₀)) z ∙ ap (map entry) (c .same)

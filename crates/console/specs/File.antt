@@ -1,0 +1,16 @@
+-- How much of a list file counts.
+use Prim.Native.Nat.{ℕ, _≤_}
+use mathlib.Core.Path.{_≡_}
+use mathlib.Core.List.{List}
+use lib.ListN.{length, take}
+use Rattle.netlist.specs.Programs.{fileLimit, listBytes}
+
+-- the first r bytes of a file are those that a program reads
+pub record Cut (file : List ℕ) (r : ℕ) : Type 0 where
+  pub within : r ≤ length file
+  pub same : take r file ≡ take fileLimit file
+
+-- the first r bytes of a list file are those that count
+pub record Counts (file : List ℕ) (r : ℕ) : Type 0 where
+  pub within : r ≤ length file
+  pub same : take r file ≡ listBytes file

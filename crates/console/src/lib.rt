@@ -1,0 +1,115 @@
+// What the programs make of a list file's bytes, and the lines that they print.
+ghost use mathlib.Core.Path.{_≡_};
+ghost use mathlib.Core.List.{[], _∷_, _++_};
+ghost use lib.ListN.{take};
+ghost use Rattle.netlist.specs.Text.{space, lf};
+ghost use Rattle.netlist.specs.Number.{decimal};
+ghost use Rattle.netlist.specs.Programs.{entry as entryOf, listFile, printList, printRefused, printClean, printLeak};
+ghost use Rattle.writer.specs.Wrote.{Wrote};
+ghost use Rattle.console.specs.File.{Cut, Counts};
+
+// A list byte that is no digit counts as 9.
+fn entry(b: u8) -> u8
+    ensures { λ r. ⌜ r ≡ entryOf b ⌝ }
+{
+    if b < 48 {
+        return 9;
+    }
+    if 57 < b {
+        return 9;
+    }
+    b - 48
+}
+
+// How many bytes of a file a program reads.
+fn cut(file: &[u8]) -> usize
+    ensures { λ r. ⌜ Cut (now (file .entry)) r ⌝ }
+{
+    if 60000 < file.len() {
+        60000
+    } else {
+        file.len()
+    }
+}
+
+// How many of them count in a list file: one LF at their end comes off.
+fn counted(file: &[u8]) -> usize
+    ensures { λ r. ⌜ Counts (now (file .entry)) r ⌝ }
+{
+    let n = cut(file);
+    if n == 0 {
+        return 0;
+    }
+    if file[n - 1] == 10 {
+        return n - 1;
+    }
+    n
+}
+
+// The list in a file, in place of its bytes; answers how many entries it has.
+pub fn list(file: &mut [u8]) -> usize
+    ensures { λ r. ⌜ take r (now (file .exit)) ≡ listFile (now (file .entry)) ⌝ }
+{
+    let n = counted(file);
+    let mut i = 0;
+    while i < n {
+        file[i] = entry(file[i]);
+        i += 1;
+    }
+    n
+}
+
+// A refusal's line.
+pub fn refused(out: &mut [u8], question: u8) -> usize
+    ensures { λ r. ⌜ Wrote (now (out .entry)) 0 (printRefused question) (now (out .exit)) r ⌝ }
+{
+    let at = writer::bytes(out, 0, b"refused ");
+    let end = writer::number(out, at, question as usize);
+    writer::put(out, end, 10)
+}
+
+// Check's line for a clean netlist.
+pub fn clean(out: &mut [u8]) -> usize
+    ensures { λ r. ⌜ Wrote (now (out .entry)) 0 printClean (now (out .exit)) r ⌝ }
+{
+    writer::bytes(out, 0, b"clean\n")
+}
+
+// A number with a space in front.
+fn spaced(out: &mut [u8], at: usize, n: usize) -> usize
+    ensures { λ r. ⌜ Wrote (now (out .entry)) at (space ∷ decimal n) (now (out .exit)) r ⌝ }
+{
+    let next = writer::put(out, at, 32);
+    writer::number(out, next, n)
+}
+
+// Check's line for a leak.
+pub fn leak(out: &mut [u8], wire: usize, setting: usize, base: usize, own: usize) -> usize
+    ensures { λ r. ⌜ Wrote (now (out .entry)) 0 (printLeak wire setting base own) (now (out .exit)) r ⌝ }
+{
+    let a = writer::bytes(out, 0, b"leak");
+    let b = spaced(out, a, wire);
+    let c = spaced(out, b, setting);
+    let d = spaced(out, c, base);
+    let e = spaced(out, d, own);
+    writer::put(out, e, 10)
+}
+
+fn wide(b: u8) -> usize
+    ensures { λ r. ⌜ r ≡ b ⌝ }
+{
+    b as usize
+}
+
+// A list as digits, and LF.
+pub fn digits(out: &mut [u8], list: &[u8]) -> usize
+    ensures { λ r. ⌜ Wrote (now (out .entry)) 0 (printList (now (list .entry)) ++ (lf ∷ [])) (now (out .exit)) r ⌝ }
+{
+    let mut at = 0;
+    let mut i = 0;
+    while i < list.len() {
+        at = writer::number(out, at, wide(list[i]));
+        i += 1;
+    }
+    writer::put(out, at, 10)
+}
