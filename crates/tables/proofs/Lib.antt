@@ -2,3 +2,4 @@
 pub mod Marking
 pub mod Entries
 pub mod Reading
+pub mod Wholes

@@ -14,18 +14,29 @@ use Rattle.netlist.specs.Text.{wordLines}
 use Rattle.netlist.specs.Outcome.{Outcome, refused, done, ask, andThen}
 use Rattle.netlist.specs.GateLine.{gateLine}
 use Rattle.netlist.specs.Read.{operandsGiven, isGiven, resultGood, gateLines}
-use Rattle.netlist.specs.Table.{Tables, gatesOf, Wired}
+use Rattle.netlist.specs.Table.{Tables, tables, gatesOf, Wired}
 use Rattle.netlist.proofs.Tests.{onBool}
 use Rattle.netlist.proofs.Puts.{wired-none}
 use Rattle.text.specs.Line.{lineWords, afterLine, LineTaken, isBlank, Scanned}
+use Rattle.text.specs.declared.cursor.Cursor.{Cursor}
 use Rattle.text.proofs.LineLaws.{at-word, word-line, no-line, blanks-lines}
+use Rattle.lines.specs.declared.gate.GateLine.{GateLine}
+use Rattle.lines.specs.declared.gate.GateLine.the-variants as L
+use Rattle.lines.specs.GateAnswers.{LineIs}
 use Rattle.tables.specs.Marks.{marked, Marks}
-use Rattle.tables.specs.Gates.{Admitted, RefusedAt, GateStepIs, Stored, askLines, GatesRead, GatesNot}
+use Rattle.tables.specs.Gates.{Admitted, RefusedAt, GateStepIs, Stored, GatesRead, GatesNot, GatesIs}
 use Rattle.tables.specs.declared.gates.GateStep.{GateStep}
+use Rattle.tables.specs.declared.gates.Gates.{Gates}
 use Rattle.tables.specs.declared.gates.Gates.the-variants as G
 use Rattle.tables.proofs.Marking.{marks-operands, marks-result, marks-names, marks-on, free-below}
 
 -- ---- questions 7 to 9 of one line
+
+pub line-is : (t : List ℕ) (at : ℕ) (e : Option Gate) (r : GateLine) (g : Gate) (c : Cursor) → r ≡ L.Is g c → LineIs t at e r → (some g ≡ e) × LineTaken t at (c .at)
+line-is t at e r g c p l = let k : LineIs t at e (L.Is g c) = subst (LineIs t at e) p l in (k .gate, k .next)
+
+pub line-is-not : (t : List ℕ) (at : ℕ) (e : Option Gate) (r : GateLine) → r ≡ L.Not → LineIs t at e r → none ≡ e
+line-is-not t at e r p l = let k : LineIs t at e L.Not = subst (LineIs t at e) p l in k .gate
 
 module _ (t : List ℕ) (at n W : ℕ) (given : List ℕ) where
   pub one-7 : none ≡ gateLine (lineWords (drop at t)) → (rs : List ℕ) → Marks given n W rs → RefusedAt t at n W rs 7
@@ -169,3 +180,14 @@ refuse-line {m} {k} {left} e p = rw (eq-eqb m left (sym e ∙ p))
 
 pub refuse-count : {m k left : ℕ} (q : ℕ) → k ≡ m → (k ≡ left → ⊥) → G.Refused 6 ≡ G.Refused (cond (eqb m left) q 6)
 refuse-count {m} {k} {left} q e p = rw (ne-eqb m left (λ r. p (e ∙ r)))
+
+-- the loop over the lines: i of `count` are read, and the tables keep their lengths
+pub record Going (t : List ℕ) (from count n W : ℕ) (g₀ o₀ r₀ g o r : List ℕ) (at i : ℕ) : Type 0 where
+  pub passed : i ≤ count
+  pub given : length g ≡ length g₀
+  pub operands : length o ≡ length o₀
+  pub results : length r ≡ length r₀
+  pub reading : Reading t from n W g (tables o r) i at
+
+pub refused-is : {t : List ℕ} {from count n W : ℕ} {r : Gates} {q : ℕ} (tabs : Tables) → r ≡ G.Refused q → GatesNot t from count n W q → GatesIs t from count n W tabs r
+refused-is {t} {from} {count} {n} {W} tabs p h = subst (GatesIs t from count n W tabs) (sym p) h

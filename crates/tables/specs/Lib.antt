@@ -2,3 +2,4 @@
 pub mod Marks
 pub mod Entry
 pub mod Gates
+pub mod Whole

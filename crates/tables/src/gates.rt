@@ -2,6 +2,12 @@
 // others are only counted, since question 6 comes first.
 use crate::entry::entry_of;
 use crate::entry::put;
+use crate::marks::mark;
+use crate::marks::operands_given;
+use crate::marks::result_free;
+use crate::marks::result_of;
+use lines::gate::GateLine;
+use lines::gate::gate_line;
 use netlist::Gate;
 use text::cursor::Cursor;
 use text::lines::count_lines;
@@ -29,6 +35,25 @@ pub enum Gates {
     Refused(u8),
 }
 
+// Questions 7 to 9 of one line, whose result is then marked.
+fn one_gate(text: &[u8], at: Cursor, n: u32, w: u32, given: &mut [u8]) -> GateStep
+    requires { ⌜ (at .at ≤ length (now text)) × (w ≤ length (now given)) ⌝ }
+    ensures { λ r. ⌜ ((rs : List ℕ) → Marks (now (given .entry)) n w rs → GateStepIs (now (text .entry)) (at .at) n w rs (now (given .exit)) r) ⌝ }
+{
+    let GateLine::Is(g, next) = gate_line(text, at) else {
+        return GateStep::Refused(7);
+    };
+    if !operands_given(given, g) {
+        return GateStep::Refused(8);
+    }
+    let c = result_of(g);
+    if !result_free(given, c, n, w) {
+        return GateStep::Refused(9);
+    }
+    mark(given, c);
+    GateStep::On(g, next)
+}
+
 // Stores a gate at a place of the tables.
 fn store(operands: &mut [u64], results: &mut [u64], at: usize, g: Gate)
     requires { ⌜ (at < length (now operands)) × (at < length (now results)) ⌝ }
@@ -47,4 +72,43 @@ fn refuse(text: &[u8], at: Cursor, left: usize, question: u8) -> Gates
     } else {
         Gates::Refused(6)
     }
+}
+
+// The lines from a place on, of which there must be as many as `count`: gates of a netlist with n input bits and w wires.
+pub fn read_gates(
+    text: &[u8],
+    from: Cursor,
+    count: usize,
+    n: u32,
+    w: u32,
+    given: &mut [u8],
+    operands: &mut [u64],
+    results: &mut [u64],
+) -> Gates
+    requires { ⌜ (from .at ≤ length (now text)) × (count ≤ length (now operands)) × (count ≤ length (now results)) × Marks (now given) n w [] ⌝ }
+    ensures { λ r. ⌜ GatesIs (now (text .entry)) (from .at) count n w (tables (now (operands .exit)) (now (results .exit))) r ⌝ }
+{
+    let mut at = from.at;
+    let mut i = 0;
+    while i < count {
+        let start = (Cursor { at }).skip_blanks(text);
+        if text.len() <= start.at {
+            return Gates::Refused(6);
+        }
+        match one_gate(text, start, n, w, given) {
+            GateStep::Refused(question) => {
+                return refuse(text, start, count - i, question);
+            }
+            GateStep::On(g, next) => {
+                store(operands, results, i, g);
+                at = next.at;
+                i += 1;
+            }
+        }
+    }
+    let end = (Cursor { at }).skip_blanks(text);
+    if end.at < text.len() {
+        return Gates::Refused(6);
+    }
+    Gates::Done
 }

@@ -2,3 +2,4 @@
 pub mod entry;
 pub mod gates;
 mod marks;
+pub mod read;

@@ -1,7 +1,7 @@
 -- Question 3, byte by byte.
 use Prim.Native.Nat.{ℕ, _+_, _<_, _≤_}
 use mathlib.Core.Path.{_≡_, refl, sym, ap, ap₂, _∙_}
-use mathlib.Core.Bool.{Bool, true, false, _&&_}
+use mathlib.Core.Bool.{Bool, true, false, _&&_, and-assoc}
 use mathlib.Core.List.{List}
 use native.Mathlib.Numerals.{add-one}
 use native.Mathlib.Omega.{arith}
@@ -28,7 +28,7 @@ module _ (p : ℕ → Bool) (t : List ℕ) where
   testing-on faults fault i h e k = record {
     passed = k .passed && p (getD t i 0);
     told = ap₂ bitOr (k .told) e ∙ both-told (k .passed) (p (getD t i 0));
-    all = and-on (k .passed) (p (getD t i 0)) (every p (drop (i + 1) t)) ∙ ap (_&&_ (k .passed)) (sym left) ∙ k .all;
+    all = and-assoc (k .passed) (p (getD t i 0)) (every p (drop (i + 1) t)) ∙ ap (_&&_ (k .passed)) (sym left) ∙ k .all;
     within = omega arith;
   }
     where
@@ -40,10 +40,6 @@ module _ (p : ℕ → Bool) (t : List ℕ) where
       both-told true false = refl
       both-told false true = refl
       both-told false false = refl
-
-      and-on : (a b c : Bool) → ((a && b) && c) ≡ (a && (b && c))
-      and-on true b c = refl
-      and-on false b c = refl
 
   pub testing-end : (faults i : ℕ) → length t ≤ i → Testing p t faults i → eqb faults 0 ≡ every p t
   testing-end faults i h k = rw (k .told) (go (k .passed) ∙ k .all)

@@ -1,0 +1,5 @@
+-- The laws of gate lines and of the header.
+pub mod GateFormLaws
+pub mod GateLaws
+pub mod HeaderLaws
+pub mod WidthLaws

@@ -1,0 +1,4 @@
+-- What the answers of the line readers mean.
+pub mod GateForm
+pub mod GateAnswers
+pub mod HeaderAnswers

@@ -1,0 +1,79 @@
+-- `one_gate`: questions 7 to 9 in order, for every list of results that the table marks.
+use mathlib.Core.Path.{sym, _∙_}
+use borrow.Author.Tests.{not-true, not-false}
+use Rattle.tables.proofs.Reading.{line-is, line-is-not, one-7, one-8, one-9, one-on, one-room}
+use native.Mathlib.Omega.{arith}
+use borrow.Author.Needs.{needs}
+use Rattle.tables.proofs.gates.one_gate.Statement.{statement}
+use Rattle.tables.proofs.gates.one_gate.Tie as tie
+use Rattle.tables.proofs.gates.one_gate.Reads as reads
+use Rattle.tables.proofs.gates.one_gate.Lts as lts
+use Rattle.lines.proofs.gate.gate_line.Reads as gate-line-reads
+use Rattle.tables.proofs.marks.mark.Reads as mark-reads
+use Rattle.tables.proofs.marks.operands_given.Reads as operands-given-reads
+use Rattle.tables.proofs.marks.result_free.Reads as result-free-reads
+use Rattle.tables.proofs.marks.result_of.Reads as result-of-reads
+
+gate-line-requires : tie.Need-gate-line-requires
+gate-line-requires c κs = search needs
+
+enum-known-g : tie.Need-enum-known-g
+enum-known-g c = search needs
+
+enum-told : tie.Need-enum-told
+enum-told c = search needs
+
+returns : tie.Need-returns
+returns c = one-7 _ _ _ _ _ (line-is-not _ _ _ _ (c .enum-told .given .1) (c .before .before .gate-line .ensures))
+
+operands-given-requires : tie.Need-operands-given-requires
+operands-given-requires c κs = search needs
+
+same-length : tie.Need-same-length
+same-length c = search needs
+
+returns-2 : tie.Need-returns-2
+returns-2 c = let l = line-is _ _ _ _ _ _ (c .before .before .before .before .g .given .1) (c .before .before .before .before .before .before .gate-line .ensures) in
+    one-8 _ _ _ _ _ _ (l .0) (sym (c .before .operands-given .ensures) ∙ not-true _ (c .if1 .taken))
+
+result-of-requires : tie.Need-result-of-requires
+result-of-requires c κs = search needs
+
+result-free-requires : tie.Need-result-free-requires
+result-free-requires c κs = search needs
+
+same-length-2 : tie.Need-same-length-2
+same-length-2 c = search needs
+
+returns-3 : tie.Need-returns-3
+returns-3 c = let l = line-is _ _ _ _ _ _ (c .before .before .before .before .before .before .before .before .g .given .1) (c .before .before .before .before .before .before .before .before .before .before .gate-line .ensures) in
+    one-9 _ _ _ _ _ _ (l .0) (sym (c .before .before .before .before .before .operands-given .ensures) ∙ not-false _ (c .before .before .before .before .if1 .left)) _ (c .before .before .before .result-of .ensures) (sym (c .before .result-free .ensures) ∙ not-true _ (c .if2 .taken))
+
+mark-requires : tie.Need-mark-requires
+mark-requires c κs = one-room _ _ _ _ (c .before .before .before .before .before .before .before .before .before .before .before .before .before .before .pre .1) (sym (c .before .before .result-free .ensures) ∙ not-false _ (c .before .if2 .left))
+
+same-length-3 : tie.Need-same-length-3
+same-length-3 c = search needs
+
+returns-4 : tie.Need-returns-4
+returns-4 c = let l = line-is _ _ _ _ _ _ (c .before .before .before .before .before .before .before .before .before .before .before .before .g .given .1) (c .before .before .before .before .before .before .before .before .before .before .before .before .before .before .gate-line .ensures) in
+    one-on _ _ _ _ _ _ (l .0) (sym (c .before .before .before .before .before .before .before .before .before .operands-given .ensures) ∙ not-false _ (c .before .before .before .before .before .before .before .before .if1 .left)) _ (c .before .before .before .before .before .before .before .result-of .ensures) _ _ (sym (c .before .before .before .before .before .result-free .ensures) ∙ not-false _ (c .before .before .before .before .if2 .left)) (l .1) (c .before .before .mark .ensures)
+
+pub one-gate-spec : {M : Type 1} → statement M
+one-gate-spec =
+    tie.close
+    (tie.spec
+    gate-line-requires
+    enum-known-g
+    enum-told
+    returns
+    operands-given-requires
+    same-length
+    returns-2
+    result-of-requires
+    result-free-requires
+    same-length-2
+    returns-3
+    mark-requires
+    same-length-3
+    returns-4)

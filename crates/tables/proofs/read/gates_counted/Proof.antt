@@ -1,0 +1,24 @@
+-- `gates_counted`: one comparison.
+use Rattle.tables.specs.Whole.{gatesCounted}
+use native.Mathlib.Omega.{arith}
+use borrow.Author.Needs.{needs}
+use Rattle.tables.proofs.read.gates_counted.Statement.{statement}
+use Rattle.tables.proofs.read.gates_counted.Tie as tie
+use Rattle.tables.proofs.read.gates_counted.Reads as reads
+use Rattle.tables.proofs.read.gates_counted.Lts as lts
+
+cast-result : tie.Need-cast-result
+cast-result c = search needs
+
+cast-result-2 : tie.Need-cast-result-2
+cast-result-2 c = search needs
+
+sub-result : tie.Need-sub-result
+sub-result c = search needs
+
+returns : tie.Need-returns
+unfolding gatesCounted
+returns c = search needs
+
+pub gates-counted-spec : {M : Type 1} → statement M
+gates-counted-spec = tie.close (tie.spec cast-result cast-result-2 sub-result returns)
