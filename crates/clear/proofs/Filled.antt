@@ -31,3 +31,10 @@ filled-all t₀ t i f l =
     let k = length-zeros t₀ in
     let e : drop (length (zeros t₀)) t₀ ≡ [] = drop-of-length-le t₀ {i = length (zeros t₀)} (omega arith) in
     laid-all f (omega (arith, f .long)) ∙ ap (λ (u : List ℕ). zeros t₀ ++ u) e ∙ append-nil (zeros t₀)
+
+-- a table of zeros, by its own length and by another
+pub zeros-own : {t : List ℕ} (n : ℕ) → t ≡ replicate n 0 → t ≡ zeros t
+zeros-own {t} n e = let k : length t ≡ n = ap length e ∙ length-replicate {A = ℕ} n 0 in e ∙ ap (λ (m : ℕ). replicate m 0) (sym k)
+
+pub zeros-same : {t : List ℕ} {n m : ℕ} → t ≡ replicate n 0 → n ≡ m → t ≡ replicate m 0
+zeros-same e k = e ∙ ap (λ (m : ℕ). replicate m 0) k

@@ -1,1 +1,3 @@
+-- Laws of Rewrite.
 pub mod Forms
+pub mod Rewriting

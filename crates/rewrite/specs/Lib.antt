@@ -1,2 +1,3 @@
 -- What Rewrite's contracts cite.
 pub mod Form
+pub mod Promise

@@ -1,7 +1,8 @@
 -- Laws that belong to no one function.
 pub mod Places
 pub mod Wrote
+pub mod Lines
 pub mod Gates
 pub mod Headers
-pub mod Digits
+pub mod Decimals
 pub mod Delivering

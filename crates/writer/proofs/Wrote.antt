@@ -1,12 +1,12 @@
 -- Writing in steps.
 use Prim.Native.Nat.{ℕ, _+_, _≤_, _<_}
 use mathlib.Core.Path.{_≡_, refl, sym, ap, _∙_}
-use mathlib.Core.List.{List, [], _∷_, _++_, append-assoc}
+use mathlib.Core.List.{List, [], _∷_, _++_}
 use native.Mathlib.Numerals.{add-one}
 use native.Mathlib.Omega.{arith}
 use lib.ListN.{length, getD, take, length-append}
-use lib.Seq.{sets, length-sets, take-suc, take-all}
-use Rattle.writer.specs.Wrote.{Wrote, top, cap}
+use lib.Seq.{sets, length-sets, take-suc, take-all, take-at, sets-eq}
+use Rattle.writer.specs.Wrote.{Wrote, WroteFew, top, cap}
 use Rattle.writer.proofs.Places.{sets-out, sets-append, sets-cap}
 
 -- nothing at all
@@ -28,7 +28,8 @@ pub wrote-as : {e x u v : List ℕ} {at r : ℕ} → u ≡ v → Wrote e at u x 
 wrote-as p w = rw p at w
 
 -- past the end only the place moves
-pub wrote-out : {e : List ℕ} {at r : ℕ} (bs : List ℕ) → length e ≤ top → length e ≤ at → r ≡ cap (at + length bs) → Wrote e at bs e r
+pub wrote-out : {e : List ℕ} {at r : ℕ} (bs : List ℕ) → length e ≤ top → length e ≤ at
+    → r ≡ cap (at + length bs) → Wrote e at bs e r
 wrote-out {e} {at} bs h k n = record { room = h; list = sym (sets-out e at bs k); next = n }
 
 -- a buffer keeps its length
@@ -49,6 +50,20 @@ copied-more {s = s} {i = i} a h b = record { passed = omega arith; wrote = rw (a
 pub copied-all : {e x s : List ℕ} {at r i : ℕ} → Copied e at s x r i → length s ≤ i → Wrote e at s x r
 copied-all {s = s} {i = i} w h = wrote-as (take-all i s h) (w .wrote)
 
--- a word with the byte behind it, and then more
-pub wrote-word : {e m x v : List ℕ} {at r s : ℕ} (w : List ℕ) (b : ℕ) → Wrote e at (w ++ (b ∷ [])) m r → Wrote m r v x s → Wrote e at (w ++ b ∷ v) x s
-wrote-word {v = v} w b a c = wrote-as (append-assoc w (b ∷ []) v) (wrote-then a c)
+-- as many bytes as they are
+pub exactly : {e x u : List ℕ} {at r : ℕ} → Wrote e at u x r → WroteFew (length u) e at u x r
+exactly w = record { wrote = w; few = omega arith }
+
+-- few bytes, and then few more
+pub few-then : {e m x u v : List ℕ} {at r s : ℕ} (j k : ℕ) → WroteFew j e at u m r → WroteFew k m r v x s → WroteFew (j + k) e at (u ++ v) x s
+few-then j k a b = record { wrote = wrote-then (a .wrote) (b .wrote); few = rw length-append (omega (arith, a .few, b .few)) }
+
+-- what was written at the front of a buffer that holds it
+pub wrote-front : {e x u : List ℕ} {r : ℕ} → Wrote e 0 u x r → length u ≤ length e → take r x ≡ u
+wrote-front {e} {x} {u} {r} w h =
+    let n : r ≡ length u = omega (arith, w .next, w .room) in
+    ap (λ (l : List ℕ). take r l) (w .list ∙ sets-eq u e 0 (omega arith)) ∙ take-at u _ r (sym n)
+
+-- the place behind it
+pub front-within : {e x u : List ℕ} {r : ℕ} → Wrote e 0 u x r → length u ≤ length e → r ≤ length x
+front-within w h = omega (arith, w .next, wrote-length w)

@@ -1,10 +1,23 @@
 -- Gates written as lines.
 use Prim.Native.Nat.{ℕ}
-use mathlib.Core.List.{List}
+use mathlib.Core.List.{List, [], _∷_, _++_}
 use Rattle.netlist.specs.declared.Gate.{Gate}
-use Rattle.netlist.specs.Write.{gateText}
+use Rattle.netlist.specs.Text.{space}
+use Rattle.netlist.specs.Number.{decimal}
+use Rattle.netlist.specs.Write.{one, two, gateText}
 use Rattle.writer.specs.Wrote.{Wrote}
 
 -- the lines of gs were written into e from the place at on, and gave x; r is the next place
 pub record WroteGates (e : List ℕ) (at : ℕ) (gs : List Gate) (x : List ℕ) (r : ℕ) : Type 0 where
   pub wrote : Wrote e at (gateText gs) x r
+
+-- a word and the space behind it
+abbrev pub parted : List ℕ → List ℕ
+parted w = w ++ (space ∷ [])
+
+-- what a line of one operand, and one of two, has before the gate's name
+abbrev pub frontOf1 : ℕ → ℕ → List ℕ
+frontOf1 a c = (parted one ++ parted one) ++ (parted (decimal a) ++ parted (decimal c))
+
+abbrev pub frontOf2 : ℕ → ℕ → ℕ → List ℕ
+frontOf2 a b c = (parted two ++ parted one) ++ (parted (decimal a) ++ (parted (decimal b) ++ parted (decimal c)))

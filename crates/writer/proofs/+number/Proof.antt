@@ -1,5 +1,7 @@
-use Rattle.writer.proofs.Digits.{wrote-low, wrote-high}
-use Prim.Native.Nat.{_/_, _^_, _≤_}
+-- `number`: all digits but the last, and then the last.
+use mathlib.Core.Path.{sym}
+use Rattle.writer.proofs.Wrote.{wrote-as, wrote-then}
+use Rattle.writer.proofs.Decimals.{decimal-one, decimal-last}
 use borrow.Author.Needs.{needs}
 use native.Mathlib.Omega.{arith}
 use Prim.Native.Nat.{ℕ, _<_}
@@ -8,7 +10,7 @@ use borrow.Fn.PlainCycle.{Measures, is, falls, and}
 use Rattle.writer.proofs.number.Reads as number
 use Rattle.writer.proofs.number.Kinds as number-kinds
 use Rattle.writer.proofs.+number.Lts-number as number-lts
-use Rattle.writer.proofs.digit.Reads as digit-reads
+use Rattle.writer.proofs.put.Reads as put-reads
 use Rattle.writer.proofs.+number.{statement}
 use Rattle.writer.proofs.+number.Tie.{close}
 
@@ -21,165 +23,115 @@ number-at t = and 1 number-kinds.ps (is 1 number-kinds.ps μ-number t) number.Pr
 abbrev number-below : ℕ → In 1 number-kinds.ps
 number-below t = and 1 number-kinds.ps (falls 1 number-kinds.ps _<_ μ-number t) number.Pre
 
-number-digit-requires : (t : ℕ) → number-lts.Need-digit-requires (
-  digit-reads.Asked,
-  digit-reads.Learnt,
+number-cast-put : (t : ℕ) → number-lts.Need-cast-put (
+  put-reads.Asked,
+  put-reads.Learnt,
   number-below t,
   number.Post,
 ) (number-at t) number.Post
-number-digit-requires t c κs = search needs
+number-cast-put t c = search needs
+
+number-add-put : (t : ℕ) → number-lts.Need-add-put (
+  put-reads.Asked,
+  put-reads.Learnt,
+  number-below t,
+  number.Post,
+) (number-at t) number.Post
+number-add-put t c = search needs
+
+number-put-requires : (t : ℕ) → number-lts.Need-put-requires (
+  put-reads.Asked,
+  put-reads.Learnt,
+  number-below t,
+  number.Post,
+) (number-at t) number.Post
+number-put-requires t c κs = search needs
 
 number-same-length : (t : ℕ) → number-lts.Need-same-length (
-  digit-reads.Asked,
-  digit-reads.Learnt,
+  put-reads.Asked,
+  put-reads.Learnt,
   number-below t,
   number.Post,
 ) (number-at t) number.Post
 number-same-length t c = search needs
 
 number-returns : (t : ℕ) → number-lts.Need-returns (
-  digit-reads.Asked,
-  digit-reads.Learnt,
+  put-reads.Asked,
+  put-reads.Learnt,
   number-below t,
   number.Post,
 ) (number-at t) number.Post
-number-returns t c = wrote-low (c .before .before .before .before .if1 .taken) (c .before .before .digit .ensures)
+number-returns t c =
+    wrote-as (sym (decimal-one _ (c .before .before .before .before .if1 .taken))) (c .before .before .put .ensures)
 
-number-digit-requires-2 : (t : ℕ) → number-lts.Need-digit-requires-2 (
-  digit-reads.Asked,
-  digit-reads.Learnt,
+number-number-requires : (t : ℕ) → number-lts.Need-number-requires (
+  put-reads.Asked,
+  put-reads.Learnt,
   number-below t,
   number.Post,
 ) (number-at t) number.Post
-number-digit-requires-2 t c κs = search needs
+number-number-requires t c κs = search needs
 
-number-digit-requires-3 : (t : ℕ) → number-lts.Need-digit-requires-3 (
-  digit-reads.Asked,
-  digit-reads.Learnt,
+number-cast-put-2 : (t : ℕ) → number-lts.Need-cast-put-2 (
+  put-reads.Asked,
+  put-reads.Learnt,
   number-below t,
   number.Post,
 ) (number-at t) number.Post
-number-digit-requires-3 t c κs = search needs
+number-cast-put-2 t c = search needs
+
+number-add-put-2 : (t : ℕ) → number-lts.Need-add-put-2 (
+  put-reads.Asked,
+  put-reads.Learnt,
+  number-below t,
+  number.Post,
+) (number-at t) number.Post
+number-add-put-2 t c = search needs
+
+number-put-requires-2 : (t : ℕ) → number-lts.Need-put-requires-2 (
+  put-reads.Asked,
+  put-reads.Learnt,
+  number-below t,
+  number.Post,
+) (number-at t) number.Post
+number-put-requires-2 t c κs = search needs
 
 number-same-length-2 : (t : ℕ) → number-lts.Need-same-length-2 (
-  digit-reads.Asked,
-  digit-reads.Learnt,
+  put-reads.Asked,
+  put-reads.Learnt,
   number-below t,
   number.Post,
 ) (number-at t) number.Post
 number-same-length-2 t c = search needs
 
 number-returns-2 : (t : ℕ) → number-lts.Need-returns-2 (
-  digit-reads.Asked,
-  digit-reads.Learnt,
+  put-reads.Asked,
+  put-reads.Learnt,
   number-below t,
   number.Post,
 ) (number-at t) number.Post
-number-returns-2 t c = let n = c .before .before .before .before .before .before .before .before .before .before .before .args .n in wrote-high {n = n} (omega arith) (c .before .before .before .before .before .before .before .before .before .if1 .left) (wrote-low (c .before .before .before .before .before .before .before .before .if2 .taken) (c .before .before .before .before .before .before .digit2 .ensures)) (c .before .before .digit3 .ensures)
-
-number-digit-requires-4 : (t : ℕ) → number-lts.Need-digit-requires-4 (
-  digit-reads.Asked,
-  digit-reads.Learnt,
-  number-below t,
-  number.Post,
-) (number-at t) number.Post
-number-digit-requires-4 t c κs = search needs
-
-number-digit-requires-5 : (t : ℕ) → number-lts.Need-digit-requires-5 (
-  digit-reads.Asked,
-  digit-reads.Learnt,
-  number-below t,
-  number.Post,
-) (number-at t) number.Post
-number-digit-requires-5 t c κs = search needs
-
-number-digit-requires-6 : (t : ℕ) → number-lts.Need-digit-requires-6 (
-  digit-reads.Asked,
-  digit-reads.Learnt,
-  number-below t,
-  number.Post,
-) (number-at t) number.Post
-number-digit-requires-6 t c κs = search needs
-
-number-same-length-3 : (t : ℕ) → number-lts.Need-same-length-3 (
-  digit-reads.Asked,
-  digit-reads.Learnt,
-  number-below t,
-  number.Post,
-) (number-at t) number.Post
-number-same-length-3 t c = search needs
-
-number-returns-3 : (t : ℕ) → number-lts.Need-returns-3 (
-  digit-reads.Asked,
-  digit-reads.Learnt,
-  number-below t,
-  number.Post,
-) (number-at t) number.Post
-number-returns-3 t c = let n : ℕ = c .before .before .before .before .before .before .before .before .before .before .before .before .before .before .before .before .args .n in wrote-high {n = n} (omega arith) (c .before .before .before .before .before .before .before .before .before .before .before .before .before .before .if1 .left) (wrote-high {n = n / 10} (omega arith) (c .before .before .before .before .before .before .before .before .before .before .before .before .before .if2 .left) (wrote-low (c .before .before .before .before .before .before .before .before .before .before .before .before .if3 .taken) (c .before .before .before .before .before .before .before .before .before .before .digit4 .ensures)) (c .before .before .before .before .before .before .digit5 .ensures)) (c .before .before .digit6 .ensures)
-
-number-number-requires : (t : ℕ) → number-lts.Need-number-requires (
-  digit-reads.Asked,
-  digit-reads.Learnt,
-  number-below t,
-  number.Post,
-) (number-at t) number.Post
-number-number-requires t c κs = search needs
-
-number-digit-requires-7 : (t : ℕ) → number-lts.Need-digit-requires-7 (
-  digit-reads.Asked,
-  digit-reads.Learnt,
-  number-below t,
-  number.Post,
-) (number-at t) number.Post
-number-digit-requires-7 t c κs = search needs
-
-number-digit-requires-8 : (t : ℕ) → number-lts.Need-digit-requires-8 (
-  digit-reads.Asked,
-  digit-reads.Learnt,
-  number-below t,
-  number.Post,
-) (number-at t) number.Post
-number-digit-requires-8 t c κs = search needs
-
-number-same-length-4 : (t : ℕ) → number-lts.Need-same-length-4 (
-  digit-reads.Asked,
-  digit-reads.Learnt,
-  number-below t,
-  number.Post,
-) (number-at t) number.Post
-number-same-length-4 t c = search needs
-
-number-returns-4 : (t : ℕ) → number-lts.Need-returns-4 (
-  digit-reads.Asked,
-  digit-reads.Learnt,
-  number-below t,
-  number.Post,
-) (number-at t) number.Post
-number-returns-4 t c = let n : ℕ = c .before .before .before .before .before .before .before .before .before .before .before .before .before .before .before .before .args .n in wrote-high {n = n} (omega arith) (c .before .before .before .before .before .before .before .before .before .before .before .before .before .before .if1 .left) (wrote-high {n = n / 10} (omega arith) (c .before .before .before .before .before .before .before .before .before .before .before .before .before .if2 .left) (c .before .before .before .before .before .before .before .before .before .before .number .ensures) (c .before .before .before .before .before .before .digit7 .ensures)) (c .before .before .digit8 .ensures)
+number-returns-2 t c =
+    wrote-as
+    (sym (decimal-last _ (omega arith) (c .before .before .before .before .before .before .before .before .if1 .left)))
+    (wrote-then (c .before .before .before .before .before .before .number .ensures) (c .before .before .put2 .ensures))
 
 pub +number-spec : {M : Type 1} → statement M
 +number-spec = close μ-number λ t. number-lts.spec (
-  digit-reads.Asked,
-  digit-reads.Learnt,
+  put-reads.Asked,
+  put-reads.Learnt,
   number-below t,
   number.Post,
 )
     (number-at t)
     number.Post
-    (number-digit-requires t)
+    (number-cast-put t)
+    (number-add-put t)
+    (number-put-requires t)
     (number-same-length t)
     (number-returns t)
-    (number-digit-requires-2 t)
-    (number-digit-requires-3 t)
+    (number-number-requires t)
+    (number-cast-put-2 t)
+    (number-add-put-2 t)
+    (number-put-requires-2 t)
     (number-same-length-2 t)
     (number-returns-2 t)
-    (number-digit-requires-4 t)
-    (number-digit-requires-5 t)
-    (number-digit-requires-6 t)
-    (number-same-length-3 t)
-    (number-returns-3 t)
-    (number-number-requires t)
-    (number-digit-requires-7 t)
-    (number-digit-requires-8 t)
-    (number-same-length-4 t)
-    (number-returns-4 t)

@@ -1,3 +1,4 @@
+-- `bytes`: the first i bytes are written.
 use borrow.Author.Needs.{needs}
 use native.Mathlib.Omega.{arith}
 use Prim.Native.Nat.{_-_}
@@ -5,9 +6,6 @@ use lib.ListN.{length}
 use Rattle.writer.proofs.Wrote.{Copied, copied-none, copied-more, copied-all, wrote-length}
 use Rattle.writer.proofs.bytes.Statement.{statement}
 use Rattle.writer.proofs.bytes.Tie as tie
-use Rattle.writer.proofs.bytes.Reads as reads
-use Rattle.writer.proofs.bytes.Lts as lts
-use Rattle.writer.proofs.put.Reads as put-reads
 
 abbrev Inv-loop : tie.InvT-loop
 Inv-loop out₀ at s next₀ i₀ out next i = Copied out₀ at s out next i
@@ -31,7 +29,11 @@ loop-less : tie.Need-loop-less Inv-loop μ-loop
 loop-less c = search needs
 
 loop-again : tie.Need-loop-again Inv-loop μ-loop
-loop-again c = copied-more (c .before .before .before .before .before .before .loop .inv) (c .before .before .before .before .before .loop-test .taken) (c .before .before .put .ensures)
+loop-again c =
+    copied-more
+    (c .before .before .before .before .before .before .loop .inv)
+    (c .before .before .before .before .before .loop-test .taken)
+    (c .before .before .put .ensures)
 
 same-length : tie.Need-same-length Inv-loop μ-loop
 same-length c = wrote-length (c .before .loop .inv .wrote)

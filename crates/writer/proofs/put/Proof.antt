@@ -1,11 +1,9 @@
+-- `put`: a byte past the end only moves the place.
+use Rattle.writer.proofs.Wrote.{wrote-out}
 use native.Mathlib.Omega.{arith}
 use borrow.Author.Needs.{needs}
-use Rattle.writer.proofs.Wrote.{wrote-out}
 use Rattle.writer.proofs.put.Statement.{statement}
 use Rattle.writer.proofs.put.Tie as tie
-use Rattle.writer.proofs.put.Reads as reads
-use Rattle.writer.proofs.put.Lts as lts
-use Rattle.writer.proofs.after.Reads as after-reads
 
 slice-write-out : tie.Need-slice-write-out
 slice-write-out c = search needs
@@ -19,12 +17,12 @@ same-length c = search needs
 returns : tie.Need-returns
 returns c = search needs
 
-after-requires : tie.Need-after-requires
-after-requires c κs = search needs
+moved-requires : tie.Need-moved-requires
+moved-requires c κs = search needs
 
 returns-2 : tie.Need-returns-2
-returns-2 c = wrote-out _ (omega arith) (omega arith) (c .after .ensures)
+returns-2 c = wrote-out _ (omega arith) (omega arith) (c .moved .ensures)
 
 pub put-spec : {M : Type 1} → statement M
 put-spec =
-    tie.close (tie.spec slice-write-out add-result same-length returns after-requires returns-2)
+    tie.close (tie.spec slice-write-out add-result same-length returns moved-requires returns-2)

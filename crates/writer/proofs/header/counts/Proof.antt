@@ -1,12 +1,8 @@
-use Rattle.writer.proofs.Wrote.{wrote-then, wrote-as, wrote-length}
-use native.Mathlib.Omega.{arith}
+-- `counts`: two numbers.
+use Rattle.writer.proofs.Wrote.{wrote-then}
 use borrow.Author.Needs.{needs}
 use Rattle.writer.proofs.header.counts.Statement.{statement}
 use Rattle.writer.proofs.header.counts.Tie as tie
-use Rattle.writer.proofs.header.counts.Reads as reads
-use Rattle.writer.proofs.header.counts.Lts as lts
-use Rattle.writer.proofs.number.Reads as number-reads
-use Rattle.writer.proofs.put.Reads as put-reads
 
 number-requires : tie.Need-number-requires
 number-requires c κs = search needs
@@ -24,7 +20,12 @@ same-length : tie.Need-same-length
 same-length c = search needs
 
 returns : tie.Need-returns
-returns c = wrote-then (c .before .before .before .before .before .before .before .before .before .before .before .before .before .before .number .ensures) (wrote-then (c .before .before .before .before .before .before .before .before .before .before .put .ensures) (wrote-then (c .before .before .before .before .before .before .number2 .ensures) (c .before .before .put2 .ensures)))
+returns c =
+    wrote-then
+    (c .before .before .before .before .before .before .before .before .before .before .before .before .before .before .number .ensures)
+    (wrote-then
+    (c .before .before .before .before .before .before .before .before .before .before .put .ensures)
+    (wrote-then (c .before .before .before .before .before .before .number2 .ensures) (c .before .before .put2 .ensures)))
 
 pub counts-spec : {M : Type 1} → statement M
 counts-spec =

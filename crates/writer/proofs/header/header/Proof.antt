@@ -1,13 +1,8 @@
-use Rattle.writer.proofs.Wrote.{wrote-then, wrote-as, wrote-length}
-use native.Mathlib.Omega.{arith}
+-- `header`: three lines and a blank one.
+use Rattle.writer.proofs.Wrote.{wrote-then}
 use borrow.Author.Needs.{needs}
 use Rattle.writer.proofs.header.header.Statement.{statement}
 use Rattle.writer.proofs.header.header.Tie as tie
-use Rattle.writer.proofs.header.header.Reads as reads
-use Rattle.writer.proofs.header.header.Lts as lts
-use Rattle.writer.proofs.header.counts.Reads as counts-reads
-use Rattle.writer.proofs.header.values.Reads as values-reads
-use Rattle.writer.proofs.put.Reads as put-reads
 
 counts-requires : tie.Need-counts-requires
 counts-requires c κs = search needs
@@ -25,7 +20,12 @@ same-length : tie.Need-same-length
 same-length c = search needs
 
 returns : tie.Need-returns
-returns c = wrote-then (c .before .before .before .before .before .before .before .before .before .before .before .before .before .before .counts .ensures) (wrote-then (c .before .before .before .before .before .before .before .before .before .before .values .ensures) (wrote-then (c .before .before .before .before .before .before .values2 .ensures) (c .before .before .put .ensures)))
+returns c =
+    wrote-then
+    (c .before .before .before .before .before .before .before .before .before .before .before .before .before .before .counts .ensures)
+    (wrote-then
+    (c .before .before .before .before .before .before .before .before .before .before .values .ensures)
+    (wrote-then (c .before .before .before .before .before .before .values2 .ensures) (c .before .before .put .ensures)))
 
 pub header-spec : {M : Type 1} → statement M
 header-spec =

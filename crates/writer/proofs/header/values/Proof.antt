@@ -1,15 +1,10 @@
+-- `values`: how many, the widths, and LF.
 use lib.ListN.{length}
-use Rattle.writer.proofs.Wrote.{wrote-then, wrote-as, wrote-length}
+use Rattle.writer.proofs.Wrote.{wrote-then, wrote-as}
 use Rattle.writer.proofs.Headers.{line-spaced}
-use native.Mathlib.Omega.{arith}
 use borrow.Author.Needs.{needs}
 use Rattle.writer.proofs.header.values.Statement.{statement}
 use Rattle.writer.proofs.header.values.Tie as tie
-use Rattle.writer.proofs.header.values.Reads as reads
-use Rattle.writer.proofs.header.values.Lts as lts
-use Rattle.writer.proofs.header.widths.Reads as widths-reads
-use Rattle.writer.proofs.number.Reads as number-reads
-use Rattle.writer.proofs.put.Reads as put-reads
 
 number-requires : tie.Need-number-requires
 number-requires c κs = search needs
@@ -24,7 +19,15 @@ same-length : tie.Need-same-length
 same-length c = search needs
 
 returns : tie.Need-returns
-returns c = wrote-as (line-spaced (length (c .before .before .before .before .before .before .before .before .before .before .before .before .before .before .args .ws .now)) (c .before .before .before .before .before .before .before .before .before .before .before .before .before .before .args .ws .now)) (wrote-then (c .before .before .before .before .before .before .before .before .before .before .number .ensures) (wrote-then (c .before .before .before .before .before .before .widths .ensures) (c .before .before .put .ensures)))
+returns c =
+    wrote-as
+    (line-spaced
+    (length
+    (c .before .before .before .before .before .before .before .before .before .before .before .before .before .before .args .ws .now))
+    (c .before .before .before .before .before .before .before .before .before .before .before .before .before .before .args .ws .now))
+    (wrote-then
+    (c .before .before .before .before .before .before .before .before .before .before .number .ensures)
+    (wrote-then (c .before .before .before .before .before .before .widths .ensures) (c .before .before .put .ensures)))
 
 pub values-spec : {M : Type 1} → statement M
 values-spec = tie.close (tie.spec number-requires widths-requires put-requires same-length returns)

@@ -1,13 +1,9 @@
-use Rattle.writer.proofs.Wrote.{wrote-then, wrote-as, wrote-length}
+-- `width`: a space, and then the number.
+use Rattle.writer.proofs.Wrote.{wrote-then}
 use Rattle.writer.proofs.Headers.{wrote-width}
-use native.Mathlib.Omega.{arith}
 use borrow.Author.Needs.{needs}
 use Rattle.writer.proofs.header.width.Statement.{statement}
 use Rattle.writer.proofs.header.width.Tie as tie
-use Rattle.writer.proofs.header.width.Reads as reads
-use Rattle.writer.proofs.header.width.Lts as lts
-use Rattle.writer.proofs.number.Reads as number-reads
-use Rattle.writer.proofs.put.Reads as put-reads
 
 put-requires : tie.Need-put-requires
 put-requires c κs = search needs
@@ -19,7 +15,9 @@ same-length : tie.Need-same-length
 same-length c = search needs
 
 returns : tie.Need-returns
-returns c = wrote-width _ (wrote-then (c .before .before .before .before .before .before .put .ensures) (c .before .before .number .ensures))
+returns c =
+    wrote-width _
+    (wrote-then (c .before .before .before .before .before .before .put .ensures) (c .before .before .number .ensures))
 
 pub width-spec : {M : Type 1} → statement M
 width-spec = tie.close (tie.spec put-requires number-requires same-length returns)

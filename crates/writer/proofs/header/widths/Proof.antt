@@ -1,4 +1,5 @@
-use Rattle.writer.proofs.Wrote.{wrote-then, wrote-as, wrote-length}
+-- `widths`: the first i widths are written.
+use Rattle.writer.proofs.Wrote.{wrote-length}
 use Prim.Native.Nat.{_-_}
 use lib.ListN.{length}
 use Rattle.writer.proofs.Headers.{Spaced, spaced-none, spaced-more, spaced-all}
@@ -6,9 +7,6 @@ use borrow.Author.Needs.{needs}
 use native.Mathlib.Omega.{arith}
 use Rattle.writer.proofs.header.widths.Statement.{statement}
 use Rattle.writer.proofs.header.widths.Tie as tie
-use Rattle.writer.proofs.header.widths.Reads as reads
-use Rattle.writer.proofs.header.widths.Lts as lts
-use Rattle.writer.proofs.header.width.Reads as width-reads
 
 abbrev Inv-loop : tie.InvT-loop
 Inv-loop out₀ at ws next₀ i₀ out next i = Spaced out₀ at ws out next i
@@ -35,7 +33,11 @@ loop-less : tie.Need-loop-less Inv-loop μ-loop
 loop-less c = search needs
 
 loop-again : tie.Need-loop-again Inv-loop μ-loop
-loop-again c = spaced-more (c .before .before .before .before .before .before .loop .inv) (c .before .before .before .before .before .loop-test .taken) (c .before .before .width .ensures)
+loop-again c =
+    spaced-more
+    (c .before .before .before .before .before .before .loop .inv)
+    (c .before .before .before .before .before .loop-test .taken)
+    (c .before .before .width .ensures)
 
 same-length : tie.Need-same-length Inv-loop μ-loop
 same-length c = wrote-length (c .before .loop .inv .wrote)
