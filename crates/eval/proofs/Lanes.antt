@@ -69,9 +69,12 @@ bit-of zero l = refl
 bit-of (suc zero) l = refl
 bit-of (suc (suc x)) l = absurd (omega arith)
 
+pub bit-shr : (j n : ℕ) → n / 2 ^ j % 2 ≡ bit (lane j n)
+bit-shr j n = bit-of (n / 2 ^ j % 2) (omega arith) ∙ ap bit (sym (lane-shr j n))
+
 -- by a mask
 pub bit-first : (n : ℕ) → bitAnd n 1 ≡ bit (lane 0 n)
 bit-first n = and-mask n 1 ∙ bit-of (n % 2) (omega arith)
 
 pub bit-low : (j n : ℕ) → bitAnd (n / 2 ^ j) 1 ≡ bit (lane j n)
-bit-low j n = bit-first (n / 2 ^ j) ∙ ap bit (sym (lane-shr j n))
+bit-low j n = and-mask (n / 2 ^ j) 1 ∙ bit-shr j n

@@ -1,5 +1,5 @@
--- A gate without a branch: what the four words of its kind make of two bits.
-use mathlib.Core.Path.{_≡_, ap, _∙_}
+-- Gates as (left AND factor) XOR term.
+use mathlib.Core.Path.{_≡_, ap, ap₂, _∙_}
 use mathlib.Core.Bool.{Bool, true, false, _&&_}
 use Prim.Native.Nat.{ℕ, _*_, _/_, _-_, _^_, _<_}
 use lib.Bits.{bitAnd, bitXor}
@@ -7,6 +7,7 @@ use Rattle.netlist.specs.Eval.{differs}
 use Rattle.netlist.specs.Leak.{bit}
 use Rattle.netlist.specs.Table.{madeOf}
 use Rattle.eval.specs.Lane.{lane}
+use Rattle.eval.specs.Form.{factorOf, termOf}
 use Rattle.eval.proofs.Below.{same-below}
 use Rattle.eval.proofs.Lanes.{lane-and, lane-xor, lane-zero, bit-low}
 
@@ -18,9 +19,9 @@ lane-spread j l false = lane-zero j
 pub spread-law : (n i j : ℕ) → j < 64 → lane j (bitAnd (n / 2 ^ i) 1 * (2 ^ 64 - 1)) ≡ lane i n
 spread-law n i j l = ap (λ (x : ℕ). lane j (x * (2 ^ 64 - 1))) (bit-low i n) ∙ lane-spread j l (lane i n)
 
--- kind k: its bits in the four words, and two bits
+-- each kind's gate has the form
 abbrev row : Bool → Bool → ℕ → Bool
-row x y k = differs (differs (differs (x && lane k 0x1a) (y && lane k 0x2)) ((x && y) && lane k 0x4)) (lane k 0xc9)
+row x y k = differs (x && factorOf k y) (termOf k y)
 
 row-law : (x y : Bool) (k : ℕ) → k < 8 → row x y k ≡ madeOf k x y
 row-law true true = same-below 8 (row true true) (λ k. madeOf k true true) tt
@@ -28,7 +29,7 @@ row-law true false = same-below 8 (row true false) (λ k. madeOf k true false) t
 row-law false true = same-below 8 (row false true) (λ k. madeOf k false true) tt
 row-law false false = same-below 8 (row false false) (λ k. madeOf k false false) tt
 
--- x, y, z and u are what the kind's bits spread to
-pub made-law : (k a b j x y z u : ℕ) → k < 8 → lane j x ≡ lane k 0x1a → lane j y ≡ lane k 0x2 → lane j z ≡ lane k 0x4 → lane j u ≡ lane k 0xc9
-    → lane j (bitXor (bitXor (bitXor (bitAnd a x) (bitAnd b y)) (bitAnd (bitAnd a b) z)) u) ≡ madeOf k (lane j a) (lane j b)
-made-law k a b j x y z u l ex ey ez eu = simp (lane-xor, lane-and, ex, ey, ez, eu) (row-law (lane j a) (lane j b) k l)
+pub made-law : (k a b j x y : ℕ) → k < 8 → lane j x ≡ factorOf k (lane j b) → lane j y ≡ termOf k (lane j b)
+    → lane j (bitXor (bitAnd a x) y) ≡ madeOf k (lane j a) (lane j b)
+made-law k a b j x y l ex ey =
+    lane-xor j (bitAnd a x) y ∙ ap₂ differs (lane-and j a x ∙ ap (λ (f : Bool). lane j a && f) ex) ey ∙ row-law (lane j a) (lane j b) k l

@@ -46,6 +46,11 @@ module _ (t : Tables) (n ins : ℕ) (ws zs us : List ℕ) (room : ins ≤ length
       let long : length (lanes j (take ins ws)) ≡ ins = length-map (take ins ws) (lane j) ∙ length-take-le ins ws room in
       rw long (ran ∙ ap (λ (v : List Bool). runGates v (gatesOf t n)) (ap (lanes j) start ∙ lanes-zeros j (take ins ws) (length ws - ins)))
 
+-- the header of a netlist does not matter to its wires
+pub bare-wires : {t : Tables} {m W n o : ℕ} {N : Netlist} → Holds t m W n o N → (x : List Bool) → wireBits (bare t m W) x ≡ wireBits N x
+unfolding wireBits
+bare-wires h x = rw (h .gates, h .wires)
+
 -- the words of the last o wires, as a part of all words
 abbrev last : ℕ → List ℕ → List ℕ
 last o us = midOf (length us - o) (length us - (length us - o)) us
@@ -57,14 +62,14 @@ module _ (ws list laid us : List ℕ) {t : Tables} {n m o : ℕ} {N : Netlist} (
   last-long = mid-len (length us - o) (length us) us (omega arith) ∙ omega arith
 
   outputs-law : (j : ℕ) → lanes j us ≡ wireBits (bare t n (length laid)) (lanes j (take (length list) laid)) → lanes j (last o us) ≡ outputsOf N (lanes j list)
-  unfolding outputsOf wireBits
+  unfolding outputsOf
   outputs-law j ran =
       let l = length-drop (length us - o) us in
       let whole : last o us ≡ drop (length us - o) us = take-all (length us - (length us - o)) (drop (length us - o) us) (omega arith) in
       let in-all : wireBits (bare t n (length laid)) (lanes j (take (length list) laid)) ≡ wireBits (bare t n (length ws)) (lanes j list) =
       ap₂ (λ (k : ℕ) (x : List ℕ). wireBits (bare t n k) (lanes j x)) (ap length front ∙ length-sets ws 0 list) (ap (take (length list)) front ∙ take-front list ws fits) in
-      let out : drop (length ws - o) (wireBits (bare t n (length ws)) (lanes j list)) ≡ outputsOf N (lanes j list) = rw (h .gates, h .wires, h .outs) in
-      ap (lanes j) whole ∙ lanes-drop j (length us - o) us ∙ ap₂ (λ (k : ℕ) (v : List Bool). drop (k - o) v) long (ran ∙ in-all) ∙ out
+      let out : drop (length ws - o) (wireBits N (lanes j list)) ≡ outputsOf N (lanes j list) = rw (h .wires, h .outs) in
+      ap (lanes j) whole ∙ lanes-drop j (length us - o) us ∙ ap₂ (λ (k : ℕ) (v : List Bool). drop (k - o) v) long (ran ∙ in-all ∙ bare-wires h (lanes j list)) ∙ out
 
   -- sixty-four runs
   pub wide-law : (out₀ out : List ℕ) → o ≤ length out₀ → ((j : ℕ) → j < 64 → lanes j us ≡ wireBits (bare t n (length laid)) (lanes j (take (length list) laid)))

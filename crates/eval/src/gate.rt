@@ -6,18 +6,9 @@ ghost use lib.ListN.{length};
 ghost use Rattle.netlist.specs.Eval.{runGates};
 ghost use Rattle.netlist.specs.Table.{gateIn, madeOf, Named};
 ghost use Rattle.eval.specs.Lane.{lane, lanes};
+ghost use Rattle.eval.specs.Form.{factorOf, termOf};
 
 const ALL: u64 = 0xffff_ffff_ffff_ffff;
-
-// What a gate takes of its left operand, of its right one and of both, and what it adds: bit k is
-// for kind k. Kinds 1 to 4 are XOR, AND, INV and EQW, 5 is EQ 0, the others are EQ 1.
-const LEFT: u64 = 0b0001_1010;
-
-const RIGHT: u64 = 0b0000_0010;
-
-const BOTH: u64 = 0b0000_0100;
-
-const ADDED: u64 = 0b1100_1001;
 
 // Bit i of a number, in every lane.
 pub fn spread(bits: u64, i: usize) -> u64
@@ -27,15 +18,35 @@ pub fn spread(bits: u64, i: usize) -> u64
     ((bits >> i) & 1) * ALL
 }
 
-// What a kind makes of its operands' words. The kind is no branch, so that none can be mispredicted.
+// Every gate is (left AND factor) XOR term. Kinds 1 to 4 are XOR, AND, INV and EQW, 5 is EQ 0, the
+// others are EQ 1; bit k of these numbers is for kind k.
+const FACTORS: u64 = 0b0001_1010;
+
+const TERMS: u64 = 0b1100_1001;
+
+// The factor: the right operand for AND, else the same in all lanes.
+fn factor(kind: usize, b: u64) -> u64
+    requires { ⌜ kind < 8 ⌝ }
+    ensures { λ r. ⌜ ((j : ℕ) → j < 64 → lane j r ≡ factorOf kind (lane j b)) ⌝ }
+{
+    if kind == 2 { b } else { spread(FACTORS, kind) }
+}
+
+// The term: the right operand for XOR, else the same in all lanes.
+fn term(kind: usize, b: u64) -> u64
+    requires { ⌜ kind < 8 ⌝ }
+    ensures { λ r. ⌜ ((j : ℕ) → j < 64 → lane j r ≡ termOf kind (lane j b)) ⌝ }
+{
+    if kind == 1 { b } else { spread(TERMS, kind) }
+}
+
+// What a kind makes of its operands' words. Kinds change from gate to gate, so there is no jump on
+// them: both ways of each choice are a few instructions.
 fn made(kind: usize, a: u64, b: u64) -> u64
     requires { ⌜ kind < 8 ⌝ }
     ensures { λ r. ⌜ ((j : ℕ) → j < 64 → lane j r ≡ madeOf kind (lane j a) (lane j b)) ⌝ }
 {
-    (a & spread(LEFT, kind))
-        ^ (b & spread(RIGHT, kind))
-        ^ (a & b & spread(BOTH, kind))
-        ^ spread(ADDED, kind)
+    (a & factor(kind, b)) ^ term(kind, b)
 }
 
 // 2^32, which parts the two numbers of an entry.

@@ -1,0 +1,76 @@
+-- From the spot that the search ends with to the verdict.
+use mathlib.Core.Path.{_≡_, sym, ap, _∙_}
+use mathlib.Core.Bool.{Bool, true, false}
+use mathlib.Core.List.{List}
+use Prim.Native.Nat.{ℕ, _%_, _^_, _≤_, _<_}
+use native.Mathlib.Nat.{mod-lt}
+use native.Mathlib.Omega.{arith}
+use lib.Dec.{ltb}
+use lib.ListN.{length}
+use lib.Pow.{pow-pos}
+use borrow.Author.Tests.{ltb-true, ltb-false}
+use Rattle.netlist.specs.Netlist.{Netlist}
+use Rattle.netlist.specs.Leak.{count, setting, Found, firstWire}
+use Rattle.netlist.specs.Table.{Tables, Holds}
+use Rattle.netlist.proofs.Tests.{onBool}
+use Rattle.netlist.proofs.Search.{Searched, search-is}
+use Rattle.netlist.proofs.Settings.{setting-mod}
+use Rattle.eval.specs.Bare.{bare}
+use Rattle.eval.proofs.Runs.{bare-wires}
+use Rattle.leak.specs.declared.spot.Spot.{Spot}
+use Rattle.leak.specs.Base.{part, countIn, publicLeak}
+use Rattle.leak.specs.Spot.{Spotted}
+use Rattle.leak.specs.Search.{foundOf, Tells}
+use Rattle.leak.specs.declared.search.Verdict.{Verdict}
+use Rattle.leak.specs.declared.search.Verdict.the-variants.{Clean, Leak}
+use Rattle.leak.proofs.Bases.{secret-leak}
+use Rattle.leak.proofs.Spots.{spot-same}
+
+-- a count is that of the netlist that the tables hold
+count-bare : {t : Tables} {m W n o : ℕ} {N : Netlist} → Holds t m W n o N → (codes : List ℕ) (w : ℕ) (x : List Bool) → count (bare t m W) codes w x ≡ count N codes w x
+unfolding count
+count-bare h codes w x = simp (bare-wires h)
+
+module _ {t : Tables} {m W n o : ℕ} {N : Netlist} (h : Holds t m W n o N) (codes : List ℕ) (S : ℕ) (p : Spot)
+    (room : 2 ^ length codes ≤ S) (spotted : Spotted (countIn (bare t m W) false codes) (countIn (bare t m W) true codes) W S p) where
+  abbrev f : ℕ → ℕ → ℕ
+  f = countIn N false codes
+
+  abbrev g : ℕ → ℕ → ℕ
+  g = countIn N true codes
+
+  -- settings go round after the last
+  round : (whole : Bool) (w s : ℕ) → countIn N whole codes w s ≡ countIn N whole codes w (s % 2 ^ length codes)
+  round whole w s = ap (λ (x : List Bool). count N codes w (part whole codes x)) (setting-mod (length codes) s)
+
+  spot : Spotted f g W S p
+  spot = spot-same (λ w s l. count-bare h codes w (part false codes (setting (length codes) s))) (λ w s l. count-bare h codes w (part true codes (setting (length codes) s))) spotted
+
+  -- so the first that differs is one of them
+  inside : p .wire < W → p .at < 2 ^ length codes
+  inside l =
+      let d = spot .differs l in
+      let b = mod-lt (p .at) (pow-pos (length codes)) in
+      onBool (ltb (p .at) (2 ^ length codes)) (ltb-true (p .at) (2 ^ length codes))
+      (λ e.
+      let c = ltb-false (p .at) (2 ^ length codes) e in
+      absurd (d .other (round false (p .wire) (p .at) ∙ d .smaller (p .at % 2 ^ length codes) (omega arith) ∙ sym (round true (p .wire) (p .at)))))
+
+  tells : (v : Verdict) → Searched f g (2 ^ length codes) W (foundOf v) → Tells N codes v
+  unfolding publicLeak
+  tells v s =
+      let e : foundOf v ≡ publicLeak N codes = search-is f g (2 ^ length codes) W (foundOf v) s ∙ ap (λ (k : ℕ). firstWire f g (2 ^ length codes) k 0) (sym (h .wires)) in
+      record { public = e; secret = λ k. e ∙ secret-leak N codes k }
+
+  pub tells-leak : p .wire < W → Tells N codes (Leak (p .wire) (p .at) (p .base) (p .own))
+  tells-leak l =
+      let d = spot .differs l in
+      tells (Leak (p .wire) (p .at) (p .base) (p .own))
+      (record {
+        wire = l;
+        lower = λ w a s b. spot .lower w a s (omega arith);
+        differs = record { at = inside l; smaller = d .smaller; other = d .other; base = d .base; own = d .own };
+      })
+
+  pub tells-clean : p .wire ≡ W → Tells N codes Clean
+  tells-clean e = tells Clean (λ w a s b. spot .lower w (omega arith) s (omega arith))
