@@ -1,4 +1,4 @@
-// Numbers: one to five digits without a leading zero, or 0 itself.
+// Numbers: a few digits without a leading zero, or 0 itself.
 ghost use mathlib.Core.Path.{_≡_};
 ghost use mathlib.Core.Bool.{true};
 ghost use Prim.Native.Nat.{_≤_, _-_};
@@ -14,13 +14,14 @@ pub enum Number {
     Not,
 }
 
-// The least number of the most digits.
+// The least number of the most digits: five.
 const LONGEST: u32 = 10000;
 
+// Whether a byte is one of the ten digits.
 pub fn is_digit(b: u8) -> bool
     ensures { λ r. ⌜ r ≡ isDigit b ⌝ }
 {
-    48 <= b && b <= 57
+    b'0' <= b && b <= b'9'
 }
 
 // The value of a digit.
@@ -28,7 +29,7 @@ fn digit_value(b: u8) -> u32
     requires { ⌜ isDigit b ≡ true ⌝ }
     ensures { λ r. ⌜ (r ≡ b - 48) × (r ≤ 9) ⌝ }
 {
-    (b - 48) as u32
+    (b - b'0') as u32
 }
 
 // Whether no digit may follow a value: 0 would lead, and the longest numbers have all their digits.
@@ -40,7 +41,6 @@ fn is_full(v: u32) -> bool
 
 // The word that starts at a place as a number, its value made while its end is looked for.
 fn read_number(text: &[u8], from: Cursor) -> Number
-    requires { ⌜ from .at ≤ length (now text) ⌝ }
     ensures { λ r. ⌜ WholeIs (now (text .entry)) (from .at) r ⌝ }
 {
     let start = from.at;
@@ -55,10 +55,10 @@ fn read_number(text: &[u8], from: Cursor) -> Number
     let mut i = start + 1;
     while i < text.len() {
         let b = text[i];
-        if is_blank(b) {
-            return Number::Is(v, Cursor { at: i });
-        }
         if !is_digit(b) {
+            if is_blank(b) {
+                return Number::Is(v, Cursor { at: i });
+            }
             return Number::Not;
         }
         if is_full(v) {

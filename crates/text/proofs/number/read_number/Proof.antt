@@ -5,7 +5,8 @@ use native.Mathlib.Omega.{arith}
 use lib.ListN.{length}
 use borrow.Author.Tests.{not-true, not-false}
 use borrow.Author.Needs.{needs}
-use Rattle.text.proofs.NumberLaws.{Reading, first-none, first-other, not-full, reading-start, reading-on, reading-full, reading-other, reading-stop, reading-end}
+use Rattle.text.proofs.NumberLaws.{not-full}
+use Rattle.text.proofs.ReadingLaws.{Reading, first-none, first-other, reading-start, reading-on, reading-full, reading-other, reading-stop, reading-end}
 use Rattle.text.proofs.number.read_number.Statement.{statement}
 use Rattle.text.proofs.number.read_number.Tie as tie
 
@@ -39,32 +40,32 @@ loop-holds c = reading-start _ _ _ (search needs) (sym (c .before .before .is-di
 shared-slice-read-b : tie.Need-shared-slice-read-b Inv-loop μ-loop
 shared-slice-read-b c = search needs
 
+is-digit-requires-2 : tie.Need-is-digit-requires-2 Inv-loop μ-loop
+is-digit-requires-2 c κs = search needs
+
 is-blank-requires : tie.Need-is-blank-requires Inv-loop μ-loop
 is-blank-requires c κs = search needs
 
 returns-3 : tie.Need-returns-3 Inv-loop μ-loop
-returns-3 c = reading-stop _ _ _ _ (c .before .before .before .before .loop .inv) (search needs) (sym (c .before .is-blank .ensures) ∙ c .if3 .taken)
-
-is-digit-requires-2 : tie.Need-is-digit-requires-2 Inv-loop μ-loop
-is-digit-requires-2 c κs = search needs
+returns-3 c = reading-stop _ _ _ _ (c .before .before .before .before .before .before .loop .inv) (search needs) (sym (c .before .is-blank .ensures) ∙ c .if4 .taken)
 
 returns-4 : tie.Need-returns-4 Inv-loop μ-loop
-returns-4 c = reading-other _ _ _ _ (c .before .before .before .before .before .before .loop .inv) (search needs) (sym (c .before .before .before .is-blank .ensures) ∙ c .before .before .if3 .left) (sym (c .before .is-digit2 .ensures) ∙ not-true _ (c .if4 .taken))
+returns-4 c = reading-other _ _ _ _ (c .before .before .before .before .before .before .loop .inv) (search needs) (sym (c .before .is-blank .ensures) ∙ c .if4 .left) (sym (c .before .before .before .is-digit2 .ensures) ∙ not-true _ (c .before .before .if3 .taken))
 
 is-full-requires : tie.Need-is-full-requires Inv-loop μ-loop
 is-full-requires c κs = search needs
 
 returns-5 : tie.Need-returns-5 Inv-loop μ-loop
-returns-5 c = reading-full _ _ _ _ (c .before .before .before .before .before .before .before .before .loop .inv) (search needs) (sym (c .before .before .before .is-digit2 .ensures) ∙ not-false _ (c .before .before .if4 .left)) (sym (c .before .is-full .ensures) ∙ c .if5 .taken)
+returns-5 c = reading-full _ _ _ _ (c .before .before .before .before .before .before .loop .inv) (search needs) (sym (c .before .before .before .is-digit2 .ensures) ∙ not-false _ (c .before .before .if3 .left)) (sym (c .before .is-full .ensures) ∙ c .if5 .taken)
 
 mul-v : tie.Need-mul-v Inv-loop μ-loop
-mul-v c = omega (arith, not-full (c .before .before .before .before .before .before .before .before .loop .v) (sym (c .before .is-full .ensures) ∙ c .if5 .left) .1)
+mul-v c = omega (arith, not-full (c .before .before .before .before .before .before .loop .v) (sym (c .before .is-full .ensures) ∙ c .if5 .left) .1)
 
 digit-value-requires-2 : tie.Need-digit-value-requires-2 Inv-loop μ-loop
-digit-value-requires-2 c κs = sym (c .before .before .before .is-digit2 .ensures) ∙ not-false _ (c .before .before .if4 .left)
+digit-value-requires-2 c κs = sym (c .before .before .before .is-digit2 .ensures) ∙ not-false _ (c .before .before .if3 .left)
 
 add-v : tie.Need-add-v Inv-loop μ-loop
-add-v c = omega (arith, not-full (c .before .before .before .before .before .before .before .before .before .loop .v) (sym (c .before .before .is-full .ensures) ∙ c .before .if5 .left) .1, c .digit-value2 .ensures .1)
+add-v c = omega (arith, not-full (c .before .before .before .before .before .before .before .loop .v) (sym (c .before .before .is-full .ensures) ∙ c .before .if5 .left) .1, c .digit-value2 .ensures .1)
 
 add-i-2 : tie.Need-add-i-2 Inv-loop μ-loop
 add-i-2 c = search needs
@@ -73,7 +74,7 @@ loop-less : tie.Need-loop-less Inv-loop μ-loop
 loop-less c = search needs
 
 loop-again : tie.Need-loop-again Inv-loop μ-loop
-loop-again c = reading-on _ _ _ _ (c .before .before .before .before .before .before .before .before .before .loop .inv) _ (search needs) (sym (c .before .before .before .before .is-digit2 .ensures) ∙ not-false _ (c .before .before .before .if4 .left)) (c .digit-value2 .ensures .0) (sym (c .before .before .is-full .ensures) ∙ c .before .if5 .left)
+loop-again c = reading-on _ _ _ _ (c .before .before .before .before .before .before .before .loop .inv) _ (search needs) (sym (c .before .before .before .before .is-digit2 .ensures) ∙ not-false _ (c .before .before .before .if3 .left)) (c .digit-value2 .ensures .0) (sym (c .before .before .is-full .ensures) ∙ c .before .if5 .left)
 
 returns-6 : tie.Need-returns-6 Inv-loop μ-loop
 returns-6 c = reading-end _ _ _ _ (c .before .loop .inv) (search needs)
@@ -92,9 +93,9 @@ read-number-spec =
     add-i
     loop-holds
     shared-slice-read-b
+    is-digit-requires-2
     is-blank-requires
     returns-3
-    is-digit-requires-2
     returns-4
     is-full-requires
     returns-5
