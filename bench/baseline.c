@@ -1,0 +1,759 @@
+#include "baseline.h"
+
+#include <stdbool.h>
+#include <string.h>
+
+/* ---- netlists */
+
+/* The kinds of gates. */
+enum { XOR, AND, INV, EQW, EQ0, EQ1 };
+
+struct limits {
+    size_t table, text;
+    uint32_t wires, inputs, outputs;
+};
+
+static const struct limits small = {2048, 60000, 2048, 16, 16};
+static const struct limits large = {18430, 500000, 18430, 17, 16};
+
+#define MOST_VALUES 17
+
+/* One line of values: how many, their widths, and the sum of these. */
+struct values {
+    uint32_t count;
+    uint32_t width[MOST_VALUES];
+    uint64_t bits;
+};
+
+struct header {
+    uint32_t gates, wires;
+    struct values in, out;
+};
+
+/* Gate i lies in two tables: its operands (left, and right times 2^32; a unary gate has its operand
+ * twice, a constant 0), and its result with the kind times 2^32. */
+static inline uint64_t pair(uint32_t low, uint32_t high) { return low | (uint64_t)high << 32; }
+static inline uint32_t low(uint64_t pair) { return (uint32_t)pair; }
+static inline uint32_t high(uint64_t pair) { return (uint32_t)(pair >> 32); }
+
+/* ---- reading */
+
+/* What is left of a text. */
+struct cursor {
+    const uint8_t *at, *end;
+};
+
+static inline bool is_digit(uint8_t b) { return (uint8_t)(b - '0') < 10; }
+
+/* Question 3 of a whole text. */
+static bool bytes_good(const uint8_t *text, size_t length)
+{
+    bool bad = false;
+    for (size_t i = 0; i < length; i++) {
+        uint8_t b = text[i];
+        bad |= !(is_digit(b) | ((uint8_t)(b - 'A') < 26) | (b == ' ') | (b == '\n'));
+    }
+    return !bad;
+}
+
+static inline void skip_spaces(struct cursor *c)
+{
+    while (c->at != c->end && *c->at == ' ')
+        c->at++;
+}
+
+/* To the first word of the next line that is not blank; false where there is none. */
+static inline bool next_line(struct cursor *c)
+{
+    while (c->at != c->end && (*c->at == ' ' || *c->at == '\n'))
+        c->at++;
+    return c->at != c->end;
+}
+
+/* Whether a word ends at the cursor; if so, to the next word of the line or the line's end. */
+static inline bool word_end(struct cursor *c)
+{
+    if (c->at == c->end || *c->at == '\n')
+        return true;
+    if (*c->at != ' ')
+        return false;
+    skip_spaces(c);
+    return true;
+}
+
+static inline bool line_end(const struct cursor *c) { return c->at == c->end || *c->at == '\n'; }
+
+/* A number, and to the next word. */
+static inline bool number(struct cursor *c, uint32_t *value)
+{
+    if (c->at == c->end || !is_digit(*c->at))
+        return false;
+    uint32_t v = *c->at++ - '0';
+    if (v != 0) {
+        for (int i = 1; i < 5 && c->at != c->end && is_digit(*c->at); i++)
+            v = 10 * v + (*c->at++ - '0');
+    }
+    *value = v;
+    return word_end(c);
+}
+
+/* A one-byte word, and to the next word. */
+static inline bool letter(struct cursor *c, uint8_t b)
+{
+    if (c->at == c->end || *c->at != b)
+        return false;
+    c->at++;
+    return word_end(c);
+}
+
+/* A line of values. Widths that do not fit into the table are read all the same. */
+static bool read_values(struct cursor *c, struct values *v)
+{
+    if (!next_line(c) || !number(c, &v->count) || v->count == 0)
+        return false;
+    v->bits = 0;
+    for (uint32_t i = 0; i < v->count; i++) {
+        uint32_t width;
+        if (!number(c, &width) || width == 0)
+            return false;
+        if (i < MOST_VALUES)
+            v->width[i] = width;
+        v->bits += width;
+    }
+    return line_end(c);
+}
+
+/* Question 4. */
+static bool read_header(struct cursor *c, struct header *h)
+{
+    return next_line(c) && number(c, &h->gates) && number(c, &h->wires) && line_end(c)
+        && read_values(c, &h->in) && read_values(c, &h->out);
+}
+
+/* The kind of a gate by its name, and to the line's end; -1 where there is no such gate. */
+static inline int gate_name(struct cursor *c, bool two)
+{
+    size_t left = (size_t)(c->end - c->at);
+    const uint8_t *p = c->at;
+    int kind = -1;
+    if (left >= 3) {
+        if (two)
+            kind = memcmp(p, "XOR", 3) == 0 ? XOR : memcmp(p, "AND", 3) == 0 ? AND : -1;
+        else
+            kind = memcmp(p, "INV", 3) == 0 ? INV : memcmp(p, "EQW", 3) == 0 ? EQW : -1;
+    }
+    if (kind >= 0) {
+        c->at += 3;
+    } else if (!two && left >= 2 && memcmp(p, "EQ", 2) == 0) {
+        c->at += 2;
+        kind = EQ0;
+    }
+    return kind >= 0 && word_end(c) && line_end(c) ? kind : -1;
+}
+
+/* One gate line: questions 7 to 9. Returns 0, or the number of the first no. */
+static inline int read_gate(struct cursor *c, uint32_t wires, uint8_t *given, uint64_t *operands, uint64_t *result)
+{
+    uint32_t a, b, r;
+    bool two = *c->at == '2';
+    if (!letter(c, two ? '2' : '1') || !letter(c, '1') || !number(c, &a))
+        return 7;
+    b = a;
+    if (two && !number(c, &b))
+        return 7;
+    if (!number(c, &r))
+        return 7;
+    int kind = gate_name(c, two);
+    if (kind < 0)
+        return 7;
+    if (kind == EQ0) {
+        if (a > 1)
+            return 8;
+        kind = a == 0 ? EQ0 : EQ1;
+        a = b = 0;
+    } else if (a >= wires || b >= wires || !given[a] || !given[b]) {
+        return 8;
+    }
+    if (r >= wires || given[r])
+        return 9;
+    given[r] = 1;
+    *operands = pair(a, b);
+    *result = pair(r, (uint32_t)kind);
+    return 0;
+}
+
+/* How many lines that are not blank are left, the line of the cursor not counted. */
+static size_t lines_left(struct cursor c)
+{
+    size_t lines = 0;
+    for (;;) {
+        const uint8_t *lf = memchr(c.at, '\n', (size_t)(c.end - c.at));
+        if (lf == NULL)
+            return lines;
+        c.at = lf;
+        if (!next_line(&c))
+            return lines;
+        lines++;
+    }
+}
+
+/* All gate lines into the tables: questions 6 to 9. Returns 0, or the number of the first no. */
+static int read_gates(struct cursor c, const struct header *h, uint64_t *operands, uint64_t *results, uint8_t *given)
+{
+    uint32_t bits = (uint32_t)h->in.bits, gates = h->gates, wires = h->wires;
+    if (gates != wires - bits)
+        return 6;
+    memset(given, 1, bits);
+    memset(given + bits, 0, wires - bits);
+    for (uint32_t i = 0; i < gates; i++) {
+        if (!next_line(&c))
+            return 6;
+        int no = read_gate(&c, wires, given, &operands[i], &results[i]);
+        if (no != 0)
+            return lines_left(c) == gates - i - 1 ? no : 6;
+    }
+    return next_line(&c) ? 6 : 0;
+}
+
+/* A text into tables that are long enough: questions 2 to 9. */
+static int read_netlist(const struct limits *l, const uint8_t *text, size_t length, struct header *h,
+                        uint64_t *operands, uint64_t *results, uint8_t *given)
+{
+    if (length > l->text)
+        return 2;
+    if (!bytes_good(text, length))
+        return 3;
+    struct cursor c = {text, text + length};
+    if (!read_header(&c, h))
+        return 4;
+    if (h->wires > l->wires || h->in.count > l->inputs || h->out.count > l->outputs
+        || h->in.bits > h->wires || h->out.bits > h->wires)
+        return 5;
+    return read_gates(c, h, operands, results, given);
+}
+
+/* Questions 11 and 13: a list has one entry for each bit, each from low to high. */
+static bool list_good(const uint8_t *list, size_t length, size_t bits, uint8_t low, uint8_t high)
+{
+    if (length != bits)
+        return false;
+    bool bad = false;
+    for (size_t i = 0; i < length; i++)
+        bad |= (list[i] < low) | (list[i] > high);
+    return !bad;
+}
+
+/* ---- writing */
+
+static inline unsigned digits(uint32_t n)
+{
+    return 1 + (n >= 10) + (n >= 100) + (n >= 1000) + (n >= 10000);
+}
+
+static inline uint8_t *put_number(uint8_t *p, uint32_t n)
+{
+    unsigned count = digits(n);
+    for (unsigned i = count; i-- > 0; n /= 10)
+        p[i] = (uint8_t)('0' + n % 10);
+    return p + count;
+}
+
+static inline uint8_t *put_bytes(uint8_t *p, const char *bytes, size_t count)
+{
+    memcpy(p, bytes, count);
+    return p + count;
+}
+
+/* A text that is measured, or written: there `at` is where the next byte goes. */
+struct sink {
+    bool writing;
+    uint8_t *at;
+    size_t size;
+};
+
+/* A line of two operands and a result; the name has a space in front and LF behind. */
+static inline void put_two(struct sink *s, uint32_t a, uint32_t b, uint32_t c, const char *name)
+{
+    if (!s->writing) {
+        s->size += 11 + digits(a) + digits(b) + digits(c);
+        return;
+    }
+    uint8_t *p = put_bytes(s->at, "2 1 ", 4);
+    p = put_number(p, a);
+    *p++ = ' ';
+    p = put_number(p, b);
+    *p++ = ' ';
+    p = put_number(p, c);
+    s->at = put_bytes(p, name, 5);
+}
+
+/* A line of one operand and a result. */
+static inline void put_one(struct sink *s, uint32_t a, uint32_t c, const char *name, size_t name_len)
+{
+    if (!s->writing) {
+        s->size += 5 + name_len + digits(a) + digits(c);
+        return;
+    }
+    uint8_t *p = put_bytes(s->at, "1 1 ", 4);
+    p = put_number(p, a);
+    *p++ = ' ';
+    p = put_number(p, c);
+    s->at = put_bytes(p, name, name_len);
+}
+
+static inline void put_gate(struct sink *s, uint64_t operands, uint64_t result)
+{
+    uint32_t a = low(operands), b = high(operands), c = low(result);
+    switch (high(result)) {
+    case XOR: put_two(s, a, b, c, " XOR\n"); break;
+    case AND: put_two(s, a, b, c, " AND\n"); break;
+    case INV: put_one(s, a, c, " INV\n", 5); break;
+    case EQW: put_one(s, a, c, " EQW\n", 5); break;
+    case EQ0: put_one(s, 0, c, " EQ\n", 4); break;
+    default: put_one(s, 1, c, " EQ\n", 4); break;
+    }
+}
+
+static void put_values(struct sink *s, const struct values *v)
+{
+    if (!s->writing) {
+        s->size += digits(v->count) + 1;
+        for (uint32_t i = 0; i < v->count; i++)
+            s->size += 1 + digits(v->width[i]);
+        return;
+    }
+    s->at = put_number(s->at, v->count);
+    for (uint32_t i = 0; i < v->count; i++) {
+        *s->at++ = ' ';
+        s->at = put_number(s->at, v->width[i]);
+    }
+    *s->at++ = '\n';
+}
+
+/* The header and its blank line. */
+static void put_header(struct sink *s, const struct header *h)
+{
+    if (s->writing) {
+        s->at = put_number(s->at, h->gates);
+        *s->at++ = ' ';
+        s->at = put_number(s->at, h->wires);
+        *s->at++ = '\n';
+    } else {
+        s->size += digits(h->gates) + digits(h->wires) + 2;
+    }
+    put_values(s, &h->in);
+    put_values(s, &h->out);
+    if (s->writing)
+        *s->at++ = '\n';
+    else
+        s->size++;
+}
+
+static inline void put_gates(struct sink *s, uint32_t gates, const uint64_t *operands, const uint64_t *results)
+{
+    for (uint32_t i = 0; i < gates; i++)
+        put_gate(s, operands[i], results[i]);
+}
+
+/* ---- Rewrite */
+
+static int64_t rewrite(const struct header *h, const uint64_t *operands, const uint64_t *results,
+                       uint8_t *out, size_t out_len)
+{
+    struct sink measure = {false, NULL, 0};
+    put_header(&measure, h);
+    put_gates(&measure, h->gates, operands, results);
+    if (measure.size > out_len)
+        return -14;
+    struct sink text = {true, out, 0};
+    put_header(&text, h);
+    put_gates(&text, h->gates, operands, results);
+    return text.at - out;
+}
+
+int64_t baseline_rewrite(const uint8_t *text, size_t text_len,
+                         uint8_t *out, size_t out_len,
+                         uint64_t *operands, size_t operands_len,
+                         uint64_t *results, size_t results_len,
+                         uint8_t *given, size_t given_len)
+{
+    struct header h;
+    int64_t answer;
+    if (operands_len < large.table || results_len < large.table || given_len < large.table)
+        answer = -1;
+    else
+        answer = -read_netlist(&large, text, text_len, &h, operands, results, given);
+    if (answer == 0)
+        answer = rewrite(&h, operands, results, out, out_len);
+    memset(operands, 0, operands_len * sizeof *operands);
+    memset(results, 0, results_len * sizeof *results);
+    memset(given, 0, given_len);
+    return answer;
+}
+
+/* ---- evaluating, 64 settings at once */
+
+#define ONES UINT64_MAX
+
+/* A gate of operands a and b makes ((a ^ b) & x) ^ (a & b & z) ^ c. */
+static const struct {
+    uint64_t x, z, c, unused;
+} makes[6] = {
+    [XOR] = {ONES, 0, 0, 0}, [AND] = {0, ONES, 0, 0}, [INV] = {0, ONES, ONES, 0},
+    [EQW] = {0, ONES, 0, 0}, [EQ0] = {0, 0, 0, 0},    [EQ1] = {0, 0, ONES, 0},
+};
+
+static void evaluate(uint64_t *restrict words, uint32_t gates, const uint64_t *restrict operands,
+                     const uint64_t *restrict results)
+{
+    for (uint32_t i = 0; i < gates; i++) {
+        uint64_t a = words[low(operands[i])], b = words[high(operands[i])];
+        uint32_t kind = high(results[i]);
+        words[low(results[i])] = ((a ^ b) & makes[kind].x) ^ (a & b & makes[kind].z) ^ makes[kind].c;
+    }
+}
+
+/* ---- Run */
+
+static int64_t run(const struct header *h, const uint64_t *operands, const uint64_t *results, uint64_t *words,
+                   const uint8_t *list, size_t list_len, uint8_t *out, size_t out_len)
+{
+    if (!list_good(list, list_len, h->in.bits, 0, 1))
+        return -11;
+    if (h->out.bits > out_len)
+        return -14;
+    for (size_t i = 0; i < list_len; i++)
+        words[i] = list[i];
+    evaluate(words, h->gates, operands, results);
+    const uint64_t *outputs = words + (h->wires - h->out.bits);
+    for (size_t i = 0; i < h->out.bits; i++)
+        out[i] = outputs[i] & 1;
+    return (int64_t)h->out.bits;
+}
+
+static int64_t run_lanes(const struct header *h, const uint64_t *operands, const uint64_t *results, uint64_t *words,
+                         const uint64_t *list, size_t list_len, uint64_t *out, size_t out_len)
+{
+    if (list_len != h->in.bits)
+        return -11;
+    if (h->out.bits > out_len)
+        return -14;
+    memcpy(words, list, list_len * sizeof *list);
+    evaluate(words, h->gates, operands, results);
+    memcpy(out, words + (h->wires - h->out.bits), h->out.bits * sizeof *out);
+    return (int64_t)h->out.bits;
+}
+
+int64_t baseline_run(const uint8_t *text, size_t text_len,
+                     const uint8_t *list, size_t list_len,
+                     uint8_t *out, size_t out_len,
+                     uint64_t *operands, size_t operands_len,
+                     uint64_t *results, size_t results_len,
+                     uint8_t *given, size_t given_len,
+                     uint64_t *words, size_t words_len)
+{
+    struct header h;
+    int64_t answer;
+    if (operands_len < large.table || results_len < large.table || given_len < large.table || words_len < large.table)
+        answer = -1;
+    else
+        answer = -read_netlist(&large, text, text_len, &h, operands, results, given);
+    if (answer == 0)
+        answer = run(&h, operands, results, words, list, list_len, out, out_len);
+    memset(operands, 0, operands_len * sizeof *operands);
+    memset(results, 0, results_len * sizeof *results);
+    memset(given, 0, given_len);
+    memset(words, 0, words_len * sizeof *words);
+    return answer;
+}
+
+int64_t baseline_run_lanes(const uint8_t *text, size_t text_len,
+                           const uint64_t *list, size_t list_len,
+                           uint64_t *out, size_t out_len,
+                           uint64_t *operands, size_t operands_len,
+                           uint64_t *results, size_t results_len,
+                           uint8_t *given, size_t given_len,
+                           uint64_t *words, size_t words_len)
+{
+    struct header h;
+    int64_t answer;
+    if (operands_len < large.table || results_len < large.table || given_len < large.table || words_len < large.table)
+        answer = -1;
+    else
+        answer = -read_netlist(&large, text, text_len, &h, operands, results, given);
+    if (answer == 0)
+        answer = run_lanes(&h, operands, results, words, list, list_len, out, out_len);
+    memset(operands, 0, operands_len * sizeof *operands);
+    memset(results, 0, results_len * sizeof *results);
+    memset(given, 0, given_len);
+    memset(words, 0, words_len * sizeof *words);
+    return answer;
+}
+
+/* ---- Mask */
+
+/* The code that neither of two different codes is; the code after a code. */
+static const uint8_t third[4][4] = {{0, 0, 0, 0}, {0, 0, 3, 2}, {0, 3, 0, 1}, {0, 2, 1, 0}};
+static const uint8_t after[4] = {0, 2, 3, 1};
+
+/* A masked netlist in the making: the source's input bits, the next wire, and the text. */
+struct masking {
+    uint32_t bits, next;
+    struct sink text;
+};
+
+static inline uint32_t put_xor(struct masking *m, uint32_t a, uint32_t b)
+{
+    put_two(&m->text, a, b, m->next, " XOR\n");
+    return m->next++;
+}
+
+static inline uint32_t put_and(struct masking *m, uint32_t a, uint32_t b)
+{
+    put_two(&m->text, a, b, m->next, " AND\n");
+    return m->next++;
+}
+
+static inline uint32_t put_inv(struct masking *m, uint32_t a)
+{
+    put_one(&m->text, a, m->next, " INV\n", 5);
+    return m->next++;
+}
+
+static inline uint32_t put_eqw(struct masking *m, uint32_t a)
+{
+    put_one(&m->text, a, m->next, " EQW\n", 5);
+    return m->next++;
+}
+
+/* The wire of a code's mask. */
+static inline uint32_t mask_wire(const struct masking *m, uint8_t code) { return m->bits + code - 1; }
+
+/* The seven steps of an AND of operands a and b with mask wires p and q. */
+static inline uint32_t put_masked_and(struct masking *m, uint32_t a, uint32_t b, uint32_t p, uint32_t q)
+{
+    uint32_t s1 = put_and(m, a, b);
+    uint32_t s2 = put_and(m, a, q);
+    uint32_t s3 = put_xor(m, s2, q);
+    uint32_t s4 = put_xor(m, s1, s3);
+    uint32_t s5 = put_and(m, p, b);
+    uint32_t s6 = put_xor(m, s5, m->bits + 4);
+    return put_xor(m, s4, s6);
+}
+
+/* A source gate; the twin and the code of its result go into the tables. */
+static inline void mask_gate(struct masking *m, uint64_t operands, uint64_t result, uint32_t *wires, uint8_t *codes)
+{
+    uint32_t a = wires[low(operands)], b = wires[high(operands)];
+    uint8_t code = codes[low(operands)], other = codes[high(operands)];
+    uint32_t kind = high(result), twin;
+    if ((kind == XOR || kind == AND) && other == code) {
+        b = put_xor(m, b, mask_wire(m, after[code]));
+        other = third[code][after[code]];
+    }
+    switch (kind) {
+    case XOR:
+        twin = put_xor(m, a, b);
+        code = third[code][other];
+        break;
+    case AND: twin = put_masked_and(m, a, b, mask_wire(m, code), mask_wire(m, other)); break;
+    case INV: twin = put_inv(m, a); break;
+    case EQW: twin = put_eqw(m, a); break;
+    case EQ0:
+        twin = put_eqw(m, m->bits);
+        code = 1;
+        break;
+    default:
+        twin = put_inv(m, m->bits);
+        code = 1;
+        break;
+    }
+    wires[low(result)] = twin;
+    codes[low(result)] = code;
+}
+
+/* All gates of the masked netlist. */
+static inline void mask_gates(struct masking *m, const struct header *h, const uint8_t *in_codes,
+                              const uint8_t *wanted, const uint64_t *operands, const uint64_t *results,
+                              uint32_t *wires, uint8_t *codes)
+{
+    uint32_t n = m->bits;
+    m->next = n + 2;
+    put_xor(m, n, n + 1);
+    put_and(m, n, n + 1);
+    put_xor(m, n + 2, n + 3);
+    for (uint32_t i = 0; i < n; i++) {
+        wires[i] = i;
+        codes[i] = in_codes[i];
+    }
+    for (uint32_t i = 0; i < h->gates; i++)
+        mask_gate(m, operands[i], results[i], wires, codes);
+    uint32_t first = h->wires - (uint32_t)h->out.bits;
+    for (uint32_t i = 0; i < h->out.bits; i++) {
+        uint8_t code = codes[first + i];
+        if (wanted[i] == 0 || wanted[i] == code)
+            put_eqw(m, wires[first + i]);
+        else
+            put_xor(m, wires[first + i], mask_wire(m, third[code][wanted[i]]));
+    }
+}
+
+static int64_t mask(const struct header *h, const uint64_t *operands, const uint64_t *results, uint32_t *wires,
+                    uint8_t *marks, const uint8_t *codes, size_t codes_len, const uint8_t *wanted,
+                    size_t wanted_len, uint8_t *out, size_t out_len, uint8_t *out_codes, size_t out_codes_len)
+{
+    if (!list_good(codes, codes_len, h->in.bits, 1, 3))
+        return -11;
+    if (!list_good(wanted, wanted_len, h->out.bits, 0, 3))
+        return -13;
+
+    uint32_t n = (uint32_t)h->in.bits;
+    struct masking measure = {n, 0, {false, NULL, 0}};
+    mask_gates(&measure, h, codes, wanted, operands, results, wires, marks);
+    struct header masked = *h;
+    masked.wires = measure.next;
+    masked.gates = measure.next - n - 2;
+    masked.in.width[masked.in.count++] = 2;
+    put_header(&measure.text, &masked);
+    if (measure.text.size > out_len || h->out.bits > out_codes_len)
+        return -14;
+
+    struct masking written = {n, 0, {true, out, 0}};
+    put_header(&written.text, &masked);
+    mask_gates(&written, h, codes, wanted, operands, results, wires, marks);
+    uint32_t first = h->wires - (uint32_t)h->out.bits;
+    for (uint32_t i = 0; i < h->out.bits; i++)
+        out_codes[i] = wanted[i] == 0 ? marks[first + i] : wanted[i];
+    return written.text.at - out;
+}
+
+int64_t baseline_mask(const uint8_t *text, size_t text_len,
+                      const uint8_t *codes, size_t codes_len,
+                      const uint8_t *wanted, size_t wanted_len,
+                      uint8_t *out, size_t out_len,
+                      uint8_t *out_codes, size_t out_codes_len,
+                      uint64_t *operands, size_t operands_len,
+                      uint64_t *results, size_t results_len,
+                      uint32_t *wires, size_t wires_len,
+                      uint8_t *marks, size_t marks_len)
+{
+    struct header h;
+    int64_t answer;
+    if (operands_len < small.table || results_len < small.table || wires_len < small.table || marks_len < small.table)
+        answer = -1;
+    else
+        answer = -read_netlist(&small, text, text_len, &h, operands, results, marks);
+    if (answer == 0)
+        answer = mask(&h, operands, results, wires, marks, codes, codes_len, wanted, wanted_len, out, out_len,
+                      out_codes, out_codes_len);
+    memset(operands, 0, operands_len * sizeof *operands);
+    memset(results, 0, results_len * sizeof *results);
+    memset(wires, 0, wires_len * sizeof *wires);
+    memset(marks, 0, marks_len);
+    return answer;
+}
+
+/* ---- Check */
+
+/* A word holds 16 settings by 4 mask settings: of block b, lane j is setting 16 b + j / 4, with m0
+ * the lowest bit of j and m1 the next. */
+#define M0 0xaaaaaaaaaaaaaaaaU
+#define M1 0xccccccccccccccccU
+
+/* The lanes of a block whose setting has bit i. */
+static inline uint64_t setting_bit(size_t i, size_t block)
+{
+    static const uint64_t within[4] = {0xf0f0f0f0f0f0f0f0U, 0xff00ff00ff00ff00U, 0xffff0000ffff0000U,
+                                       0xffffffff00000000U};
+    return i < 4 ? within[i] : block >> (i - 4) & 1 ? ONES : 0;
+}
+
+/* How many of the four lanes of each setting are one, a number for each in four bits. */
+static inline uint64_t counts(uint64_t word)
+{
+    uint64_t twos = word - (word >> 1 & 0x5555555555555555U);
+    return (twos & 0x3333333333333333U) + (twos >> 2 & 0x3333333333333333U);
+}
+
+static void load_block(uint64_t *words, const uint8_t *codes, size_t bits, size_t block)
+{
+    static const uint64_t masks[4] = {0, M0, M1, M0 ^ M1};
+    for (size_t i = 0; i < bits; i++)
+        words[i] = setting_bit(i, block) ^ masks[codes[i]];
+    words[bits] = M0;
+    words[bits + 1] = M1;
+}
+
+/* Whether a wire below some bound has a count that is not setting 0's. */
+static bool differs(const uint64_t *restrict words, const uint64_t *restrict base, uint32_t bound)
+{
+    uint64_t difference = 0;
+    for (uint32_t w = 0; w < bound; w++)
+        difference |= counts(words[w]) ^ base[w];
+    return difference != 0;
+}
+
+static int64_t check(const struct header *h, const uint64_t *operands, const uint64_t *results, uint64_t *words,
+                     uint64_t *base, const uint8_t *codes, size_t codes_len, uint64_t *leak)
+{
+    if (h->in.count < 2 || h->in.width[h->in.count - 1] != 2)
+        return -10;
+    size_t bits = h->in.bits - 2;
+    if (!list_good(codes, codes_len, bits, 1, 3))
+        return -11;
+    if (bits > 12)
+        return -12;
+
+    uint32_t found = h->wires;
+    size_t blocks = bits > 4 ? (size_t)1 << (bits - 4) : 1;
+    for (size_t block = 0; block < blocks && found > 0; block++) {
+        load_block(words, codes, bits, block);
+        evaluate(words, h->gates, operands, results);
+        if (block == 0) {
+            for (uint32_t w = 0; w < h->wires; w++)
+                base[w] = (counts(words[w]) & 15) * 0x1111111111111111U;
+        }
+        if (!differs(words, base, found))
+            continue;
+        for (uint32_t w = 0; w < found; w++) {
+            uint64_t difference = counts(words[w]) ^ base[w];
+            if (difference != 0) {
+                unsigned place = 0;
+                while ((difference >> 4 * place & 15) == 0)
+                    place++;
+                leak[0] = found = w;
+                leak[1] = 16 * block + place;
+                leak[2] = base[w] & 15;
+                leak[3] = counts(words[w]) >> 4 * place & 15;
+            }
+        }
+    }
+    return found < h->wires;
+}
+
+int64_t baseline_check(const uint8_t *text, size_t text_len,
+                       const uint8_t *codes, size_t codes_len,
+                       uint64_t *leak, size_t leak_len,
+                       uint64_t *operands, size_t operands_len,
+                       uint64_t *results, size_t results_len,
+                       uint8_t *given, size_t given_len,
+                       uint64_t *words, size_t words_len,
+                       uint64_t *base, size_t base_len)
+{
+    struct header h;
+    int64_t answer;
+    (void)leak_len;
+    if (operands_len < large.table || results_len < large.table || given_len < large.table
+        || words_len < large.table || base_len < large.table)
+        answer = -1;
+    else
+        answer = -read_netlist(&large, text, text_len, &h, operands, results, given);
+    if (answer == 0)
+        answer = check(&h, operands, results, words, base, codes, codes_len, leak);
+    memset(operands, 0, operands_len * sizeof *operands);
+    memset(results, 0, results_len * sizeof *results);
+    memset(given, 0, given_len);
+    memset(words, 0, words_len * sizeof *words);
+    memset(base, 0, base_len * sizeof *base);
+    return answer;
+}

@@ -1,0 +1,53 @@
+/* The baseline under the library's names, so that the library's tests can be put to it. */
+#include "../include/fidrovelj.h"
+#include "baseline.h"
+
+int64_t fidrovelj_rewrite(const uint8_t *text, size_t text_len,
+                          uint8_t *out, size_t out_len,
+                          uint64_t *operands, size_t operands_len,
+                          uint64_t *results, size_t results_len,
+                          uint8_t *given, size_t given_len)
+{
+    return baseline_rewrite(text, text_len, out, out_len, operands, operands_len, results, results_len, given,
+                            given_len);
+}
+
+int64_t fidrovelj_run(const uint8_t *text, size_t text_len,
+                      const uint8_t *list, size_t list_len,
+                      uint8_t *out, size_t out_len,
+                      uint64_t *operands, size_t operands_len,
+                      uint64_t *results, size_t results_len,
+                      uint8_t *given, size_t given_len,
+                      uint64_t *words, size_t words_len)
+{
+    return baseline_run(text, text_len, list, list_len, out, out_len, operands, operands_len, results, results_len,
+                        given, given_len, words, words_len);
+}
+
+int64_t fidrovelj_mask(const uint8_t *text, size_t text_len,
+                       const uint8_t *codes, size_t codes_len,
+                       const uint8_t *wanted, size_t wanted_len,
+                       uint8_t *out, size_t out_len,
+                       uint8_t *out_codes, size_t out_codes_len,
+                       uint64_t *operands, size_t operands_len,
+                       uint64_t *results, size_t results_len,
+                       uint32_t *wires, size_t wires_len,
+                       uint8_t *marks, size_t marks_len)
+{
+    return baseline_mask(text, text_len, codes, codes_len, wanted, wanted_len, out, out_len, out_codes,
+                         out_codes_len, operands, operands_len, results, results_len, wires, wires_len, marks,
+                         marks_len);
+}
+
+int64_t fidrovelj_check(const uint8_t *text, size_t text_len,
+                        const uint8_t *codes, size_t codes_len,
+                        uint64_t *leak, size_t leak_len,
+                        uint64_t *operands, size_t operands_len,
+                        uint64_t *results, size_t results_len,
+                        uint8_t *given, size_t given_len,
+                        uint64_t *words, size_t words_len,
+                        uint64_t *base, size_t base_len)
+{
+    return baseline_check(text, text_len, codes, codes_len, leak, leak_len, operands, operands_len, results,
+                          results_len, given, given_len, words, words_len, base, base_len);
+}

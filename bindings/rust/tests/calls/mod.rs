@@ -1,0 +1,177 @@
+//! Calls of the four services, and their outcomes by the reference.
+
+pub mod circuits;
+pub mod damage;
+pub mod known;
+pub mod netlists;
+pub mod plan;
+pub mod random;
+pub mod sizes;
+pub mod slips;
+
+use crate::reference;
+use std::fmt;
+
+#[derive(Clone, Copy, Debug, PartialEq, Eq)]
+pub enum Service {
+    Rewrite,
+    Run,
+    Mask,
+    Check,
+}
+
+use Service::{Check, Mask, Rewrite, Run};
+
+impl Service {
+    pub const ALL: [Service; 4] = [Rewrite, Run, Mask, Check];
+
+    /// How many working tables a call lends.
+    pub fn tables(self) -> usize {
+        match self {
+            Rewrite => 3,
+            Run | Mask => 4,
+            Check => 5,
+        }
+    }
+
+    /// The least entries of a working table.
+    pub fn table(self) -> usize {
+        self.limits().table
+    }
+
+    pub fn limits(self) -> &'static reference::netlist::Limits {
+        match self {
+            Mask => &reference::netlist::SMALL,
+            Rewrite | Run | Check => &reference::netlist::LARGE,
+        }
+    }
+
+    /// The questions that the service can refuse by.
+    pub fn questions(self) -> &'static [u8] {
+        match self {
+            Rewrite => &[1, 2, 3, 4, 5, 6, 7, 8, 9, 14],
+            Run => &[1, 2, 3, 4, 5, 6, 7, 8, 9, 11, 14],
+            Mask => &[1, 2, 3, 4, 5, 6, 7, 8, 9, 11, 13, 14],
+            Check => &[1, 2, 3, 4, 5, 6, 7, 8, 9, 10, 11, 12],
+        }
+    }
+}
+
+/// All that a call is handed.
+#[derive(Clone, PartialEq, Eq)]
+pub struct Call {
+    pub service: Service,
+    pub text: Vec<u8>,
+    /// Run's input bits, or the codes of Mask and Check.
+    pub list: Vec<u8>,
+    /// Mask's wanted codes.
+    pub wanted: Vec<u8>,
+    /// The length of the text buffer of Rewrite and Mask.
+    pub text_room: usize,
+    /// The length of Run's buffer of bits or Mask's of codes.
+    pub list_room: usize,
+    /// The length of each working table.
+    pub tables: Vec<usize>,
+}
+
+/// Room for any result.
+pub const ROOM: usize = 600_000;
+
+impl Call {
+    /// A call with tables of the least length and ample buffers.
+    pub fn new(service: Service, text: &[u8], list: &[u8], wanted: &[u8]) -> Call {
+        Call {
+            service,
+            text: text.to_vec(),
+            list: list.to_vec(),
+            wanted: wanted.to_vec(),
+            text_room: ROOM,
+            list_room: ROOM,
+            tables: vec![service.table(); service.tables()],
+        }
+    }
+
+    /// The outcome by the reference.
+    pub fn outcome(&self) -> Result<Given, u8> {
+        let Call { text, list, wanted, tables, .. } = self;
+        match self.service {
+            Rewrite => {
+                let text = reference::rewrite(tables, text, self.text_room)?;
+                Ok(Given { text, ..Given::default() })
+            }
+            Run => {
+                let list = reference::run(tables, text, list, self.list_room)?;
+                Ok(Given { list, ..Given::default() })
+            }
+            Mask => {
+                let masked = reference::mask(tables, text, list, wanted, self.text_room, self.list_room)?;
+                Ok(Given { text: masked.text, list: masked.codes, ..Given::default() })
+            }
+            Check => {
+                let leak = reference::check(tables, text, list)?;
+                Ok(Given { leak, ..Given::default() })
+            }
+        }
+    }
+}
+
+impl fmt::Debug for Call {
+    fn fmt(&self, f: &mut fmt::Formatter<'_>) -> fmt::Result {
+        let text = String::from_utf8_lossy(&self.text[..self.text.len().min(4_000)]);
+        writeln!(f, "{:?}, a text of {} bytes:\n{text}", self.service, self.text.len())?;
+        writeln!(f, "list ({}): {:?}", self.list.len(), &self.list[..self.list.len().min(100)])?;
+        writeln!(f, "wanted ({}): {:?}", self.wanted.len(), &self.wanted[..self.wanted.len().min(100)])?;
+        write!(f, "rooms {} and {}, tables {:?}", self.text_room, self.list_room, self.tables)
+    }
+}
+
+/// What an accepted call gives. A part that its service does not give is empty.
+#[derive(Clone, Debug, Default, PartialEq, Eq)]
+pub struct Given {
+    pub text: Vec<u8>,
+    pub list: Vec<u8>,
+    pub leak: Option<[u64; 4]>,
+}
+
+/// How many calls ended how: for each service the accepted ones, then the refused ones by number.
+pub struct Tally([[u64; 15]; 4]);
+
+impl Tally {
+    pub fn new() -> Tally {
+        Tally([[0; 15]; 4])
+    }
+
+    pub fn add(&mut self, service: Service, outcome: &Result<Given, u8>) {
+        let question = outcome.as_ref().err().map_or(0, |&question| usize::from(question));
+        self.0[service as usize][question] += 1;
+    }
+
+    /// Each service was accepted, and refused by each of its questions, at least so often.
+    pub fn assert_floor(&self, floor: u64) {
+        for service in Service::ALL {
+            let counts = &self.0[service as usize];
+            assert!(counts[0] >= floor, "{service:?} was accepted {} times\n{self}", counts[0]);
+            for &question in service.questions() {
+                let count = counts[usize::from(question)];
+                assert!(count >= floor, "{service:?} was refused by {question} {count} times\n{self}");
+            }
+        }
+    }
+}
+
+impl fmt::Display for Tally {
+    fn fmt(&self, f: &mut fmt::Formatter<'_>) -> fmt::Result {
+        write!(f, "{:8} {:>8}", "", "accepted")?;
+        for question in 1..=14 {
+            write!(f, " {question:>6}")?;
+        }
+        for service in Service::ALL {
+            let counts = &self.0[service as usize];
+            write!(f, "\n{:8} {:>8}", format!("{service:?}"), counts[0])?;
+            for count in &counts[1..] {
+                write!(f, " {count:>6}")?;
+            }
+        }
+        Ok(())
+    }
+}

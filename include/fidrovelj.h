@@ -1,0 +1,110 @@
+/* Fidrovelj: masked netlists under two mask bits.
+ *
+ * A netlist is a text in Bristol Fashion. Four services work on such texts; each puts a list of
+ * questions in order, and the first that is answered no refuses the call.
+ *
+ * What holds of every function
+ *
+ * - It returns 0 or more for a result, or less than 0 for a refusal: minus the question's number,
+ *   -1 to -14.
+ * - A slice is a pointer and then its length, counted in entries. The pointer is not null, also
+ *   where the length is 0. Slices that the function writes overlap no other.
+ * - Working tables may hold anything when they are lent and are zero along their whole length on
+ *   return, also from a refused call. Question 1 asks at least FIDROVELJ_LARGE_TABLE entries of
+ *   each (Mask: FIDROVELJ_SMALL_TABLE).
+ * - A refused call leaves result buffers as they were. An accepted one writes its result to the
+ *   buffer's front and leaves what lies beyond it as it was.
+ * - Nothing is allocated and nothing is kept from call to call, so calls with tables of their own
+ *   may run at the same time.
+ *
+ * The questions
+ *
+ *  1  Has every lent working table enough entries?
+ *  2  Is the text at most 500,000 bytes (Mask: 60,000)?
+ *  3  Is each byte a digit, a capital letter, a space or LF?
+ *  4  Are there three header lines of the stated form, each count and width 1 or more?
+ *  5  Are there at most 18,430 wires (Mask: 2,048), 17 input values (Mask: 16) and 16 output values,
+ *     and no more input bits or output bits than wires?
+ *  6  Is the gate count the wires less the input bits, and are there exactly that many gate lines?
+ *  7  Has each gate line one of the five forms?                            (7 to 9 line by line)
+ *  8  Is each operand an input or the result of an earlier line (of EQ: 0 or 1)?
+ *  9  Is each result a wire that is no input and is not yet given?
+ * 10  Check: are there two or more input values, the last of width 2?
+ * 11  Has the input list one entry for each input bit (Check: without the mask pair), each 1 to 3
+ *     (Run: 0 or 1)?
+ * 12  Check: are there at most 12 input bits besides the mask pair?
+ * 13  Mask: has the wanted list one entry for each output bit, each 0 to 3?
+ * 14  Can each result buffer hold its whole result?
+ */
+#ifndef FIDROVELJ_H
+#define FIDROVELJ_H
+
+#include <stddef.h>
+#include <stdint.h>
+
+#ifdef __cplusplus
+extern "C" {
+#endif
+
+/* The least entries of a working table of Rewrite, Run and Check, and of Mask. */
+#define FIDROVELJ_LARGE_TABLE 18430
+#define FIDROVELJ_SMALL_TABLE 2048
+
+/* Rewrite: writes the netlist's written form to out (single spaces, LF behind each line, one blank
+ * line behind the header, gates and operands in the order given). Returns its length in bytes, at
+ * most two more than the text's. */
+int64_t fidrovelj_rewrite(const uint8_t *text, size_t text_len,
+                          uint8_t *out, size_t out_len,
+                          uint64_t *operands, size_t operands_len,
+                          uint64_t *results, size_t results_len,
+                          uint8_t *given, size_t given_len);
+
+/* Run: evaluates the netlist on list, a 0 or 1 for each input bit, and writes a 0 or 1 for each
+ * output bit to out. Returns how many. */
+int64_t fidrovelj_run(const uint8_t *text, size_t text_len,
+                      const uint8_t *list, size_t list_len,
+                      uint8_t *out, size_t out_len,
+                      uint64_t *operands, size_t operands_len,
+                      uint64_t *results, size_t results_len,
+                      uint8_t *given, size_t given_len,
+                      uint64_t *words, size_t words_len);
+
+/* Mask: writes the text of the masked netlist to out and the mask code of each output bit, 1 to 3,
+ * to out_codes. Returns the text's length in bytes, at most 398,136; there are as many codes as
+ * output bits.
+ *
+ * codes has a mask code for each input bit: a bit with code 1 travels XOR m0, with code 2 XOR m1,
+ * with code 3 XOR both. wanted has for each output bit the code that it is to travel with, or 0
+ * where any will do. The masked netlist has the source's input values and one more of width 2, the
+ * mask bits m0 and m1. Its outputs, with their masks taken off, are the source's; and for each of
+ * its wires the number of the four mask settings that make it one is the same for all inputs. */
+int64_t fidrovelj_mask(const uint8_t *text, size_t text_len,
+                       const uint8_t *codes, size_t codes_len,
+                       const uint8_t *wanted, size_t wanted_len,
+                       uint8_t *out, size_t out_len,
+                       uint8_t *out_codes, size_t out_codes_len,
+                       uint64_t *operands, size_t operands_len,
+                       uint64_t *results, size_t results_len,
+                       uint32_t *wires, size_t wires_len,
+                       uint8_t *marks, size_t marks_len);
+
+/* Check: decides whether a netlist whose last input value is the two mask bits leaks on a wire, for
+ * a mask code for each other input bit. Returns 0 where it is clean: for each wire the number of
+ * the four mask settings that make it one, its count, is the same for all input settings. Returns 1
+ * where it leaks, and then writes four numbers to leak: the lowest wire whose counts differ, the
+ * smallest setting whose count is not setting 0's (input bit 0 is the lowest bit), setting 0's count
+ * and that setting's count. leak_len is 4. */
+int64_t fidrovelj_check(const uint8_t *text, size_t text_len,
+                        const uint8_t *codes, size_t codes_len,
+                        uint64_t *leak, size_t leak_len,
+                        uint64_t *operands, size_t operands_len,
+                        uint64_t *results, size_t results_len,
+                        uint8_t *given, size_t given_len,
+                        uint64_t *words, size_t words_len,
+                        uint64_t *base, size_t base_len);
+
+#ifdef __cplusplus
+}
+#endif
+
+#endif
