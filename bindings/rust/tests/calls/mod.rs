@@ -78,15 +78,16 @@ pub struct Call {
 pub const ROOM: usize = 600_000;
 
 impl Call {
-    /// A call with tables of the least length and ample buffers.
+    /// A call with tables of the least length and ample room for what its service gives.
     pub fn new(service: Service, text: &[u8], list: &[u8], wanted: &[u8]) -> Call {
+        let room = |services: [Service; 2]| if services.contains(&service) { ROOM } else { 0 };
         Call {
             service,
             text: text.to_vec(),
             list: list.to_vec(),
             wanted: wanted.to_vec(),
-            text_room: ROOM,
-            list_room: ROOM,
+            text_room: room([Rewrite, Mask]),
+            list_room: room([Run, Mask]),
             tables: vec![service.table(); service.tables()],
         }
     }

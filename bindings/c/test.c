@@ -1,0 +1,266 @@
+/* The library from C: the known results M1 to M12, refusals by every question, and what calls leave
+ * in tables and buffers. Prints a line with the number of checks, or the checks that failed. */
+#include "fidrovelj.h"
+
+#include <stdbool.h>
+#include <stdio.h>
+#include <stdlib.h>
+#include <string.h>
+
+#define LARGE FIDROVELJ_LARGE_TABLE
+#define ROOM 500002
+#define PATTERN 0xA5
+
+static uint64_t operands[LARGE], results[LARGE], words[LARGE], base[LARGE], leak[4];
+static uint32_t wires[LARGE];
+static uint8_t given[LARGE], out[ROOM], list_out[LARGE], lent_list[LARGE];
+
+static int checks, failures;
+
+static void expect(bool good, const char *what)
+{
+    checks++;
+    if (!good) {
+        failures++;
+        printf("failed: %s\n", what);
+    }
+}
+
+/* ---- calls with tables full of rubbish and buffers with a pattern */
+
+static void fill(void)
+{
+    memset(operands, PATTERN, sizeof operands);
+    memset(results, PATTERN, sizeof results);
+    memset(words, PATTERN, sizeof words);
+    memset(base, PATTERN, sizeof base);
+    memset(wires, PATTERN, sizeof wires);
+    memset(given, PATTERN, sizeof given);
+    memset(out, PATTERN, sizeof out);
+    memset(list_out, PATTERN, sizeof list_out);
+    memset(leak, PATTERN, sizeof leak);
+}
+
+static bool all(const void *bytes, size_t length, uint8_t value)
+{
+    const uint8_t *p = bytes;
+    for (size_t i = 0; i < length; i++) {
+        if (p[i] != value)
+            return false;
+    }
+    return true;
+}
+
+/* Beyond so many bytes of text and entries of the list the buffers are as they were. */
+static void expect_untouched(size_t text, size_t list, const char *what)
+{
+    expect(all(out + text, sizeof out - text, PATTERN), what);
+    expect(all(list_out + list, sizeof list_out - list, PATTERN), what);
+}
+
+static int64_t rewrite(const char *text, size_t room)
+{
+    fill();
+    int64_t answer = fidrovelj_rewrite((const uint8_t *)text, strlen(text), out, room, operands, LARGE, results,
+                                       LARGE, given, LARGE);
+    expect(all(operands, sizeof operands, 0) && all(results, sizeof results, 0) && all(given, sizeof given, 0),
+           "Rewrite's tables are zero");
+    expect_untouched(answer > 0 ? (size_t)answer : 0, 0, "Rewrite touches its result alone");
+    return answer;
+}
+
+/* A list is a string of digits. */
+static const uint8_t *entries(const char *digits)
+{
+    for (size_t i = 0; digits[i] != '\0'; i++)
+        lent_list[i] = (uint8_t)(digits[i] - '0');
+    return lent_list;
+}
+
+static int64_t run(const char *text, const char *list, size_t room)
+{
+    fill();
+    int64_t answer = fidrovelj_run((const uint8_t *)text, strlen(text), entries(list), strlen(list), list_out, room,
+                                   operands, LARGE, results, LARGE, given, LARGE, words, LARGE);
+    expect(all(operands, sizeof operands, 0) && all(results, sizeof results, 0) && all(given, sizeof given, 0)
+               && all(words, sizeof words, 0),
+           "Run's tables are zero");
+    expect_untouched(0, answer > 0 ? (size_t)answer : 0, "Run touches its result alone");
+    return answer;
+}
+
+static int64_t mask(const char *text, const char *codes, const char *wanted, size_t text_room, size_t code_room)
+{
+    uint8_t wanted_codes[64];
+    fill();
+    memcpy(wanted_codes, entries(wanted), strlen(wanted));
+    int64_t answer = fidrovelj_mask((const uint8_t *)text, strlen(text), entries(codes), strlen(codes), wanted_codes,
+                                    strlen(wanted), out, text_room, list_out, code_room, operands, LARGE, results,
+                                    LARGE, wires, LARGE, given, LARGE);
+    expect(all(operands, sizeof operands, 0) && all(results, sizeof results, 0) && all(given, sizeof given, 0)
+               && all(wires, sizeof wires, 0),
+           "Mask's tables are zero");
+    expect_untouched(answer > 0 ? (size_t)answer : 0, answer > 0 ? strlen(wanted) : 0, "Mask touches its results alone");
+    return answer;
+}
+
+static int64_t check(const char *text, const char *codes)
+{
+    fill();
+    int64_t answer = fidrovelj_check((const uint8_t *)text, strlen(text), entries(codes), strlen(codes), leak, 4,
+                                     operands, LARGE, results, LARGE, given, LARGE, words, LARGE, base, LARGE);
+    expect(all(operands, sizeof operands, 0) && all(results, sizeof results, 0) && all(given, sizeof given, 0)
+               && all(words, sizeof words, 0) && all(base, sizeof base, 0),
+           "Check's tables are zero");
+    if (answer != 1)
+        expect(all(leak, sizeof leak, PATTERN), "Check writes four numbers on a leak alone");
+    return answer;
+}
+
+static bool text_is(int64_t answer, const char *text)
+{
+    return answer == (int64_t)strlen(text) && memcmp(out, text, strlen(text)) == 0;
+}
+
+static bool leak_is(int64_t answer, uint64_t wire, uint64_t setting, uint64_t at_zero, uint64_t own)
+{
+    return answer == 1 && leak[0] == wire && leak[1] == setting && leak[2] == at_zero && leak[3] == own;
+}
+
+/* ---- the known results */
+
+static const char and_gate[] = "1 3\n2 1 1\n1 1\n2 1 0 1 2 AND\n";
+static const char xor_gate[] = "1 3\n2 1 1\n1 1\n2 1 0 1 2 XOR\n";
+static const char one_wire[] = "0 1\n1 1\n1 1\n";
+
+static const char masked_and[] =
+    "11 15\n3 1 1 2\n1 1\n\n"
+    "2 1 2 3 4 XOR\n2 1 2 3 5 AND\n2 1 4 5 6 XOR\n"
+    "2 1 0 1 7 AND\n2 1 0 3 8 AND\n2 1 8 3 9 XOR\n2 1 7 9 10 XOR\n2 1 2 1 11 AND\n2 1 11 6 12 XOR\n2 1 10 12 13 XOR\n"
+    "1 1 13 14 EQW\n";
+
+static const char masked_xor[] =
+    "6 10\n3 1 1 2\n1 1\n\n"
+    "2 1 2 3 4 XOR\n2 1 2 3 5 AND\n2 1 4 5 6 XOR\n"
+    "2 1 1 3 7 XOR\n2 1 0 7 8 XOR\n2 1 8 2 9 XOR\n";
+
+static const char masked_wire[] =
+    "4 7\n2 1 2\n1 1\n\n"
+    "2 1 1 2 3 XOR\n2 1 1 2 4 AND\n2 1 3 4 5 XOR\n"
+    "1 1 0 6 EQW\n";
+
+/* M4: how many of the four mask settings make each of the seven steps one, by Run: all wires of M1's
+ * masked netlist are put out. */
+static void seven_steps(void)
+{
+    static const int expected[7] = {1, 1, 1, 2, 1, 2, 2};
+    char text[sizeof masked_and + 8];
+    const char *gates = strchr(strstr(masked_and, "\n\n"), '2');
+    snprintf(text, sizeof text, "11 15\n3 1 1 2\n1 15\n\n%s", gates);
+    for (int setting = 0; setting < 4; setting++) {
+        int count[7] = {0};
+        for (int masks = 0; masks < 4; masks++) {
+            int m0 = masks & 1, m1 = masks >> 1;
+            char list[5];
+            snprintf(list, sizeof list, "%d%d%d%d", (setting & 1) ^ m0, (setting >> 1) ^ m1, m0, m1);
+            expect(run(text, list, LARGE) == 15, "M1's masked netlist with all wires put out");
+            for (int step = 0; step < 7; step++)
+                count[step] += list_out[7 + step];
+        }
+        expect(memcmp(count, expected, sizeof expected) == 0, "M4");
+    }
+}
+
+/* A text of one AND gate and so many wires. */
+static const char *one_gate(int wire_count)
+{
+    static char text[100];
+    snprintf(text, sizeof text, "1 %d\n1 %d\n1 1\n2 1 0 1 %d AND\n", wire_count, wire_count - 1, wire_count - 1);
+    return text;
+}
+
+/* So many digits 1. */
+static const char *ones(size_t count)
+{
+    static char digits[LARGE + 2];
+    memset(digits, '1', count);
+    digits[count] = '\0';
+    return digits;
+}
+
+static void known_results(void)
+{
+    expect(text_is(mask(and_gate, "12", "0", ROOM, LARGE), masked_and) && list_out[0] == 1, "M1");
+    expect(text_is(mask(xor_gate, "11", "3", ROOM, LARGE), masked_xor) && list_out[0] == 3, "M2");
+    expect(text_is(mask(one_wire, "2", "0", ROOM, LARGE), masked_wire) && list_out[0] == 2, "M3");
+    seven_steps();
+    expect(leak_is(check("1 4\n2 1 2\n1 1\n2 1 0 1 3 XOR\n", "1"), 3, 1, 0, 4), "M5");
+    expect(check("1 4\n2 1 2\n1 1\n2 1 0 1 3 XOR\n", "2") == 0, "M6");
+    expect(leak_is(check("1 4\n2 1 2\n1 1\n2 1 0 1 3 AND\n", "1"), 3, 1, 2, 0), "M7");
+    expect(rewrite("", ROOM) == -4 && run("", "", LARGE) == -4, "M8, Rewrite and Run");
+    expect(mask("", "", "", ROOM, LARGE) == -4 && check("", "") == -4, "M8, Mask and Check");
+    expect(mask("1 3\n2 1 1\n1 1\n2 1 0 1 2 MAND\n", "12", "0", ROOM, LARGE) == -7, "M9");
+    expect(mask(one_gate(2048), ones(2047), "0", ROOM, LARGE) > 0, "M10, 2,048 wires");
+    expect(mask(one_gate(2049), ones(2048), "0", ROOM, LARGE) == -5, "M10, 2,049 wires");
+    expect(run(one_gate(18430), ones(18429), LARGE) == 1, "M10, 18,430 wires");
+    expect(run(one_gate(18431), ones(18430), LARGE) == -5, "M10, 18,431 wires");
+    expect(check("0 15\n2 13 2\n1 1\n", ones(13)) == -12, "M11, thirteen bits");
+    expect(check("0 14\n2 12 2\n1 1\n", ones(12)) == 0, "M11, twelve bits");
+    expect(mask(and_gate, "12", "0", strlen(masked_and) - 1, LARGE) == -14, "M12");
+    expect(text_is(mask(and_gate, "12", "0", strlen(masked_and), 1), masked_and), "M12, an exact fit");
+}
+
+/* ---- refusals, and the other services' results */
+
+static void refusals(void)
+{
+    static char long_text[500003];
+    fill();
+    expect(fidrovelj_rewrite((const uint8_t *)and_gate, strlen(and_gate), out, ROOM, operands, LARGE, results,
+                             LARGE - 1, given, LARGE) == -1,
+           "question 1");
+    expect(all(operands, sizeof operands, 0) && all(results, sizeof results - 8, 0) && all(given, sizeof given, 0),
+           "tables are zero after refusal 1");
+    expect(all(&results[LARGE - 1], 8, PATTERN), "an entry that is not lent is not touched");
+
+    memset(long_text, ' ', sizeof long_text);
+    memcpy(long_text, and_gate, strlen(and_gate));
+    long_text[500001] = '\0';
+    expect(rewrite(long_text, ROOM) == -2, "question 2, large");
+    long_text[500000] = '\0';
+    expect(rewrite(long_text, ROOM) == (int64_t)strlen(and_gate) + 1, "500,000 bytes");
+    long_text[60001] = '\0';
+    expect(mask(long_text, "12", "0", ROOM, LARGE) == -2, "question 2, small");
+
+    expect(rewrite("1 3\r\n2 1 1\r\n1 1\r\n2 1 0 1 2 AND\r\n", ROOM) == -3, "question 3");
+    expect(rewrite("1 3\n2 1 0\n1 1\n2 1 0 1 2 AND\n", ROOM) == -4, "question 4");
+    expect(rewrite("0 1\n2 65535 2\n1 1\n", ROOM) == -5, "question 5");
+    expect(rewrite("1 3\n2 1 1\n1 1\n2 1 0 1 2 AND\nX\n", ROOM) == -6, "question 6");
+    expect(rewrite("1 3\n2 1 1\n1 1\n2 1 0 1 2 ANDX\n", ROOM) == -7, "question 7");
+    expect(rewrite("1 3\n2 1 1\n1 1\n2 1 0 2 2 AND\n", ROOM) == -8, "question 8");
+    expect(rewrite("1 3\n2 1 1\n1 1\n2 1 0 1 1 AND\n", ROOM) == -9, "question 9");
+    expect(check("0 3\n2 2 1\n1 1\n", "1") == -10, "question 10");
+    expect(run(and_gate, "12", LARGE) == -11, "question 11, Run");
+    expect(mask(and_gate, "14", "0", ROOM, LARGE) == -11, "question 11, Mask");
+    expect(mask(and_gate, "12", "4", ROOM, LARGE) == -13, "question 13");
+    expect(mask(and_gate, "12", "0", ROOM, 0) == -14, "question 14, the codes");
+    expect(run(and_gate, "11", 0) == -14, "question 14, the bits");
+}
+
+static void results_of_others(void)
+{
+    expect(text_is(rewrite(" 1  3\n\n2 1 1\n1 1\n2 1 0 1 2 AND", ROOM), "1 3\n2 1 1\n1 1\n\n2 1 0 1 2 AND\n"), "Rewrite");
+    expect(run(and_gate, "11", 1) == 1 && list_out[0] == 1, "Run, 1 and 1");
+    expect(run(and_gate, "10", 1) == 1 && list_out[0] == 0, "Run, 1 and 0");
+    expect(check(masked_and, "12") == 0, "a masked AND is clean");
+    expect(check(masked_and, "11") == 1, "under other codes it leaks");
+}
+
+int main(void)
+{
+    known_results();
+    refusals();
+    results_of_others();
+    printf("C: %d checks, %d failed\n", checks, failures);
+    return failures == 0 ? EXIT_SUCCESS : EXIT_FAILURE;
+}
