@@ -40,7 +40,7 @@ fn setting(name: &str, default: u64) -> u64 {
 
 #[test]
 fn random_calls() {
-    let (first, count) = (setting("FIDROVELJ_SEED", 1), setting("FIDROVELJ_CALLS", 150_000));
+    let (first, count) = (setting("FIDROVELJ_SEED", 1), setting("FIDROVELJ_CALLS", 200_000));
     let start = Instant::now();
     let mut library = Library::new();
     let tables = &mut Tables::new();
