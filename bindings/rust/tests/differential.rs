@@ -58,7 +58,7 @@ fn random_calls() {
     }
     println!("{count} calls from seed {first} on, {:.1} s", start.elapsed().as_secs_f64());
     println!("{tally}\n{fed} masked texts fed to Check, Run and Rewrite");
-    tally.assert_floor(count / 700);
+    tally.assert_floor(count / 1_000);
 }
 
 /// A masked text is clean by Check, as written by Rewrite, and gives the source's outputs by Run
