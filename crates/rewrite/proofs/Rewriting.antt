@@ -7,7 +7,6 @@ use native.Mathlib.Omega.{arith}
 use lib.Dec.{leb}
 use lib.ListN.{length, take}
 use borrow.Author.Tests.{le-leb, lt-leb}
-use Rattle.netlist.specs.declared.Limits.{Limits}
 use Rattle.netlist.specs.declared.Answer.{Answer}
 use Rattle.netlist.specs.declared.Answer.the-variants.{Done, Refused}
 use Rattle.netlist.specs.Netlist.{Netlist, large}
@@ -22,9 +21,7 @@ use Rattle.netlist.proofs.Size.{rewritten-large}
 use Rattle.writer.specs.Header.{headerText}
 use Rattle.writer.proofs.Headers.{header-gates}
 use Rattle.lines.specs.declared.header.HeaderNumbers.{HeaderNumbers}
-use Rattle.tables.specs.declared.read.Reading.{Reading}
-use Rattle.tables.specs.declared.read.Reading.the-variants as R
-use Rattle.tables.specs.Whole.{ReadAt, ReadNot, ReadIs}
+use Rattle.tables.specs.Whole.{ReadAt, ReadNot}
 use Rattle.rewrite.specs.Form.{formText}
 use Rattle.rewrite.specs.Promise.{call}
 
@@ -37,10 +34,6 @@ form-same {t} {ins} {outs} {tabs} {h} a =
     let p : headerText (h .gates) (h .wires) (take (h .inputs) ins) (take (h .outputs) outs) ≡ headerText (length (N .gates)) (N .wires) (N .inputs) (N .outputs)
     = rw (g, a .holds .wires, a .inputs, a .outputs) refl in
     ap₂ _++_ p (ap gateText (sym (a .holds .gates))) ∙ header-gates N
-
--- what an answer of the reader stands for, under the large limits
-pub read-is : {l : Limits} (t ins outs : List ℕ) (tabs : Tables) {r s : Reading} → l ≡ large → r ≡ s → ReadIs l t ins outs tabs r → ReadIs large t ins outs tabs s
-read-is t ins outs tabs {r} e p h = subst (ReadIs large t ins outs tabs) p (subst (λ (l : Limits). ReadIs l t ins outs tabs r) e h)
 
 -- questions 2 to 9 and 14
 pub rewrite-read : {t ins outs : List ℕ} {tabs : Tables} {h : HeaderNumbers} {e x : List ℕ} {r : Answer} → ReadAt large t ins outs tabs h

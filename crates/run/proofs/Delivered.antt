@@ -53,3 +53,6 @@ module _ {t : Tables} {count W n o : ℕ} {N : Netlist} (h : Holds t count W n o
         let r = delivers-done (outputList N list) out out′ (omega arith) p .answers in
         let s : Answers (runOutcome list (length out) N) out out′ (Done (length (outputList N list))) = answers-as (sym (rw (good true e) refl)) r in
         subst (λ (m : ℕ). Answers (runOutcome list (length out) N) out out′ (Done m)) k s
+
+pub holds-wires : {t : Tables} {count W W′ n o : ℕ} {N : Netlist} → W′ ≡ W → Holds t count W n o N → Holds t count W′ n o N
+holds-wires e h = rw e h

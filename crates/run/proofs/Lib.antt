@@ -1,1 +1,3 @@
+-- Laws of Run.
 pub mod Delivered
+pub mod Running

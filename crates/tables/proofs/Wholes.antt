@@ -24,8 +24,9 @@ use Rattle.lines.specs.HeaderAnswers.{Kept, HeaderAt}
 use Rattle.lines.specs.declared.header.HeaderNumbers.{HeaderNumbers}
 use Rattle.tables.specs.declared.gates.Gates.{Gates}
 use Rattle.tables.specs.declared.gates.Gates.the-variants as G
+use Rattle.tables.specs.declared.read.Reading.{Reading}
 use Rattle.tables.specs.Gates.{GatesRead, GatesNot, GatesIs}
-use Rattle.tables.specs.Whole.{withinNumbers, gatesCounted, askBody, BodyRead, BodyNot, BodyIs, ReadAt, ReadNot}
+use Rattle.tables.specs.Whole.{withinNumbers, gatesCounted, askBody, BodyRead, BodyNot, BodyIs, ReadAt, ReadNot, ReadIs}
 
 -- what question 5 gives
 pub record Inside (L : Limits) (h : HeaderNumbers) : Type 0 where
@@ -159,3 +160,7 @@ body-done t at L h tabs p b = subst (BodyIs t at L h tabs) p b
 
 pub body-refused : (t : List ℕ) (at : ℕ) (L : Limits) (h : HeaderNumbers) (tabs : Tables) {r : Gates} {q : ℕ} → r ≡ G.Refused q → BodyIs t at L h tabs r → BodyNot t at L h q
 body-refused t at L h tabs p b = subst (BodyIs t at L h tabs) p b
+
+-- what an answer of the reader stands for
+pub read-is : {l L : Limits} (t ins outs : List ℕ) (tabs : Tables) {r s : Reading} → l ≡ L → r ≡ s → ReadIs l t ins outs tabs r → ReadIs L t ins outs tabs s
+read-is {L = L} t ins outs tabs {r} e p h = subst (ReadIs L t ins outs tabs) p (subst (λ (l : Limits). ReadIs l t ins outs tabs r) e h)

@@ -4,7 +4,8 @@ use Prim.Native.Nat.{ℕ}
 use lib.ListN.{length}
 use lib.Dec.{lit<}
 use Rattle.netlist.specs.Table.{tables}
-use Rattle.rewrite.proofs.Rewriting.{read-is, rewrite-read, rewrite-not}
+use Rattle.rewrite.proofs.Rewriting.{rewrite-read, rewrite-not}
+use Rattle.tables.proofs.Wholes.{read-is}
 use native.Mathlib.Omega.{arith}
 use borrow.Author.Needs.{needs}
 use Rattle.rewrite.proofs.read_and_write.Statement.{statement}
