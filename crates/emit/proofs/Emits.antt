@@ -1,4 +1,4 @@
--- One source gate's masked gates, put together. Assumes nothing.
+-- One source gate's masked gates, put together.
 use Prim.Native.Nat.{ℕ, _+_, _≤_}
 use mathlib.Core.Path.{_≡_, ap, _∙_}
 use mathlib.Core.Bool.{Bool, true, false, cond}
@@ -9,13 +9,14 @@ use borrow.Author.Tests.{eq-eqb, ne-eqb}
 use Rattle.netlist.specs.declared.Gate.{Gate}
 use Rattle.netlist.specs.declared.Gate.the-variants.{Xor}
 use Rattle.netlist.specs.declared.Twin.{Twin}
-use Rattle.netlist.specs.Mask.{third, after, maskWire, past, changes, rows, rowGates, xorGates, xorTwin, andGates, andTwin}
+use Rattle.netlist.specs.Mask.{third, after, maskWire, past, changes, rows, rowGates, xorGates, xorTwin, andGates, andTwin, emit, resultTwin}
+use Rattle.netlist.specs.Table.{gateOf}
 use Rattle.writer.specs.Wrote.{top}
 use Rattle.writer.specs.Gates.{WroteGates}
 use Rattle.writer.proofs.Gates.{gates-none, gates-then, gates-as}
 use Rattle.emit.specs.declared.Changed.{Changed}
 use Rattle.emit.specs.declared.Emitted.{Emitted}
-use Rattle.emit.specs.Emitted.{WroteChange, WroteTwin, WroteKind, emitOf, twinOf}
+use Rattle.emit.specs.Emitted.{WroteChange, WroteTwin, WroteKind, operands}
 
 pub change-none : (e : List ℕ) (at n c : ℕ) (A B : Twin) → length e ≤ top → at ≤ top → (A .code ≡ B .code → ⊥)
     → WroteChange e at n c A B e (record { at = at; twin = B; next = c })
@@ -64,5 +65,6 @@ and-made {n = n} {A = A} h a b w =
     }
 
 -- the gates of a kind, by the kind that it is
-pub made-as : {e x : List ℕ} {at n c k : ℕ} {A B : Twin} {gs : List Gate} {t : Twin} {R : Emitted} → gs ≡ emitOf n c k A B → t ≡ twinOf c k A B → WroteTwin e at gs t x R → WroteKind e at n c k A B x R
+pub made-as : {e x : List ℕ} {at n c k : ℕ} {A B : Twin} {gs : List Gate} {t : Twin} {R : Emitted} → gs ≡ emit n (operands c A B) (gateOf k 0 1 2)
+    → t ≡ resultTwin (operands c A B) (gateOf k 0 1 2) → WroteTwin e at gs t x R → WroteKind e at n c k A B x R
 made-as a b h = record { wrote = gates-as a (h .wrote); twin = h .twin ∙ b }

@@ -2,3 +2,4 @@
 pub mod Codes
 pub mod Rows
 pub mod Emits
+pub mod ByKind

@@ -5,9 +5,10 @@ use mathlib.Core.Bool.{cond}
 use mathlib.Core.List.{List, [], _∷_}
 use lib.Dec.{eqb}
 use Rattle.netlist.specs.declared.Gate.{Gate}
-use Rattle.netlist.specs.declared.Gate.the-variants.{Xor, And, Inv, Eqw}
+use Rattle.netlist.specs.declared.Gate.the-variants.{Xor, And}
 use Rattle.netlist.specs.declared.Twin.{Twin}
-use Rattle.netlist.specs.Mask.{changeGates, changed, past, xorGates, xorTwin, andGates, andTwin}
+use Rattle.netlist.specs.Mask.{changeGates, changed, past, State, emit, resultTwin}
+use Rattle.netlist.specs.Table.{gateOf}
 use Rattle.writer.specs.Gates.{WroteGates}
 use Rattle.emit.specs.declared.Changed.{Changed}
 use Rattle.emit.specs.declared.Emitted.{Emitted}
@@ -27,19 +28,11 @@ pub record WroteTwin (e : List ℕ) (at : ℕ) (gs : List Gate) (t : Twin) (x : 
   pub wrote : WroteGates e at gs x (r .at)
   pub twin : r .twin ≡ t
 
--- the masked gates of a source gate of kind k, by its operands' twins
-abbrev pub emitOf : ℕ → ℕ → ℕ → Twin → Twin → List Gate
-emitOf n c k A B =
-    cond (eqb k 1) (xorGates n c A B) (cond (eqb k 2) (andGates n c A B)
-    (cond (eqb k 3) (Inv (A .wire) c ∷ []) (cond (eqb k 4) (Eqw (A .wire) c ∷ []) (cond (eqb k 5) (Eqw n c ∷ []) (Inv n c ∷ [])))))
+-- a state in which the first two source wires have the twins A and B
+abbrev pub operands : ℕ → Twin → Twin → State
+operands c A B = record { next = c; twins = A ∷ B ∷ [] }
 
--- the twin of its result
-abbrev pub twinOf : ℕ → ℕ → Twin → Twin → Twin
-twinOf c k A B =
-    cond (eqb k 1) (xorTwin c A B) (cond (eqb k 2) (andTwin c A B)
-    (cond (eqb k 3) (record { wire = c; code = A .code }) (cond (eqb k 4) (record { wire = c; code = A .code }) (record { wire = c; code = 1 }))))
-
--- a source gate of kind k was masked
+-- a source gate of kind k whose operands have the twins A and B was masked
 pub record WroteKind (e : List ℕ) (at n c k : ℕ) (A B : Twin) (x : List ℕ) (r : Emitted) : Type 0 where
-  pub wrote : WroteGates e at (emitOf n c k A B) x (r .at)
-  pub twin : r .twin ≡ twinOf c k A B
+  pub wrote : WroteGates e at (emit n (operands c A B) (gateOf k 0 1 2)) x (r .at)
+  pub twin : r .twin ≡ resultTwin (operands c A B) (gateOf k 0 1 2)

@@ -64,7 +64,7 @@ returns-6 c =
     let e₃ = ne-eqb _ 3 (r .0 .0 .1) in
     let e₄ = ne-eqb _ 4 (r .0 .1) in
     let e₅ = ne-eqb _ 5 (r .1) in
-    made-as (rw (e₁, e₂, e₃, e₄, e₅)) (rw (e₁, e₂, e₃, e₄)) (c .before .before .single4 .ensures)
+    made-as (rw (e₁, e₂, e₃, e₄, e₅)) (rw (e₁, e₂, e₃, e₄, e₅)) (c .before .before .single4 .ensures)
 
 pub emit-spec : {M : Type 1} → statement M
 emit-spec =
