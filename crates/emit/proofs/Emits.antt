@@ -1,7 +1,6 @@
 -- One source gate's masked gates, put together.
 use Prim.Native.Nat.{ℕ, _+_, _≤_}
 use mathlib.Core.Path.{_≡_, ap, _∙_}
-use mathlib.Core.Bool.{Bool, true, false, cond}
 use mathlib.Core.List.{List, [], _∷_}
 use native.Mathlib.Omega.{arith}
 use lib.ListN.{length}
@@ -9,8 +8,9 @@ use borrow.Author.Tests.{eq-eqb, ne-eqb}
 use Rattle.netlist.specs.declared.Gate.{Gate}
 use Rattle.netlist.specs.declared.Gate.the-variants.{Xor}
 use Rattle.netlist.specs.declared.Twin.{Twin}
-use Rattle.netlist.specs.Mask.{third, after, maskWire, past, changes, rows, rowGates, xorGates, xorTwin, andGates, andTwin, emit, resultTwin}
+use Rattle.netlist.specs.Mask.{third, after, maskWire, changes, rows, rowGates, xorGates, xorTwin, andGates, andTwin, emit, resultTwin}
 use Rattle.netlist.specs.Table.{gateOf}
+use Rattle.netlist.proofs.Tests.{onBool}
 use Rattle.writer.specs.Wrote.{top}
 use Rattle.writer.specs.Gates.{WroteGates}
 use Rattle.writer.proofs.Gates.{gates-none, gates-then, gates-as}
@@ -37,15 +37,8 @@ change-made {e} {x} {at} {n} {c} {f} {m} {t} {r} A B same a b d w =
       next = rw (eq-eqb (A .code) (B .code) same);
     }
 
-pub past-small : (c : ℕ) (A B : Twin) → past c A B ≤ c + 1
-past-small c A B = go (changes A B)
-  where
-    go : (b : Bool) → cond b (c + 1) c ≤ c + 1
-    go true = omega arith
-    go false = omega arith
-
 pub change-grown : {e x : List ℕ} {at n c : ℕ} {A B : Twin} {R : Changed} → WroteChange e at n c A B x R → R .next ≤ c + 1
-change-grown {c = c} {A = A} {B = B} h = rw (h .next) (past-small c A B)
+change-grown {A = A} {B = B} h = rw (h .next) (onBool (changes A B) (λ e. rw e (omega arith)) (λ e. rw e (omega arith)))
 
 pub xor-made : {e m x : List ℕ} {at n c k r : ℕ} {A B : Twin} {R : Changed} → WroteChange e at n c A B m R → WroteGates m (R .at) (Xor (A .wire) (R .twin .wire) (R .next) ∷ []) x r
     → k ≡ third (A .code) (R .twin .code) → WroteTwin e at (xorGates n c A B) (xorTwin c A B) x (record { at = r; twin = record { wire = R .next; code = k } })

@@ -1,31 +1,30 @@
 -- Header and gates put together to the whole text, and question 14.
 use Prim.Native.Nat.{ℕ, _+_, _-_, _≤_, _<_}
 use mathlib.Core.Path.{_≡_, refl, sym, ap, _∙_}
-use mathlib.Core.Bool.{true, false}
 use mathlib.Core.List.{List, [], _∷_, _++_}
 use native.Mathlib.Omega.{arith}
-use lib.Dec.{leb}
-use lib.ListN.{length, drop, length-append, length-drop}
+use lib.ListN.{length, drop, take, length-append}
 use lib.Seq.{sets}
 use borrow.Author.Tests.{le-leb, lt-leb}
+use Rattle.netlist.specs.declared.Answer.the-variants.{Done, Refused}
 use Rattle.netlist.specs.Netlist.{Netlist}
 use Rattle.netlist.specs.Table.{Tables, gatesOf, Holds}
 use Rattle.netlist.specs.Mask.{Masked, maskNetlist}
 use Rattle.netlist.specs.Outcome.{done}
 use Rattle.netlist.specs.Write.{writeNetlist, gateText}
 use Rattle.netlist.specs.Services.{maskedText, deliverOutcome}
+use Rattle.netlist.proofs.Answering.{answers-refused, take-sets}
 use Rattle.netlist.proofs.Puts.{wired-same}
 use Rattle.writer.specs.Wrote.{Wrote, cap, top}
 use Rattle.writer.specs.Header.{headerText}
 use Rattle.writer.proofs.Wrote.{wrote-then, wrote-as}
+use Rattle.writer.proofs.Delivering.{cap-over, cap-fits}
 use Rattle.writer.proofs.Headers.{header-gates}
 use Rattle.pass.specs.declared.gates.Next.{Next}
 use Rattle.pass.specs.State.{codesOf}
 use Rattle.pass.specs.Pass.{Ready, WrotePass}
-use Rattle.pass.proofs.Outputs.{codes-length}
 use Rattle.mask.specs.declared.whole.Size.{Size}
-use Rattle.mask.specs.declared.whole.Answer.the-variants.{Done, Short}
-use Rattle.mask.specs.Whole.{Source, Measured, WroteText, Delivered, Answered}
+use Rattle.mask.specs.Whole.{Source, Measured, WroteText, Delivered, MaskAnswers}
 
 text-made : (M : Netlist) (g w : ℕ) (ins outs : List ℕ) → g ≡ length (M .gates) → w ≡ M .wires → ins ≡ M .inputs → outs ≡ M .outputs
     → headerText g w ins outs ++ gateText (M .gates) ≡ writeNetlist M
@@ -48,18 +47,17 @@ module _ {t : Tables} {count W n m : ℕ} {ins outs : List ℕ} {N : Netlist} (h
       → Wrote e 0 (headerText g w ins outs) y a → WrotePass y a (maskNetlist N cs vs) n vs x R es → WroteText e (maskNetlist N cs vs) vs x es
   write-made {g = g} {w = w} p q a b = record { text = wrote-as (masked-text g w p q) (wrote-then a (b .wrote .wrote)) .list; codes = b .codes }
 
-  pub measure-made : {e y x es : List ℕ} {s : ℕ} {R : Next} → length vs ≤ length es → WrotePass e 0 (maskNetlist N cs vs) n vs y R es
+  pub measure-made : {e y x es : List ℕ} {s : ℕ} {R : Next} → WrotePass e 0 (maskNetlist N cs vs) n vs y R es
       → Wrote y (R .at) (headerText (R .next - (n + 2)) (R .next) ins outs) x s
       → Measured (maskNetlist N cs vs) (length vs) (record { size = s; gates = R .next - (n + 2); wires = R .next })
-  measure-made {es = es} {s = s} {R = R} l b a =
+  measure-made {s = s} {R = R} b a =
       let M : Netlist = maskNetlist N cs vs .netlist in
       let g : R .next - (n + 2) ≡ length (M .gates) = omega (arith, b .count, b .wires) in
       let H : List ℕ = headerText (R .next - (n + 2)) (R .next) ins outs in
       let long : length (writeNetlist M) ≡ length H + length (gateText (M .gates)) = ap length (sym (masked-text _ _ g (b .wires))) ∙ length-append H (gateText (M .gates)) in
       let first : R .at ≡ cap (0 + length (gateText (M .gates))) = b .wrote .wrote .next in
       let second : s ≡ cap (R .at + length H) = a .next in
-      let cut : length (drop (length es - length vs) es) ≡ length es - (length es - length vs) = length-drop (length es - length vs) es in
-      record { size = omega arith; gates = g; wires = b .wires; codes = ap length (sym (b .codes)) ∙ codes-length (drop (length es - length vs) es) vs (omega arith) }
+      record { size = omega arith; gates = g; wires = b .wires; codes = b .many }
 
 -- the tables' netlist of one input and one output value
 bare : Tables → ℕ → ℕ → ℕ → ℕ → Netlist
@@ -75,30 +73,33 @@ least cs {t = t} {count = count} {W = W} {n = n} {m = m} h =
 pub deliver-made : {M : Masked} {e x f y vs es : List ℕ} {r : ℕ} → WroteText e M vs x es → Wrote f 0 (codesOf (drop (length es - length vs) es) vs) y r → Delivered M e x f y
 deliver-made {f = f} w c = record { text = w .text; codes = c .list ∙ ap (sets f 0) (w .codes) }
 
--- question 14: the text's length as measured tells whether it fits, since no buffer is as long as the largest place
-text-short : {M : Masked} {m : ℕ} {z : Size} (e : List ℕ) → Measured M m z → length e < top → length e < z .size → leb (length (writeNetlist (M .netlist))) (length e) ≡ false
-text-short {M} e h small l = let q = h .size in lt-leb (length (writeNetlist (M .netlist))) (length e) (omega arith)
+-- question 14: the size as measured is the text's length where it fits, since no buffer is as long as the largest place
+measured : {M : Masked} {m : ℕ} {z : Size} (n : ℕ) → Measured M m z → n < top → z .size ≤ n → z .size ≡ length (writeNetlist (M .netlist))
+measured {M} n h small l = h .size ∙ cap-fits n (length (writeNetlist (M .netlist))) (rw (h .size) at l) small
 
-text-fits : {M : Masked} {m : ℕ} {z : Size} (e : List ℕ) → Measured M m z → length e < top → z .size ≤ length e → leb (length (writeNetlist (M .netlist))) (length e) ≡ true
-text-fits {M} e h small l = let q = h .size in le-leb (length (writeNetlist (M .netlist))) (length e) (omega arith)
+module _ {M : Masked} {m : ℕ} {e f : List ℕ} {z : Size} (h : Measured M m z) where
+  pub short-text : length e < z .size → MaskAnswers (deliverOutcome (length e) (length f) (maskedText M)) e e f f (Refused 14)
+  short-text l =
+      let t = lt-leb (length (writeNetlist (M .netlist))) (length e) (cap-over (length e) (length (writeNetlist (M .netlist))) (rw (h .size) at l)) in
+      record { text = answers-refused e (rw t); codes = rw t }
 
-module _ {M : Masked} {m : ℕ} {e f : List ℕ} {z : Size} (h : Measured M m z) (small : length e < top) where
-  pub short-text : length e < z .size → Answered (deliverOutcome (length e) (length f) (maskedText M)) e e f f Short
-  short-text l = let t = text-short e h small l in record { answer = rw t; text = rw t; codes = rw t }
+  module _ (small : length e < top) (l : z .size ≤ length e) where
+    pub short-codes : length f < m → MaskAnswers (deliverOutcome (length e) (length f) (maskedText M)) e e f f (Refused 14)
+    short-codes k =
+        let t = le-leb (length (writeNetlist (M .netlist))) (length e) (rw (measured (length e) h small l) at l) in
+        let u = lt-leb (length (M .codes)) (length f) (omega (arith, h .codes)) in
+        record { text = answers-refused e (rw (t, u)); codes = rw (t, u) }
 
-  pub short-codes : z .size ≤ length e → length f < m → Answered (deliverOutcome (length e) (length f) (maskedText M)) e e f f Short
-  short-codes l k =
-      let t = text-fits e h small l in
-      let u : leb (length (M .codes)) (length f) ≡ false = lt-leb (length (M .codes)) (length f) (omega (arith, h .codes)) in
-      record { answer = rw (t, u); text = rw (t, u); codes = rw (t, u) }
-
-  pub delivered : {x y : List ℕ} → z .size ≤ length e → m ≤ length f → Delivered M e x f y → Answered (deliverOutcome (length e) (length f) (maskedText M)) e x f y (Done (z .size))
-  delivered l k d =
-      let q = h .size in
-      let same : z .size ≡ length (writeNetlist (M .netlist)) = omega arith in
-      let t = text-fits e h small l in
-      let u : leb (length (M .codes)) (length f) ≡ true = le-leb (length (M .codes)) (length f) (omega (arith, h .codes)) in
-      record { answer = rw (t, u) (ap done same); text = rw (t, u) (d .text); codes = rw (t, u) (d .codes) }
+    pub delivered : {x y : List ℕ} → m ≤ length f → Delivered M e x f y → MaskAnswers (deliverOutcome (length e) (length f) (maskedText M)) e x f y (Done (z .size))
+    delivered k d =
+        let s = measured (length e) h small l in
+        let fits = rw s at l in
+        let t = le-leb (length (writeNetlist (M .netlist))) (length e) fits in
+        let u = le-leb (length (M .codes)) (length f) (omega (arith, h .codes)) in
+        record {
+          text = rw (t, u, s) (record { outcome = ap done (ap (take (length (writeNetlist (M .netlist)))) (d .text) ∙ take-sets (writeNetlist (M .netlist)) e fits); buffer = d .text });
+          codes = rw (t, u) (d .codes);
+        }
 
 -- a call that keeps the tables' lengths leaves the next one what it relies on
 pub ready-same : {t : Tables} {count : ℕ} {cs vs ws es ws′ es′ : List ℕ} → length ws′ ≡ length ws → length es′ ≡ length es → Ready t count cs vs ws es → Ready t count cs vs ws′ es′

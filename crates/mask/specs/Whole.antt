@@ -4,17 +4,16 @@ use mathlib.Core.Path.{_≡_}
 use mathlib.Core.List.{List, [], _∷_, _++_}
 use lib.ListN.{length, drop}
 use lib.Seq.{sets}
+use Rattle.netlist.specs.declared.Answer.{Answer}
 use Rattle.netlist.specs.Netlist.{Netlist}
 use Rattle.netlist.specs.Table.{Tables, Holds}
-use Rattle.netlist.specs.Outcome.{Outcome, refused, done, andThen}
+use Rattle.netlist.specs.Outcome.{Outcome, done, andThen}
 use Rattle.netlist.specs.Write.{writeNetlist}
 use Rattle.netlist.specs.Mask.{Masked}
-use Rattle.netlist.specs.Services.{MaskedText, written}
+use Rattle.netlist.specs.Services.{MaskedText, written, Answers}
 use Rattle.writer.specs.Wrote.{cap}
 use Rattle.pass.specs.State.{codesOf}
 use Rattle.mask.specs.declared.whole.Size.{Size}
-use Rattle.mask.specs.declared.whole.Answer.{Answer}
-use Rattle.mask.specs.declared.whole.Answer.the-variants.{Done, Short}
 
 -- a netlist that the gate tables hold, with the widths of the masked input values and of the output values
 pub record Source (t : Tables) (count W n m : ℕ) (ins outs : List ℕ) (N : Netlist) : Type 0 where
@@ -39,19 +38,14 @@ pub record Delivered (M : Masked) (e x f y : List ℕ) : Type 0 where
   pub text : x ≡ sets e 0 (writeNetlist (M .netlist))
   pub codes : y ≡ sets f 0 (M .codes)
 
--- what an answer stands for: the length of the text, or question 14
-abbrev pub standsFor : Answer → Outcome ℕ
-standsFor (Done n) = done n
-standsFor Short = refused 14
-
-abbrev pub textOf : Outcome MaskedText → Outcome (List ℕ)
-textOf o = andThen o λ R. done (R .text)
+-- the text, and the codes, of a call's outcome
+abbrev pub textIn : Outcome MaskedText → Outcome (List ℕ)
+textIn call = andThen call λ R. done (R .text)
 
 abbrev pub codesIn : Outcome MaskedText → Outcome (List ℕ)
-codesIn o = andThen o λ R. done (R .codes)
+codesIn call = andThen call λ R. done (R .codes)
 
--- the answer to a call, and what it leaves in the buffers of the text and of the codes
-pub record Answered (o : Outcome MaskedText) (e x f y : List ℕ) (r : Answer) : Type 0 where
-  pub answer : standsFor r ≡ andThen o λ R. done (length (R .text))
-  pub text : x ≡ sets e 0 (written (textOf o))
-  pub codes : y ≡ sets f 0 (written (codesIn o))
+-- the answer, the text buffer e that became x, and the code buffer f that became y, are those of a call's outcome
+pub record MaskAnswers (call : Outcome MaskedText) (e x f y : List ℕ) (a : Answer) : Type 0 where
+  pub text : Answers (textIn call) e x a
+  pub codes : y ≡ sets f 0 (written (codesIn call))

@@ -1,5 +1,6 @@
 // The whole masked text and the output codes, of a source that lies in the gate tables: measured
 // first, then written where both buffers hold them.
+use netlist::Answer;
 ghost use mathlib.Core.Path.{_≡_};
 ghost use lib.ListN.{length};
 ghost use Rattle.netlist.specs.Netlist.{Netlist};
@@ -7,7 +8,7 @@ ghost use Rattle.netlist.specs.Mask.{maskNetlist};
 ghost use Rattle.netlist.specs.Table.{tables};
 ghost use Rattle.netlist.specs.Services.{maskedText, deliverOutcome};
 ghost use Rattle.pass.specs.Pass.{Ready};
-ghost use Rattle.mask.specs.Whole.{Source, Measured, WroteText, Delivered, Answered};
+ghost use Rattle.mask.specs.Whole.{Source, Measured, WroteText, Delivered, MaskAnswers};
 
 // How long the masked text is, and the two numbers of its line one.
 struct Size {
@@ -109,12 +110,6 @@ fn deliver(
     pass::outs::codes(code, from, wanted, bits);
 }
 
-// The length of the masked text, or that a buffer is short.
-pub enum Answer {
-    Done(usize),
-    Short,
-}
-
 // Question 14, and the text and the codes where it gets a yes. `ins` are the widths of the masked
 // input values, the last of them 2, and `outs` those of the output values; `wire` and `code` have
 // an entry for each source wire, and may hold anything.
@@ -132,7 +127,7 @@ pub fn mask(
     code: &mut [u8],
 ) -> Answer
     requires { ⌜ Ready (tables (now operands) (now results)) count (now codes) (now wanted) (now wire) (now code) ⌝ }
-    ensures { λ r. ⌜ ((N : Netlist) → Source (tables (now (operands .entry)) (now (results .entry))) count (length (now (wire .entry))) (length (now (codes .entry))) (length (now (wanted .entry))) (now (ins .entry)) (now (outs .entry)) N → Answered (deliverOutcome (length (now (out .entry))) (length (now (bits .entry))) (maskedText (maskNetlist N (now (codes .entry)) (now (wanted .entry))))) (now (out .entry)) (now (out .exit)) (now (bits .entry)) (now (bits .exit)) r) ⌝ }
+    ensures { λ r. ⌜ ((N : Netlist) → Source (tables (now (operands .entry)) (now (results .entry))) count (length (now (wire .entry))) (length (now (codes .entry))) (length (now (wanted .entry))) (now (ins .entry)) (now (outs .entry)) N → MaskAnswers (deliverOutcome (length (now (out .entry))) (length (now (bits .entry))) (maskedText (maskNetlist N (now (codes .entry)) (now (wanted .entry))))) (now (out .entry)) (now (out .exit)) (now (bits .entry)) (now (bits .exit)) r) ⌝ }
 {
     let m = measure(
         operands,
@@ -147,10 +142,10 @@ pub fn mask(
     );
     let size = m.size;
     if size > out.len() {
-        return Answer::Short;
+        return Answer::Refused(14);
     }
     if wanted.len() > bits.len() {
-        return Answer::Short;
+        return Answer::Refused(14);
     }
     deliver(
         out,

@@ -116,9 +116,3 @@ picked-all {e} {es} {vs} {x} {from} {i} h l =
     let none : codesOf (drop (from + i) es) (drop i vs) ≡ [] = rw (drop-of-length-le vs {i = i} l) (codes-end (drop (from + i) es)) in
     let w : Wrote e 0 (codesOf (drop from es) vs) x i = wrote-as (sym (h .left ∙ ap (λ (l : List ℕ). h .done ++ l) none ∙ append-nil (h .done))) (h .wrote) in
     rw q at w
-
-pub codes-length : (es vs : List ℕ) → length es ≡ length vs → length (codesOf es vs) ≡ length vs
-codes-length [] [] l = refl
-codes-length [] (v ∷ vs) l = l
-codes-length (e ∷ es) [] l = absurd (omega arith)
-codes-length (e ∷ es) (v ∷ vs) l = ap suc (codes-length es vs (suc-inj l))

@@ -9,13 +9,13 @@ use Rattle.netlist.specs.declared.Gate.{Gate}
 use Rattle.netlist.specs.declared.Twin.{Twin}
 use Rattle.netlist.specs.Table.{Tables, half, gateOf, gateIn, gateAt, gatesOf}
 use Rattle.netlist.specs.Mask.{State, twin, noTwin, emit, resultTwin, advance, emitAll, advanceAll}
-use Rattle.netlist.proofs.Puts.{gates-more}
+use Rattle.netlist.proofs.Puts.{gates-more, length-gates}
+use Rattle.netlist.proofs.GateCount.{next-most}
 use Rattle.writer.specs.Wrote.{top}
-use Rattle.writer.specs.Gates.{WroteGates}
 use Rattle.writer.proofs.Gates.{gates-none, gates-then, gates-as}
 use Rattle.emit.specs.declared.Emitted.{Emitted}
 use Rattle.emit.specs.Emitted.{WroteKind, operands}
-use Rattle.emit.proofs.ByKind.{emit-of, twin-of, result-of, kind-small}
+use Rattle.emit.proofs.ByKind.{emit-of, twin-of, result-of}
 use Rattle.pass.specs.declared.gates.Next.{Next}
 use Rattle.pass.specs.State.{twinsOf, stateOf, WroteStep, WroteAll}
 
@@ -54,13 +54,11 @@ step-made {n = n} {c = c} {R = R} ws es o r a b h =
     let d : ℕ = r % half in
     let t : R .twin ≡ resultTwin S (gateIn o r)
     = h .twin ∙ ap₂ (λ (A B : Twin). resultTwin (operands c A B) (gateOf k 0 1 2)) a b ∙ sym (twin-of S k (o % half) (o / half) d) in
-    let q = kind-small h in
     record {
       wrote = gates-as (ap₂ (λ (A B : Twin). emit n (operands c A B) (gateOf k 0 1 2)) a b ∙ sym (emit-of S k (o % half) (o / half) d n)) (h .wrote);
       state =
           ap (stateWith (R .twin .wire + 1)) (twins-set ws es d (R .twin .wire) (R .twin .code))
           ∙ ap₂ (λ (u : Twin) (i : ℕ). stateWith (u .wire + 1) (set (twinsOf ws es) i u)) t (sym (result-of k (o % half) (o / half) d));
-      grown = omega arith;
     }
 
 emitAll-more : (n : ℕ) (S : State) (gs : List Gate) (g : Gate) → emitAll n S (gs ++ (g ∷ [])) ≡ emitAll n S gs ++ emit n (advanceAll S gs) g
@@ -73,43 +71,38 @@ advanceAll-more : (S : State) (gs : List Gate) (g : Gate) → advanceAll S (gs +
 advanceAll-more S [] g = refl
 advanceAll-more S (h ∷ gs) g = advanceAll-more (advance S h) gs g
 
+-- a source gate takes at most eight wires
+pub all-small : {e x : List ℕ} {at n m : ℕ} {S S′ : State} {t : Tables} {r : Next} → WroteAll e at n S t m x r S′ → S′ .next ≤ S .next + 8 * m
+all-small {m = m} {S = S} {t = t} h = omega (arith, ap (λ (S : State). S .next) (h .state), next-most S (gatesOf t m), length-gates t m)
+
 -- the first i gates of m were masked; the tables have kept their length W
 pub record Emitting (e : List ℕ) (at n : ℕ) (t : Tables) (m : ℕ) (S₀ : State) (x : List ℕ) (r c W : ℕ) (ws es : List ℕ) (i : ℕ) : Type 0 where
   pub passed : i ≤ m
   pub wires : length ws ≡ W
   pub codes : length es ≡ W
-  pub wrote : WroteGates e at (emitAll n S₀ (gatesOf t i)) x r
-  pub state : stateOf c ws es ≡ advanceAll S₀ (gatesOf t i)
-  pub grown : c ≤ S₀ .next + 8 * i
+  pub made : WroteAll e at n S₀ t i x (record { at = r; next = c }) (stateOf c ws es)
 
 pub emitting-none : (e : List ℕ) (at n : ℕ) (t : Tables) (m c : ℕ) (ws es : List ℕ) → length es ≡ length ws → length e ≤ top → at ≤ top
     → Emitting e at n t m (stateOf c ws es) e at c (length ws) ws es 0
-emitting-none e at n t m c ws es l h k = record { passed = omega arith; wires = refl; codes = l; wrote = gates-none e at h k; state = refl; grown = omega arith }
+emitting-none e at n t m c ws es l h k = record { passed = omega arith; wires = refl; codes = l; made = record { wrote = gates-none e at h k; state = refl } }
 
 pub emitting-more : {e x y : List ℕ} {at n m r c W i : ℕ} {t : Tables} {S₀ : State} {ws es ws′ es′ : List ℕ} {R : Next} → Emitting e at n t m S₀ x r c W ws es i → i < m
     → length ws′ ≡ length ws → length es′ ≡ length es
     → WroteStep x r n (stateOf c ws es) (gateAt t i) y R (stateOf (R .next) ws′ es′) → Emitting e at n t m S₀ y (R .at) (R .next) W ws′ es′ (i + 1)
 emitting-more {n = n} {c = c} {i = i} {t = t} {S₀ = S₀} {ws = ws} {es = es} h l kw ke s =
     let g : Gate = gateAt t i in
-    let more : emitAll n S₀ (gatesOf t (i + 1)) ≡ emitAll n S₀ (gatesOf t i) ++ emit n (stateOf c ws es) g
-    = ap (emitAll n S₀) (gates-more t i) ∙ emitAll-more n S₀ (gatesOf t i) g ∙ ap (λ (S : State). emitAll n S₀ (gatesOf t i) ++ emit n S g) (sym (h .state)) in
-    let on : advanceAll S₀ (gatesOf t (i + 1)) ≡ advance (stateOf c ws es) g
-    = ap (advanceAll S₀) (gates-more t i) ∙ advanceAll-more S₀ (gatesOf t i) g ∙ ap (λ (S : State). advance S g) (sym (h .state)) in
+    let p = h .made .state in
+    let more : emitAll n S₀ (gatesOf t i) ++ emit n (stateOf c ws es) g ≡ emitAll n S₀ (gatesOf t (i + 1))
+    = ap (λ (S : State). emitAll n S₀ (gatesOf t i) ++ emit n S g) p ∙ sym (ap (emitAll n S₀) (gates-more t i) ∙ emitAll-more n S₀ (gatesOf t i) g) in
+    let on : advance (stateOf c ws es) g ≡ advanceAll S₀ (gatesOf t (i + 1))
+    = ap (λ (S : State). advance S g) p ∙ sym (ap (advanceAll S₀) (gates-more t i) ∙ advanceAll-more S₀ (gatesOf t i) g) in
     record {
       passed = omega arith;
       wires = kw ∙ h .wires;
       codes = ke ∙ h .codes;
-      wrote = gates-as (sym more) (gates-then (h .wrote) (s .wrote));
-      state = s .state ∙ sym on;
-      grown = omega (arith, h .grown, s .grown);
+      made = record { wrote = gates-as more (gates-then (h .made .wrote) (s .wrote)); state = s .state ∙ on };
     }
 
 pub emitting-all : {e x : List ℕ} {at n m r c W i : ℕ} {t : Tables} {S₀ : State} {ws es : List ℕ} → Emitting e at n t m S₀ x r c W ws es i → m ≤ i
     → WroteAll e at n S₀ t m x (record { at = r; next = c }) (stateOf c ws es)
-emitting-all {n = n} {m = m} {i = i} {t = t} {S₀ = S₀} h l =
-    let q : i ≡ m = omega (arith, h .passed) in
-    record {
-      wrote = gates-as (ap (λ (j : ℕ). emitAll n S₀ (gatesOf t j)) q) (h .wrote);
-      state = h .state ∙ ap (λ (j : ℕ). advanceAll S₀ (gatesOf t j)) q;
-      grown = omega (arith, h .grown);
-    }
+emitting-all {m = m} {i = i} h l = let q : i ≡ m = omega (arith, h .passed) in rw q at (h .made)

@@ -3,6 +3,7 @@ use mathlib.Core.Path.{_∙_}
 use lib.ListN.{length}
 use Rattle.netlist.specs.Table.{tables}
 use Rattle.netlist.proofs.Puts.{wired-same}
+use Rattle.pass.proofs.States.{all-small}
 use Rattle.pass.proofs.Passes.{pass-made}
 use native.Mathlib.Omega.{arith}
 use borrow.Author.Needs.{needs}
@@ -30,13 +31,17 @@ sub-from : tie.Need-sub-from
 sub-from c = search needs
 
 outs-requires : tie.Need-outs-requires
-outs-requires c κs = search needs
+outs-requires c κs =
+    let p = c .before .before .before .before .before .before .before .before .before .before .before .before .before .before .before .before .before .before .before .before .before .before .before .before .before .before .before .before .before .before .before .pre in
+    let s = c .before .before .before .before .before .before .before .before .before .before .before .before .before .before .before .before .before .before .before .before .before .start in
+    let g = c .before .before .before .before .before .before .before .before .before .gates in
+    omega (arith, p .small, p .ins, p .outs, p .codes, s .kept .1 .0, s .kept .1 .1 .0, g .kept .1 .1 .1 .1 .1 .1 .1 .0, g .kept .1 .1 .1 .1 .1 .1 .1 .1 .0, all-small (g .ensures))
 
 cast-t25 : tie.Need-cast-t25
 cast-t25 c = let p = c .before .before .before .before .before .before .before .before .before .before .before .before .before .before .before .before .before .before .before .before .before .before .before .before .before .before .before .before .before .before .before .before .before .before .pre in omega (arith, p .small, p .outs)
 
 add-t37 : tie.Need-add-t37
-add-t37 c = let p = c .before .before .before .before .before .before .before .before .before .before .before .before .before .before .before .before .before .before .before .before .before .before .before .before .before .before .before .before .before .before .before .before .before .before .before .pre in omega (arith, p .small, p .ins, p .outs, c .before .before .before .before .before .before .before .before .before .before .before .before .before .gates .ensures .grown)
+add-t37 c = let p = c .before .before .before .before .before .before .before .before .before .before .before .before .before .before .before .before .before .before .before .before .before .before .before .before .before .before .before .before .before .before .before .before .before .before .before .pre in omega (arith, p .small, p .ins, p .outs, all-small (c .before .before .before .before .before .before .before .before .before .before .before .before .before .gates .ensures))
 
 same-length : tie.Need-same-length
 same-length c = search needs

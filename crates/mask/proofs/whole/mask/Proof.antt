@@ -15,7 +15,7 @@ same-length-2 : tie.Need-same-length-2
 same-length-2 c = search needs
 
 returns : tie.Need-returns
-returns c = λ N h. short-text (c .before .before .before .before .before .measure .ensures N h) (omega arith) (c .if1 .taken)
+returns c = λ N h. short-text (c .before .before .before .before .before .measure .ensures N h) (c .if1 .taken)
 
 same-length-3 : tie.Need-same-length-3
 same-length-3 c = search needs

@@ -35,7 +35,7 @@ same-length-2 c = search needs
 returns : tie.Need-returns
 returns c = let s = c .before .before .before .before .before .before .before .before .before .before .before .before .before .before .before .before .before .before .before .before .before in
     let p = c .before .before .before .before .before .before .before .before .before .pass in
-    λ N h. measure-made h (s .args .codes .now) (s .args .wanted .now) (omega (arith, s .pre .outs, s .pre .codes, p .kept .1 .1 .1 .1 .1 .1 .1 .1 .0)) (p .ensures N (h .holds)) (c .before .header .ensures)
+    λ N h. measure-made h (s .args .codes .now) (s .args .wanted .now) (p .ensures N (h .holds)) (c .before .header .ensures)
 
 pub measure-spec : {M : Type 1} → statement M
 measure-spec =

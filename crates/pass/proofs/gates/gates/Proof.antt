@@ -4,7 +4,7 @@ use lib.ListN.{length}
 use Rattle.netlist.specs.Table.{tables}
 use Rattle.writer.proofs.Wrote.{wrote-length}
 use Rattle.pass.specs.State.{stateOf}
-use Rattle.pass.proofs.States.{Emitting, emitting-none, emitting-more, emitting-all}
+use Rattle.pass.proofs.States.{Emitting, emitting-none, emitting-more, emitting-all, all-small}
 use borrow.Author.Needs.{needs}
 use native.Mathlib.Omega.{arith}
 use Rattle.pass.proofs.gates.gates.Statement.{statement}
@@ -32,7 +32,10 @@ shared-slice-read-step-2 : tie.Need-shared-slice-read-step-2 Inv-loop μ-loop
 shared-slice-read-step-2 c = search needs
 
 step-requires : tie.Need-step-requires Inv-loop μ-loop
-step-requires c κs = let p = c .before .before .before .before .before .before .before .before .before .before .before .before .pre in let inv = c .before .before .before .before .before .before .loop .inv in (omega (arith, p .0, inv .grown), (rw (inv .wires) (p .1 .0 .each (c .before .before .before .before .before .before .loop .i) (c .before .before .before .before .before .loop-test .taken)), omega (arith, inv .wires, inv .codes)))
+step-requires c κs =
+    let p = c .before .before .before .before .before .before .before .before .before .before .before .before .pre in
+    let inv = c .before .before .before .before .before .before .loop .inv in
+    (omega (arith, p .0, all-small (inv .made)), (rw (inv .wires) (p .1 .0 .each _ (c .before .before .before .before .before .loop-test .taken)), omega (arith, inv .wires, inv .codes)))
 
 add-i : tie.Need-add-i Inv-loop μ-loop
 add-i c = search needs
@@ -44,7 +47,7 @@ loop-again : tie.Need-loop-again Inv-loop μ-loop
 loop-again c = let s = c .before .before .before .before .before .before .step in emitting-more (c .before .before .before .before .before .before .before .before .before .before .before .before .before .loop .inv) (c .before .before .before .before .before .before .before .before .before .before .before .before .loop-test .taken) (s .kept .1 .1 .1 .1 .1 .1 .0) (s .kept .1 .1 .1 .1 .1 .1 .1 .0) (s .ensures)
 
 same-length : tie.Need-same-length Inv-loop μ-loop
-same-length c = wrote-length (c .before .loop .inv .wrote .wrote)
+same-length c = wrote-length (c .before .loop .inv .made .wrote .wrote)
 
 same-length-2 : tie.Need-same-length-2 Inv-loop μ-loop
 same-length-2 c = c .before .loop .inv .wires
