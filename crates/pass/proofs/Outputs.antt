@@ -7,9 +7,11 @@ use native.Mathlib.Numerals.{add-one}
 use native.Mathlib.Omega.{arith}
 use lib.ListN.{length, getD, drop, drop-of-length-le}
 use lib.Seq.{drop-cons}
+use borrow.Author.Tests.{ne-eqb}
 use Rattle.netlist.specs.declared.Gate.{Gate}
+use Rattle.netlist.specs.declared.Gate.the-variants.{Xor}
 use Rattle.netlist.specs.declared.Twin.{Twin}
-use Rattle.netlist.specs.Mask.{outGate, outGates, outCode, outCodes, noTwin}
+use Rattle.netlist.specs.Mask.{third, maskWire, outGate, outGates, outCode, outCodes, noTwin}
 use Rattle.writer.specs.Wrote.{Wrote, top}
 use Rattle.writer.specs.Gates.{WroteGates}
 use Rattle.writer.proofs.Wrote.{wrote-none, wrote-then, wrote-as}
@@ -20,6 +22,11 @@ use Rattle.pass.proofs.States.{twins-length}
 out-end : (n c : ℕ) (ts : List Twin) → outGates n c ts [] ≡ []
 out-end n c [] = refl
 out-end n c (t ∷ ts) = refl
+
+-- a code other than the present one is wanted: the gate adds the mask of the third
+pub out-changed : {e x : List ℕ} {at c f m r : ℕ} (n : ℕ) (t : Twin) (want : ℕ) → (want ≡ 0 → ⊥) → (want ≡ t .code → ⊥) → f ≡ third (t .code) want → m ≡ maskWire n f
+    → WroteGates e at (Xor (t .wire) m c ∷ []) x r → WroteGates e at (outGate n c t want ∷ []) x r
+out-changed {c = c} n t want z y a b w = rw (ne-eqb want 0 z, ne-eqb want (t .code) y) (gates-as (ap (λ (k : ℕ). Xor (t .wire) k c ∷ []) (b ∙ ap (maskWire n) a)) w)
 
 -- the first i output gates were written
 pub record Outed (e : List ℕ) (at n c : ℕ) (ws es : List ℕ) (from : ℕ) (vs x : List ℕ) (r w i : ℕ) : Type 0 where

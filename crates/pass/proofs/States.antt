@@ -1,5 +1,5 @@
 -- The state in its two tables, and what a source gate makes of it.
-use Prim.Native.Nat.{ℕ, zero, suc, _+_, _*_, _/_, _%_, _≤_, _<_}
+use Prim.Native.Nat.{ℕ, zero, suc, _+_, _/_, _%_, _≤_, _<_}
 use mathlib.Core.Path.{_≡_, refl, sym, ap, ap₂, _∙_}
 use mathlib.Core.List.{List, [], _∷_, _++_, append-assoc, append-nil}
 use native.Mathlib.Nat.{not-suc-le-zero, le-of-suc-le-suc, suc-inj}
@@ -9,13 +9,12 @@ use Rattle.netlist.specs.declared.Gate.{Gate}
 use Rattle.netlist.specs.declared.Twin.{Twin}
 use Rattle.netlist.specs.Table.{Tables, half, gateOf, gateIn, gateAt, gatesOf}
 use Rattle.netlist.specs.Mask.{State, twin, noTwin, emit, resultTwin, advance, emitAll, advanceAll}
-use Rattle.netlist.proofs.Puts.{gates-more, length-gates}
-use Rattle.netlist.proofs.GateCount.{next-most}
+use Rattle.netlist.proofs.Puts.{gates-more}
 use Rattle.writer.specs.Wrote.{top}
 use Rattle.writer.proofs.Gates.{gates-none, gates-then, gates-as}
 use Rattle.emit.specs.declared.Emitted.{Emitted}
 use Rattle.emit.specs.Emitted.{WroteKind, operands}
-use Rattle.emit.proofs.ByKind.{emit-of, twin-of, result-of}
+use Rattle.emit.proofs.ByKind.{emit-of, twin-of, result-of, kind-small}
 use Rattle.pass.specs.declared.gates.Next.{Next}
 use Rattle.pass.specs.State.{twinsOf, stateOf, WroteStep, WroteAll}
 
@@ -59,6 +58,7 @@ step-made {n = n} {c = c} {R = R} ws es o r a b h =
       state =
           ap (stateWith (R .twin .wire + 1)) (twins-set ws es d (R .twin .wire) (R .twin .code))
           ∙ ap₂ (λ (u : Twin) (i : ℕ). stateWith (u .wire + 1) (set (twinsOf ws es) i u)) t (sym (result-of k (o % half) (o / half) d));
+      grown = kind-small h;
     }
 
 emitAll-more : (n : ℕ) (S : State) (gs : List Gate) (g : Gate) → emitAll n S (gs ++ (g ∷ [])) ≡ emitAll n S gs ++ emit n (advanceAll S gs) g
@@ -71,10 +71,6 @@ advanceAll-more : (S : State) (gs : List Gate) (g : Gate) → advanceAll S (gs +
 advanceAll-more S [] g = refl
 advanceAll-more S (h ∷ gs) g = advanceAll-more (advance S h) gs g
 
--- a source gate takes at most eight wires
-pub all-small : {e x : List ℕ} {at n m : ℕ} {S S′ : State} {t : Tables} {r : Next} → WroteAll e at n S t m x r S′ → S′ .next ≤ S .next + 8 * m
-all-small {m = m} {S = S} {t = t} h = omega (arith, ap (λ (S : State). S .next) (h .state), next-most S (gatesOf t m), length-gates t m)
-
 -- the first i gates of m were masked; the tables have kept their length W
 pub record Emitting (e : List ℕ) (at n : ℕ) (t : Tables) (m : ℕ) (S₀ : State) (x : List ℕ) (r c W : ℕ) (ws es : List ℕ) (i : ℕ) : Type 0 where
   pub passed : i ≤ m
@@ -84,7 +80,7 @@ pub record Emitting (e : List ℕ) (at n : ℕ) (t : Tables) (m : ℕ) (S₀ : S
 
 pub emitting-none : (e : List ℕ) (at n : ℕ) (t : Tables) (m c : ℕ) (ws es : List ℕ) → length es ≡ length ws → length e ≤ top → at ≤ top
     → Emitting e at n t m (stateOf c ws es) e at c (length ws) ws es 0
-emitting-none e at n t m c ws es l h k = record { passed = omega arith; wires = refl; codes = l; made = record { wrote = gates-none e at h k; state = refl } }
+emitting-none e at n t m c ws es l h k = record { passed = omega arith; wires = refl; codes = l; made = record { wrote = gates-none e at h k; state = refl; grown = omega arith } }
 
 pub emitting-more : {e x y : List ℕ} {at n m r c W i : ℕ} {t : Tables} {S₀ : State} {ws es ws′ es′ : List ℕ} {R : Next} → Emitting e at n t m S₀ x r c W ws es i → i < m
     → length ws′ ≡ length ws → length es′ ≡ length es
@@ -100,7 +96,7 @@ emitting-more {n = n} {c = c} {i = i} {t = t} {S₀ = S₀} {ws = ws} {es = es} 
       passed = omega arith;
       wires = kw ∙ h .wires;
       codes = ke ∙ h .codes;
-      made = record { wrote = gates-as more (gates-then (h .made .wrote) (s .wrote)); state = s .state ∙ on };
+      made = record { wrote = gates-as more (gates-then (h .made .wrote) (s .wrote)); state = s .state ∙ on; grown = omega (arith, h .made .grown, s .grown) };
     }
 
 pub emitting-all : {e x : List ℕ} {at n m r c W i : ℕ} {t : Tables} {S₀ : State} {ws es : List ℕ} → Emitting e at n t m S₀ x r c W ws es i → m ≤ i

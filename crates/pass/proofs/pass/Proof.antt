@@ -3,7 +3,6 @@ use mathlib.Core.Path.{_∙_}
 use lib.ListN.{length}
 use Rattle.netlist.specs.Table.{tables}
 use Rattle.netlist.proofs.Puts.{wired-same}
-use Rattle.pass.proofs.States.{all-small}
 use Rattle.pass.proofs.Passes.{pass-made}
 use native.Mathlib.Omega.{arith}
 use borrow.Author.Needs.{needs}
@@ -35,13 +34,13 @@ outs-requires c κs =
     let p = c .before .before .before .before .before .before .before .before .before .before .before .before .before .before .before .before .before .before .before .before .before .before .before .before .before .before .before .before .before .before .before .pre in
     let s = c .before .before .before .before .before .before .before .before .before .before .before .before .before .before .before .before .before .before .before .before .before .start in
     let g = c .before .before .before .before .before .before .before .before .before .gates in
-    omega (arith, p .small, p .ins, p .outs, p .codes, s .kept .1 .0, s .kept .1 .1 .0, g .kept .1 .1 .1 .1 .1 .1 .1 .0, g .kept .1 .1 .1 .1 .1 .1 .1 .1 .0, all-small (g .ensures))
+    omega (arith, p .small, p .ins, p .outs, p .codes, s .kept .1 .0, s .kept .1 .1 .0, g .kept .1 .1 .1 .1 .1 .1 .1 .0, g .kept .1 .1 .1 .1 .1 .1 .1 .1 .0, g .ensures .grown)
 
 cast-t25 : tie.Need-cast-t25
 cast-t25 c = let p = c .before .before .before .before .before .before .before .before .before .before .before .before .before .before .before .before .before .before .before .before .before .before .before .before .before .before .before .before .before .before .before .before .before .before .pre in omega (arith, p .small, p .outs)
 
 add-t37 : tie.Need-add-t37
-add-t37 c = let p = c .before .before .before .before .before .before .before .before .before .before .before .before .before .before .before .before .before .before .before .before .before .before .before .before .before .before .before .before .before .before .before .before .before .before .before .pre in omega (arith, p .small, p .ins, p .outs, all-small (c .before .before .before .before .before .before .before .before .before .before .before .before .before .gates .ensures))
+add-t37 c = let p = c .before .before .before .before .before .before .before .before .before .before .before .before .before .before .before .before .before .before .before .before .before .before .before .before .before .before .before .before .before .before .before .before .before .before .before .pre in omega (arith, p .small, p .ins, p .outs, c .before .before .before .before .before .before .before .before .before .before .before .before .before .gates .ensures .grown)
 
 same-length : tie.Need-same-length
 same-length c = search needs

@@ -1,4 +1,5 @@
 -- `mask::whole::mask` meets its contract.
+use Rattle.netlist.specs.Mask.{maskNetlist}
 use Rattle.mask.proofs.Wholes.{short-text, short-codes, delivered, ready-same, source-same}
 use native.Mathlib.Omega.{arith}
 use borrow.Author.Needs.{needs}
@@ -27,7 +28,7 @@ returns-2 : tie.Need-returns-2
 returns-2 c = λ N h. short-codes (c .before .before .before .before .before .before .measure .ensures N h) (omega arith) (c .before .if1 .left) (c .if2 .taken)
 
 deliver-requires : tie.Need-deliver-requires
-deliver-requires c κs = let m = c .before .before .before .before .before .before .before .before .before .before .measure in ready-same (m .kept .1 .1 .1 .1 .1 .1 .1 .0) (m .kept .1 .1 .1 .1 .1 .1 .1 .1 .0) (c .before .before .before .before .before .before .before .before .before .before .before .before .before .before .before .before .before .before .before .before .before .before .before .pre)
+deliver-requires c κs = let m = c .before .before .before .before .before .before .before .before .before .before .measure in ready-same {ws′ = m .last .1 .1 .1 .1 .1 .1 .1 .0} {es′ = m .last .1 .1 .1 .1 .1 .1 .1 .1 .0} (m .kept .1 .1 .1 .1 .1 .1 .1 .0) (m .kept .1 .1 .1 .1 .1 .1 .1 .1 .0) (c .before .before .before .before .before .before .before .before .before .before .before .before .before .before .before .before .before .before .before .before .before .before .before .pre)
 
 same-length-5 : tie.Need-same-length-5
 same-length-5 c = search needs
@@ -43,9 +44,10 @@ same-length-8 c = search needs
 
 returns-3 : tie.Need-returns-3
 returns-3 c = let m = c .before .before .before .before .before .before .before .before .before .before .before .before .before .before .before .before .before .before .before .measure in
+    let a = c .before .before .before .before .before .before .before .before .before .before .before .before .before .before .before .before .before .before .before .before .before .before .before .before .before .before .before .before .before .before .before .before .args in
     λ N h.
     let d = m .ensures N h in
-    delivered d (omega (arith, c .before .before .before .before .before .before .before .before .before .before .before .before .before .before .before .before .before .before .before .before .before .before .before .before .before .before .before .before .before .before .before .before .good .0)) (c .before .before .before .before .before .before .before .before .before .before .before .before .before .before .if1 .left) (c .before .before .before .before .before .before .before .before .before .before .before .before .before .if2 .left) (c .before .before .before .before .before .before .before .before .deliver .ensures N (source-same (m .kept .1 .1 .1 .1 .1 .1 .1 .0) h) (d .gates) (d .wires))
+    delivered {M = maskNetlist N (a .codes .now) (a .wanted .now)} d (omega (arith, c .before .before .before .before .before .before .before .before .before .before .before .before .before .before .before .before .before .before .before .before .before .before .before .before .before .before .before .before .before .before .before .before .good .0)) (c .before .before .before .before .before .before .before .before .before .before .before .before .before .before .if1 .left) (c .before .before .before .before .before .before .before .before .before .before .before .before .before .if2 .left) (c .before .before .before .before .before .before .before .before .deliver .ensures N (source-same (m .kept .1 .1 .1 .1 .1 .1 .1 .0) h) (d .gates) (d .wires))
 
 pub mask-spec : {M : Type 1} → statement M
 mask-spec =

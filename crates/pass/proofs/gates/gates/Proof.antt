@@ -4,7 +4,7 @@ use lib.ListN.{length}
 use Rattle.netlist.specs.Table.{tables}
 use Rattle.writer.proofs.Wrote.{wrote-length}
 use Rattle.pass.specs.State.{stateOf}
-use Rattle.pass.proofs.States.{Emitting, emitting-none, emitting-more, emitting-all, all-small}
+use Rattle.pass.proofs.States.{Emitting, emitting-none, emitting-more, emitting-all}
 use borrow.Author.Needs.{needs}
 use native.Mathlib.Omega.{arith}
 use Rattle.pass.proofs.gates.gates.Statement.{statement}
@@ -35,7 +35,7 @@ step-requires : tie.Need-step-requires Inv-loop μ-loop
 step-requires c κs =
     let p = c .before .before .before .before .before .before .before .before .before .before .before .before .pre in
     let inv = c .before .before .before .before .before .before .loop .inv in
-    (omega (arith, p .0, all-small (inv .made)), (rw (inv .wires) (p .1 .0 .each _ (c .before .before .before .before .before .loop-test .taken)), omega (arith, inv .wires, inv .codes)))
+    (omega (arith, p .0, inv .made .grown), (rw (inv .wires) (p .1 .0 .each _ (c .before .before .before .before .before .loop-test .taken)), omega (arith, inv .wires, inv .codes)))
 
 add-i : tie.Need-add-i Inv-loop μ-loop
 add-i c = search needs

@@ -1,4 +1,5 @@
 -- `pass::outs::one` meets its contract.
+use Rattle.pass.proofs.Outputs.{out-changed}
 use borrow.Author.Tests.{eq-eqb, ne-eqb}
 use borrow.Author.Needs.{needs}
 use Rattle.pass.proofs.outs.one.Statement.{statement}
@@ -35,7 +36,9 @@ same-length-3 : tie.Need-same-length-3
 same-length-3 c = search needs
 
 returns-3 : tie.Need-returns-3
-returns-3 c = rw (ne-eqb _ 0 (c .before .before .before .before .before .before .before .before .if1 .left), ne-eqb _ _ (c .before .before .before .before .before .before .if2 .left), ← (c .before .before .before .before .before .third-code .ensures), ← (c .before .before .before .before .mask-wire .ensures)) (c .before .before .gate3 .ensures)
+returns-3 c =
+    let s = c .before .before .before .before .before .before .before .before .before .before .args in
+    out-changed (s .n) (s .t) (s .want) (c .before .before .before .before .before .before .before .before .if1 .left) (c .before .before .before .before .before .before .if2 .left) (c .before .before .before .before .before .third-code .ensures) (c .before .before .before .before .mask-wire .ensures) (c .before .before .gate3 .ensures)
 
 pub one-spec : {M : Type 1} → statement M
 one-spec =
