@@ -18,11 +18,11 @@ use Rattle.netlist.proofs.Placed.{Placed, AllPlaced, place-all, emit-or
 use Rattle.netlist.proofs.OutputGates.{outs-ordered}
 use Rattle.netlist.proofs.MaskInputs.{MaskInputs}
 
-length-inputTwins : (k : ℕ) (es : List ℕ) → length (inputTwins k es) ≡ length es
+pub length-inputTwins : (k : ℕ) (es : List ℕ) → length (inputTwins k es) ≡ length es
 length-inputTwins k [] = refl
 length-inputTwins k (e ∷ es) = ap suc (length-inputTwins (k + 1) es)
 
-getD-inputTwins : (k : ℕ) (es : List ℕ) (w : ℕ) → w < length es → getD (inputTwins k es) w noTwin ≡ record { wire = k + w; code = getD es w 0 }
+pub getD-inputTwins : (k : ℕ) (es : List ℕ) (w : ℕ) → w < length es → getD (inputTwins k es) w noTwin ≡ record { wire = k + w; code = getD es w 0 }
 getD-inputTwins k [] w h = absurd (omega arith)
 getD-inputTwins k (e ∷ es) zero h = let z : k ≡ k + 0 = omega arith in λ i. record { wire = z i; code = e }
 getD-inputTwins k (e ∷ es) (suc w) h =

@@ -1,0 +1,24 @@
+-- `emit::xor` meets its contract.
+use Rattle.emit.proofs.Emits.{xor-made}
+use borrow.Author.Needs.{needs}
+use Rattle.emit.proofs.xor.Statement.{statement}
+use Rattle.emit.proofs.xor.Tie as tie
+
+change-requires : tie.Need-change-requires
+change-requires c κs = search needs
+
+gate-requires : tie.Need-gate-requires
+gate-requires c κs = search needs
+
+third-code-requires : tie.Need-third-code-requires
+third-code-requires c κs = search needs
+
+same-length : tie.Need-same-length
+same-length c = search needs
+
+returns : tie.Need-returns
+returns c = xor-made (c .before .before .before .before .before .before .before .before .change .ensures) (c .before .before .before .gate .ensures) (c .third-code .ensures)
+
+pub xor-spec : {M : Type 1} → statement M
+xor-spec =
+    tie.close (tie.spec change-requires gate-requires third-code-requires same-length returns)

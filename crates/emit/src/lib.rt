@@ -1,0 +1,111 @@
+// The masked gates of one source gate.
+pub mod code;
+pub mod steps;
+
+use crate::code::code_after;
+use crate::code::mask_wire;
+use crate::code::third_code;
+use netlist::Gate;
+use netlist::Twin;
+ghost use Prim.Native.Nat.{_<_, _^_};
+ghost use mathlib.Core.List.{[], _∷_};
+ghost use Rattle.netlist.specs.Mask.{xorGates, xorTwin, andGates, andTwin};
+ghost use Rattle.emit.specs.Emitted.{WroteChange, WroteTwin, WroteKind};
+
+// Behind a mask change: the next place, the second operand and the next wire.
+struct Changed {
+    at: usize,
+    twin: Twin,
+    next: u32,
+}
+
+// Behind a source gate: the next place, and the twin of its result.
+pub struct Emitted {
+    pub at: usize,
+    pub twin: Twin,
+}
+
+// The mask change of the second operand, where the operands' codes are equal. It holds for this
+// gate alone: the caller's twin of the operand stays as it is.
+fn change(out: &mut [u8], at: usize, n: u32, c: u32, a: Twin, b: Twin) -> Changed
+    requires { ⌜ (n < 2 ^ 31) × (c < 2 ^ 31) ⌝ }
+    ensures { λ r. ⌜ WroteChange (now (out .entry)) at n c a b (now (out .exit)) r ⌝ }
+{
+    let e = b.code;
+    if a.code != e {
+        return Changed {
+            at,
+            twin: b,
+            next: c,
+        };
+    }
+    let f = code_after(e);
+    let m = mask_wire(n, f);
+    let end = writer::gate::gate(out, at, Gate::Xor(b.wire, m, c));
+    let twin = Twin {
+        wire: c,
+        code: third_code(e, f),
+    };
+    Changed {
+        at: end,
+        twin,
+        next: c + 1,
+    }
+}
+
+// XOR: one XOR gate, with the code that neither operand has.
+fn xor(out: &mut [u8], at: usize, n: u32, c: u32, a: Twin, b: Twin) -> Emitted
+    requires { ⌜ (n < 2 ^ 31) × (c < 2 ^ 31) ⌝ }
+    ensures { λ r. ⌜ WroteTwin (now (out .entry)) at (xorGates n c a b) (xorTwin c a b) (now (out .exit)) r ⌝ }
+{
+    let m = change(out, at, n, c, a, b);
+    let second = m.twin;
+    let end = writer::gate::gate(out, m.at, Gate::Xor(a.wire, second.wire, m.next));
+    let twin = Twin {
+        wire: m.next,
+        code: third_code(a.code, second.code),
+    };
+    Emitted { at: end, twin }
+}
+
+// AND: the seven steps, with the first operand's code.
+fn and(out: &mut [u8], at: usize, n: u32, c: u32, a: Twin, b: Twin) -> Emitted
+    requires { ⌜ (n < 2 ^ 31) × (c < 2 ^ 31) ⌝ }
+    ensures { λ r. ⌜ WroteTwin (now (out .entry)) at (andGates n c a b) (andTwin c a b) (now (out .exit)) r ⌝ }
+{
+    let m = change(out, at, n, c, a, b);
+    let second = m.twin;
+    let p = mask_wire(n, a.code);
+    let q = mask_wire(n, second.code);
+    let end = crate::steps::steps(out, m.at, a.wire, second.wire, p, q, n + 4, m.next);
+    let twin = Twin {
+        wire: m.next + 6,
+        code: a.code,
+    };
+    Emitted { at: end, twin }
+}
+
+// INV, EQW and EQ: one gate, which gives wire c with a code.
+fn single(out: &mut [u8], at: usize, g: Gate, c: u32, code: u8) -> Emitted
+    ensures { λ r. ⌜ WroteTwin (now (out .entry)) at (g ∷ []) (record { wire = c; code = code }) (now (out .exit)) r ⌝ }
+{
+    let end = writer::gate::gate(out, at, g);
+    let twin = Twin { wire: c, code };
+    Emitted { at: end, twin }
+}
+
+// A source gate of a kind whose operands have the twins a and b, at the wires from c. The kinds
+// are those of the gate tables: 1 to 4 are XOR, AND, INV and EQW, 5 is EQ 0, any other EQ 1.
+pub fn emit(out: &mut [u8], at: usize, n: u32, c: u32, kind: u64, a: Twin, b: Twin) -> Emitted
+    requires { ⌜ (n < 2 ^ 31) × (c < 2 ^ 31) ⌝ }
+    ensures { λ r. ⌜ WroteKind (now (out .entry)) at n c kind a b (now (out .exit)) r ⌝ }
+{
+    match kind {
+        1 => xor(out, at, n, c, a, b),
+        2 => and(out, at, n, c, a, b),
+        3 => single(out, at, Gate::Inv(a.wire, c), c, a.code),
+        4 => single(out, at, Gate::Eqw(a.wire, c), c, a.code),
+        5 => single(out, at, Gate::Eqw(n, c), c, 1),
+        _ => single(out, at, Gate::Inv(n, c), c, 1),
+    }
+}

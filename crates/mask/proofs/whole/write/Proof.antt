@@ -1,0 +1,28 @@
+-- `mask::whole::write` meets its contract.
+use Rattle.mask.proofs.Wholes.{write-made}
+use borrow.Author.Needs.{needs}
+use Rattle.mask.proofs.whole.write.Statement.{statement}
+use Rattle.mask.proofs.whole.write.Tie as tie
+
+header-requires : tie.Need-header-requires
+header-requires c κs = search needs
+
+pass-requires : tie.Need-pass-requires
+pass-requires c κs = search needs
+
+same-length : tie.Need-same-length
+same-length c = search needs
+
+same-length-2 : tie.Need-same-length-2
+same-length-2 c = search needs
+
+same-length-3 : tie.Need-same-length-3
+same-length-3 c = search needs
+
+returns : tie.Need-returns
+returns c = let a = c .before .before .before .before .before .before .before .before .before .before .before .before .before .before .before .before .before .before .before .before .before .before .before .args in λ N h p q. write-made h (a .codes .now) (a .wanted .now) p q (c .before .before .before .before .before .before .before .before .before .before .before .before .header .ensures) (c .before .before .before .before .before .before .pass .ensures N (h .holds))
+
+pub write-spec : {M : Type 1} → statement M
+write-spec =
+    tie.close
+    (tie.spec header-requires pass-requires same-length same-length-2 same-length-3 returns)

@@ -1,0 +1,2 @@
+-- What the contracts of `mask` cite.
+pub mod Whole

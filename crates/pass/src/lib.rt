@@ -1,0 +1,52 @@
+// One pass over a source netlist: its masked gates, at a place of a buffer.
+pub mod gates;
+pub mod outs;
+mod twins;
+
+use crate::gates::Next;
+use netlist::Gate;
+ghost use Prim.Native.Nat.{_<_, _^_};
+ghost use lib.ListN.{length};
+ghost use Rattle.netlist.specs.Netlist.{Netlist};
+ghost use Rattle.netlist.specs.Mask.{maskGates, maskNetlist};
+ghost use Rattle.netlist.specs.Table.{tables, Holds};
+ghost use Rattle.writer.specs.Gates.{WroteGates};
+ghost use Rattle.pass.specs.Pass.{Ready, WrotePass};
+
+// The three gates that always follow the inputs: the sum, the product and the OR of the masks.
+fn masks(out: &mut [u8], at: usize, n: u32) -> usize
+    requires { ⌜ n < 2 ^ 31 ⌝ }
+    ensures { λ r. ⌜ WroteGates (now (out .entry)) at (maskGates n) (now (out .exit)) r ⌝ }
+{
+    let second = writer::gate::gate(out, at, Gate::Xor(n, n + 1, n + 2));
+    let third = writer::gate::gate(out, second, Gate::And(n, n + 1, n + 3));
+    writer::gate::gate(out, third, Gate::Xor(n + 2, n + 3, n + 4))
+}
+
+// The gates of the masked netlist. The tables `wire` and `code` have an entry for each source wire,
+// and may hold anything.
+pub fn pass(
+    out: &mut [u8],
+    at: usize,
+    operands: &[u64],
+    results: &[u64],
+    count: usize,
+    codes: &[u8],
+    wanted: &[u8],
+    wire: &mut [u32],
+    code: &mut [u8],
+) -> Next
+    requires { ⌜ Ready (tables (now operands) (now results)) count (now codes) (now wanted) (now wire) (now code) ⌝ }
+    ensures { λ r. ⌜ ((N : Netlist) → Holds (tables (now (operands .entry)) (now (results .entry))) count (length (now (wire .entry))) (length (now (codes .entry))) (length (now (wanted .entry))) N → WrotePass (now (out .entry)) at (maskNetlist N (now (codes .entry)) (now (wanted .entry))) (length (now (codes .entry))) (now (wanted .entry)) (now (out .exit)) r (now (code .exit))) ⌝ }
+{
+    let n = codes.len() as u32;
+    crate::twins::start(codes, wire, code);
+    let first = masks(out, at, n);
+    let t = crate::gates::gates(out, first, n, n + 5, operands, results, count, wire, code);
+    let from = wire.len() - wanted.len();
+    let end = crate::outs::outs(out, t.at, n, t.next, wire, code, from, wanted);
+    Next {
+        at: end,
+        next: t.next + wanted.len() as u32,
+    }
+}

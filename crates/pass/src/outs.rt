@@ -1,0 +1,77 @@
+// The gates of the output bits, and their codes. The output bits are the last source wires.
+use emit::code::mask_wire;
+use emit::code::third_code;
+use netlist::Gate;
+use netlist::Twin;
+ghost use mathlib.Core.Path.{_≡_};
+ghost use Prim.Native.Nat.{_+_, _<_, _^_};
+ghost use mathlib.Core.List.{[], _∷_};
+ghost use lib.ListN.{length, drop};
+ghost use Rattle.netlist.specs.Mask.{outGate, outGates, outCode};
+ghost use Rattle.writer.specs.Wrote.{Wrote};
+ghost use Rattle.writer.specs.Gates.{WroteGates};
+ghost use Rattle.pass.specs.State.{twinsOf, codesOf};
+
+// One output bit's gate, at wire c.
+fn one(out: &mut [u8], at: usize, n: u32, c: u32, t: Twin, want: u8) -> usize
+    requires { ⌜ n < 2 ^ 31 ⌝ }
+    ensures { λ r. ⌜ WroteGates (now (out .entry)) at (outGate n c t want ∷ []) (now (out .exit)) r ⌝ }
+{
+    if want == 0 {
+        return writer::gate::gate(out, at, Gate::Eqw(t.wire, c));
+    }
+    if want == t.code {
+        return writer::gate::gate(out, at, Gate::Eqw(t.wire, c));
+    }
+    let f = third_code(t.code, want);
+    let m = mask_wire(n, f);
+    writer::gate::gate(out, at, Gate::Xor(t.wire, m, c))
+}
+
+// The gates of the source wires from a wire on, at the wires from c.
+pub fn outs(
+    out: &mut [u8],
+    at: usize,
+    n: u32,
+    c: u32,
+    wire: &[u32],
+    code: &[u8],
+    from: usize,
+    wanted: &[u8],
+) -> usize
+    requires { ⌜ (n < 2 ^ 31) × (c + length (now wanted) < 2 ^ 31) ⌝ }
+    requires { ⌜ (from + length (now wanted) ≡ length (now wire)) × (length (now code) ≡ length (now wire)) ⌝ }
+    ensures { λ r. ⌜ WroteGates (now (out .entry)) at (outGates n c (drop from (twinsOf (now (wire .entry)) (now (code .entry)))) (now (wanted .entry))) (now (out .exit)) r ⌝ }
+{
+    let mut place = at;
+    let mut next = c;
+    let mut i = 0;
+    while i < wanted.len() {
+        let t = crate::twins::twin(wire, code, from + i);
+        place = one(out, place, n, next, t, wanted[i]);
+        next += 1;
+        i += 1;
+    }
+    place
+}
+
+// An output bit's code: the wanted one, or where 0 is wanted the one that it has.
+fn pick(e: u8, want: u8) -> u8
+    ensures { λ r. ⌜ r ≡ outCode e want ⌝ }
+{
+    if want == 0 {
+        return e;
+    }
+    want
+}
+
+// The output codes, of the source wires from a wire on.
+pub fn codes(code: &[u8], from: usize, wanted: &[u8], result: &mut [u8])
+    requires { ⌜ from + length (now wanted) ≡ length (now code) ⌝ }
+    ensures { λ _. ⌜ Wrote (now (result .entry)) 0 (codesOf (drop from (now (code .entry))) (now (wanted .entry))) (now (result .exit)) (length (now (wanted .entry))) ⌝ }
+{
+    let mut i = 0;
+    while i < wanted.len() {
+        i = writer::put(result, i, pick(code[from + i], wanted[i]));
+    }
+}
