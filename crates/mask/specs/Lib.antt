@@ -1,2 +1,4 @@
--- What the contracts of `mask` cite.
+-- What the contracts of Mask cite.
 pub mod Whole
+pub mod Fronts
+pub mod Promise
