@@ -1,32 +1,25 @@
--- From the questions of a netlist to Check's promise.
-use Prim.Native.Nat.{ℕ, zero, suc, _+_, _-_, _≤_, _<_}
-use mathlib.Core.Path.{_≡_, refl, sym, ap, _∙_}
-use mathlib.Core.Bool.{Bool, true, false, _&&_}
+-- Questions 10 to 12 of a netlist, and the core's verdict on it.
+use Prim.Native.Nat.{ℕ, zero, suc, _-_, _≤_, _<_}
+use mathlib.Core.Path.{_≡_, sym, ap, _∙_}
+use mathlib.Core.Bool.{true, false}
 use mathlib.Core.List.{List, [], _∷_}
-use mathlib.Core.Option.{Option, none, some}
+use mathlib.Core.Option.{Option}
 use native.Mathlib.Omega.{arith}
 use lib.Dec.{T, eqb, leb, eqb→eq}
 use lib.ListN.{length, getD}
 use borrow.Author.Tests.{le-leb, lt-leb}
 use Rattle.netlist.specs.Lists.{every, sum}
-use Rattle.netlist.specs.Netlist.{Netlist, inputBits, large}
-use Rattle.netlist.specs.Outcome.{Outcome, refused, done, ask, andThen}
-use Rattle.netlist.specs.Read.{readNetlist}
+use Rattle.netlist.specs.Netlist.{Netlist, inputBits}
+use Rattle.netlist.specs.Outcome.{Outcome, refused, done}
 use Rattle.netlist.specs.Mask.{isCode}
-use Rattle.netlist.specs.Leak.{Clean, Found, leak, LowestLeak}
-use Rattle.netlist.specs.Services.{tablesLong, listGood, endsInMasks, maxChecked, checkOutcome, checkCall}
-use Rattle.netlist.proofs.Tests.{both, true-T}
-use Rattle.netlist.proofs.Questions.{refused-done, done-same, ask-done}
-use Rattle.netlist.proofs.LeakSearch.{none-clean, found-lowest}
+use Rattle.netlist.specs.Leak.{Found, leak}
+use Rattle.netlist.specs.Services.{listGood, endsInMasks, maxChecked, checkOutcome}
 use Rattle.netlist.specs.Table.{Tables, Holds}
+use Rattle.netlist.proofs.Tests.{both, true-T}
 use Rattle.leak.specs.declared.search.Verdict.{Verdict}
 use Rattle.leak.specs.Base.{Secret}
 use Rattle.leak.specs.Search.{foundOf, Tells}
 use Rattle.leak.proofs.Bases.{codes-secret}
-use Rattle.checker.specs.declared.Checked.{Checked}
-use Rattle.checker.specs.declared.Checked.the-variants as C
-use Rattle.checker.specs.Judge.{found, outcomeOf, Judged}
-use Rattle.checker.specs.Promise.{call}
 
 -- ---- question 10
 

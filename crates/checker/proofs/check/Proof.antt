@@ -1,12 +1,9 @@
-use native.Mathlib.Omega.{arith}
+-- `check`: the answer, and then zero in every table.
+use Rattle.clear.proofs.Filled.{zeros-same}
+use Rattle.checker.proofs.Calling.{call-judged}
 use borrow.Author.Needs.{needs}
 use Rattle.checker.proofs.check.Statement.{statement}
 use Rattle.checker.proofs.check.Tie as tie
-use Rattle.checker.proofs.check.Reads as reads
-use Rattle.checker.proofs.check.Lts as lts
-use Rattle.checker.proofs.answer.Reads as answer-reads
-use Rattle.clear.proofs.bytes.Reads as bytes-reads
-use Rattle.clear.proofs.words.Reads as words-reads
 
 answer-requires : tie.Need-answer-requires
 answer-requires c κs = search needs
@@ -42,7 +39,18 @@ same-length-5 : tie.Need-same-length-5
 same-length-5 c = search needs
 
 returns : tie.Need-returns
-returns c = ?
+returns c =
+    let s = c .before .before .before .before .before .before .before .before .before .before .before .before .before .before .before .before .before .before .before .before .before .before .before .before .before .before .before .before .before .before .before .before .before .before .before .before .before .before .before .before .before .before .before .args in
+    let a = c .before .before .before .before .before .before .before .before .before .before .before .before .before .before .before .before .before .before .before .before .before .before .before .before .before .before .before .before .before .before .answer in
+    record {
+      outcome = a .ensures;
+      judged = call-judged (s .text .now) (s .codes .now) (s .operands .now) (s .results .now) (s .given .now) (s .words .now) (s .base .now) (a .result) (a .ensures);
+      operands = zeros-same (c .before .before .before .before .before .before .before .before .before .before .before .before .before .before .before .before .before .before .words2 .ensures) (a .kept .1 .1 .0);
+      results = zeros-same (c .before .before .before .before .before .before .before .before .before .before .before .before .before .before .words3 .ensures) (a .kept .1 .1 .1 .0);
+      given = zeros-same (c .before .before .before .before .before .before .before .before .before .before .bytes .ensures) (a .kept .1 .1 .1 .1 .0);
+      words = zeros-same (c .before .before .before .before .before .before .words4 .ensures) (a .kept .1 .1 .1 .1 .1 .0);
+      base = zeros-same (c .before .before .words6 .ensures) (a .kept .1 .1 .1 .1 .1 .1 .0);
+    }
 
 pub check-spec : {M : Type 1} → statement M
 check-spec =

@@ -2,12 +2,9 @@
 use mathlib.Core.Path.{sym}
 use lib.ListN.{length}
 use borrow.Author.Tests.{le-leb, lt-leb}
-use native.Mathlib.Omega.{arith}
 use borrow.Author.Needs.{needs}
 use Rattle.checker.proofs.judge.ends_in_masks.Statement.{statement}
 use Rattle.checker.proofs.judge.ends_in_masks.Tie as tie
-use Rattle.checker.proofs.judge.ends_in_masks.Reads as reads
-use Rattle.checker.proofs.judge.ends_in_masks.Lts as lts
 
 returns : tie.Need-returns
 returns c = sym (rw (lt-leb 2 (length (c .before .args .widths .now)) (c .if1 .taken)))

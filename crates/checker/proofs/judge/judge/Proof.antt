@@ -2,7 +2,7 @@
 use Prim.Native.Nat.{_-_}
 use mathlib.Core.Path.{_≡_, sym, _∙_}
 use mathlib.Core.Bool.{true}
-use lib.ListN.{length, take}
+use lib.ListN.{take}
 use lib.Seq.{length-take-le}
 use borrow.Author.Tests.{not-true, not-false}
 use Rattle.netlist.specs.Mask.{isCode}
@@ -12,11 +12,6 @@ use native.Mathlib.Omega.{arith}
 use borrow.Author.Needs.{needs}
 use Rattle.checker.proofs.judge.judge.Statement.{statement}
 use Rattle.checker.proofs.judge.judge.Tie as tie
-use Rattle.checker.proofs.judge.judge.Reads as reads
-use Rattle.checker.proofs.judge.judge.Lts as lts
-use Rattle.checker.proofs.judge.ends_in_masks.Reads as ends-in-masks-reads
-use Rattle.checker.proofs.judge.verdict.Reads as verdict-reads
-use Rattle.lists.proofs.codes.Reads as codes-reads
 
 slice-aggregate-ends-in-masks : tie.Need-slice-aggregate-ends-in-masks
 slice-aggregate-ends-in-masks c = sym (length-take-le _ _ (c .before .before .before .before .before .before .before .pre .1 .0))

@@ -1,6 +1,5 @@
 -- `verdict`: the core on the fronts of the tables of words.
-use mathlib.Core.Path.{_≡_, sym, ap, _∙_, subst}
-use lib.ListN.{length, take}
+use mathlib.Core.Path.{sym, _∙_}
 use lib.Seq.{length-take-le}
 use Rattle.leak.specs.declared.search.Verdict.the-variants.{Clean, Leak}
 use Rattle.checker.proofs.Judging.{told}
@@ -8,9 +7,6 @@ use native.Mathlib.Omega.{arith}
 use borrow.Author.Needs.{needs}
 use Rattle.checker.proofs.judge.verdict.Statement.{statement}
 use Rattle.checker.proofs.judge.verdict.Tie as tie
-use Rattle.checker.proofs.judge.verdict.Reads as reads
-use Rattle.checker.proofs.judge.verdict.Lts as lts
-use Rattle.leak.proofs.search.leaks.Reads as leaks-reads
 
 slice-relend-prefix-leaks : tie.Need-slice-relend-prefix-leaks
 slice-relend-prefix-leaks c = search needs
