@@ -1,0 +1,3 @@
+-- What Check's contracts cite.
+pub mod Judge
+pub mod Promise
