@@ -1,12 +1,11 @@
 -- From a text that was read to Rewrite's promise.
-use Prim.Native.Nat.{ℕ, _≤_, _<_}
+use Prim.Native.Nat.{ℕ}
 use mathlib.Core.Path.{_≡_, refl, sym, ap, ap₂, _∙_, subst}
-use mathlib.Core.Bool.{Bool, true, false, _&&_}
+use mathlib.Core.Bool.{Bool, true, false}
 use mathlib.Core.List.{List, [], _∷_, _++_}
 use native.Mathlib.Omega.{arith}
 use lib.Dec.{leb}
 use lib.ListN.{length, take}
-use borrow.Author.Tests.{le-leb, lt-leb}
 use Rattle.netlist.specs.declared.Answer.{Answer}
 use Rattle.netlist.specs.declared.Answer.the-variants.{Done, Refused}
 use Rattle.netlist.specs.Netlist.{Netlist, large}
@@ -15,7 +14,7 @@ use Rattle.netlist.specs.Read.{readNetlist}
 use Rattle.netlist.specs.Write.{writeNetlist, gateText}
 use Rattle.netlist.specs.Services.{tablesLong, rewriteOutcome, rewriteCall, outcomeOf, Answers, Delivers}
 use Rattle.netlist.specs.Table.{Tables, gatesOf}
-use Rattle.netlist.proofs.Answering.{answers-as, answers-refused}
+use Rattle.netlist.proofs.Answering.{answers-as, answers-refused, answers-one, answers-rest}
 use Rattle.netlist.proofs.Puts.{length-gates}
 use Rattle.netlist.proofs.Size.{rewritten-large}
 use Rattle.writer.specs.Header.{headerText}
@@ -48,22 +47,14 @@ rewrite-not e n = answers-refused e (ap (λ (o : Outcome Netlist). andThen o (re
 
 -- question 1
 module _ (text out o r g : List ℕ) where
-  pub call-operands : length o < 18430 → Answers (call text out o r g) out out (Refused 1)
+  pub call-one : tablesLong large (length o ∷ length r ∷ length g ∷ []) ≡ false → Answers (call text out o r g) out out (Refused 1)
   unfolding rewriteCall
-  call-operands h = answers-refused out (rw (lt-leb 18430 (length o) h))
+  call-one p = answers-one (tablesLong large (length o ∷ length r ∷ length g ∷ [])) _ out p
 
-  pub call-results : 18430 ≤ length o → length r < 18430 → Answers (call text out o r g) out out (Refused 1)
-  unfolding rewriteCall
-  call-results h k = answers-refused out (rw (le-leb 18430 (length o) h, lt-leb 18430 (length r) k))
-
-  pub call-given : 18430 ≤ length o → 18430 ≤ length r → length g < 18430 → Answers (call text out o r g) out out (Refused 1)
-  unfolding rewriteCall
-  call-given h k l = answers-refused out (rw (le-leb 18430 (length o) h, le-leb 18430 (length r) k, lt-leb 18430 (length g) l))
-
-  pub call-rest : {x : List ℕ} {a : Answer} → 18430 ≤ length o → 18430 ≤ length r → 18430 ≤ length g
+  pub call-rest : {x : List ℕ} {a : Answer} → tablesLong large (length o ∷ length r ∷ length g ∷ []) ≡ true
       → Answers (andThen (readNetlist large text) (rewriteOutcome (length out))) out x a → Answers (call text out o r g) out x a
   unfolding rewriteCall
-  call-rest h k l w = answers-as (sym (rw (le-leb 18430 (length o) h, le-leb 18430 (length r) k, le-leb 18430 (length g) l) refl)) w
+  call-rest p h = answers-rest (tablesLong large (length o ∷ length r ∷ length g ∷ [])) p h
 
   -- the text written reads back
   pub call-same : {x : List ℕ} {a : Answer} → Answers (call text out o r g) out x a

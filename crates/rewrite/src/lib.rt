@@ -5,15 +5,34 @@ use lines::header::HeaderNumbers;
 use netlist::Answer;
 use tables::read::Reading;
 ghost use mathlib.Core.Path.{_≡_};
+ghost use mathlib.Core.List.{[], _∷_};
 ghost use Prim.Native.Nat.{_≤_};
 ghost use lib.ListN.{length, take, replicate};
 ghost use Rattle.netlist.specs.Netlist.{large as largeLimits};
 ghost use Rattle.netlist.specs.Outcome.{andThen};
 ghost use Rattle.netlist.specs.Read.{readNetlist};
-ghost use Rattle.netlist.specs.Services.{rewriteOutcome, Answers, Delivers};
+ghost use Rattle.netlist.specs.Services.{tablesLong, rewriteOutcome, Answers, Delivers};
 ghost use Rattle.netlist.specs.Table.{tables};
 ghost use Rattle.rewrite.specs.Form.{formText};
 ghost use Rattle.rewrite.specs.Promise.{call, Promise};
+
+// Question 1 of the lengths of three tables.
+fn tables_long(a: usize, b: usize, c: usize) -> bool
+    ensures { λ r. ⌜ r ≡ tablesLong largeLimits (a ∷ b ∷ c ∷ []) ⌝ }
+{
+    let l = netlist::large();
+    let least = l.table;
+    if a < least {
+        return false;
+    }
+    if b < least {
+        return false;
+    }
+    if c < least {
+        return false;
+    }
+    true
+}
 
 // Question 14 and the text, from a header's numbers and tables that begin with its widths and gates.
 fn write(
@@ -70,14 +89,7 @@ fn answer(
 ) -> Answer
     ensures { λ r. ⌜ Answers (call (now (text .entry)) (now (out .entry)) (now (operands .entry)) (now (results .entry)) (now (given .entry))) (now (out .entry)) (now (out .exit)) r ⌝ }
 {
-    let l = netlist::large();
-    if operands.len() < l.table {
-        return Answer::Refused(1);
-    }
-    if results.len() < l.table {
-        return Answer::Refused(1);
-    }
-    if given.len() < l.table {
+    if !tables_long(operands.len(), results.len(), given.len()) {
         return Answer::Refused(1);
     }
     clear::bytes(given);
