@@ -1,21 +1,22 @@
 -- Questions 2 to 6 in order, but for the number of gate lines.
-use Prim.Native.Nat.{ℕ, _-_, _<_, _≤_}
-use mathlib.Core.Path.{_≡_, refl, _∙_, subst}
+use Prim.Native.Nat.{ℕ, suc, _<_, _≤_}
+use mathlib.Core.Path.{_≡_, refl, sym, ap, _∙_, subst}
 use mathlib.Core.Bool.{Bool, true, false, _&&_}
-use mathlib.Core.List.{List}
+use mathlib.Core.List.{List, [], _∷_}
 use mathlib.Core.Option.{none}
+use native.Mathlib.Omega.{arith}
 use lib.Dec.{T, eqb, leb, leb→le, eqb→eq}
-use lib.ListN.{length, drop}
+use lib.ListN.{length, take, drop}
 use borrow.Author.Tests.{lt-leb, le-leb}
 use Rattle.netlist.specs.declared.Limits.{Limits}
 use Rattle.netlist.specs.Lists.{every}
-use Rattle.netlist.specs.Outcome.{refused, done, ask}
+use Rattle.netlist.specs.Outcome.{done, ask}
 use Rattle.netlist.specs.Text.{wordLines}
 use Rattle.netlist.specs.Header.{header, withinLimits}
 use Rattle.netlist.specs.Read.{byteAllowed, countsAgree, opening}
 use Rattle.netlist.proofs.Tests.{both, true-T}
 use Rattle.text.specs.declared.cursor.Cursor.{Cursor}
-use Rattle.lines.specs.HeaderAnswers.{HeaderAt}
+use Rattle.lines.specs.HeaderAnswers.{Kept, HeaderAt}
 use Rattle.lines.specs.HeadAnswers.{withinNumbers, gatesCounted, Inside, HeadAt, HeadNot, HeadIs}
 use Rattle.lines.specs.declared.header.HeaderNumbers.{HeaderNumbers}
 use Rattle.lines.specs.declared.head.Head.{Head}
@@ -95,3 +96,25 @@ module _ (L : Limits) (t ins outs : List ℕ) {r : Head} (k : HeadIs L t ins out
 
   pub head-refused : {q : ℕ} → r ≡ H.Refused q → HeadNot L t q
   head-refused p = subst (HeadIs L t ins outs) p k
+
+-- ---- the widths
+
+-- those that a table with room for all of them has kept
+kept-front : (table ws : List ℕ) → Kept table ws → length ws ≤ length table → take (length ws) table ≡ ws
+kept-front table [] k h = refl
+kept-front [] (w ∷ ws) k h = absurd (omega arith)
+kept-front (x ∷ table) (w ∷ ws) k h =
+    let p : x ≡ w = k 0 (omega arith) (omega arith) in
+    let q = kept-front table ws (λ i a b. k (suc i) (omega arith) (omega arith)) (omega arith) in
+    cc
+
+module _ {L : Limits} {t ins outs : List ℕ} {h : HeaderNumbers} {to : ℕ} (a : HeadAt L t ins outs h to) where
+  pub inputs-front : L .inputs ≤ length ins → take (h .inputs) ins ≡ a .header .is .inputs
+  inputs-front room =
+      let n = a .header .inputs in
+      ap (λ (k : ℕ). take k ins) (sym n) ∙ kept-front ins (a .header .is .inputs) (a .header .keptIn) (omega (arith, a .inside .inputs))
+
+  pub outputs-front : L .outputs ≤ length outs → take (h .outputs) outs ≡ a .header .is .outputs
+  outputs-front room =
+      let n = a .header .outputs in
+      ap (λ (k : ℕ). take k outs) (sym n) ∙ kept-front outs (a .header .is .outputs) (a .header .keptOut) (omega (arith, a .inside .outputs))

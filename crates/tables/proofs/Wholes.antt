@@ -14,8 +14,8 @@ use Rattle.netlist.specs.Text.{wordLines}
 use Rattle.netlist.specs.Read.{gateLines, netlistOf, readGates, readNetlist}
 use Rattle.netlist.specs.Table.{Tables, gatesOf}
 use Rattle.netlist.proofs.HeaderFacts.{header-good}
-use Rattle.lines.specs.HeaderAnswers.{Kept}
 use Rattle.lines.specs.HeadAnswers.{Inside, HeadAt, HeadNot}
+use Rattle.lines.proofs.HeadLaws.{inputs-front, outputs-front}
 use Rattle.lines.specs.declared.header.HeaderNumbers.{HeaderNumbers}
 use Rattle.tables.specs.declared.gates.Gates.{Gates}
 use Rattle.tables.specs.declared.gates.Gates.the-variants as G
@@ -26,15 +26,6 @@ use Rattle.tables.specs.Whole.{ReadAt, ReadNot, ReadIs}
 -- there are at most as many gates as wires
 pub few-gates : {L : Limits} {h : HeaderNumbers} → Inside L h → h .gates ≤ h .wires
 few-gates i = omega (arith, i .gates)
-
--- the widths at the front of a table
-kept-front : (table ws : List ℕ) → Kept table ws → length ws ≤ length table → take (length ws) table ≡ ws
-kept-front table [] k h = refl
-kept-front [] (w ∷ ws) k h = absurd (omega arith)
-kept-front (x ∷ table) (w ∷ ws) k h =
-    let p : x ≡ w = k 0 (omega arith) (omega arith) in
-    let q = kept-front table ws (λ i a b. k (suc i) (omega arith) (omega arith)) (omega arith) in
-    cc
 
 module _ {L : Limits} {t : List ℕ} where
   -- a head that is not admitted
@@ -62,14 +53,13 @@ module _ {L : Limits} {t : List ℕ} where
         let i = a .inside in
         let some = header-good (wordLines t) (H .is) (H .read) .inputs .filled in
         let li = H .inputs in
-        let lo = H .outputs in
         record {
           is = netlistOf (H .is) (gatesOf tabs (h .gates));
           read = reached ∙ ap (λ (o : Outcome (List Gate)). andThen o λ gs. done (netlistOf (H .is) gs)) (g .lines);
           holds = record { gates = refl; wires = H .wires; ins = H .inputBits; outs = H .outputBits };
           wired = g .wired;
-          inputs = ap (λ (n : ℕ). take n ins) (sym li) ∙ kept-front ins (H .is .inputs) (H .keptIn) (omega (arith, i .inputs));
-          outputs = ap (λ (n : ℕ). take n outs) (sym lo) ∙ kept-front outs (H .is .outputs) (H .keptOut) (omega (arith, i .outputs));
+          inputs = inputs-front a room;
+          outputs = outputs-front a room′;
           someIn = omega arith;
           manyIn = i .inputs;
           manyOut = i .outputs;
