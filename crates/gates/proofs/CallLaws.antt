@@ -4,7 +4,7 @@ use mathlib.Core.Path.{_≡_, refl, sym, ap, _∙_, subst}
 use mathlib.Core.List.{List, [], _∷_}
 use mathlib.Core.Option.{Option, none, some}
 use native.Mathlib.Omega.{arith}
-use lib.ListN.{length, drop}
+use lib.ListN.{drop}
 use lib.Seq.{drop-drop}
 use Rattle.netlist.specs.declared.Gate.{Gate}
 use Rattle.netlist.specs.Netlist.{large}
@@ -21,7 +21,6 @@ use Rattle.gates.specs.Opens.{numbersOf, OpeningIs}
 use Rattle.gates.specs.Calls.{Behind, CallIs, ReaderIs}
 use Rattle.gates.specs.declared.step.Step.{Step}
 use Rattle.gates.specs.declared.step.Step.the-variants as S
-use Rattle.gates.specs.declared.opening.Opening.{Opening}
 use Rattle.gates.specs.declared.opening.Opening.the-variants as O
 
 -- ---- from a place on
@@ -109,24 +108,28 @@ reader-is {t} {k} p b = record {
   behind = b;
 }
 
-module _ {t ins ins′ outs outs′ : List ℕ} {k : ℕ} where
-  -- a refused opening is all that is said
-  pub reader-no : {q : ℕ} → OpeningIs t ins ins′ outs outs′ (O.Refused q) → ReaderIs t k (S.Refused q)
+module _ {t ins ins′ outs outs′ : List ℕ} where
+  -- the reader of an opened text begins at its place
+  opened-says : {h : HeaderNumbers} {at : ℕ} (k : ℕ) → OpeningIs t ins ins′ outs outs′ (O.At h at) → callSays k (wordLines (drop at t)) ≡ readerSays t k
   unfolding readerSays
-  reader-no {q} o = reader-is (go (opening large t) (o .said)) tt
-    where
-      go : (x : Outcome Header) → refused q ≡ (andThen x λ H. done (numbersOf H)) → no q ≡ afterOpening x (callSays k (drop 3 (wordLines t)))
-      go (refused p) e = let z : q ≡ p = cc in ap no z
-      go (done H) e = let z : _≡_ {A = ℕ} 0 1 = cc in absurd (omega arith)
-
-  pub reader-on : {h : HeaderNumbers} {at : ℕ} {r : Step} → OpeningIs t ins ins′ outs outs′ (O.At h at) → CallIs t at k r → ReaderIs t k r
-  unfolding readerSays
-  reader-on {h} {at} {r} o c = reader-is (c .said ∙ ap (callSays k) (o .place .0) ∙ go (opening large t) (o .said)) (further r (c .behind))
+  opened-says {h} k o = ap (callSays k) (o .place .0) ∙ go (opening large t) (o .said)
     where
       go : (x : Outcome Header) → done h ≡ (andThen x λ H. done (numbersOf H)) → callSays k (drop 3 (wordLines t)) ≡ afterOpening x (callSays k (drop 3 (wordLines t)))
       go (refused p) e = let z : _≡_ {A = ℕ} 0 1 = cc in absurd (omega arith)
       go (done H) e = refl
 
+  -- a refused opening is all that is said
+  pub reader-no : {k q : ℕ} → OpeningIs t ins ins′ outs outs′ (O.Refused q) → ReaderIs t k (S.Refused q)
+  unfolding readerSays
+  reader-no {k} {q} o = reader-is (go (opening large t) (o .said)) tt
+    where
+      go : (x : Outcome Header) → refused q ≡ (andThen x λ H. done (numbersOf H)) → no q ≡ afterOpening x (callSays k (drop 3 (wordLines t)))
+      go (refused p) e = let z : q ≡ p = cc in ap no z
+      go (done H) e = let z : _≡_ {A = ℕ} 0 1 = cc in absurd (omega arith)
+
+  pub reader-on : {h : HeaderNumbers} {at k : ℕ} {r : Step} → OpeningIs t ins ins′ outs outs′ (O.At h at) → CallIs t at k r → ReaderIs t k r
+  reader-on {h} {at} {k} {r} o c = reader-is (c .said ∙ opened-says k o) (further r (c .behind))
+    where
       further : (r : Step) → Behind t (wordLines (drop at t)) (k + 1) r → Behind t (wordLines t) (k + 4) r
       further (S.On g to) b =
           let z : 3 + (k + 1) ≡ k + 4 = omega arith in
@@ -134,6 +137,20 @@ module _ {t ins ins′ outs outs′ : List ℕ} {k : ℕ} where
       further S.End b = tt
       further (S.Refused q) b = tt
 
--- an opening known by its answer
-pub open-is : (t ins ins′ outs outs′ : List ℕ) {r s : Opening} → r ≡ s → OpeningIs t ins ins′ outs outs′ r → OpeningIs t ins ins′ outs outs′ s
-open-is t ins ins′ outs outs′ p o = subst (OpeningIs t ins ins′ outs outs′) p o
+-- ---- the reader's own calls
+
+-- what the contracts of `next` and `moved` say where each step is asked of the reader behind the one before
+pub record Asked (t : List ℕ) (at : ℕ → ℕ) (step : ℕ → Step) : Type 0 where
+  pub says : (i : ℕ) → StepIs t (at i) (step i)
+  pub moves : (i : ℕ) → at (suc i) ≡ placeAfter (at i) (step i)
+
+calls-of : (t : List ℕ) (k : ℕ) (at : ℕ → ℕ) (step : ℕ → Step) → Asked t at step → stepSaid (step k) ≡ callSays k (wordLines (drop (at 0) t))
+unfolding callSays
+calls-of t zero at step a = a .says 0 .said
+calls-of t (suc k) at step a =
+    calls-of t k (λ i. at (suc i)) (λ i. step (suc i)) (record { says = λ i. a .says (suc i); moves = λ i. a .moves (suc i) })
+    ∙ ap (callSays k) (ap (λ (x : ℕ). wordLines (drop x t)) (a .moves 0) ∙ a .says 0 .lines)
+
+-- from an opened place on they are the reader's answers
+pub reader-calls : {t ins ins′ outs outs′ : List ℕ} {h : HeaderNumbers} (at : ℕ → ℕ) (step : ℕ → Step) → OpeningIs t ins ins′ outs outs′ (O.At h (at 0)) → Asked t at step → (k : ℕ) → stepSaid (step k) ≡ readerSays t k
+reader-calls {t} at step o a k = calls-of t k at step a ∙ opened-says k o

@@ -1,7 +1,7 @@
 -- An opening, from the head of the text and the number of its gate lines.
 use Prim.Native.Nat.{ℕ, suc, _+_, _<_, _≤_}
-use mathlib.Core.Path.{_≡_, refl, sym, ap, ap₂, _∙_, subst}
-use mathlib.Core.List.{List, [], _∷_}
+use mathlib.Core.Path.{_≡_, refl, sym, ap, _∙_, subst}
+use mathlib.Core.List.{List, _∷_}
 use native.Mathlib.Numerals.{add-one}
 use native.Mathlib.Omega.{arith}
 use lib.ListN.{length, take, drop, getD, set, length-set, drop-of-length-le}
@@ -18,6 +18,7 @@ use Rattle.lines.specs.declared.head.Head.{Head}
 use Rattle.lines.specs.declared.header.HeaderNumbers.{HeaderNumbers}
 use Rattle.lines.proofs.HeadLaws.{inputs-front, outputs-front}
 use Rattle.gates.specs.Opens.{numbersOf, OpeningIs}
+use Rattle.gates.specs.declared.opening.Opening.{Opening}
 use Rattle.gates.specs.declared.opening.Opening.the-variants as O
 
 -- ---- widths copied
@@ -80,3 +81,7 @@ module _ {t ws vs : List ℕ} {h : HeaderNumbers} {to n : ℕ} (a : HeadAt large
         outputs = q ∙ rw o (ap (sets outs 0) (outputs-front a room′));
         place = (H .left, H .within);
       }
+
+-- an opening known by its answer
+pub open-is : (t ins ins′ outs outs′ : List ℕ) {r s : Opening} → r ≡ s → OpeningIs t ins ins′ outs outs′ r → OpeningIs t ins ins′ outs outs′ s
+open-is t ins ins′ outs outs′ p o = subst (OpeningIs t ins ins′ outs outs′) p o

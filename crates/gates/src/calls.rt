@@ -4,7 +4,6 @@ use crate::opening::open_at;
 use crate::step::Step;
 use crate::step::place_after;
 use crate::step::step_at;
-ghost use mathlib.Core.Path.{_≡_};
 ghost use Rattle.gates.specs.Calls.{CallIs, ReaderIs};
 
 // What the reader at a place says when it is asked for the k-th time, from 0. Where it stays, at an end or a no, it says the

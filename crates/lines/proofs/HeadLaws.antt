@@ -1,7 +1,7 @@
 -- Questions 2 to 6 in order, but for the number of gate lines.
 use Prim.Native.Nat.{ℕ, suc, _<_, _≤_}
 use mathlib.Core.Path.{_≡_, refl, sym, ap, _∙_, subst}
-use mathlib.Core.Bool.{Bool, true, false, _&&_}
+use mathlib.Core.Bool.{true, false, _&&_}
 use mathlib.Core.List.{List, [], _∷_}
 use mathlib.Core.Option.{none}
 use native.Mathlib.Omega.{arith}
@@ -12,8 +12,8 @@ use Rattle.netlist.specs.declared.Limits.{Limits}
 use Rattle.netlist.specs.Lists.{every}
 use Rattle.netlist.specs.Outcome.{done, ask}
 use Rattle.netlist.specs.Text.{wordLines}
-use Rattle.netlist.specs.Header.{header, withinLimits}
-use Rattle.netlist.specs.Read.{byteAllowed, countsAgree, opening}
+use Rattle.netlist.specs.Header.{header}
+use Rattle.netlist.specs.Read.{byteAllowed, opening}
 use Rattle.netlist.proofs.Tests.{both, true-T}
 use Rattle.text.specs.declared.cursor.Cursor.{Cursor}
 use Rattle.lines.specs.HeaderAnswers.{Kept, HeaderAt}

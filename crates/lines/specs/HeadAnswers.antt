@@ -6,7 +6,7 @@ use mathlib.Core.List.{List}
 use lib.Dec.{eqb, leb}
 use lib.ListN.{length, drop}
 use Rattle.netlist.specs.declared.Limits.{Limits}
-use Rattle.netlist.specs.Outcome.{Outcome, refused, done, ask}
+use Rattle.netlist.specs.Outcome.{refused, done, ask}
 use Rattle.netlist.specs.Text.{wordLines}
 use Rattle.netlist.specs.Read.{opening}
 use Rattle.lines.specs.HeaderAnswers.{HeaderAt}

@@ -3,7 +3,7 @@ use Prim.Native.Nat.{ℕ, suc, _+_, _-_, _<_, _≤_}
 use mathlib.Core.Path.{_≡_, refl, sym, ap, ap₂, _∙_, subst}
 use mathlib.Core.Bool.{Bool, true, false, cond, _&&_, not}
 use mathlib.Core.List.{List, [], _∷_, _++_, append-assoc, append-nil}
-use mathlib.Core.Option.{Option, none, some}
+use mathlib.Core.Option.{none, some}
 use native.Mathlib.Omega.{arith}
 use lib.Dec.{eqb, leb, ltb}
 use lib.ListN.{length, drop, set}
@@ -11,9 +11,9 @@ use borrow.Author.Tests.{eq-eqb, ne-eqb, eqb-true, eqb-false}
 use Rattle.netlist.specs.declared.Gate.{Gate}
 use Rattle.netlist.specs.Netlist.{result}
 use Rattle.netlist.specs.Text.{wordLines}
-use Rattle.netlist.specs.Outcome.{Outcome, refused, done, ask, andThen}
+use Rattle.netlist.specs.Outcome.{Outcome, refused, done, andThen}
 use Rattle.netlist.specs.GateLine.{gateLine}
-use Rattle.netlist.specs.Read.{operandsGiven, isGiven, resultGood, gateLines}
+use Rattle.netlist.specs.Read.{operandsGiven, resultGood, gateLines}
 use Rattle.netlist.specs.Table.{Tables, tables, gatesOf, Wired}
 use Rattle.netlist.proofs.Tests.{onBool}
 use Rattle.netlist.proofs.Puts.{wired-none}

@@ -1,15 +1,14 @@
 -- Questions 2 to 9 together: the head, and then the gate lines.
-use Prim.Native.Nat.{ℕ, suc, _-_, _≤_}
-use mathlib.Core.Path.{_≡_, refl, sym, ap, _∙_, subst}
+use Prim.Native.Nat.{ℕ, _-_, _≤_}
+use mathlib.Core.Path.{_≡_, refl, ap, _∙_, subst}
 use mathlib.Core.Bool.{Bool, true, false}
-use mathlib.Core.List.{List, [], _∷_}
+use mathlib.Core.List.{List, []}
 use native.Mathlib.Omega.{arith}
 use lib.Dec.{eqb}
-use lib.ListN.{length, take, drop}
+use lib.ListN.{length, drop}
 use Rattle.netlist.specs.declared.Gate.{Gate}
 use Rattle.netlist.specs.declared.Limits.{Limits}
-use Rattle.netlist.specs.Outcome.{Outcome, refused, done, ask, andThen}
-use Rattle.netlist.specs.Lists.{sum}
+use Rattle.netlist.specs.Outcome.{Outcome, done, ask, andThen}
 use Rattle.netlist.specs.Text.{wordLines}
 use Rattle.netlist.specs.Read.{gateLines, netlistOf, readGates, readNetlist}
 use Rattle.netlist.specs.Table.{Tables, gatesOf}

@@ -2,7 +2,6 @@
 use Prim.Native.Nat.{_-_}
 use Rattle.gates.proofs.CallLaws.{Calling, calling-start, calling-on, calling-stays, calling-end}
 use borrow.Author.Needs.{needs}
-use native.Mathlib.Omega.{arith}
 use Rattle.gates.proofs.calls.call_at.Statement.{statement}
 use Rattle.gates.proofs.calls.call_at.Tie as tie
 use Rattle.gates.proofs.calls.call_at.Reads as reads

@@ -1,6 +1,6 @@
 -- `kth`: the opening, and then the calls.
-use Rattle.gates.proofs.CallLaws.{open-is, reader-no, reader-on}
-use native.Mathlib.Omega.{arith}
+use Rattle.gates.proofs.OpenLaws.{open-is}
+use Rattle.gates.proofs.CallLaws.{reader-no, reader-on}
 use borrow.Author.Needs.{needs}
 use Rattle.gates.proofs.calls.kth.Statement.{statement}
 use Rattle.gates.proofs.calls.kth.Tie as tie

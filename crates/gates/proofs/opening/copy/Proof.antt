@@ -3,7 +3,6 @@ use Prim.Native.Nat.{_-_}
 use lib.ListN.{take}
 use Rattle.gates.proofs.OpenLaws.{Copying, copying-start, copying-on, copying-end}
 use borrow.Author.Needs.{needs}
-use native.Mathlib.Omega.{arith}
 use Rattle.gates.proofs.opening.copy.Statement.{statement}
 use Rattle.gates.proofs.opening.copy.Tie as tie
 use Rattle.gates.proofs.opening.copy.Reads as reads

@@ -1,7 +1,6 @@
 -- `step_at`: blank lines are passed, and the line is asked.
 use Rattle.lines.proofs.GateLaws.{line-is, line-is-not}
 use Rattle.gates.proofs.StepLaws.{end-past, end-blank, no-step, on-step}
-use native.Mathlib.Omega.{arith}
 use borrow.Author.Needs.{needs}
 use Rattle.gates.proofs.step.step_at.Statement.{statement}
 use Rattle.gates.proofs.step.step_at.Tie as tie
