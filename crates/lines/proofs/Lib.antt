@@ -2,4 +2,5 @@
 pub mod GateFormLaws
 pub mod GateLaws
 pub mod HeaderLaws
+pub mod HeadLaws
 pub mod WidthLaws

@@ -2,3 +2,4 @@
 pub mod GateForm
 pub mod GateAnswers
 pub mod HeaderAnswers
+pub mod HeadAnswers

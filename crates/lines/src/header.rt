@@ -59,7 +59,7 @@ fn counts_line(text: &[u8], at: Cursor) -> Counts
 }
 
 // Puts a width into its place of a table, where the table has room.
-fn keep(table: &mut [u32], n: usize, width: u32)
+pub fn keep(table: &mut [u32], n: usize, width: u32)
     ensures { λ r. ⌜ now (table .exit) ≡ set (now (table .entry)) n width ⌝ }
 {
     if n < table.len() {

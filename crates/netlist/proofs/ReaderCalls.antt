@@ -41,7 +41,7 @@ stays (l ∷ ls) h = go (gateLine l) h
     go none k = refl
     go (some g) k = absurd (k g refl)
 
-says-again : (ls : List (List (List ℕ))) → onward ls ≡ ls → (k : ℕ) → callSays k ls ≡ says ls
+pub says-again : (ls : List (List (List ℕ))) → onward ls ≡ ls → (k : ℕ) → callSays k ls ≡ says ls
 unfolding callSays
 says-again ls e zero = refl
 says-again ls e (suc k) = ap (callSays k) e ∙ says-again ls e k

@@ -3,7 +3,7 @@ use Prim.Native.Nat.{ℕ, suc, _+_, _-_, _<_, _≤_}
 use mathlib.Core.Path.{_≡_, refl, sym, ap, ap₂, _∙_, subst}
 use mathlib.Core.Bool.{Bool, true, false, cond, _&&_, not}
 use mathlib.Core.List.{List, [], _∷_, _++_, append-assoc, append-nil}
-use mathlib.Core.Option.{Option, none, some}
+use mathlib.Core.Option.{none, some}
 use native.Mathlib.Omega.{arith}
 use lib.Dec.{eqb, leb, ltb}
 use lib.ListN.{length, drop, set}
@@ -11,18 +11,14 @@ use borrow.Author.Tests.{eq-eqb, ne-eqb, eqb-true, eqb-false}
 use Rattle.netlist.specs.declared.Gate.{Gate}
 use Rattle.netlist.specs.Netlist.{result}
 use Rattle.netlist.specs.Text.{wordLines}
-use Rattle.netlist.specs.Outcome.{Outcome, refused, done, ask, andThen}
+use Rattle.netlist.specs.Outcome.{Outcome, refused, done, andThen}
 use Rattle.netlist.specs.GateLine.{gateLine}
-use Rattle.netlist.specs.Read.{operandsGiven, isGiven, resultGood, gateLines}
+use Rattle.netlist.specs.Read.{operandsGiven, resultGood, gateLines}
 use Rattle.netlist.specs.Table.{Tables, tables, gatesOf, Wired}
 use Rattle.netlist.proofs.Tests.{onBool}
 use Rattle.netlist.proofs.Puts.{wired-none}
 use Rattle.text.specs.Line.{lineWords, afterLine, LineTaken, isBlank, Scanned}
-use Rattle.text.specs.declared.cursor.Cursor.{Cursor}
 use Rattle.text.proofs.LineLaws.{at-word, word-line, no-line, blanks-lines}
-use Rattle.lines.specs.declared.gate.GateLine.{GateLine}
-use Rattle.lines.specs.declared.gate.GateLine.the-variants as L
-use Rattle.lines.specs.GateAnswers.{LineIs}
 use Rattle.tables.specs.Marks.{marked, Marks}
 use Rattle.tables.specs.Gates.{Admitted, RefusedAt, GateStepIs, Stored, GatesRead, GatesNot, GatesIs}
 use Rattle.tables.specs.declared.gates.GateStep.{GateStep}
@@ -31,12 +27,6 @@ use Rattle.tables.specs.declared.gates.Gates.the-variants as G
 use Rattle.tables.proofs.Marking.{marks-operands, marks-result, marks-names, marks-on, free-below}
 
 -- ---- questions 7 to 9 of one line
-
-pub line-is : (t : List ℕ) (at : ℕ) (e : Option Gate) (r : GateLine) (g : Gate) (c : Cursor) → r ≡ L.Is g c → LineIs t at e r → (some g ≡ e) × LineTaken t at (c .at)
-line-is t at e r g c p l = let k : LineIs t at e (L.Is g c) = subst (LineIs t at e) p l in (k .gate, k .next)
-
-pub line-is-not : (t : List ℕ) (at : ℕ) (e : Option Gate) (r : GateLine) → r ≡ L.Not → LineIs t at e r → none ≡ e
-line-is-not t at e r p l = let k : LineIs t at e L.Not = subst (LineIs t at e) p l in k .gate
 
 module _ (t : List ℕ) (at n W : ℕ) (given : List ℕ) where
   pub one-7 : none ≡ gateLine (lineWords (drop at t)) → (rs : List ℕ) → Marks given n W rs → RefusedAt t at n W rs 7

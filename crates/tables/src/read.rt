@@ -2,17 +2,17 @@
 use crate::gates::Gates;
 use crate::gates::read_gates;
 use crate::marks::mark_inputs;
+use lines::head::Head;
+use lines::head::read_head;
 use lines::header::HeaderNumbers;
-use lines::header::HeaderRead;
-use lines::header::read_header;
 use netlist::Limits;
-use text::allowed::all_allowed;
 use text::cursor::Cursor;
 ghost use mathlib.Core.Path.{_≡_};
 ghost use Prim.Native.Nat.{_≤_, _<_, _^_};
 ghost use lib.ListN.{length, replicate};
 ghost use Rattle.netlist.specs.Table.{tables};
-ghost use Rattle.tables.specs.Whole.{withinNumbers, gatesCounted, BodyIs, ReadIs};
+ghost use Rattle.tables.specs.Gates.{GatesIs};
+ghost use Rattle.tables.specs.Whole.{ReadIs};
 
 // The numbers of the header of a netlist that the tables now hold, or the first question with a no.
 pub enum Reading {
@@ -20,52 +20,19 @@ pub enum Reading {
     Refused(u8),
 }
 
-// Question 5.
-fn within(l: Limits, h: HeaderNumbers) -> bool
-    ensures { λ r. ⌜ r ≡ withinNumbers l h ⌝ }
-{
-    if l.wires < h.wires {
-        return false;
-    }
-    if l.inputs < h.inputs {
-        return false;
-    }
-    if l.outputs < h.outputs {
-        return false;
-    }
-    if (h.wires as u64) < h.ins {
-        return false;
-    }
-    h.outs <= h.wires as u64
-}
-
-// The first half of question 6: the gate count is W less n.
-fn gates_counted(h: HeaderNumbers) -> bool
-    requires { ⌜ h .ins ≤ h .wires ⌝ }
-    ensures { λ r. ⌜ r ≡ gatesCounted h ⌝ }
-{
-    h.gates as u64 == h.wires as u64 - h.ins
-}
-
-// Questions 5 to 9, on the lines from a place on.
+// Question 6 of the lines from a place on, and then 7 to 9, after a head that is admitted.
 fn read_body(
     text: &[u8],
     at: Cursor,
-    l: Limits,
     h: HeaderNumbers,
     given: &mut [u8],
     operands: &mut [u64],
     results: &mut [u64],
 ) -> Gates
-    requires { ⌜ (at .at ≤ length (now text)) × (l .wires ≤ length (now given)) × (l .wires ≤ length (now operands)) × (l .wires ≤ length (now results)) × (now given ≡ replicate (length (now given)) 0) ⌝ }
-    ensures { λ r. ⌜ BodyIs (now (text .entry)) (at .at) l h (tables (now (operands .exit)) (now (results .exit))) r ⌝ }
+    requires { ⌜ (at .at ≤ length (now text)) × (h .ins ≤ h .wires) × (h .gates ≤ h .wires) ⌝ }
+    requires { ⌜ (h .wires ≤ length (now given)) × (h .wires ≤ length (now operands)) × (h .wires ≤ length (now results)) × (now given ≡ replicate (length (now given)) 0) ⌝ }
+    ensures { λ r. ⌜ GatesIs (now (text .entry)) (at .at) (h .gates) (h .ins) (h .wires) (tables (now (operands .exit)) (now (results .exit))) r ⌝ }
 {
-    if !within(l, h) {
-        return Gates::Refused(5);
-    }
-    if !gates_counted(h) {
-        return Gates::Refused(6);
-    }
     let n = h.ins as u32;
     let w = h.wires;
     let count = h.gates as usize;
@@ -88,17 +55,11 @@ pub fn read(
     requires { ⌜ (l .wires ≤ length (now given)) × (l .wires ≤ length (now operands)) × (l .wires ≤ length (now results)) × (now given ≡ replicate (length (now given)) 0) ⌝ }
     ensures { λ r. ⌜ ReadIs l (now (text .entry)) (now (inputs .exit)) (now (outputs .exit)) (tables (now (operands .exit)) (now (results .exit))) r ⌝ }
 {
-    if l.text < text.len() {
-        return Reading::Refused(2);
-    }
-    if !all_allowed(text) {
-        return Reading::Refused(3);
-    }
-    let HeaderRead::Is(h, c) = read_header(text, inputs, outputs) else {
-        return Reading::Refused(4);
-    };
-    match read_body(text, c, l, h, given, operands, results) {
-        Gates::Done => Reading::Done(h),
-        Gates::Refused(question) => Reading::Refused(question),
+    match read_head(text, l, inputs, outputs) {
+        Head::Refused(question) => Reading::Refused(question),
+        Head::Is(h, at) => match read_body(text, at, h, given, operands, results) {
+            Gates::Refused(question) => Reading::Refused(question),
+            Gates::Done => Reading::Done(h),
+        },
     }
 }

@@ -1,7 +1,8 @@
 -- `one_gate`: questions 7 to 9 in order, for every list of results that the table marks.
 use mathlib.Core.Path.{sym, _∙_}
 use borrow.Author.Tests.{not-true, not-false}
-use Rattle.tables.proofs.Reading.{line-is, line-is-not, one-7, one-8, one-9, one-on, one-room}
+use Rattle.lines.proofs.GateLaws.{line-is, line-is-not}
+use Rattle.tables.proofs.Reading.{one-7, one-8, one-9, one-on, one-room}
 use native.Mathlib.Omega.{arith}
 use borrow.Author.Needs.{needs}
 use Rattle.tables.proofs.gates.one_gate.Statement.{statement}
@@ -24,7 +25,7 @@ enum-told : tie.Need-enum-told
 enum-told c = search needs
 
 returns : tie.Need-returns
-returns c = one-7 _ _ _ _ _ (line-is-not _ _ _ _ (c .enum-told .given .1) (c .before .before .gate-line .ensures))
+returns c = one-7 _ _ _ _ _ (line-is-not _ _ _ _ (c .before .before .gate-line .ensures) (c .enum-told .given .1))
 
 operands-given-requires : tie.Need-operands-given-requires
 operands-given-requires c κs = search needs
@@ -33,7 +34,7 @@ same-length : tie.Need-same-length
 same-length c = search needs
 
 returns-2 : tie.Need-returns-2
-returns-2 c = let l = line-is _ _ _ _ _ _ (c .before .before .before .before .g .given .1) (c .before .before .before .before .before .before .gate-line .ensures) in
+returns-2 c = let l = line-is _ _ _ _ (c .before .before .before .before .before .before .gate-line .ensures) _ _ (c .before .before .before .before .g .given .1) in
     one-8 _ _ _ _ _ _ (l .0) (sym (c .before .operands-given .ensures) ∙ not-true _ (c .if1 .taken))
 
 result-of-requires : tie.Need-result-of-requires
@@ -46,7 +47,7 @@ same-length-2 : tie.Need-same-length-2
 same-length-2 c = search needs
 
 returns-3 : tie.Need-returns-3
-returns-3 c = let l = line-is _ _ _ _ _ _ (c .before .before .before .before .before .before .before .before .g .given .1) (c .before .before .before .before .before .before .before .before .before .before .gate-line .ensures) in
+returns-3 c = let l = line-is _ _ _ _ (c .before .before .before .before .before .before .before .before .before .before .gate-line .ensures) _ _ (c .before .before .before .before .before .before .before .before .g .given .1) in
     one-9 _ _ _ _ _ _ (l .0) (sym (c .before .before .before .before .before .operands-given .ensures) ∙ not-false _ (c .before .before .before .before .if1 .left)) _ (c .before .before .before .result-of .ensures) (sym (c .before .result-free .ensures) ∙ not-true _ (c .if2 .taken))
 
 mark-requires : tie.Need-mark-requires
@@ -56,7 +57,7 @@ same-length-3 : tie.Need-same-length-3
 same-length-3 c = search needs
 
 returns-4 : tie.Need-returns-4
-returns-4 c = let l = line-is _ _ _ _ _ _ (c .before .before .before .before .before .before .before .before .before .before .before .before .g .given .1) (c .before .before .before .before .before .before .before .before .before .before .before .before .before .before .gate-line .ensures) in
+returns-4 c = let l = line-is _ _ _ _ (c .before .before .before .before .before .before .before .before .before .before .before .before .before .before .gate-line .ensures) _ _ (c .before .before .before .before .before .before .before .before .before .before .before .before .g .given .1) in
     one-on _ _ _ _ _ _ (l .0) (sym (c .before .before .before .before .before .before .before .before .before .operands-given .ensures) ∙ not-false _ (c .before .before .before .before .before .before .before .before .if1 .left)) _ (c .before .before .before .before .before .before .before .result-of .ensures) _ _ (sym (c .before .before .before .before .before .result-free .ensures) ∙ not-false _ (c .before .before .before .before .if2 .left)) (l .1) (c .before .before .mark .ensures)
 
 pub one-gate-spec : {M : Type 1} → statement M

@@ -1,11 +1,11 @@
 -- `gates_counted`: one comparison.
-use Rattle.tables.specs.Whole.{gatesCounted}
+use Rattle.lines.specs.HeadAnswers.{gatesCounted}
 use native.Mathlib.Omega.{arith}
 use borrow.Author.Needs.{needs}
-use Rattle.tables.proofs.read.gates_counted.Statement.{statement}
-use Rattle.tables.proofs.read.gates_counted.Tie as tie
-use Rattle.tables.proofs.read.gates_counted.Reads as reads
-use Rattle.tables.proofs.read.gates_counted.Lts as lts
+use Rattle.lines.proofs.head.gates_counted.Statement.{statement}
+use Rattle.lines.proofs.head.gates_counted.Tie as tie
+use Rattle.lines.proofs.head.gates_counted.Reads as reads
+use Rattle.lines.proofs.head.gates_counted.Lts as lts
 
 cast-result : tie.Need-cast-result
 cast-result c = search needs

@@ -1,12 +1,12 @@
 -- `within`: the five tests in order.
-use Rattle.tables.specs.Whole.{withinNumbers}
+use Rattle.lines.specs.HeadAnswers.{withinNumbers}
 use borrow.Author.Tests.{lt-leb, le-leb}
 use native.Mathlib.Omega.{arith}
 use borrow.Author.Needs.{needs}
-use Rattle.tables.proofs.read.within.Statement.{statement}
-use Rattle.tables.proofs.read.within.Tie as tie
-use Rattle.tables.proofs.read.within.Reads as reads
-use Rattle.tables.proofs.read.within.Lts as lts
+use Rattle.lines.proofs.head.within.Statement.{statement}
+use Rattle.lines.proofs.head.within.Tie as tie
+use Rattle.lines.proofs.head.within.Reads as reads
+use Rattle.lines.proofs.head.within.Lts as lts
 
 returns : tie.Need-returns
 unfolding withinNumbers
