@@ -13,7 +13,7 @@ pub fn bytes(bytes: &mut [u8])
     }
 }
 
-// A bytes of wire numbers.
+// A table of wire numbers.
 pub fn wires(wires: &mut [u32])
     ensures { λ _. ⌜ now (wires .exit) ≡ replicate (length (now (wires .entry))) 0 ⌝ }
 {
@@ -24,7 +24,7 @@ pub fn wires(wires: &mut [u32])
     }
 }
 
-// A wires of 64-bit words.
+// A table of 64-bit words.
 pub fn words(words: &mut [u64])
     ensures { λ _. ⌜ now (words .exit) ≡ replicate (length (now (words .entry))) 0 ⌝ }
 {
