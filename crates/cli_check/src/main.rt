@@ -3,13 +3,13 @@
 use checker::Checked;
 use libc::STDOUT_FILENO;
 ghost use mathlib.Core.Path.{_≡_};
-ghost use mathlib.Core.List.{[], _∷_};
+ghost use mathlib.Core.List.{[]};
 ghost use Prim.Native.Nat.{_≤_};
 ghost use lib.ListN.{length, take};
 ghost use Rattle.netlist.specs.Netlist.{large as largeLimits};
 ghost use Rattle.netlist.specs.Programs.{readable, listFile, printCheck, checkProgram};
 ghost use Rattle.netlist.specs.Services.{checkCall};
-ghost use Rattle.writer.specs.Wrote.{WroteFew};
+ghost use Rattle.writer.specs.Wrote.{Wrote};
 ghost use Rattle.checker.specs.Judge.{outcomeOf};
 ghost use Rattle.cli_check.specs.Report.{Roomy};
 
@@ -33,20 +33,14 @@ fn answer(
     checker::check(netlist, &inputs[..n], operands, results, given, words, base)
 }
 
-fn wide(n: u8) -> usize
-    ensures { λ r. ⌜ r ≡ n ⌝ }
-{
-    n as usize
-}
-
-// The line that an answer prints, of 64 bytes at most.
+// The line that an answer prints.
 fn print(out: &mut [u8], a: Checked) -> usize
-    ensures { λ r. ⌜ WroteFew 64 (now (out .entry)) 0 (printCheck (outcomeOf a)) (now (out .exit)) r ⌝ }
+    ensures { λ r. ⌜ Wrote (now (out .entry)) 0 (printCheck (outcomeOf a)) (now (out .exit)) r ⌝ }
 {
     match a {
         Checked::Clean => console::clean(out),
         Checked::Leak(wire, setting, zero, own) => {
-            console::leak(out, wire, setting as usize, wide(zero), wide(own))
+            console::leak(out, wire, setting as usize, zero as usize, own as usize)
         }
         Checked::Refused(question) => console::refused(out, question),
     }
@@ -63,7 +57,7 @@ fn report(
     words: &mut [u64],
     base: &mut [u64],
 ) -> usize
-    requires { ⌜ Roomy (now operands) (now results) (now given) (now words) (now base) × (64 ≤ length (now out)) ⌝ }
+    requires { ⌜ Roomy (now operands) (now results) (now given) (now words) (now base) × (128 ≤ length (now out)) ⌝ }
     ensures { λ r. ⌜ (r ≤ length (now (out .exit))) × (take r (now (out .exit)) ≡ checkProgram (now (netlist .entry)) (now (inputs .entry))) ⌝ }
 {
     let a = answer(netlist, inputs, operands, results, given, words, base);
@@ -79,7 +73,7 @@ fn main() {
     let mut given = [0u8; 18430];
     let mut words = [0u64; 18430];
     let mut base = [0u64; 18430];
-    let mut out = [0u8; 64];
+    let mut out = [0u8; 128];
     let bytes = files::read(b"netlist.txt", &mut netlist);
     let entries = files::read(b"inputs.txt", &mut inputs);
     let n = report(
