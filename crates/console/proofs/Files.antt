@@ -11,7 +11,7 @@ use lib.Seq.{take-all, drop-cons, take-suc, take-suc-set, drop-set-lt}
 use borrow.Author.Tests.{eq-eqb, ne-eqb, le-leb, lt-leb}
 use Rattle.netlist.specs.Text.{lf}
 use Rattle.netlist.specs.Programs.{withoutLF, listBytes, entry, listFile}
-use Rattle.console.specs.File.{Cut, Counts}
+use Rattle.console.specs.File.{Cut, Counts, Listed}
 
 pub cut-all : (s : List ℕ) → length s ≤ 60000 → Cut s (length s)
 cut-all s h = record { within = omega arith; same = take-all (length s) s (omega arith) ∙ sym (take-all 60000 s h) }
@@ -90,8 +90,12 @@ module _ {file₀ file : List ℕ} {n i : ℕ} (l : Listing file₀ file n i) wh
         left = rw add-one (drop-set-lt (suc i) file i v (omega arith) ∙ (cc));
       }
 
-  pub listing-all : Counts file₀ n → n ≤ i → take n file ≡ listFile file₀
+  pub listing-all : Counts file₀ n → n ≤ i → Listed file₀ file n
   unfolding listFile
   listing-all c h =
       let z : i ≡ n = omega (arith, l .passed) in
-      ap (λ (j : ℕ). take j file) (sym z) ∙ l .entries ∙ ap (λ (j : ℕ). map entry (take j file₀)) z ∙ ap (map entry) (c .same)
+      let w : n ≤ length file = omega (arith, l .within, l .long) in
+      record {
+        within = w;
+        same = ap (λ (j : ℕ). take j file) (sym z) ∙ l .entries ∙ ap (λ (j : ℕ). map entry (take j file₀)) z ∙ ap (map entry) (c .same);
+      }

@@ -1,12 +1,11 @@
 // What the programs make of a list file's bytes, and the lines that they print.
 ghost use mathlib.Core.Path.{_≡_};
 ghost use mathlib.Core.List.{[], _∷_, _++_};
-ghost use lib.ListN.{take};
 ghost use Rattle.netlist.specs.Text.{space, lf};
 ghost use Rattle.netlist.specs.Number.{decimal};
-ghost use Rattle.netlist.specs.Programs.{entry as entryOf, listFile, printList, printRefused, printClean, printLeak};
+ghost use Rattle.netlist.specs.Programs.{entry as entryOf, printList, printRefused, printClean, printLeak};
 ghost use Rattle.writer.specs.Wrote.{Wrote};
-ghost use Rattle.console.specs.File.{Cut, Counts};
+ghost use Rattle.console.specs.File.{Cut, Counts, Listed};
 
 // A list byte that is no digit counts as 9.
 fn entry(b: u8) -> u8
@@ -48,7 +47,7 @@ fn counted(file: &[u8]) -> usize
 
 // The list in a file, in place of its bytes; answers how many entries it has.
 pub fn list(file: &mut [u8]) -> usize
-    ensures { λ r. ⌜ take r (now (file .exit)) ≡ listFile (now (file .entry)) ⌝ }
+    ensures { λ r. ⌜ Listed (now (file .entry)) (now (file .exit)) r ⌝ }
 {
     let n = counted(file);
     let mut i = 0;

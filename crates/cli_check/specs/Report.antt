@@ -1,0 +1,13 @@
+-- What the functions of *check* rely on.
+use Prim.Native.Nat.{ℕ, _≤_}
+use mathlib.Core.List.{List}
+use lib.ListN.{length}
+use Rattle.netlist.specs.Netlist.{large}
+
+-- question 1 admits the program's tables
+pub record Roomy (o r g w b : List ℕ) : Type 0 where
+  pub operands : large .table ≤ length o
+  pub results : large .table ≤ length r
+  pub given : large .table ≤ length g
+  pub words : large .table ≤ length w
+  pub base : large .table ≤ length b

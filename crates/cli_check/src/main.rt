@@ -1,0 +1,90 @@
+// *check*: reads netlist.txt and inputs.txt, and prints whether the netlist is clean under those codes, or its leak, or the question
+// that refuses it.
+use checker::Checked;
+use libc::STDOUT_FILENO;
+ghost use mathlib.Core.Path.{_≡_};
+ghost use mathlib.Core.List.{[]};
+ghost use Prim.Native.Nat.{_≤_};
+ghost use lib.ListN.{length, take};
+ghost use Rattle.netlist.specs.Netlist.{large as largeLimits};
+ghost use Rattle.netlist.specs.Programs.{readable, listFile, printCheck, checkProgram};
+ghost use Rattle.netlist.specs.Services.{checkCall};
+ghost use Rattle.writer.specs.Wrote.{Wrote};
+ghost use Rattle.checker.specs.Judge.{outcomeOf};
+ghost use Rattle.cli_check.specs.Report.{Roomy};
+
+// The answer, from the bytes of the two files; the list takes the place of its file's bytes.
+fn answer(
+    netlist: &[u8],
+    inputs: &mut [u8],
+    operands: &mut [u64],
+    results: &mut [u64],
+    given: &mut [u8],
+    words: &mut [u64],
+    base: &mut [u64],
+) -> Checked
+    requires { ⌜ Roomy (now operands) (now results) (now given) (now words) (now base) ⌝ }
+    ensures { λ r. ⌜ outcomeOf r ≡ readable (now (netlist .entry)) (checkCall largeLimits [] (now (netlist .entry)) (listFile (now (inputs .entry)))) ⌝ }
+{
+    if 60000 < netlist.len() {
+        return Checked::Refused(2);
+    }
+    let n = console::list(inputs);
+    checker::check(netlist, &inputs[..n], operands, results, given, words, base)
+}
+
+// The line that an answer prints.
+fn print(out: &mut [u8], a: Checked) -> usize
+    ensures { λ r. ⌜ Wrote (now (out .entry)) 0 (printCheck (outcomeOf a)) (now (out .exit)) r ⌝ }
+{
+    match a {
+        Checked::Clean => console::clean(out),
+        Checked::Leak(wire, setting, zero, own) => {
+            console::leak(out, wire, setting as usize, zero as usize, own as usize)
+        }
+        Checked::Refused(question) => console::refused(out, question),
+    }
+}
+
+// What the program prints, from the bytes of the two files.
+fn report(
+    out: &mut [u8],
+    netlist: &[u8],
+    inputs: &mut [u8],
+    operands: &mut [u64],
+    results: &mut [u64],
+    given: &mut [u8],
+    words: &mut [u64],
+    base: &mut [u64],
+) -> usize
+    requires { ⌜ Roomy (now operands) (now results) (now given) (now words) (now base) × (128 ≤ length (now out)) ⌝ }
+    ensures { λ r. ⌜ (r ≤ length (now (out .exit))) × (take r (now (out .exit)) ≡ checkProgram (now (netlist .entry)) (now (inputs .entry))) ⌝ }
+{
+    let a = answer(netlist, inputs, operands, results, given, words, base);
+    print(out, a)
+}
+
+fn main() {
+    // one byte more than is taken, to notice a longer file
+    let mut netlist = [0u8; 60001];
+    let mut inputs = [0u8; 60000];
+    let mut operands = [0u64; 18430];
+    let mut results = [0u64; 18430];
+    let mut given = [0u8; 18430];
+    let mut words = [0u64; 18430];
+    let mut base = [0u64; 18430];
+    let mut out = [0u8; 128];
+    let bytes = files::read(b"netlist.txt", &mut netlist);
+    let entries = files::read(b"inputs.txt", &mut inputs);
+    let n = report(
+        &mut out,
+        &netlist[..bytes],
+        &mut inputs[..entries],
+        &mut operands,
+        &mut results,
+        &mut given,
+        &mut words,
+        &mut base,
+    );
+    io::write_all(STDOUT_FILENO, &out[..n]);
+}
