@@ -41,7 +41,7 @@ fn change(out: &mut [u8], at: usize, n: u32, c: u32, a: Twin, b: Twin) -> Change
     }
     let f = code_after(e);
     let m = mask_wire(n, f);
-    let end = writer::gate::gate(out, at, Gate::Xor(b.wire, m, c));
+    let end = writer::gate::xor(out, at, b.wire, m, c);
     let twin = Twin {
         wire: c,
         code: third_code(e, f),
@@ -60,7 +60,7 @@ fn xor(out: &mut [u8], at: usize, n: u32, c: u32, a: Twin, b: Twin) -> Emitted
 {
     let m = change(out, at, n, c, a, b);
     let second = m.twin;
-    let end = writer::gate::gate(out, m.at, Gate::Xor(a.wire, second.wire, m.next));
+    let end = writer::gate::xor(out, m.at, a.wire, second.wire, m.next);
     let twin = Twin {
         wire: m.next,
         code: third_code(a.code, second.code),

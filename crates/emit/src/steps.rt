@@ -1,5 +1,4 @@
 // The seven steps of the masked AND.
-use netlist::Gate;
 ghost use Prim.Native.Nat.{_≤_, _^_};
 ghost use mathlib.Core.List.{[], _∷_};
 ghost use Rattle.netlist.specs.Mask.{rows, rowGates};
@@ -23,9 +22,9 @@ fn row(out: &mut [u8], at: usize, operation: u8, a: u32, b: u32, c: u32) -> usiz
     ensures { λ r. ⌜ WroteGates (now (out .entry)) at (rowOf operation a b c ∷ []) (now (out .exit)) r ⌝ }
 {
     if operation == 1 {
-        return writer::gate::gate(out, at, Gate::And(a, b, c));
+        return writer::gate::and(out, at, a, b, c);
     }
-    writer::gate::gate(out, at, Gate::Xor(a, b, c))
+    writer::gate::xor(out, at, a, b, c)
 }
 
 // The steps' gates at the wires from c, with the operands a and b, their mask wires p and q, and

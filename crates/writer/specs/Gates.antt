@@ -21,3 +21,10 @@ frontOf1 a c = (parted one ++ parted one) ++ (parted (decimal a) ++ parted (deci
 
 abbrev pub frontOf2 : ℕ → ℕ → ℕ → List ℕ
 frontOf2 a b c = (parted two ++ parted one) ++ (parted (decimal a) ++ (parted (decimal b) ++ parted (decimal c)))
+
+-- the words of a line of one operand, and of one of two, under a gate's name
+abbrev pub words1 : ℕ → ℕ → List ℕ → List (List ℕ)
+words1 a c name = one ∷ one ∷ decimal a ∷ decimal c ∷ name ∷ []
+
+abbrev pub words2 : ℕ → ℕ → ℕ → List ℕ → List (List ℕ)
+words2 a b c name = two ∷ one ∷ decimal a ∷ decimal b ∷ decimal c ∷ name ∷ []

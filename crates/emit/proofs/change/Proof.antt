@@ -14,20 +14,20 @@ code-after-requires c κs = search needs
 mask-wire-requires : tie.Need-mask-wire-requires
 mask-wire-requires c κs = search needs
 
-gate-requires : tie.Need-gate-requires
-gate-requires c κs = search needs
+xor-requires : tie.Need-xor-requires
+xor-requires c κs = search needs
 
 third-code-requires : tie.Need-third-code-requires
 third-code-requires c κs = search needs
 
-add-t17 : tie.Need-add-t17
-add-t17 c = search needs
+add-t16 : tie.Need-add-t16
+add-t16 c = search needs
 
 same-length : tie.Need-same-length
 same-length c = search needs
 
 returns-2 : tie.Need-returns-2
-returns-2 c = change-made _ _ (c .before .before .before .before .before .before .before .if1 .left) (c .before .before .before .before .before .before .code-after .ensures) (c .before .before .before .before .before .mask-wire .ensures) (c .third-code .ensures) (c .before .before .before .gate .ensures)
+returns-2 c = change-made _ _ (c .before .before .before .before .before .before .before .if1 .left) (c .before .before .before .before .before .before .code-after .ensures) (c .before .before .before .before .before .mask-wire .ensures) (c .third-code .ensures) (c .before .before .before .xor .ensures)
 
 pub change-spec : {M : Type 1} → statement M
 change-spec =
@@ -36,8 +36,8 @@ change-spec =
     returns
     code-after-requires
     mask-wire-requires
-    gate-requires
+    xor-requires
     third-code-requires
-    add-t17
+    add-t16
     same-length
     returns-2)

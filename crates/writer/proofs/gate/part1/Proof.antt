@@ -1,0 +1,41 @@
+-- `part1`: the whole line lies at the front of its own buffer.
+use mathlib.Core.Path.{sym}
+use lib.Seq.{length-take-le}
+use Rattle.writer.proofs.Wrote.{wrote-front, front-within, wrote-as}
+use native.Mathlib.Omega.{arith}
+use borrow.Author.Needs.{needs}
+use Rattle.writer.proofs.gate.part1.Statement.{statement}
+use Rattle.writer.proofs.gate.part1.Tie as tie
+
+slice-aggregate-line1 : tie.Need-slice-aggregate-line1
+slice-aggregate-line1 c = search needs
+
+line1-requires : tie.Need-line1-requires
+line1-requires c κs = search needs
+
+array-share-prefix-whole : tie.Need-array-share-prefix-whole
+array-share-prefix-whole c = search needs
+
+slice-aggregate-bytes : tie.Need-slice-aggregate-bytes
+slice-aggregate-bytes c = sym (length-take-le _ _ (front-within (c .before .before .before .line1 .ensures .wrote) (omega arith)))
+
+bytes-requires : tie.Need-bytes-requires
+bytes-requires c κs = search needs
+
+same-length : tie.Need-same-length
+same-length c = search needs
+
+returns : tie.Need-returns
+returns c = wrote-as (wrote-front (c .before .before .before .before .before .before .line1 .ensures .wrote) (omega arith)) (c .before .before .bytes .ensures)
+
+pub part1-spec : {M : Type 1} → statement M
+part1-spec =
+    tie.close
+    (tie.spec
+    slice-aggregate-line1
+    line1-requires
+    array-share-prefix-whole
+    slice-aggregate-bytes
+    bytes-requires
+    same-length
+    returns)
