@@ -97,7 +97,7 @@ module _ {M : Masked} {m : ℕ} {e f : List ℕ} {z : Size} (h : Measured M m z)
         let t = le-leb (length (writeNetlist (M .netlist))) (length e) fits in
         let u = le-leb (length (M .codes)) (length f) (omega (arith, h .codes)) in
         record {
-          text = rw (t, u, s) (record { outcome = ap done (ap (take (length (writeNetlist (M .netlist)))) (d .text) ∙ take-sets (writeNetlist (M .netlist)) e fits); buffer = d .text });
+          text = rw (t, u, s) (record { answer = refl; outcome = ap done (ap (take (length (writeNetlist (M .netlist)))) (d .text) ∙ take-sets (writeNetlist (M .netlist)) e fits); buffer = d .text });
           codes = rw (t, u) (d .codes);
         }
 

@@ -12,14 +12,14 @@ use Rattle.netlist.specs.declared.Limits.{Limits}
 use Rattle.netlist.specs.declared.Answer.{Answer}
 use Rattle.netlist.specs.declared.Answer.the-variants.{Done, Refused}
 use Rattle.netlist.specs.Outcome.{Outcome, refused, done, ask}
-use Rattle.netlist.specs.Services.{tablesLong, delivered, outcomeOf, written, Answers, Delivers}
+use Rattle.netlist.specs.Services.{tablesLong, delivered, outcomeOf, answerOf, written, Answers, Delivers}
 
 pub answers-as : {c d : Outcome (List ℕ)} {e x : List ℕ} {a : Answer} → c ≡ d → Answers c e x a → Answers d e x a
 answers-as p h = rw p at h
 
 -- a refusal leaves the buffer as it was
 pub answers-refused : {c : Outcome (List ℕ)} (e : List ℕ) {q : ℕ} → c ≡ refused q → Answers c e e (Refused q)
-answers-refused e p = record { outcome = sym p; buffer = rw p refl }
+answers-refused e p = record { answer = sym (ap answerOf p); outcome = sym p; buffer = rw p refl }
 
 -- the buffer is too short
 pub delivers-short : (bs e : List ℕ) → length e < length bs → Delivers bs e e (Refused 14)
@@ -31,7 +31,7 @@ take-sets bs e h = ap (take (length bs)) (sets-eq bs e 0 (omega arith)) ∙ take
 
 -- the result is written
 pub delivers-done : (bs e x : List ℕ) → length bs ≤ length e → x ≡ sets e 0 bs → Delivers bs e x (Done (length bs))
-delivers-done bs e x h p = record { answers = rw (le-leb (length bs) (length e) h) (record { outcome = ap done (ap (take (length bs)) p ∙ take-sets bs e h); buffer = p }) }
+delivers-done bs e x h p = record { answers = rw (le-leb (length bs) (length e) h) (record { answer = refl; outcome = ap done (ap (take (length bs)) p ∙ take-sets bs e h); buffer = p }) }
 
 -- ---- question 1
 

@@ -40,6 +40,11 @@ abbrev pub outcomeOf : List ℕ → Answer → Outcome (List ℕ)
 outcomeOf out (Done n) = done (take n out)
 outcomeOf out (Refused q) = refused q
 
+-- the answer to a call's outcome: how many entries the result has, or the question
+abbrev pub answerOf : Outcome (List ℕ) → Answer
+answerOf (refused q) = Refused q
+answerOf (done result) = Done (length result)
+
 -- what a call writes at the front of its result buffer; the rest of it stays as it was
 abbrev pub written : Outcome (List ℕ) → List ℕ
 written (refused q) = []
@@ -47,6 +52,7 @@ written (done result) = result
 
 -- the answer and the result buffer are those of a call's outcome
 pub record Answers (call : Outcome (List ℕ)) (before after : List ℕ) (a : Answer) : Type 0 where
+  pub answer : a ≡ answerOf call
   pub outcome : outcomeOf after a ≡ call
   pub buffer : after ≡ sets before 0 (written call)
 
