@@ -1,0 +1,39 @@
+-- `capi::fidrovelj_rewrite`: what Rewrite promises, and its number.
+use Rattle.capi.proofs.Counts.{countable}
+use native.Mathlib.Omega.{arith}
+use borrow.Author.Needs.{needs}
+use Rattle.capi.proofs.fidrovelj_rewrite.Statement.{statement}
+use Rattle.capi.proofs.fidrovelj_rewrite.Tie as tie
+
+rewrite-requires : tie.Need-rewrite-requires
+rewrite-requires c κs = search needs
+
+number-requires : tie.Need-number-requires
+number-requires c κs = countable (c .before .before .before .before .before .before .before .before .rewrite .ensures .answers) (omega (arith, c .before .before .before .before .before .before .before .before .before .before .before .before .before .before .before .before .before .before .good))
+
+same-length : tie.Need-same-length
+same-length c = search needs
+
+same-length-2 : tie.Need-same-length-2
+same-length-2 c = search needs
+
+same-length-3 : tie.Need-same-length-3
+same-length-3 c = search needs
+
+same-length-4 : tie.Need-same-length-4
+same-length-4 c = search needs
+
+returns : tie.Need-returns
+returns c = search needs
+
+pub fidrovelj-rewrite-spec : {M : Type 1} → statement M
+fidrovelj-rewrite-spec =
+    tie.close
+    (tie.spec
+    rewrite-requires
+    number-requires
+    same-length
+    same-length-2
+    same-length-3
+    same-length-4
+    returns)

@@ -1,0 +1,43 @@
+-- `capi::fidrovelj_run`: what Run promises, and its number.
+use Rattle.capi.proofs.Counts.{countable}
+use native.Mathlib.Omega.{arith}
+use borrow.Author.Needs.{needs}
+use Rattle.capi.proofs.fidrovelj_run.Statement.{statement}
+use Rattle.capi.proofs.fidrovelj_run.Tie as tie
+
+run-requires : tie.Need-run-requires
+run-requires c κs = search needs
+
+number-requires : tie.Need-number-requires
+number-requires c κs = countable (c .before .before .before .before .before .before .before .before .before .before .run .ensures .answers) (omega (arith, c .before .before .before .before .before .before .before .before .before .before .before .before .before .before .before .before .before .before .before .before .before .before .before .good))
+
+same-length : tie.Need-same-length
+same-length c = search needs
+
+same-length-2 : tie.Need-same-length-2
+same-length-2 c = search needs
+
+same-length-3 : tie.Need-same-length-3
+same-length-3 c = search needs
+
+same-length-4 : tie.Need-same-length-4
+same-length-4 c = search needs
+
+same-length-5 : tie.Need-same-length-5
+same-length-5 c = search needs
+
+returns : tie.Need-returns
+returns c = search needs
+
+pub fidrovelj-run-spec : {M : Type 1} → statement M
+fidrovelj-run-spec =
+    tie.close
+    (tie.spec
+    run-requires
+    number-requires
+    same-length
+    same-length-2
+    same-length-3
+    same-length-4
+    same-length-5
+    returns)

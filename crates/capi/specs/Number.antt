@@ -1,0 +1,49 @@
+-- The number that a call from C gets for an answer.
+use Prim.Native.Nat.{ℕ, _^_, _<_}
+use mathlib.Core.Path.{_≡_}
+use mathlib.Core.List.{List, [], _∷_}
+use lib.IntN.{ℤ, pos, negℤ}
+use lib.Seq.{sets}
+use Rattle.netlist.specs.declared.Answer.{Answer}
+use Rattle.netlist.specs.declared.Answer.the-variants as answer
+use Rattle.checker.specs.declared.Checked.{Checked}
+use Rattle.checker.specs.declared.Checked.the-variants as checked
+
+-- how many entries the result has, or minus the number of the question
+abbrev pub number : Answer → ℤ
+number (answer.Done n) = pos n
+number (answer.Refused q) = negℤ (pos q)
+
+-- the number of a result fits an i64
+abbrev pub Countable : Answer → Type 0
+Countable (answer.Done n) = n < 2 ^ 63
+Countable (answer.Refused q) = Unit
+
+-- what a call promises of its answer, which the caller gets as a number
+pub record Told (Promise : Answer → Type 0) (r : ℤ) : Type 0 where
+  pub answer : Answer
+  pub promise : Promise answer
+  pub told : r ≡ number answer
+
+-- 0 for clean, 1 for a leak, or minus the number of the question
+abbrev pub verdict : Checked → ℤ
+verdict checked.Clean = pos 0
+verdict (checked.Leak w s z o) = pos 1
+verdict (checked.Refused q) = negℤ (pos q)
+
+-- the wire, the setting, setting 0's count and that setting's
+abbrev pub numbers : Checked → List ℕ
+numbers checked.Clean = []
+numbers (checked.Leak w s z o) = w ∷ s ∷ z ∷ o ∷ []
+numbers (checked.Refused q) = []
+
+-- an answer's number, and its leak's numbers at the front of a list that was `before`: the first ones where it is short
+pub record Shows (before after : List ℕ) (r : ℤ) (a : Checked) : Type 0 where
+  pub told : r ≡ verdict a
+  pub leak : after ≡ sets before 0 (numbers a)
+
+-- what Check promises of its answer, which the caller gets as a number and a list
+pub record ToldLeak (Promise : Checked → Type 0) (before after : List ℕ) (r : ℤ) : Type 0 where
+  pub answer : Checked
+  pub promise : Promise answer
+  pub shows : Shows before after r answer

@@ -1,0 +1,143 @@
+// The four services for programs in C and Rust: a slice comes as a pointer and a length, and the answer is one number, at
+// least 0 for a result and minus the number of the refusing question otherwise. include/fidrovelj.h declares them.
+use checker::Checked;
+use netlist::Answer;
+ghost use mathlib.Core.Path.{_≡_};
+ghost use mathlib.Core.List.{[], _∷_};
+ghost use lib.IntN.{pos, negℤ};
+ghost use lib.ListN.{set};
+ghost use lib.Seq.{sets};
+ghost use Rattle.rewrite.specs.Promise.{Promise as RewritePromise};
+ghost use Rattle.run.specs.Promise.{Promise as RunPromise};
+ghost use Rattle.mask.specs.Promise.{Promise as MaskPromise};
+ghost use Rattle.checker.specs.Promise.{Promise as CheckPromise};
+ghost use Rattle.capi.specs.Number.{number as numberOf, Countable, Told, Shows, ToldLeak};
+
+// The number of a refusal.
+fn minus(question: u8) -> i64
+    ensures { λ r. ⌜ r ≡ negℤ (pos question) ⌝ }
+{
+    -(question as i64)
+}
+
+// The number of an answer.
+fn number(a: Answer) -> i64
+    requires { ⌜ Countable a ⌝ }
+    ensures { λ r. ⌜ r ≡ numberOf a ⌝ }
+{
+    match a {
+        Answer::Done(n) => n as i64,
+        Answer::Refused(question) => minus(question),
+    }
+}
+
+// One entry of a list, where the list is long enough.
+fn put(list: &mut [u64], at: usize, entry: u64)
+    ensures { λ _. ⌜ now (list .exit) ≡ set (now (list .entry)) at entry ⌝ }
+{
+    if at < list.len() {
+        list[at] = entry;
+    }
+}
+
+// The numbers of a leak: its wire, its setting, setting 0's count and that setting's.
+fn show(leak: &mut [u64], wire: usize, setting: u64, base: u8, own: u8)
+    ensures { λ _. ⌜ now (leak .exit) ≡ sets (now (leak .entry)) 0 (wire ∷ setting ∷ base ∷ own ∷ []) ⌝ }
+{
+    put(leak, 0, wire as u64);
+    put(leak, 1, setting);
+    put(leak, 2, base as u64);
+    put(leak, 3, own as u64);
+}
+
+// Check's answer: its number, and the numbers of a leak at the front of `leak`, as many as it has entries.
+fn tell(leak: &mut [u64], a: Checked) -> i64
+    ensures { λ r. ⌜ Shows (now (leak .entry)) (now (leak .exit)) r a ⌝ }
+{
+    match a {
+        Checked::Clean => 0,
+        Checked::Leak(wire, setting, base, own) => {
+            show(leak, wire, setting, base, own);
+            1
+        }
+        Checked::Refused(question) => minus(question),
+    }
+}
+
+// Rewrite: how many bytes the written form has at the front of `out`.
+#[no_mangle]
+pub extern "C" fn fidrovelj_rewrite(
+    text: &[u8],
+    out: &mut [u8],
+    operands: &mut [u64],
+    results: &mut [u64],
+    given: &mut [u8],
+) -> i64
+    ensures { λ r. ⌜ Told (RewritePromise (now (text .entry)) (now (out .entry)) (now (out .exit)) (now (operands .entry)) (now (operands .exit)) (now (results .entry)) (now (results .exit)) (now (given .entry)) (now (given .exit))) r ⌝ }
+{
+    number(rewrite::rewrite(text, out, operands, results, given))
+}
+
+// Run: how many output bits stand at the front of `out`.
+#[no_mangle]
+pub extern "C" fn fidrovelj_run(
+    text: &[u8],
+    list: &[u8],
+    out: &mut [u8],
+    operands: &mut [u64],
+    results: &mut [u64],
+    given: &mut [u8],
+    words: &mut [u64],
+) -> i64
+    ensures { λ r. ⌜ Told (RunPromise (now (text .entry)) (now (list .entry)) (now (out .entry)) (now (out .exit)) (now (operands .entry)) (now (operands .exit)) (now (results .entry)) (now (results .exit)) (now (given .entry)) (now (given .exit)) (now (words .entry)) (now (words .exit))) r ⌝ }
+{
+    number(run::run(text, list, out, operands, results, given, words))
+}
+
+// Mask: how many bytes the masked text has at the front of `out`; the output codes stand at the front of `ends`.
+#[no_mangle]
+pub extern "C" fn fidrovelj_mask(
+    text: &[u8],
+    codes: &[u8],
+    wanted: &[u8],
+    out: &mut [u8],
+    ends: &mut [u8],
+    operands: &mut [u64],
+    results: &mut [u64],
+    wires: &mut [u32],
+    marks: &mut [u8],
+) -> i64
+    ensures { λ r. ⌜ Told (MaskPromise (now (text .entry)) (now (codes .entry)) (now (wanted .entry)) (now (out .entry)) (now (out .exit)) (now (ends .entry)) (now (ends .exit)) (now (operands .entry)) (now (operands .exit)) (now (results .entry)) (now (results .exit)) (now (wires .entry)) (now (wires .exit)) (now (marks .entry)) (now (marks .exit))) r ⌝ }
+{
+    number(mask::mask(
+        text,
+        codes,
+        wanted,
+        out,
+        ends,
+        operands,
+        results,
+        wires,
+        marks,
+    ))
+}
+
+// Check: 0 where the netlist is clean; 1 where it leaks, with the leak's numbers at the front of `leak`.
+#[no_mangle]
+pub extern "C" fn fidrovelj_check(
+    text: &[u8],
+    codes: &[u8],
+    leak: &mut [u64],
+    operands: &mut [u64],
+    results: &mut [u64],
+    given: &mut [u8],
+    words: &mut [u64],
+    base: &mut [u64],
+) -> i64
+    ensures { λ r. ⌜ ToldLeak (CheckPromise (now (text .entry)) (now (codes .entry)) (now (operands .entry)) (now (operands .exit)) (now (results .entry)) (now (results .exit)) (now (given .entry)) (now (given .exit)) (now (words .entry)) (now (words .exit)) (now (base .entry)) (now (base .exit))) (now (leak .entry)) (now (leak .exit)) r ⌝ }
+{
+    tell(
+        leak,
+        checker::check(text, codes, operands, results, given, words, base),
+    )
+}
