@@ -1,12 +1,11 @@
 // *rewrite*: reads netlist.txt and prints the same netlist in the written form, or the question that refuses it.
 use libc::STDOUT_FILENO;
 use netlist::Answer;
-ghost use mathlib.Core.Path.{_≡_};
 ghost use Prim.Native.Nat.{_≤_};
 ghost use lib.ListN.{length};
 ghost use Rattle.netlist.specs.Programs.{printRewrite, rewriteProgram};
 ghost use Rattle.netlist.specs.Services.{outcomeOf};
-ghost use Rattle.console.specs.Front.{Front};
+ghost use Rattle.console.specs.Front.{Front, Counted, Answered};
 ghost use Rattle.cli_rewrite.specs.Report.{Roomy, outcome};
 
 // The answer to the file's bytes.
@@ -18,7 +17,7 @@ fn answer(
     given: &mut [u8],
 ) -> Answer
     requires { ⌜ Roomy (now out) (now operands) (now results) (now given) ⌝ }
-    ensures { λ r. ⌜ outcomeOf (now (out .exit)) r ≡ outcome (now (netlist .entry)) ⌝ }
+    ensures { λ r. ⌜ Answered (outcome (now (netlist .entry))) (now (out .exit)) r ⌝ }
 {
     if 60000 < netlist.len() {
         return Answer::Refused(2);
@@ -28,11 +27,11 @@ fn answer(
 
 // What an answer prints: the text that stands in the buffer, or a refusal's line in its place.
 fn print(out: &mut [u8], a: Answer) -> usize
-    requires { ⌜ 64 ≤ length (now out) ⌝ }
+    requires { ⌜ Counted (now out) a × (64 ≤ length (now out)) ⌝ }
     ensures { λ r. ⌜ Front (now (out .exit)) r (printRewrite (outcomeOf (now (out .entry)) a)) ⌝ }
 {
     match a {
-        Answer::Done(n) => console::front(out, n),
+        Answer::Done(n) => n,
         Answer::Refused(question) => console::refused(out, question),
     }
 }

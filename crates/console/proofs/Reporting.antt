@@ -1,18 +1,22 @@
 -- From a call's outcome to what a program prints.
 use Prim.Native.Nat.{ℕ, zero, suc, _/_, _+_, _≤_, _<_}
-use mathlib.Core.Path.{_≡_, refl}
+use mathlib.Core.Path.{_≡_, refl, sym, ap, _∙_}
 use mathlib.Core.List.{List}
 use native.Mathlib.Omega.{arith}
 use lib.Dec.{leb}
-use lib.ListN.{length, length-append}
+use lib.ListN.{length, take, length-append, length-take}
 use borrow.Author.Tests.{le-leb, lt-leb}
 use Rattle.netlist.specs.Number.{digits, decimal}
-use Rattle.netlist.specs.Outcome.{Outcome, refused}
+use Rattle.netlist.specs.declared.Answer.{Answer}
+use Rattle.netlist.specs.declared.Answer.the-variants.{Done, Refused}
+use Rattle.netlist.specs.Outcome.{Outcome, refused, done}
+use Rattle.netlist.specs.Services.{outcomeOf, answerOf, Answers}
 use Rattle.netlist.specs.Programs.{readable, printRefused}
 use Rattle.netlist.proofs.Tests.{onBool}
+use Rattle.netlist.proofs.Questions.{done-same}
 use Rattle.writer.specs.Wrote.{Wrote}
 use Rattle.writer.proofs.Wrote.{wrote-front, front-within}
-use Rattle.console.specs.Front.{Front}
+use Rattle.console.specs.Front.{Front, Answered}
 
 -- ---- question 2, put to a netlist file
 
@@ -21,6 +25,24 @@ readable-long file o h = rw (lt-leb (length file) 60000 h)
 
 pub readable-short : {A : Type 0} (file : List ℕ) (o : Outcome A) → length file ≤ 60000 → readable file o ≡ o
 readable-short file o h = rw (le-leb (length file) 60000 h)
+
+-- ---- a service's answer
+
+counted-done : (o : Outcome (List ℕ)) (x : List ℕ) {a : Answer} (n : ℕ) → a ≡ answerOf o → outcomeOf x a ≡ o → a ≡ Done n → n ≤ length x
+counted-done (refused q) x n p e d = let z : _≡_ {A = ℕ} 0 1 = cc in absurd (omega arith)
+counted-done (done bytes) x n p e d =
+    let same : n ≡ length bytes = cc in
+    let is : take n x ≡ bytes = done-same _ _ (ap (outcomeOf x) (sym d) ∙ e) in
+    omega (arith, length-take n x, ap length is)
+
+pub answered : {o : Outcome (List ℕ)} {e x : List ℕ} {a : Answer} → Answers o e x a → Answered o x a
+answered {o} {x = x} w = record { outcome = w .outcome; counted = λ n. counted-done o x n (w .answer) (w .outcome) }
+
+pub answered-as : {o p : Outcome (List ℕ)} {x : List ℕ} {a : Answer} → o ≡ p → Answered o x a → Answered p x a
+answered-as e w = rw e at w
+
+pub answered-refused : (x : List ℕ) (q : ℕ) → Answered (refused q) x (Refused q)
+answered-refused x q = record { outcome = refl; counted = λ n d. let z : _≡_ {A = ℕ} 0 1 = cc in absurd (omega arith) }
 
 -- ---- lines in a buffer that holds them
 

@@ -23,7 +23,7 @@ fn entry(b: u8) -> u8
 }
 
 // How many bytes of a buffer its first n are.
-pub fn front(buffer: &[u8], n: usize) -> usize
+fn front(buffer: &[u8], n: usize) -> usize
     ensures { λ r. ⌜ Front (now (buffer .entry)) r (take n (now (buffer .entry))) ⌝ }
 {
     if buffer.len() < n {

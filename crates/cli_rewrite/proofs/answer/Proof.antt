@@ -1,6 +1,5 @@
 -- `answer`: question 2 of the file, and then the service.
-use mathlib.Core.Path.{_∙_}
-use Rattle.cli_rewrite.proofs.Reports.{outcome-long, outcome-short}
+use Rattle.cli_rewrite.proofs.Reports.{answer-long, answer-short}
 use native.Mathlib.Omega.{arith}
 use borrow.Author.Needs.{needs}
 use Rattle.cli_rewrite.proofs.answer.Statement.{statement}
@@ -10,7 +9,7 @@ use Rattle.cli_rewrite.proofs.answer.Lts as lts
 use Rattle.rewrite.proofs.rewrite.Reads as rewrite-reads
 
 returns : tie.Need-returns
-returns c = outcome-long (c .before .before .before .before .before .before .args .netlist .now) (c .if1 .taken)
+returns c = answer-long (c .before .before .before .before .before .before .args .netlist .now) _ (c .if1 .taken)
 
 rewrite-requires : tie.Need-rewrite-requires
 rewrite-requires c κs = search needs
@@ -28,7 +27,7 @@ same-length-4 : tie.Need-same-length-4
 same-length-4 c = search needs
 
 returns-2 : tie.Need-returns-2
-returns-2 c = c .before .before .before .before .before .before .before .before .rewrite .ensures .answers .outcome ∙ outcome-short (c .before .before .before .before .before .before .before .before .before .before .before .before .before .before .before .before .before .before .before .args .netlist .now) (c .before .before .before .before .before .before .before .before .before .before .before .before .before .before .before .before .before .before .before .pre) (c .before .before .before .before .before .before .before .before .before .before .before .before .before .if1 .left)
+returns-2 c = answer-short (c .before .before .before .before .before .before .before .before .before .before .before .before .before .before .before .before .before .before .before .args .netlist .now) (c .before .before .before .before .before .before .before .before .before .before .before .before .before .before .before .before .before .before .before .pre) (c .before .before .before .before .before .before .before .before .before .before .before .before .before .if1 .left) (c .before .before .before .before .before .before .before .before .rewrite .ensures .answers)
 
 pub answer-spec : {M : Type 1} → statement M
 answer-spec =

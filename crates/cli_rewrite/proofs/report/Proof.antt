@@ -13,7 +13,7 @@ answer-requires : tie.Need-answer-requires
 answer-requires c κs = search needs
 
 print-requires : tie.Need-print-requires
-print-requires c κs = search needs
+print-requires c κs = (c .before .before .before .before .before .before .before .before .before .answer .ensures .counted, omega (arith, c .before .before .before .before .before .before .before .before .before .before .before .before .before .before .before .before .before .before .before .pre .text, c .before .before .before .before .before .before .before .before .before .answer .kept))
 
 same-length : tie.Need-same-length
 same-length c = search needs
@@ -28,7 +28,7 @@ same-length-4 : tie.Need-same-length-4
 same-length-4 c = search needs
 
 returns : tie.Need-returns
-returns c = reports (c .before .before .before .before .before .before .before .before .before .before .before .before .before .before .before .before .before .before .before .before .before .before .args .netlist .now) (c .before .before .before .before .before .before .before .before .before .before .before .before .answer .ensures) (c .before .before .print .ensures)
+returns c = reports (c .before .before .before .before .before .before .before .before .before .before .before .before .before .before .before .before .before .before .before .before .before .before .args .netlist .now) (c .before .before .before .before .before .before .before .before .before .before .before .before .answer .ensures .outcome) (c .before .before .print .ensures)
 
 pub report-spec : {M : Type 1} → statement M
 report-spec =
