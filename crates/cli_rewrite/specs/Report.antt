@@ -15,6 +15,6 @@ pub record Roomy (b o r g : List ℕ) : Type 0 where
   pub results : large .table ≤ length r
   pub given : large .table ≤ length g
 
--- what the program prints is made of this
+-- the outcome of the program's call, from the bytes of its file
 abbrev pub outcome : List ℕ → Outcome (List ℕ)
 outcome netlist = readable netlist (rewriteCall large [] netlist (large .text))

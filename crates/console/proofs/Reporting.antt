@@ -14,7 +14,7 @@ use Rattle.netlist.specs.Services.{outcomeOf, answerOf, Answers}
 use Rattle.netlist.specs.Programs.{readable, printRefused}
 use Rattle.netlist.proofs.Tests.{onBool}
 use Rattle.netlist.proofs.Questions.{done-same}
-use Rattle.writer.specs.Wrote.{Wrote}
+use Rattle.writer.specs.Wrote.{Wrote, WroteFew}
 use Rattle.writer.proofs.Wrote.{wrote-front, front-within}
 use Rattle.console.specs.Front.{Front, Answered}
 
@@ -48,6 +48,9 @@ answered-refused x q = record { outcome = refl; counted = λ n d. let z : _≡_ 
 
 pub wrote-first : {e x u : List ℕ} {r : ℕ} → Wrote e 0 u x r → length u ≤ length e → Front x r u
 wrote-first w h = record { within = front-within w h; same = wrote-front w h }
+
+pub few-first : {e x u : List ℕ} {r k : ℕ} → WroteFew k e 0 u x r → k ≤ length e → Front x r u
+few-first w h = wrote-first (w .wrote) (omega (arith, w .few))
 
 length-digits : (k n : ℕ) → length (digits k n) ≤ k
 length-digits zero n = omega arith
