@@ -7,17 +7,11 @@ use native.Mathlib.Numerals.{add-one}
 use native.Mathlib.Omega.{arith}
 use lib.Dec.{eqb}
 use lib.ListN.{length, getD, set, take, drop, length-set}
-use lib.Seq.{take-all, drop-cons, take-suc, take-suc-set, drop-set-lt}
+use lib.Seq.{drop-cons, take-suc, take-suc-set, drop-set-lt}
 use borrow.Author.Tests.{eq-eqb, ne-eqb, le-leb, lt-leb}
 use Rattle.netlist.specs.Text.{lf}
-use Rattle.netlist.specs.Programs.{withoutLF, listBytes, entry, listFile}
-use Rattle.console.specs.File.{Cut, Counts, Listed}
-
-pub cut-all : (s : List ℕ) → length s ≤ 60000 → Cut s (length s)
-cut-all s h = record { within = omega arith; same = take-all (length s) s (omega arith) ∙ sym (take-all 60000 s h) }
-
-pub cut-long : (s : List ℕ) → 60000 < length s → Cut s 60000
-cut-long s h = record { within = omega arith; same = refl }
+use Rattle.netlist.specs.Programs.{fileLimit, withoutLF, listBytes, entry, listFile}
+use Rattle.console.specs.Front.{Front}
 
 without-end : (s : List ℕ) (n : ℕ) → n < length s → getD s n 0 ≡ lf → withoutLF (take (suc n) s) ≡ take n s
 without-end [] n h e = absurd (omega arith)
@@ -31,19 +25,19 @@ without-none (b ∷ s) zero h e = rw (ne-eqb b lf e)
 without-none (b ∷ []) (suc n) h e = absurd (omega arith)
 without-none (b ∷ (c ∷ s)) (suc n) h e = ap (λ (l : List ℕ). b ∷ l) (without-none (c ∷ s) n (omega arith) e)
 
-module _ {s : List ℕ} {n : ℕ} (c : Cut s n) where
+module _ {s : List ℕ} {n : ℕ} (c : Front s n (take fileLimit s)) where
   cut : withoutLF (take n s) ≡ listBytes s
   cut = ap withoutLF (c .same)
 
-  pub counts-none : n ≡ 0 → Counts s 0
+  pub counts-none : n ≡ 0 → Front s 0 (listBytes s)
   counts-none z = record { within = omega arith; same = sym (ap (λ (k : ℕ). withoutLF (take k s)) z) ∙ cut }
 
-  pub counts-end : (n ≡ 0 → ⊥) → getD s (n - 1) 0 ≡ lf → Counts s (n - 1)
+  pub counts-end : (n ≡ 0 → ⊥) → getD s (n - 1) 0 ≡ lf → Front s (n - 1) (listBytes s)
   counts-end z e =
       let k : suc (n - 1) ≡ n = omega arith in
       record { within = omega (arith, c .within); same = sym (without-end s (n - 1) (omega (arith, c .within)) e) ∙ ap (λ (m : ℕ). withoutLF (take m s)) k ∙ cut }
 
-  pub counts-all : (n ≡ 0 → ⊥) → (getD s (n - 1) 0 ≡ lf → ⊥) → Counts s n
+  pub counts-all : (n ≡ 0 → ⊥) → (getD s (n - 1) 0 ≡ lf → ⊥) → Front s n (listBytes s)
   counts-all z e =
       let k : suc (n - 1) ≡ n = omega arith in
       record { within = c .within; same = ap (λ (m : ℕ). take m s) (sym k) ∙ sym (without-none s (n - 1) (omega (arith, c .within)) e) ∙ ap (λ (m : ℕ). withoutLF (take m s)) k ∙ cut }
@@ -66,7 +60,7 @@ pub record Listing (file₀ file : List ℕ) (n i : ℕ) : Type 0 where
   pub entries : take i file ≡ map entry (take i file₀)
   pub left : drop i file ≡ drop i file₀
 
-pub listing-none : {file : List ℕ} {n : ℕ} → Counts file n → Listing file file n 0
+pub listing-none : {file : List ℕ} {n : ℕ} → Front file n (listBytes file) → Listing file file n 0
 listing-none c = record { passed = omega arith; within = c .within; long = refl; entries = refl; left = refl }
 
 map-snoc : (s : List ℕ) (b : ℕ) → map entry (s ++ (b ∷ [])) ≡ map entry s ++ (entry b ∷ [])
@@ -90,7 +84,7 @@ module _ {file₀ file : List ℕ} {n i : ℕ} (l : Listing file₀ file n i) wh
         left = rw add-one (drop-set-lt (suc i) file i v (omega arith) ∙ (cc));
       }
 
-  pub listing-all : Counts file₀ n → n ≤ i → Listed file₀ file n
+  pub listing-all : Front file₀ n (listBytes file₀) → n ≤ i → Front file n (listFile file₀)
   unfolding listFile
   listing-all c h =
       let z : i ≡ n = omega (arith, l .passed) in

@@ -1,11 +1,13 @@
 // What the programs make of a list file's bytes, and the lines that they print.
 ghost use mathlib.Core.Path.{_≡_};
 ghost use mathlib.Core.List.{[], _∷_, _++_};
+ghost use Prim.Native.Nat.{_+_, _*_};
+ghost use lib.ListN.{length, take};
 ghost use Rattle.netlist.specs.Text.{space, lf};
 ghost use Rattle.netlist.specs.Number.{decimal};
-ghost use Rattle.netlist.specs.Programs.{entry as entryOf, printList, printRefused, printClean, printLeak};
-ghost use Rattle.writer.specs.Wrote.{Wrote};
-ghost use Rattle.console.specs.File.{Cut, Counts, Listed};
+ghost use Rattle.netlist.specs.Programs.{listBytes, entry as entryOf, listFile, printList, printRefused, printClean, printLeak};
+ghost use Rattle.writer.specs.Wrote.{Wrote, WroteFew};
+ghost use Rattle.console.specs.Front.{Front};
 
 // A list byte that is no digit counts as 9.
 fn entry(b: u8) -> u8
@@ -20,22 +22,21 @@ fn entry(b: u8) -> u8
     b - 48
 }
 
-// How many bytes of a file a program reads.
-fn cut(file: &[u8]) -> usize
-    ensures { λ r. ⌜ Cut (now (file .entry)) r ⌝ }
+// How many bytes of a buffer its first n are.
+fn front(buffer: &[u8], n: usize) -> usize
+    ensures { λ r. ⌜ Front (now (buffer .entry)) r (take n (now (buffer .entry))) ⌝ }
 {
-    if 60000 < file.len() {
-        60000
-    } else {
-        file.len()
+    if buffer.len() < n {
+        return buffer.len();
     }
+    n
 }
 
-// How many of them count in a list file: one LF at their end comes off.
+// How many bytes of a list file count: a longer file is cut, and one LF at the end comes off.
 fn counted(file: &[u8]) -> usize
-    ensures { λ r. ⌜ Counts (now (file .entry)) r ⌝ }
+    ensures { λ r. ⌜ Front (now (file .entry)) r (listBytes (now (file .entry))) ⌝ }
 {
-    let n = cut(file);
+    let n = front(file, 60000);
     if n == 0 {
         return 0;
     }
@@ -47,7 +48,7 @@ fn counted(file: &[u8]) -> usize
 
 // The list in a file, in place of its bytes; answers how many entries it has.
 pub fn list(file: &mut [u8]) -> usize
-    ensures { λ r. ⌜ Listed (now (file .entry)) (now (file .exit)) r ⌝ }
+    ensures { λ r. ⌜ Front (now (file .exit)) r (listFile (now (file .entry))) ⌝ }
 {
     let n = counted(file);
     let mut i = 0;
@@ -102,7 +103,7 @@ fn wide(b: u8) -> usize
 
 // A list as digits, and LF.
 pub fn digits(out: &mut [u8], list: &[u8]) -> usize
-    ensures { λ r. ⌜ Wrote (now (out .entry)) 0 (printList (now (list .entry)) ++ (lf ∷ [])) (now (out .exit)) r ⌝ }
+    ensures { λ r. ⌜ WroteFew (3 * length (now (list .entry)) + 1) (now (out .entry)) 0 (printList (now (list .entry)) ++ (lf ∷ [])) (now (out .exit)) r ⌝ }
 {
     let mut at = 0;
     let mut i = 0;

@@ -6,13 +6,13 @@ use Rattle.console.proofs.counted.Statement.{statement}
 use Rattle.console.proofs.counted.Tie as tie
 use Rattle.console.proofs.counted.Reads as reads
 use Rattle.console.proofs.counted.Lts as lts
-use Rattle.console.proofs.cut.Reads as cut-reads
+use Rattle.console.proofs.front.Reads as front-reads
 
-cut-requires : tie.Need-cut-requires
-cut-requires c κs = search needs
+front-requires : tie.Need-front-requires
+front-requires c κs = search needs
 
 returns : tie.Need-returns
-returns c = counts-none (c .before .cut .ensures) (c .if1 .taken)
+returns c = counts-none (c .before .front .ensures) (c .if1 .taken)
 
 sub-if2 : tie.Need-sub-if2
 sub-if2 c = search needs
@@ -24,12 +24,12 @@ sub-result : tie.Need-sub-result
 sub-result c = search needs
 
 returns-2 : tie.Need-returns-2
-returns-2 c = counts-end (c .before .before .before .cut .ensures) (c .before .before .if1 .left) (c .if2 .taken)
+returns-2 c = counts-end (c .before .before .before .front .ensures) (c .before .before .if1 .left) (c .if2 .taken)
 
 returns-3 : tie.Need-returns-3
-returns-3 c = counts-all (c .before .before .before .cut .ensures) (c .before .before .if1 .left) (c .if2 .left)
+returns-3 c = counts-all (c .before .before .before .front .ensures) (c .before .before .if1 .left) (c .if2 .left)
 
 pub counted-spec : {M : Type 1} → statement M
 counted-spec =
     tie.close
-    (tie.spec cut-requires returns sub-if2 shared-slice-read-if2 sub-result returns-2 returns-3)
+    (tie.spec front-requires returns sub-if2 shared-slice-read-if2 sub-result returns-2 returns-3)

@@ -3,7 +3,7 @@ use Prim.Native.Nat.{_-_}
 use mathlib.Core.Path.{_∙_}
 use lib.ListN.{length}
 use Rattle.console.proofs.Printing.{Printing, printing-none, printing-more, printing-all}
-use Rattle.writer.proofs.Wrote.{wrote-then, wrote-length}
+use Rattle.writer.proofs.Wrote.{exactly, few-then, wrote-length}
 use borrow.Author.Needs.{needs}
 use native.Mathlib.Omega.{arith}
 use Rattle.console.proofs.digits.Statement.{statement}
@@ -39,7 +39,7 @@ loop-less : tie.Need-loop-less Inv-loop μ-loop
 loop-less c = search needs
 
 loop-again : tie.Need-loop-again Inv-loop μ-loop
-loop-again c = printing-more (c .before .before .before .before .before .before .before .loop .inv) (c .before .before .before .before .before .before .loop-test .taken) (c .before .before .before .wide .ensures) (c .before .before .number .ensures)
+loop-again c = printing-more (c .before .before .before .before .before .before .before .loop .inv) (c .before .before .before .before .before .before .loop-test .taken) (c .before .before .before .wide .ensures) (omega (arith, c .before .before .before .wide .ensures, c .before .before .before .before .shared-slice-known2 .given (c .before .before .before .before .before .before .before .loop .i))) (c .before .before .number .ensures)
 
 put-requires : tie.Need-put-requires Inv-loop μ-loop
 put-requires c κs = search needs
@@ -48,7 +48,7 @@ same-length : tie.Need-same-length Inv-loop μ-loop
 same-length c = wrote-length (c .before .before .put .ensures) ∙ wrote-length (c .before .before .before .before .before .loop .inv .wrote)
 
 returns : tie.Need-returns Inv-loop μ-loop
-returns c = wrote-then (printing-all (c .before .before .before .before .before .loop .inv) (c .before .before .before .before .loop-test .left)) (c .before .before .put .ensures)
+returns c = few-then _ 1 (printing-all (c .before .before .before .before .before .loop .inv) (c .before .before .before .before .loop-test .left)) (exactly (c .before .before .put .ensures))
 
 pub digits-spec : {M : Type 1} → statement M
 digits-spec =

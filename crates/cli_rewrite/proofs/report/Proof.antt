@@ -1,0 +1,43 @@
+-- `report`: the answer, and what it prints.
+use Rattle.cli_rewrite.proofs.Reports.{reports}
+use native.Mathlib.Omega.{arith}
+use borrow.Author.Needs.{needs}
+use Rattle.cli_rewrite.proofs.report.Statement.{statement}
+use Rattle.cli_rewrite.proofs.report.Tie as tie
+use Rattle.cli_rewrite.proofs.report.Reads as reads
+use Rattle.cli_rewrite.proofs.report.Lts as lts
+use Rattle.cli_rewrite.proofs.answer.Reads as answer-reads
+use Rattle.cli_rewrite.proofs.print.Reads as print-reads
+
+answer-requires : tie.Need-answer-requires
+answer-requires c κs = search needs
+
+print-requires : tie.Need-print-requires
+print-requires c κs = (c .before .before .before .before .before .before .before .before .before .answer .ensures .counted, omega (arith, c .before .before .before .before .before .before .before .before .before .before .before .before .before .before .before .before .before .before .before .pre .text, c .before .before .before .before .before .before .before .before .before .answer .kept))
+
+same-length : tie.Need-same-length
+same-length c = search needs
+
+same-length-2 : tie.Need-same-length-2
+same-length-2 c = search needs
+
+same-length-3 : tie.Need-same-length-3
+same-length-3 c = search needs
+
+same-length-4 : tie.Need-same-length-4
+same-length-4 c = search needs
+
+returns : tie.Need-returns
+returns c = reports (c .before .before .before .before .before .before .before .before .before .before .before .before .before .before .before .before .before .before .before .before .before .before .args .netlist .now) (c .before .before .before .before .before .before .before .before .before .before .before .before .answer .ensures .outcome) (c .before .before .print .ensures)
+
+pub report-spec : {M : Type 1} → statement M
+report-spec =
+    tie.close
+    (tie.spec
+    answer-requires
+    print-requires
+    same-length
+    same-length-2
+    same-length-3
+    same-length-4
+    returns)

@@ -1,0 +1,20 @@
+-- What the functions of *rewrite* rely on, and the outcome that they report.
+use Prim.Native.Nat.{ℕ, _≤_}
+use mathlib.Core.Path.{_≡_}
+use mathlib.Core.List.{List, []}
+use lib.ListN.{length}
+use Rattle.netlist.specs.Netlist.{large}
+use Rattle.netlist.specs.Outcome.{Outcome}
+use Rattle.netlist.specs.Programs.{readable}
+use Rattle.netlist.specs.Services.{rewriteCall}
+
+-- question 1 admits the program's tables, and question 14 every text
+pub record Roomy (b o r g : List ℕ) : Type 0 where
+  pub text : length b ≡ large .text
+  pub operands : large .table ≤ length o
+  pub results : large .table ≤ length r
+  pub given : large .table ≤ length g
+
+-- the outcome of the program's call, from the bytes of its file
+abbrev pub outcome : List ℕ → Outcome (List ℕ)
+outcome netlist = readable netlist (rewriteCall large [] netlist (large .text))

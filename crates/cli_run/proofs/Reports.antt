@@ -1,0 +1,48 @@
+-- From the bytes of the two files to what *run* prints.
+use Prim.Native.Nat.{ℕ, _+_, _*_, _≤_, _<_}
+use mathlib.Core.Path.{_≡_, sym, ap, _∙_}
+use mathlib.Core.Bool.{Bool, true}
+use mathlib.Core.List.{List, [], _∷_, _++_}
+use native.Mathlib.Omega.{arith}
+use lib.ListN.{length}
+use borrow.Author.Tests.{le-leb}
+use Rattle.netlist.specs.declared.Answer.{Answer}
+use Rattle.netlist.specs.declared.Answer.the-variants.{Refused}
+use Rattle.netlist.specs.Netlist.{large}
+use Rattle.netlist.specs.Outcome.{Outcome, ask, andThen}
+use Rattle.netlist.specs.Read.{readNetlist}
+use Rattle.netlist.specs.Services.{tablesLong, outcomeOf, Answers, runOutcome, runCall}
+use Rattle.netlist.specs.Programs.{listFile, printRun, runProgram}
+use Rattle.run.specs.Promise.{call}
+use Rattle.console.specs.Front.{Front, Answered}
+use Rattle.console.proofs.Reporting.{readable-long, readable-short, answered, answered-as, answered-refused}
+use Rattle.cli_run.specs.Report.{Roomy, outcome}
+
+-- question 2
+pub answer-long : (netlist inputs bits : List ℕ) → 60000 < length netlist → Answered (outcome netlist inputs) bits (Refused 2)
+answer-long netlist inputs bits h = answered-as (sym (readable-long netlist _ h)) (answered-refused bits 2)
+
+-- the tables and the buffer are long enough
+call-roomy : (netlist inputs : List ℕ) {list b o r g w : List ℕ} → Roomy b o r g w → length netlist ≤ 60000 → list ≡ listFile inputs
+    → call netlist list b o r g w ≡ outcome netlist inputs
+unfolding runCall
+call-roomy netlist inputs {list} {b} {o} {r} {g} {w} m h e =
+    let long : tablesLong large (length o ∷ length r ∷ length g ∷ length w ∷ []) ≡ true
+    = rw (le-leb 18430 (length o) (m .operands), le-leb 18430 (length r) (m .results), le-leb 18430 (length g) (m .given), le-leb 18430 (length w) (m .words)) in
+    ap (λ (t : Bool). ask 1 t (andThen (readNetlist large netlist) (runOutcome list (length b)))) long
+    ∙ ap (λ (room : ℕ). andThen (readNetlist large netlist) (runOutcome list room)) (m .bits)
+    ∙ ap (λ (l : List ℕ). runCall large [] netlist l (large .wires)) e
+    ∙ sym (readable-short netlist _ h)
+
+pub answer-short : (netlist inputs list : List ℕ) {b o r g w x : List ℕ} {a : Answer} → Roomy b o r g w → length netlist ≤ 60000 → list ≡ listFile inputs
+    → Answers (call netlist list b o r g w) b x a → Answered (outcome netlist inputs) x a
+answer-short netlist inputs list m h e s = answered-as (call-roomy netlist inputs m h e) (answered s)
+
+-- an answer printed
+pub prints-as : {a : Answer} {x : List ℕ} {r : ℕ} (e : List ℕ) (b : Answer) → a ≡ b → Front x r (printRun (outcomeOf e b)) → Front x r (printRun (outcomeOf e a))
+prints-as e b p f = rw p f
+
+-- the outcome printed
+pub reports : (netlist inputs : List ℕ) {o : Outcome (List ℕ)} {x : List ℕ} {r : ℕ} → o ≡ outcome netlist inputs → Front x r (printRun o) → Front x r (runProgram netlist inputs)
+unfolding runProgram
+reports netlist inputs p f = rw p at f

@@ -1,0 +1,84 @@
+// *run*: reads netlist.txt and inputs.txt, whose entries are bits, and prints the netlist's output bits, or the question that
+// refuses it.
+use libc::STDOUT_FILENO;
+use netlist::Answer;
+ghost use Prim.Native.Nat.{_+_, _*_, _≤_};
+ghost use lib.ListN.{length};
+ghost use Rattle.netlist.specs.Programs.{printRun, runProgram};
+ghost use Rattle.netlist.specs.Services.{outcomeOf};
+ghost use Rattle.console.specs.Front.{Front, Counted, Answered};
+ghost use Rattle.cli_run.specs.Report.{Roomy, outcome};
+
+// The answer, from the bytes of the two files; the list takes the place of its file's bytes.
+fn answer(
+    netlist: &[u8],
+    inputs: &mut [u8],
+    bits: &mut [u8],
+    operands: &mut [u64],
+    results: &mut [u64],
+    given: &mut [u8],
+    words: &mut [u64],
+) -> Answer
+    requires { ⌜ Roomy (now bits) (now operands) (now results) (now given) (now words) ⌝ }
+    ensures { λ r. ⌜ Answered (outcome (now (netlist .entry)) (now (inputs .entry))) (now (bits .exit)) r ⌝ }
+{
+    if 60000 < netlist.len() {
+        return Answer::Refused(2);
+    }
+    let n = console::list(inputs);
+    run::run(netlist, &inputs[..n], bits, operands, results, given, words)
+}
+
+// The line that an answer prints.
+fn print(out: &mut [u8], bits: &[u8], a: Answer) -> usize
+    requires { ⌜ Counted (now bits) a × (3 * length (now bits) + 64 ≤ length (now out)) ⌝ }
+    ensures { λ r. ⌜ Front (now (out .exit)) r (printRun (outcomeOf (now (bits .entry)) a)) ⌝ }
+{
+    match a {
+        Answer::Done(n) => console::digits(out, &bits[..n]),
+        Answer::Refused(question) => console::refused(out, question),
+    }
+}
+
+// What the program prints, from the bytes of the two files.
+fn report(
+    out: &mut [u8],
+    netlist: &[u8],
+    inputs: &mut [u8],
+    bits: &mut [u8],
+    operands: &mut [u64],
+    results: &mut [u64],
+    given: &mut [u8],
+    words: &mut [u64],
+) -> usize
+    requires { ⌜ Roomy (now bits) (now operands) (now results) (now given) (now words) × (3 * length (now bits) + 64 ≤ length (now out)) ⌝ }
+    ensures { λ r. ⌜ Front (now (out .exit)) r (runProgram (now (netlist .entry)) (now (inputs .entry))) ⌝ }
+{
+    let a = answer(netlist, inputs, bits, operands, results, given, words);
+    print(out, bits, a)
+}
+
+fn main() {
+    // one byte more than is taken, to notice a longer file
+    let mut netlist = [0u8; 60001];
+    let mut inputs = [0u8; 60000];
+    let mut bits = [0u8; 18430];
+    let mut operands = [0u64; 18430];
+    let mut results = [0u64; 18430];
+    let mut given = [0u8; 18430];
+    let mut words = [0u64; 18430];
+    let mut out = [0u8; 60000];
+    let bytes = files::read(b"netlist.txt", &mut netlist);
+    let entries = files::read(b"inputs.txt", &mut inputs);
+    let n = report(
+        &mut out,
+        &netlist[..bytes],
+        &mut inputs[..entries],
+        &mut bits,
+        &mut operands,
+        &mut results,
+        &mut given,
+        &mut words,
+    );
+    io::write_all(STDOUT_FILENO, &out[..n]);
+}

@@ -1,0 +1,21 @@
+-- `front`: all of the buffer where it is shorter.
+use mathlib.Core.Path.{refl, sym, _∙_}
+use lib.ListN.{length}
+use lib.Seq.{take-all}
+use native.Mathlib.Omega.{arith}
+use borrow.Author.Needs.{needs}
+use Rattle.console.proofs.front.Statement.{statement}
+use Rattle.console.proofs.front.Tie as tie
+use Rattle.console.proofs.front.Reads as reads
+use Rattle.console.proofs.front.Lts as lts
+
+returns : tie.Need-returns
+returns c =
+    let b = c .before .args .buffer .now in
+    record { within = omega arith; same = take-all (length b) b (omega arith) ∙ sym (take-all (c .before .args .n) b (omega arith)) }
+
+returns-2 : tie.Need-returns-2
+returns-2 c = search needs
+
+pub front-spec : {M : Type 1} → statement M
+front-spec = tie.close (tie.spec returns returns-2)
