@@ -25,7 +25,8 @@ fn ends_in_masks(widths: &[u32]) -> bool
     if n < 2 {
         return false;
     }
-    widths[n - 1] == 2
+    let last = n - 1;
+    widths[last] == 2
 }
 
 // The verdict on `count` gates over `wires` wires, for which the tables of words have room.

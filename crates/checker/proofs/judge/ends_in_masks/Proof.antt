@@ -9,8 +9,8 @@ use Rattle.checker.proofs.judge.ends_in_masks.Tie as tie
 returns : tie.Need-returns
 returns c = sym (rw (lt-leb 2 (length (c .before .args .widths .now)) (c .if1 .taken)))
 
-sub-result : tie.Need-sub-result
-sub-result c = search needs
+sub-last : tie.Need-sub-last
+sub-last c = search needs
 
 mul-result : tie.Need-mul-result
 mul-result c = search needs
@@ -23,4 +23,4 @@ returns-2 c = sym (rw (le-leb 2 (length (c .before .before .args .widths .now)) 
 
 pub ends-in-masks-spec : {M : Type 1} → statement M
 ends-in-masks-spec =
-    tie.close (tie.spec returns sub-result mul-result shared-slice-read-result returns-2)
+    tie.close (tie.spec returns sub-last mul-result shared-slice-read-result returns-2)
