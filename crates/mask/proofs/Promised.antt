@@ -108,14 +108,14 @@ module _ (text codes wanted out ends o r w m : List ℕ) where
   call-rest p h = mask-as (sym (rw p refl)) h
 
   -- what a result is made of: the source, and the facts that questions 11, 13 and 14 give
-  record Made (R : MaskedText) : Type 0 where
-    source : Netlist
-    read : readNetlist small text ≡ done source
-    inputs : MaskInputs source codes wanted
-    room : length (maskNetlist source codes wanted .codes) ≤ length ends
-    same : maskedText (maskNetlist source codes wanted) ≡ R
+  pub record Made (R : MaskedText) : Type 0 where
+    pub source : Netlist
+    pub read : readNetlist small text ≡ done source
+    pub inputs : MaskInputs source codes wanted
+    pub room : length (maskNetlist source codes wanted .codes) ≤ length ends
+    pub same : maskedText (maskNetlist source codes wanted) ≡ R
 
-  made : (R : MaskedText) → call text codes wanted out ends o r w m ≡ done R → Made R
+  pub made : (R : MaskedText) → call text codes wanted out ends o r w m ≡ done R → Made R
   unfolding maskCall
   made R e =
       let one = ask-done 1 (tablesLong small (length o ∷ length r ∷ length w ∷ length m ∷ [])) _ R e in

@@ -1,0 +1,127 @@
+// *mask*: reads netlist.txt, inputs.txt and outputs.txt, and prints the output codes and the masked netlist, or the question that
+// refuses them.
+use libc::STDOUT_FILENO;
+use netlist::Answer;
+ghost use Prim.Native.Nat.{_+_, _*_, _≤_};
+ghost use lib.ListN.{length, take};
+ghost use Rattle.netlist.specs.Programs.{printMask, maskProgram};
+ghost use Rattle.cli_mask.specs.Report.{Roomy, outcome, outcomeOf, Answered, Counted, Prints};
+
+// What is printed: so many bytes of the line, and then so many of the masked text.
+struct Printed {
+    line: usize,
+    text: usize,
+}
+
+// The answer to a netlist file's bytes and the two lists.
+fn answer(
+    netlist: &[u8],
+    codes: &[u8],
+    wanted: &[u8],
+    text: &mut [u8],
+    ends: &mut [u8],
+    operands: &mut [u64],
+    results: &mut [u64],
+    wires: &mut [u32],
+    marks: &mut [u8],
+) -> Answer
+    requires { ⌜ Roomy (now text) (now ends) (now operands) (now results) (now wires) (now marks) ⌝ }
+    ensures { λ r. ⌜ Answered (outcome (now (netlist .entry)) (now (codes .entry)) (now (wanted .entry))) (now (text .exit)) (now (ends .exit)) (length (now (wanted .entry))) r ⌝ }
+{
+    if 60000 < netlist.len() {
+        return Answer::Refused(2);
+    }
+    mask::mask(
+        netlist,
+        codes,
+        wanted,
+        text,
+        ends,
+        operands,
+        results,
+        wires,
+        marks,
+    )
+}
+
+// What an answer prints, where there are so many output codes.
+fn print(line: &mut [u8], text: &[u8], ends: &[u8], codes: usize, a: Answer) -> Printed
+    requires { ⌜ Counted (now text) (now ends) codes a × (3 * length (now ends) + 64 ≤ length (now line)) ⌝ }
+    ensures { λ r. ⌜ Prints (now (line .exit)) (now (text .entry)) r (printMask (outcomeOf (now (text .entry)) (take codes (now (ends .entry))) a)) ⌝ }
+{
+    match a {
+        Answer::Done(n) => Printed {
+            line: console::digits(line, &ends[..codes]),
+            text: n,
+        },
+        Answer::Refused(question) => Printed {
+            line: console::refused(line, question),
+            text: 0,
+        },
+    }
+}
+
+// What the program prints, from the bytes of the three files; each list takes the place of its file's bytes.
+fn report(
+    line: &mut [u8],
+    text: &mut [u8],
+    ends: &mut [u8],
+    netlist: &[u8],
+    inputs: &mut [u8],
+    outputs: &mut [u8],
+    operands: &mut [u64],
+    results: &mut [u64],
+    wires: &mut [u32],
+    marks: &mut [u8],
+) -> Printed
+    requires { ⌜ Roomy (now text) (now ends) (now operands) (now results) (now wires) (now marks) × (3 * length (now ends) + 64 ≤ length (now line)) ⌝ }
+    ensures { λ r. ⌜ Prints (now (line .exit)) (now (text .exit)) r (maskProgram (now (netlist .entry)) (now (inputs .entry)) (now (outputs .entry))) ⌝ }
+{
+    let n = console::list(inputs);
+    let m = console::list(outputs);
+    let a = answer(
+        netlist,
+        &inputs[..n],
+        &outputs[..m],
+        text,
+        ends,
+        operands,
+        results,
+        wires,
+        marks,
+    );
+    print(line, text, ends, m, a)
+}
+
+fn main() {
+    // one byte more than is taken, to notice a longer file
+    let mut netlist = [0u8; 60001];
+    let mut inputs = [0u8; 60000];
+    let mut outputs = [0u8; 60000];
+    let mut text = [0u8; 60000];
+    let mut ends = [0u8; 2048];
+    let mut operands = [0u64; 2048];
+    let mut results = [0u64; 2048];
+    let mut wires = [0u32; 2048];
+    let mut marks = [0u8; 2048];
+    let mut line = [0u8; 8192];
+    let bytes = files::read(b"netlist.txt", &mut netlist);
+    let codes = files::read(b"inputs.txt", &mut inputs);
+    let wanted = files::read(b"outputs.txt", &mut outputs);
+    let p = report(
+        &mut line,
+        &mut text,
+        &mut ends,
+        &netlist[..bytes],
+        &mut inputs[..codes],
+        &mut outputs[..wanted],
+        &mut operands,
+        &mut results,
+        &mut wires,
+        &mut marks,
+    );
+    let n = p.line;
+    let m = p.text;
+    io::write_all(STDOUT_FILENO, &line[..n]);
+    io::write_all(STDOUT_FILENO, &text[..m]);
+}
