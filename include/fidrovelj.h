@@ -93,7 +93,7 @@ int64_t fidrovelj_mask(const uint8_t *text, size_t text_len,
  * the four mask settings that make it one, its count, is the same for all input settings. Returns 1
  * where it leaks, and then writes four numbers to leak: the lowest wire whose counts differ, the
  * smallest setting whose count is not setting 0's (input bit 0 is the lowest bit), setting 0's count
- * and that setting's count. leak_len is 4. */
+ * and that setting's count. leak_len is 4; a shorter leak gets as many of them as it has entries. */
 int64_t fidrovelj_check(const uint8_t *text, size_t text_len,
                         const uint8_t *codes, size_t codes_len,
                         uint64_t *leak, size_t leak_len,

@@ -36,6 +36,11 @@ mod tables;
 
 pub use tables::Tables;
 
+/// The example of docs/LIBRARY.md, as a documentation test.
+#[cfg(doctest)]
+#[doc = include_str!("../../../docs/LIBRARY.md")]
+struct Page;
+
 /// A call was refused: the number of the first question that was answered no, 1 to 14.
 ///
 /// 1. Has every lent working table enough entries?
