@@ -10,7 +10,7 @@ use lib.ListN.{length}
 use lib.Pow.{pow-pos}
 use borrow.Author.Tests.{ltb-true, ltb-false}
 use Rattle.netlist.specs.Netlist.{Netlist}
-use Rattle.netlist.specs.Leak.{count, setting, Found, firstWire}
+use Rattle.netlist.specs.Leak.{count, setting, firstWire}
 use Rattle.netlist.specs.Table.{Tables, Holds}
 use Rattle.netlist.proofs.Tests.{onBool}
 use Rattle.netlist.proofs.Search.{Searched, search-is}

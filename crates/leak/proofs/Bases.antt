@@ -1,8 +1,8 @@
 -- The settings that others are compared with.
 use mathlib.Core.Path.{_≡_, refl, sym, ap, ap₂, _∙_}
-use mathlib.Core.Bool.{Bool, false, cond}
+use mathlib.Core.Bool.{Bool, true, false, cond}
 use mathlib.Core.List.{List, [], _∷_}
-use Prim.Native.Nat.{ℕ, suc, _+_, _*_, _/_, _%_, _^_}
+use Prim.Native.Nat.{ℕ, suc, _+_, _*_, _/_, _%_, _^_, _<_}
 use native.Mathlib.Omega.{arith}
 use lib.Dec.{T, eqb, leb, leb→le}
 use lib.ListN.{length, getD}
@@ -29,14 +29,24 @@ base-zero (e ∷ es) s h =
     ap₂ (λ (b : Bool) (x : List Bool). b ∷ x) (ap (λ (t : Bool). cond t (eqb (s % 2) 1) false) (ne-eqb e 0 (h 0 (omega arith))))
     (base-zero es (s / 2) (λ i l. h (suc i) (omega arith)))
 
+-- the same counts held in another way
+pub counted-same : {N : Netlist} {whole : Bool} {codes : List ℕ} {own held : ℕ → ℕ → ℕ} {block : ℕ} → Counted N whole codes own block → ((w s : ℕ) → s < 16 → held w s ≡ own w s) → Counted N whole codes held block
+counted-same c h = record { each = λ w s l. h w s l ∙ c .each w s l }
+
 module _ (N : Netlist) (codes : List ℕ) (secret : Secret codes) where
   base-count : (w s : ℕ) → countIn N false codes w s ≡ countAt N codes w 0
   base-count w s = ap (count N codes w) (base-zero codes s secret)
 
   -- so all blocks are compared with the same counts
-  pub same-base : (base : List ℕ) (block : ℕ) → Counted N false codes base 0 → Counted N false codes base block
-  same-base base block c = record {
-    each = λ w s l. c .each w s l ∙ base-count w (0 * 16 + s) ∙ sym (base-count w (block * 16 + s));
+  pub same-base : {held : ℕ → ℕ → ℕ} (b block : ℕ) → Counted N false codes held b → Counted N false codes held block
+  same-base b block c = record {
+    each = λ w s l. c .each w s l ∙ base-count w (b * 16 + s) ∙ sym (base-count w (block * 16 + s));
+  }
+
+  -- those of the first setting
+  pub first-base : {own held : ℕ → ℕ → ℕ} {b : ℕ} (block : ℕ) → b ≡ 0 → Counted N true codes own b → ((w s : ℕ) → s < 16 → held w s ≡ own w 0) → Counted N false codes held block
+  first-base block e c h = record {
+    each = λ w s l. h w s l ∙ c .each w 0 (omega arith) ∙ ap (λ (b : ℕ). countIn N true codes w (b * 16 + 0)) e ∙ sym (base-count w (block * 16 + s));
   }
 
   -- and a leak is one of document 01

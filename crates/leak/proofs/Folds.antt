@@ -1,9 +1,9 @@
 -- Fields of a word added in pairs: halves of each field of k + k bits.
 use mathlib.Core.Path.{_≡_, sym, ap, ap₂, _∙_}
 use Prim.Native.Nat.{ℕ, zero, suc, _+_, _*_, _-_, _/_, _%_, _^_, _<_}
-use native.Mathlib.Nat.{add-mul, add-comm, add-assoc, mul-zero, mul-suc, div-one, mod-lt, lt-of-lt-of-le}
+use native.Mathlib.Nat.{pow-suc, add-mul, add-comm, add-assoc, mul-zero, mul-suc, div-one, mod-lt, lt-of-lt-of-le}
 use native.Mathlib.Omega.{arith}
-use lib.Bits.{bitAnd, and-block, and-mask}
+use lib.Bits.{bitAnd, and-zero-r, and-block, and-mask}
 use lib.Pow.{pow-pos, pow-mono, split, high, low, shr-shr, mod-mod-pow, ones-lt}
 use Rattle.netlist.specs.Leak.{bit}
 use Rattle.eval.specs.Lane.{lane}
@@ -60,6 +60,18 @@ module _ (k : ℕ) where
       ∙ ap (λ (x : ℕ). x % 2 ^ k + x / 2 ^ k % 2 ^ k) (sym (shift-more w s))
 
 -- ---- the counts of a word's nibbles
+
+-- a word is its lower lanes and twice its upper lanes
+halves : (n w : ℕ) → w < 4 ^ n → w ≡ bitAnd w (lowers 1 n) + 2 * bitAnd (w / 2) (lowers 1 n)
+halves zero w l = omega (arith, and-zero-r w, and-zero-r (w / 2))
+halves (suc n) w l =
+    let p = pow-suc 4 n in
+    let e : w / 2 / 4 ≡ w / 4 / 2 = omega arith in
+    omega (arith, lowers-step 1 n w, lowers-step 1 n (w / 2) ∙ ap (λ (x : ℕ). bitAnd x (lowers 1 n) * 4 + w / 2 % 2) e, halves n (w / 4) (omega arith))
+
+-- so less its upper lanes it is the sum of both
+pub pairs-law : (w : ℕ) → w < 2 ^ 64 → w - bitAnd (w / 2) 0x5555_5555_5555_5555 ≡ fold 1 32 w
+pairs-law w l = omega (arith, halves 32 w l)
 
 pairs-lt : (x y : ℕ) → x < 2 ^ 1 → y < 2 ^ 1 → x + y < 2 ^ 2
 pairs-lt x y p q = omega arith

@@ -1,6 +1,7 @@
 -- Laws that several proofs cite.
 pub mod Folds
 pub mod Nibbles
+pub mod Tallies
 pub mod Numbers
 pub mod Inputs
 pub mod Loads

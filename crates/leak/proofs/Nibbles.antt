@@ -1,12 +1,13 @@
 -- Words compared nibble by nibble, and the first nibble that is not zero.
 use mathlib.Core.Path.{_≡_, refl, sym, ap, ap₂, _∙_}
+use mathlib.Core.Bool.{true}
 use mathlib.Core.Logic.{_≢_, ⊎-elim}
 use Prim.Native.Nat.{ℕ, zero, suc, _+_, _*_, _-_, _/_, _%_, _^_, _<_}
-use native.Mathlib.Nat.{zero-mod, zero-div, eq-or-lt-of-le}
+use native.Mathlib.Nat.{zero-mod, zero-div, div-one, pow-suc, eq-or-lt-of-le}
 use native.Mathlib.Numerals.{add-one}
 use native.Mathlib.Omega.{arith}
 use lib.Dec.{eqb}
-use lib.Bits.{bitXor, xor-shr, xor-mod}
+use lib.Bits.{bitAnd, bitOr, bitXor, and-le-l, and-le-r, and-mask, or-add-and, xor-shr, xor-mod}
 use lib.Count.{trailingZeros, under, trailing-le}
 use borrow.Author.Tests.{eqb-true, eq-eqb}
 use lib.Pow.{shr-shr, mod-mod-pow, mod-pow-add, field}
@@ -33,6 +34,45 @@ other-counts {x} {a} {b} e n z = n (eqb-true x 0 (e ∙ eq-eqb a b z))
 
 pub no-nibble : {d : ℕ} (s : ℕ) → d ≡ 0 → nibble d s ≡ 0
 no-nibble s e = ap (λ (x : ℕ). nibble x s) e ∙ ap (λ (x : ℕ). x % 16) (zero-div (2 ^ (4 * s)))
+
+-- an OR is zero where both are
+pub or-none : (a b : ℕ) → bitOr a b ≡ 0 → (a ≡ 0) × (b ≡ 0)
+or-none a b e =
+    let l = and-le-l a b in
+    let r = and-le-r a b in
+    let o = or-add-and a b in
+    (omega arith, omega arith)
+
+pub or-both : {a b : ℕ} → a ≡ 0 → b ≡ 0 → bitOr a b ≡ 0
+or-both p q = ap₂ bitOr p q
+
+-- a word whose nibbles are all zero is zero
+no-nibbles : (n d : ℕ) → d < 16 ^ n → ((s : ℕ) → s < n → nibble d s ≡ 0) → d ≡ 0
+no-nibbles zero d l h = omega arith
+no-nibbles (suc n) d l h =
+    let p = pow-suc 16 n in
+    let lowest : d / 1 % 16 ≡ 0 = h 0 (omega arith) in
+    let one = div-one d in
+    let above : d / 16 ≡ 0 = no-nibbles n (d / 16) (omega arith) (λ s m.
+    let e : 4 + 4 * s ≡ 4 * suc s = omega arith in
+    ap (λ (x : ℕ). x % 16) (shr-shr d 4 (4 * s) ∙ ap (λ (m : ℕ). d / 2 ^ m) e) ∙ h (suc s) (omega arith)) in
+    omega arith
+
+pub all-same : {d : ℕ} {a b : ℕ → ℕ} → d < 2 ^ 64 → ((s : ℕ) → s < 16 → eqb (nibble d s) 0 ≡ eqb (a s) (b s)) → ((s : ℕ) → s < 16 → a s ≡ b s) → d ≡ 0
+all-same {d} {a} {b} l differ same = no-nibbles 16 d l (λ s m. eqb-true (nibble d s) 0 (differ s m ∙ eq-eqb (a s) (b s) (same s m)))
+
+-- a nibble in every place
+repeats : (c : ℕ) → c < 16 → (s : ℕ) → s < 16 → nibble (c * 0x1111_1111_1111_1111) s ≡ c
+repeats c l s m =
+    eqb-true (nibble (c * 0x1111_1111_1111_1111) s) c
+    (same-below 16 (λ s. eqb (nibble (c * 0x1111_1111_1111_1111) s) c) (λ s. true)
+    (below-at 16 (λ c. below 16 (λ s. same (eqb (nibble (c * 0x1111_1111_1111_1111) s) c) true)) tt c l) s m)
+
+pub repeat-law : (d s : ℕ) → s < 16 → nibble (bitAnd d 15 * 0x1111_1111_1111_1111) s ≡ nibble d 0
+repeat-law d s l =
+    ap (λ (c : ℕ). nibble (c * 0x1111_1111_1111_1111) s) (and-mask d 4)
+    ∙ repeats (d % 16) (omega arith) s l
+    ∙ ap (λ (x : ℕ). x % 16) (sym (div-one d))
 
 -- below the lowest set bit all are zero, and it is one
 zeros-go : (n d t : ℕ) → n % 2 ≡ d → n / 2 % 2 ^ t ≡ 0 → n % 2 ^ under d t ≡ 0

@@ -11,7 +11,7 @@ use Rattle.netlist.specs.Leak.{bit, masked, setting, count}
 use Rattle.eval.specs.Lane.{lane, lanes}
 use Rattle.eval.proofs.Steps.{getD-lanes}
 use Rattle.leak.specs.Base.{part}
-use Rattle.leak.specs.Block.{inputsAt, Counted}
+use Rattle.leak.specs.Block.{inputsAt, onesOf, Counted}
 use Rattle.leak.proofs.Numbers.{low-lane}
 
 module _ (N : Netlist) (whole : Bool) (codes : List ℕ) (block : ℕ) (us : List ℕ)
@@ -31,7 +31,7 @@ module _ (N : Netlist) (whole : Bool) (codes : List ℕ) (block : ℕ) (us : Lis
       let o : inputsAt whole codes n ≡ masked (lane 0 m) (lane 1 m) codes (at s) = rw (m0, m1, q) in
       ap bit (sym (getD-lanes (4 * s + m) us w) ∙ ap (λ (v : List Bool). bitsAt v w) (ran (4 * s + m) (omega arith) ∙ ap (wireBits N) o))
 
-  pub side-law : Counted N whole codes us block
+  pub side-law : Counted N whole codes (onesOf us) block
   unfolding count
   side-law = record {
     each = λ w s l.

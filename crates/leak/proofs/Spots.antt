@@ -5,18 +5,19 @@ use mathlib.Core.List.{List}
 use Prim.Native.Nat.{ℕ, _+_, _-_, _*_, _≤_, _<_}
 use native.Mathlib.Omega.{arith}
 use lib.Dec.{ltb}
-use lib.ListN.{length, getD}
+use lib.ListN.{length}
 use borrow.Author.Tests.{ltb-true, ltb-false}
+use Rattle.netlist.specs.Netlist.{Netlist}
 use Rattle.netlist.specs.Table.{Tables}
 use Rattle.netlist.proofs.Tests.{onBool}
 use Rattle.eval.specs.Bare.{bare}
 use Rattle.leak.specs.declared.spot.Spot.{Spot}
 use Rattle.leak.specs.Base.{countIn}
-use Rattle.leak.specs.Block.{ones, Counted, Ready}
-use Rattle.leak.specs.Spot.{Spotted, from}
+use Rattle.leak.specs.Block.{Counted, Ready}
+use Rattle.leak.specs.Spot.{Agree, Spotted, from}
 
 -- no wire differs
-pub spot-none : {f g : ℕ → ℕ → ℕ} {W S : ℕ} {p : Spot} → p .wire ≡ W → ((w : ℕ) → w < W → (s : ℕ) → s < S → f w s ≡ g w s) → Spotted f g W S p
+pub spot-none : {f g : ℕ → ℕ → ℕ} {W S : ℕ} {p : Spot} → p .wire ≡ W → Agree f g W S → Spotted f g W S p
 spot-none {W = W} {p = p} e h =
     let no : p .wire < W → ⊥ = omega arith in
     record { within = omega arith; lower = λ w l. h w (omega arith); differs = λ l. absurd (no l) }
@@ -49,7 +50,7 @@ module _ {f g : ℕ → ℕ → ℕ} {W S T : ℕ} {best spot : Spot} (past : Sp
   shifted : (w s : ℕ) → S ≤ s → from S f w (s - S) ≡ from S g w (s - S) → f w s ≡ g w s
   shifted w s k e = let q : S + (s - S) ≡ s = omega arith in subst (λ (n : ℕ). f w n ≡ g w n) q e
 
-  lower-both : (w : ℕ) → w < spot .wire → (s : ℕ) → s < S + T → f w s ≡ g w s
+  lower-both : Agree f g (spot .wire) (S + T)
   lower-both w l s m =
       let k = next .within in
       split s (λ h. past .lower w (omega arith) s h) (λ h. shifted w s h (next .lower w l (s - S) (omega arith)))
@@ -85,24 +86,20 @@ module _ {f g : ℕ → ℕ → ℕ} {W S T : ℕ} {best spot : Spot} (past : Sp
 
 -- ---- the loop over the blocks
 
--- a scan of the words of a block and of its bases, whose table has W′ entries
-pub turn-law : (t : Tables) (n : ℕ) {W W′ : ℕ} (codes : List ℕ) (mixed : Bool) (block limit : ℕ) (words base : List ℕ) {p : Spot} → W′ ≡ W
-    → Counted (bare t n W) true codes words block → Counted (bare t n W′) false codes base block × Ready mixed (bare t n W′) codes base
-    → Spotted (λ w s. ones (getD base w 0) s) (λ w s. ones (getD words w 0) s) limit 16 p
-    → Spotted (from (block * 16) (countIn (bare t n W) false codes)) (from (block * 16) (countIn (bare t n W) true codes)) limit 16 p × Ready mixed (bare t n W) codes base
-turn-law t n codes mixed block limit words base e own (based, ready) scanned =
-    let based′ = subst (λ (k : ℕ). Counted (bare t n k) false codes base block) e based in
-    (spot-same (based′ .each) (own .each) scanned, subst (λ (k : ℕ). Ready mixed (bare t n k) codes base) e ready)
+-- a scan of a block's counts and of those of its bases
+pub turn-law : {N : Netlist} {codes : List ℕ} {own held : ℕ → ℕ → ℕ} {block limit : ℕ} {p : Spot} → Counted N true codes own block → Counted N false codes held block
+    → Spotted held own limit 16 p → Spotted (from (block * 16) (countIn N false codes)) (from (block * 16) (countIn N true codes)) limit 16 p
+turn-law own based scanned = spot-same (based .each) (own .each) scanned
 
 -- the blocks before this one are searched, and the tables keep their lengths
 pub record Finding (t : Tables) (n W : ℕ) (codes : List ℕ) (mixed : Bool) (blocks : ℕ) (words base : List ℕ) (best : Spot) (block : ℕ) : Type 0 where
   pub passed : block ≤ blocks
   pub long-words : length words ≡ W
   pub long-base : length base ≡ W
-  pub ready : Ready mixed (bare t n W) codes base
+  pub ready : Ready mixed (bare t n W) codes base block
   pub spotted : Spotted (countIn (bare t n W) false codes) (countIn (bare t n W) true codes) W (block * 16) best
 
-pub find-none : {t : Tables} {n W : ℕ} {codes : List ℕ} {mixed : Bool} (blocks : ℕ) {words base : List ℕ} {best : Spot} → length words ≡ W → length base ≡ W → Ready mixed (bare t n W) codes base → best .wire ≡ W
+pub find-none : {t : Tables} {n W : ℕ} {codes : List ℕ} {mixed : Bool} (blocks : ℕ) {words base : List ℕ} {best : Spot} → length words ≡ W → length base ≡ W → Ready mixed (bare t n W) codes base 0 → best .wire ≡ W
     → Finding t n W codes mixed blocks words base best 0
 find-none blocks e d r w = record { passed = omega arith; long-words = e; long-base = d; ready = r; spotted = spot-none w (λ w l s m. absurd (omega arith)) }
 
@@ -110,7 +107,7 @@ find-none blocks e d r w = record { passed = omega arith; long-words = e; long-b
 pub find-more : {t : Tables} {n W : ℕ} {codes : List ℕ} {mixed : Bool} {blocks : ℕ} {words base : List ℕ} {best : Spot} {block : ℕ} → Finding t n W codes mixed blocks words base best block → block < blocks
     → (us vs : List ℕ) (spot next : Spot) → length us ≡ length words → length vs ≡ length base
     → Spotted (from (block * 16) (countIn (bare t n (length words)) false codes)) (from (block * 16) (countIn (bare t n (length words)) true codes)) (best .wire) 16 spot
-    → Ready mixed (bare t n (length words)) codes vs
+    → Ready mixed (bare t n (length words)) codes vs (block + 1)
     → ((f g : ℕ → ℕ → ℕ) (W : ℕ) → Spotted f g W (block * 16) best → Spotted (from (block * 16) f) (from (block * 16) g) (best .wire) 16 spot → Spotted f g W (block * 16 + 16) next)
     → Finding t n W codes mixed blocks us vs next (block + 1)
 find-more {t} {n} {W} {codes} {mixed} {best = best} {block} r l us vs spot next e d turned ready better =
@@ -123,7 +120,7 @@ find-more {t} {n} {W} {codes} {mixed} {best = best} {block} r l us vs spot next 
       passed = omega arith;
       long-words = e ∙ r .long-words;
       long-base = d ∙ r .long-base;
-      ready = subst (λ (k : ℕ). Ready mixed (bare t n k) codes vs) (r .long-words) ready;
+      ready = subst (λ (k : ℕ). Ready mixed (bare t n k) codes vs (block + 1)) (r .long-words) ready;
       spotted = subst (λ (S : ℕ). Spotted f g W S next) q (better f g W (r .spotted) turned′);
     }
 

@@ -3,6 +3,7 @@
 use Prim.Native.Nat.{ℕ, _+_, _*_, _/_, _%_, _^_, _<_}
 use mathlib.Core.Bool.{Bool, false}
 use mathlib.Core.List.{List}
+use mathlib.Core.Logic.{_≢_}
 use mathlib.Core.Path.{_≡_}
 use lib.ListN.{length, getD}
 use Rattle.netlist.specs.Netlist.{Netlist}
@@ -22,10 +23,17 @@ nibble w s = w / 2 ^ (4 * s) % 16
 abbrev pub ones : ℕ → ℕ → ℕ
 ones w s = bit (lane (4 * s) w) + bit (lane (4 * s + 1) w) + bit (lane (4 * s + 2) w) + bit (lane (4 * s + 3) w)
 
--- the wires' words hold the counts of a block's settings, or of their bases
-pub record Counted (N : Netlist) (whole : Bool) (codes words : List ℕ) (block : ℕ) : Type 0 where
-  pub each : (w s : ℕ) → s < 16 → ones (getD words w 0) s ≡ countIn N whole codes w (block * 16 + s)
+-- the counts that are held for each wire and each setting of a block: as ones in its lanes, or as a number in its nibble
+abbrev pub onesOf : List ℕ → ℕ → ℕ → ℕ
+onesOf words w s = ones (getD words w 0) s
 
--- where no bit is public, the words hold the one base's counts, with which every block is compared
-abbrev pub Ready : Bool → Netlist → List ℕ → List ℕ → Type 0
-Ready mixed N codes base = mixed ≡ false → Secret codes × Counted N false codes base 0
+abbrev pub nibblesOf : List ℕ → ℕ → ℕ → ℕ
+nibblesOf base w s = nibble (getD base w 0) s
+
+-- they are those of a block's settings, or of their bases
+pub record Counted (N : Netlist) (whole : Bool) (codes : List ℕ) (held : ℕ → ℕ → ℕ) (block : ℕ) : Type 0 where
+  pub each : (w s : ℕ) → s < 16 → held w s ≡ countIn N whole codes w (block * 16 + s)
+
+-- where no bit is public, all settings have the same base, whose counts are held from the second block on
+abbrev pub Ready : Bool → Netlist → List ℕ → List ℕ → ℕ → Type 0
+Ready mixed N codes base block = mixed ≡ false → Secret codes × (block ≢ 0 → Counted N false codes (nibblesOf base) block)

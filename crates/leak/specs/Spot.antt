@@ -4,6 +4,10 @@ use mathlib.Core.Logic.{_≢_}
 use mathlib.Core.Path.{_≡_}
 use Rattle.leak.specs.declared.spot.Spot.{Spot}
 
+-- the counts of wires below W in settings below S are the same
+abbrev pub Agree : (ℕ → ℕ → ℕ) → (ℕ → ℕ → ℕ) → ℕ → ℕ → Type 0
+Agree f g W S = (w : ℕ) → w < W → (s : ℕ) → s < S → f w s ≡ g w s
+
 -- of settings below S, a spot's is the first whose count g on its wire differs from its base's count f, and it holds both
 pub record Differing (f g : ℕ → ℕ → ℕ) (S : ℕ) (p : Spot) : Type 0 where
   pub inside : p .at < S
@@ -15,7 +19,7 @@ pub record Differing (f g : ℕ → ℕ → ℕ) (S : ℕ) (p : Spot) : Type 0 w
 -- of wires below W, a spot's is the first with such a setting, or it is W
 pub record Spotted (f g : ℕ → ℕ → ℕ) (W S : ℕ) (p : Spot) : Type 0 where
   pub within : p .wire ≤ W
-  pub lower : (w : ℕ) → w < p .wire → (s : ℕ) → s < S → f w s ≡ g w s
+  pub lower : Agree f g (p .wire) S
   pub differs : p .wire < W → Differing f g S p
 
 -- counts from setting S on

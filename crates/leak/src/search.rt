@@ -34,11 +34,11 @@ fn turn(
     limit: usize,
 ) -> Spot
     requires { ⌜ Wired (tables (now operands) (now results)) (length (now words)) count ⌝ }
-    requires { ⌜ (length (now codes) < 64) × (length (now codes) + 2 ≤ length (now words)) × (length (now base) ≡ length (now words)) × (limit ≤ length (now words)) × Ready mixed (bare (tables (now operands) (now results)) count (length (now words))) (now codes) (now base) ⌝ }
-    ensures { λ r. ⌜ (let N = bare (tables (now (operands .entry)) (now (results .entry))) count (length (now (words .entry))) in Spotted (from (block * 16) (countIn N false (now (codes .entry)))) (from (block * 16) (countIn N true (now (codes .entry)))) limit 16 r × Ready mixed N (now (codes .entry)) (now (base .exit))) ⌝ }
+    requires { ⌜ (length (now codes) < 64) × (length (now codes) + 2 ≤ length (now words)) × (length (now base) ≡ length (now words)) × (limit ≤ length (now words)) × Ready mixed (bare (tables (now operands) (now results)) count (length (now words))) (now codes) (now base) block ⌝ }
+    ensures { λ r. ⌜ (let N = bare (tables (now (operands .entry)) (now (results .entry))) count (length (now (words .entry))) in Spotted (from (block * 16) (countIn N false (now (codes .entry)))) (from (block * 16) (countIn N true (now (codes .entry)))) limit 16 r × Ready mixed N (now (codes .entry)) (now (base .exit)) (block + 1)) ⌝ }
 {
     block::side(operands, results, count, codes, true, block, words);
-    block::refresh(operands, results, count, codes, mixed, block, base);
+    block::refresh(operands, results, count, codes, mixed, block, words, base);
     spot::scan(words, base, limit)
 }
 
@@ -58,13 +58,7 @@ fn find(
     ensures { λ r. ⌜ (let N = bare (tables (now (operands .entry)) (now (results .entry))) count (length (now (words .entry))) in Spotted (countIn N false (now (codes .entry))) (countIn N true (now (codes .entry))) (length (now (words .entry))) (blocks * 16) r) ⌝ }
 {
     let mixed = block::public(codes);
-    block::side(operands, results, count, codes, false, 0, base);
-    let mut best = Spot {
-        wire: words.len(),
-        at: 0,
-        base: 0,
-        own: 0,
-    };
+    let mut best = spot::none(words.len());
     let mut block = 0;
     while block < blocks {
         let limit = best.wire;

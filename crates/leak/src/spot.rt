@@ -1,10 +1,12 @@
 // The first wire, and its first setting, with another count than its base: in one block, and over
 // several.
 use crate::nibble;
+ghost use mathlib.Core.Path.{_≡_};
+ghost use mathlib.Core.Bool.{true, false};
 ghost use Prim.Native.Nat.{ℕ, _+_, _*_, _<_, _≤_};
-ghost use lib.ListN.{length, getD};
-ghost use Rattle.leak.specs.Block.{ones};
-ghost use Rattle.leak.specs.Spot.{Spotted, from};
+ghost use lib.ListN.{length};
+ghost use Rattle.leak.specs.Block.{onesOf, nibblesOf};
+ghost use Rattle.leak.specs.Spot.{Agree, Spotted, from};
 
 // A wire and a setting, with its base's count and its own; or, with the first wire that was not
 // looked at, none.
@@ -15,11 +17,38 @@ pub struct Spot {
     pub own: u8,
 }
 
+// No spot on wires below a limit.
+pub fn none(limit: usize) -> Spot
+    ensures { λ r. ⌜ r .wire ≡ limit ⌝ }
+{
+    Spot {
+        wire: limit,
+        at: 0,
+        base: 0,
+        own: 0,
+    }
+}
+
+// Whether all wires below a limit have the counts of their bases. The loop does not stop at the
+// first that has not, so that it can be compiled to compare many wires at a time.
+fn quiet(words: &[u64], base: &[u64], limit: usize) -> bool
+    requires { ⌜ (limit ≤ length (now words)) × (limit ≤ length (now base)) ⌝ }
+    ensures { λ r. ⌜ (r ≡ true → Agree (nibblesOf (now (base .entry))) (onesOf (now (words .entry))) limit 16) × (r ≡ false → Agree (nibblesOf (now (base .entry))) (onesOf (now (words .entry))) limit 16 → ⊥) ⌝ }
+{
+    let mut d = 0;
+    let mut w = 0;
+    while w < limit {
+        d = d | nibble::differ(base[w], words[w]);
+        w += 1;
+    }
+    d == 0
+}
+
 // The first wire below a limit whose counts are not those of its base, and the first of the block's
 // settings where they are not.
-pub fn scan(words: &[u64], base: &[u64], limit: usize) -> Spot
+fn walk(words: &[u64], base: &[u64], limit: usize) -> Spot
     requires { ⌜ (limit ≤ length (now words)) × (limit ≤ length (now base)) ⌝ }
-    ensures { λ r. ⌜ Spotted (λ w s. ones (getD (now (base .entry)) w 0) s) (λ w s. ones (getD (now (words .entry)) w 0) s) limit 16 r ⌝ }
+    ensures { λ r. ⌜ Spotted (nibblesOf (now (base .entry))) (onesOf (now (words .entry))) limit 16 r ⌝ }
 {
     let mut w = 0;
     while w < limit {
@@ -29,17 +58,24 @@ pub fn scan(words: &[u64], base: &[u64], limit: usize) -> Spot
             return Spot {
                 wire: w,
                 at: s as u64,
-                base: nibble::count(base[w], s),
+                base: nibble::at(base[w], s),
                 own: nibble::count(words[w], s),
             };
         }
         w += 1;
     }
-    Spot {
-        wire: limit,
-        at: 0,
-        base: 0,
-        own: 0,
+    none(limit)
+}
+
+// The same. Most blocks are quiet, so that all wires are compared first.
+pub fn scan(words: &[u64], base: &[u64], limit: usize) -> Spot
+    requires { ⌜ (limit ≤ length (now words)) × (limit ≤ length (now base)) ⌝ }
+    ensures { λ r. ⌜ Spotted (nibblesOf (now (base .entry))) (onesOf (now (words .entry))) limit 16 r ⌝ }
+{
+    if quiet(words, base, limit) {
+        none(limit)
+    } else {
+        walk(words, base, limit)
     }
 }
 

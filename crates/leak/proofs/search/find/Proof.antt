@@ -1,6 +1,5 @@
 -- `leak::search::find` meets its contract.
 use mathlib.Core.Path.{refl, sym, subst, _∙_}
-use mathlib.Core.Bool.{false}
 use Prim.Native.Nat.{ℕ, _-_}
 use native.Mathlib.Omega.{arith}
 use lib.ListN.{length}
@@ -8,7 +7,7 @@ use borrow.Author.Needs.{needs}
 use Rattle.netlist.specs.Table.{tables}
 use Rattle.netlist.proofs.Puts.{wired-same}
 use Rattle.eval.specs.Bare.{bare}
-use Rattle.leak.specs.Block.{Counted, Ready}
+use Rattle.leak.specs.Block.{Ready}
 use Rattle.leak.proofs.Spots.{Finding, find-none, find-more, find-all}
 use Rattle.leak.proofs.search.find.Statement.{statement}
 use Rattle.leak.proofs.search.find.Tie as tie
@@ -24,25 +23,17 @@ abbrev μ-loop : tie.MeasureT-loop
 public-requires : tie.Need-public-requires Inv-loop μ-loop
 public-requires c κs = search needs
 
-side-requires : tie.Need-side-requires Inv-loop μ-loop
-side-requires c κs =
-    let s = c .before .before .before .before .before .before .before in
-    let e = s .pre .1 .2 in
-    (wired-same e (s .pre .0), (s .pre .1 .0, omega (arith, s .pre .1 .1, e)))
+none-requires : tie.Need-none-requires Inv-loop μ-loop
+none-requires c κs = search needs
 
 loop-holds : tie.Need-loop-holds Inv-loop μ-loop
 loop-holds c =
-    let s = c .before .before .before .before .before .before .before .before .before .before in
-    let side = c .before .before .side in
-    let t = tables (s .args .operands .now) (s .args .results .now) in
-    let e = s .pre .1 .2 in
-    find-none (s .args .blocks) refl (side .kept .1 .1 .1 .1 .1 .1 .0 ∙ e)
-    (λ m. (c .before .before .before .before .public .ensures .1 m, subst (λ (W : ℕ). Counted (bare t (s .args .count) W) false (s .args .codes .now) (side .last .1 .1 .1 .1 .1 .1 .0) 0) e (side .ensures)))
-    refl
+    let s = c .before .before .before .before .before .before .before in
+    find-none (s .args .blocks) refl (s .pre .1 .2) (λ m. (c .before .public .ensures .1 m, λ z. absurd (z refl))) (c .none .ensures)
 
 turn-requires : tie.Need-turn-requires Inv-loop μ-loop
 turn-requires c κs =
-    let s = c .before .before .before .before .before .before .before .before .before .before .before .before .before .before in
+    let s = c .before .before .before .before .before .before .before .before .before .before .before in
     let at = c .before .before .before .loop in
     let t = tables (s .args .operands .now) (s .args .results .now) in
     let w = at .inv .long-words in (
@@ -52,17 +43,17 @@ turn-requires c κs =
         omega (arith, s .pre .1 .1, w),
         at .inv .long-base ∙ sym w,
         omega (arith, at .inv .spotted .within, w),
-        subst (λ (W : ℕ). Ready (c .before .before .before .before .before .before .before .before .public .result) (bare t (s .args .count) W) (s .args .codes .now) (at .base)) (sym w) (at .inv .ready),
+        subst (λ (W : ℕ). Ready (c .before .before .before .before .before .public .result) (bare t (s .args .count) W) (s .args .codes .now) (at .base) (at .block)) (sym w) (at .inv .ready),
       ),
     )
 
 better-requires : tie.Need-better-requires Inv-loop μ-loop
 better-requires c κs =
-    let s = c .before .before .before .before .before .before .before .before .before .before .before .before .before .before .before .before .before .before .before in
+    let s = c .before .before .before .before .before .before .before .before .before .before .before .before .before .before .before .before in
     (omega (arith, s .pre .1 .3), λ l. c .before .before .before .before .turn .ensures .0 .differs l .inside)
 
 add-block : tie.Need-add-block Inv-loop μ-loop
-add-block c = omega (arith, c .before .before .before .before .before .before .before .before .before .before .before .before .before .before .before .before .before .before .before .before .pre .1 .3)
+add-block c = omega (arith, c .before .before .before .before .before .before .before .before .before .before .before .before .before .before .before .before .before .pre .1 .3)
 
 loop-less : tie.Need-loop-less Inv-loop μ-loop
 loop-less c = omega arith
@@ -78,7 +69,7 @@ same-length : tie.Need-same-length Inv-loop μ-loop
 same-length c = c .before .loop .inv .long-words
 
 same-length-2 : tie.Need-same-length-2 Inv-loop μ-loop
-same-length-2 c = c .before .loop .inv .long-base ∙ sym (c .before .before .before .before .before .before .before .before .before .before .before .before .pre .1 .2)
+same-length-2 c = c .before .loop .inv .long-base ∙ sym (c .before .before .before .before .before .before .before .before .before .pre .1 .2)
 
 returns : tie.Need-returns Inv-loop μ-loop
 returns c = find-all (c .before .loop .inv) (c .loop-test .left)
@@ -90,7 +81,7 @@ find-spec =
     Inv-loop
     μ-loop
     public-requires
-    side-requires
+    none-requires
     loop-holds
     turn-requires
     better-requires

@@ -1,12 +1,13 @@
 -- `leak::search::turn` meets its contract.
-use mathlib.Core.Path.{sym, subst}
-use Prim.Native.Nat.{ℕ}
+use mathlib.Core.Bool.{true, false}
+use mathlib.Core.Path.{sym, subst, _∙_}
+use Prim.Native.Nat.{ℕ, _+_}
 use native.Mathlib.Omega.{arith}
 use borrow.Author.Needs.{needs}
 use Rattle.netlist.specs.Table.{tables}
 use Rattle.netlist.proofs.Puts.{wired-same}
 use Rattle.eval.specs.Bare.{bare}
-use Rattle.leak.specs.Block.{Ready}
+use Rattle.leak.specs.Block.{onesOf, nibblesOf, Counted, Ready}
 use Rattle.leak.proofs.Spots.{turn-law}
 use Rattle.leak.proofs.search.turn.Statement.{statement}
 use Rattle.leak.proofs.search.turn.Tie as tie
@@ -16,11 +17,18 @@ side-requires c κs = search needs
 
 refresh-requires : tie.Need-refresh-requires
 refresh-requires c κs =
-    let s = c .before .before .before .before .before .before .before .before .before .before in
+    let s = c .before .before .before .before .before .before .before .before .before .before .before in
+    let side = c .before .before .before .before .side in
     let t = tables (s .args .operands .now) (s .args .results .now) in
-    let e = s .pre .1 .2 in
-    let ready = subst (λ (W : ℕ). Ready (s .args .mixed) (bare t (s .args .count) W) (s .args .codes .now) (s .args .base .now)) (sym e) (s .pre .1 .4) in
-    (wired-same e (s .pre .0), (s .pre .1 .0, omega (arith, s .pre .1 .1, e), ready))
+    let k = side .kept .1 .1 .1 .1 .1 .1 .0 in (
+      wired-same k (s .pre .0),
+      (
+        (s .pre .1 .0, omega (arith, s .pre .1 .1, k), s .pre .1 .2 ∙ sym k),
+        subst
+            (λ (W : ℕ). Counted (bare t (s .args .count) W) true (s .args .codes .now) (onesOf (side .last .1 .1 .1 .1 .1 .1 .0)) (s .args .block) × Ready (s .args .mixed) (bare t (s .args .count) W) (s .args .codes .now) (s .args .base .now) (s .args .block))
+            (sym k) (side .ensures, s .pre .1 .4),
+      ),
+    )
 
 scan-requires : tie.Need-scan-requires
 scan-requires c κs = search needs
@@ -33,11 +41,16 @@ same-length-2 c = search needs
 
 returns : tie.Need-returns
 returns c =
-    let s = c .before .before .before .before .before .before .before .before .before .before .before .before .before .before .before .before in
-    let side = c .before .before .before .before .before .before .before .before .before .side in
+    let s = c .before .before .before .before .before .before .before .before .before .before .before .before .before .before .before .before .before in
+    let side = c .before .before .before .before .before .before .before .before .before .before .side in
     let refresh = c .before .before .before .before .before .refresh in
-    turn-law (tables (s .args .operands .now) (s .args .results .now)) (s .args .count) (s .args .codes .now) (s .args .mixed) (s .args .block) (s .args .limit)
-    (side .last .1 .1 .1 .1 .1 .1 .0) (refresh .last .1 .1 .1 .1 .1 .1 .0) (s .pre .1 .2) (side .ensures) (refresh .ensures) (c .scan .ensures)
+    let base = refresh .last .1 .1 .1 .1 .1 .1 .1 .0 in
+    let t = tables (s .args .operands .now) (s .args .results .now) in
+    let based =
+    subst
+    (λ (W : ℕ). Counted (bare t (s .args .count) W) false (s .args .codes .now) (nibblesOf base) (s .args .block) × Ready (s .args .mixed) (bare t (s .args .count) W) (s .args .codes .now) base (s .args .block + 1))
+    (side .kept .1 .1 .1 .1 .1 .1 .0) (refresh .ensures) in
+    (turn-law (side .ensures) (based .0) (c .scan .ensures), based .1)
 
 pub turn-spec : {M : Type 1} → statement M
 turn-spec =

@@ -1,117 +1,23 @@
 -- `leak::spot::scan` meets its contract.
-use mathlib.Core.Path.{_≡_, refl}
-use Prim.Native.Nat.{ℕ, _-_, _≤_, _<_}
-use native.Mathlib.Omega.{arith}
-use lib.ListN.{getD}
-use borrow.Author.Count.{below-none, below-more}
-use borrow.Author.Needs.{needs}
-use Rattle.leak.specs.Block.{ones}
-use Rattle.leak.proofs.Nibbles.{same-counts, other-counts, no-nibble}
 use Rattle.leak.proofs.Spots.{spot-none}
+use borrow.Author.Needs.{needs}
 use Rattle.leak.proofs.spot.scan.Statement.{statement}
 use Rattle.leak.proofs.spot.scan.Tie as tie
 
-abbrev Inv-loop : tie.InvT-loop
-Inv-loop words base limit w₀ w = (w ≤ limit) × ((v : ℕ) → v < w → (s : ℕ) → s < 16 → ones (getD base v 0) s ≡ ones (getD words v 0) s)
+quiet-requires : tie.Need-quiet-requires
+quiet-requires c κs = search needs
 
-abbrev μ-loop : tie.MeasureT-loop
-μ-loop words base limit w₀ w = limit - w
+none-requires : tie.Need-none-requires
+none-requires c κs = search needs
 
-loop-holds : tie.Need-loop-holds Inv-loop μ-loop
-loop-holds c = (omega arith, below-none _)
+walk-requires : tie.Need-walk-requires
+walk-requires c κs = search needs
 
-mul-differ : tie.Need-mul-differ Inv-loop μ-loop
-mul-differ c = omega arith
+returns : tie.Need-returns
+returns c = spot-none (c .none .ensures) (c .before .before .quiet .ensures .0 (c .before .if1 .taken))
 
-shared-slice-read-differ : tie.Need-shared-slice-read-differ Inv-loop μ-loop
-shared-slice-read-differ c = omega arith
-
-mul-differ-2 : tie.Need-mul-differ-2 Inv-loop μ-loop
-mul-differ-2 c = omega arith
-
-shared-slice-read-differ-2 : tie.Need-shared-slice-read-differ-2 Inv-loop μ-loop
-shared-slice-read-differ-2 c = omega arith
-
-differ-requires : tie.Need-differ-requires Inv-loop μ-loop
-differ-requires c κs = search needs
-
-first-requires : tie.Need-first-requires Inv-loop μ-loop
-first-requires c κs = c .if1 .taken
-
-cast-t14 : tie.Need-cast-t14 Inv-loop μ-loop
-cast-t14 c = omega arith
-
-mul-count : tie.Need-mul-count Inv-loop μ-loop
-mul-count c = omega arith
-
-shared-slice-read-count : tie.Need-shared-slice-read-count Inv-loop μ-loop
-shared-slice-read-count c = omega arith
-
-count-requires : tie.Need-count-requires Inv-loop μ-loop
-count-requires c κs = c .before .first .ensures .0
-
-mul-count-2 : tie.Need-mul-count-2 Inv-loop μ-loop
-mul-count-2 c = omega arith
-
-shared-slice-read-count-2 : tie.Need-shared-slice-read-count-2 Inv-loop μ-loop
-shared-slice-read-count-2 c = omega arith
-
-count-requires-2 : tie.Need-count-requires-2 Inv-loop μ-loop
-count-requires-2 c κs = c .before .before .before .first .ensures .0
-
-returns : tie.Need-returns Inv-loop μ-loop
-returns c =
-    let at = c .before .before .before .before .before .before .before .before .before .before .loop in
-    let first = c .before .before .before .before .first in
-    let differ = c .before .before .before .before .before .before .differ in
-    record {
-      within = at .inv .0;
-      lower = at .inv .1;
-      differs = λ _. record {
-        inside = first .ensures .0;
-        smaller = λ s l. same-counts (differ .ensures s (omega (arith, first .ensures .0))) (first .ensures .2 s l);
-        other = other-counts (differ .ensures (first .result) (first .ensures .0)) (first .ensures .1);
-        base = c .before .before .count .ensures;
-        own = c .count2 .ensures;
-      };
-    }
-
-add-w : tie.Need-add-w Inv-loop μ-loop
-add-w c = omega arith
-
-loop-less : tie.Need-loop-less Inv-loop μ-loop
-loop-less c = omega arith
-
-loop-again : tie.Need-loop-again Inv-loop μ-loop
-loop-again c =
-    let at = c .before .before .before .before .before .loop in
-    (omega arith, below-more _ _ (at .inv .1) (λ s l. same-counts (c .before .differ .ensures s l) (no-nibble s (c .if1 .left))))
-
-returns-2 : tie.Need-returns-2 Inv-loop μ-loop
-returns-2 c = let at = c .before .loop in spot-none refl (λ w l. at .inv .1 w (omega arith))
+returns-2 : tie.Need-returns-2
+returns-2 c = search needs
 
 pub scan-spec : {M : Type 1} → statement M
-scan-spec =
-    tie.close
-    (tie.spec
-    Inv-loop
-    μ-loop
-    loop-holds
-    mul-differ
-    shared-slice-read-differ
-    mul-differ-2
-    shared-slice-read-differ-2
-    differ-requires
-    first-requires
-    cast-t14
-    mul-count
-    shared-slice-read-count
-    count-requires
-    mul-count-2
-    shared-slice-read-count-2
-    count-requires-2
-    returns
-    add-w
-    loop-less
-    loop-again
-    returns-2)
+scan-spec = tie.close (tie.spec quiet-requires none-requires walk-requires returns returns-2)
