@@ -10,9 +10,11 @@ use Rattle.netlist.specs.declared.Gate.{Gate}
 use Rattle.netlist.specs.declared.Gate.the-variants.{Xor, And, Inv, Eqw, Eq}
 use Rattle.netlist.specs.Netlist.{result}
 use Rattle.netlist.specs.Eval.{differs, made, bitsAt, runGates}
-use Rattle.netlist.specs.Table.{gateOf, madeOf, gateAt, gatesOf, Tables, Named}
+use Rattle.netlist.specs.Table.{gateOf, madeOf, gateAt, gatesOf, Tables, Wired}
 use Rattle.netlist.proofs.Puts.{gates-more}
+use Rattle.eval.specs.declared.gate.Parts.{Parts}
 use Rattle.eval.specs.Lane.{lane, lanes}
+use Rattle.eval.specs.Parts.{partsOf, gateBy, Within}
 use Rattle.eval.proofs.Lanes.{lane-zero}
 
 pub getD-lanes : (j : ℕ) (ws : List ℕ) (a : ℕ) → getD (lanes j ws) a false ≡ lane j (getD ws a 0)
@@ -74,5 +76,17 @@ ran-all {t} {n} {ws₀} {ws} {i} r l j m =
     let e : i ≡ n = omega (arith, r .passed) in
     r .same j m ∙ ap (λ (k : ℕ). runGates (lanes j ws₀) (gatesOf t k)) e
 
-pub named-same : {o r W W′ : ℕ} → W′ ≡ W → Named W o r → Named W′ o r
-named-same e w = rw e w
+-- and the next is taken apart
+pub record Ahead (t : Tables) (n : ℕ) (ws₀ ws : List ℕ) (i : ℕ) (p : Parts) : Type 0 where
+  pub ran : Ran t n ws₀ ws i
+  pub inside : i < n
+  pub parts : p ≡ partsOf (getD (t .operands) i 0) (getD (t .results) i 0)
+
+module _ {t : Tables} {n : ℕ} {ws₀ ws : List ℕ} {i : ℕ} {p : Parts} (a : Ahead t n ws₀ ws i p) where
+  pub ahead-within : Wired t (length ws₀) n → Within (length ws) p
+  ahead-within w =
+      let k = w .each i (a .inside) in
+      rw (a .parts, a .ran .long) (record { kind = k .kind; left = k .left; right = k .right; result = k .result })
+
+  pub ahead-step : (us : List ℕ) → length us ≡ length ws → ((j : ℕ) → j < 64 → lanes j us ≡ runGates (lanes j ws) (gateBy p ∷ [])) → Ran t n ws₀ us (i + 1)
+  ahead-step us k h = ran-more us (a .ran) (a .inside) k (λ j l. h j l ∙ ap (λ (q : Parts). runGates (lanes j ws) (gateBy q ∷ [])) (a .parts))

@@ -2,3 +2,4 @@
 pub mod Lane
 pub mod Form
 pub mod Bare
+pub mod Parts

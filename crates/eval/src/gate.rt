@@ -4,9 +4,10 @@ ghost use Prim.Native.Nat.{ℕ, _<_};
 ghost use mathlib.Core.List.{[], _∷_};
 ghost use lib.ListN.{length};
 ghost use Rattle.netlist.specs.Eval.{runGates};
-ghost use Rattle.netlist.specs.Table.{gateIn, madeOf, Named};
+ghost use Rattle.netlist.specs.Table.{madeOf};
 ghost use Rattle.eval.specs.Lane.{lane, lanes};
 ghost use Rattle.eval.specs.Form.{factorOf, termOf};
+ghost use Rattle.eval.specs.Parts.{partsOf, gateBy, Within};
 
 const ALL: u64 = 0xffff_ffff_ffff_ffff;
 
@@ -49,17 +50,36 @@ fn made(kind: usize, a: u64, b: u64) -> u64
     (a & factor(kind, b)) ^ term(kind, b)
 }
 
-// 2^32, which parts the two numbers of an entry.
+// A gate's two entries, taken apart: its operands' wires, its result's wire, and its kind.
+pub struct Parts {
+    pub left: usize,
+    pub right: usize,
+    pub result: usize,
+    pub kind: usize,
+}
+
+// 2^32, which divides the two numbers of an entry.
 const HALF: u64 = 4294967296;
 
-// The gate of two entries, on the wires' words.
-pub fn step(words: &mut [u64], operands: u64, results: u64)
-    requires { ⌜ Named (length (now words)) operands results ⌝ }
-    ensures { λ _. ⌜ ((j : ℕ) → j < 64 → lanes j (now (words .exit)) ≡ runGates (lanes j (now (words .entry))) (gateIn operands results ∷ [])) ⌝ }
+// The parts of two entries.
+pub fn split(operands: u64, results: u64) -> Parts
+    ensures { λ r. ⌜ r ≡ partsOf operands results ⌝ }
 {
-    let a = (operands % HALF) as usize;
-    let b = (operands / HALF) as usize;
-    let c = (results % HALF) as usize;
-    let kind = (results / HALF) as usize;
-    words[c] = made(kind, words[a], words[b]);
+    Parts {
+        left: (operands % HALF) as usize,
+        right: (operands / HALF) as usize,
+        result: (results % HALF) as usize,
+        kind: (results / HALF) as usize,
+    }
+}
+
+// A gate, on the wires' words.
+pub fn step(words: &mut [u64], gate: Parts)
+    requires { ⌜ Within (length (now words)) gate ⌝ }
+    ensures { λ _. ⌜ ((j : ℕ) → j < 64 → lanes j (now (words .exit)) ≡ runGates (lanes j (now (words .entry))) (gateBy gate ∷ [])) ⌝ }
+{
+    let a = gate.left;
+    let b = gate.right;
+    let c = gate.result;
+    words[c] = made(gate.kind, words[a], words[b]);
 }

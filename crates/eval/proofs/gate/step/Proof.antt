@@ -1,7 +1,5 @@
 -- `eval::gate::step` meets its contract.
-use Prim.Native.Nat.{_/_, _%_}
 use borrow.Author.Needs.{needs}
-use Rattle.netlist.specs.Table.{half}
 use Rattle.eval.proofs.Steps.{step-lanes}
 use Rattle.eval.proofs.gate.step.Statement.{statement}
 use Rattle.eval.proofs.gate.step.Tie as tie
@@ -33,7 +31,8 @@ same-length c = search needs
 returns : tie.Need-returns
 returns c j l =
     let s = c .before .before .before .before .args in
-    step-lanes j (s .words .now) (s .results / half) (s .operands % half) (s .operands / half) (s .results % half) (c .made .result) (c .made .ensures j l)
+    let p = s .gate in
+    step-lanes j (s .words .now) (p .kind) (p .left) (p .right) (p .result) (c .made .result) (c .made .ensures j l)
 
 pub step-spec : {M : Type 1} → statement M
 step-spec =
