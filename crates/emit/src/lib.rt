@@ -5,10 +5,10 @@ pub mod steps;
 use crate::code::code_after;
 use crate::code::mask_wire;
 use crate::code::third_code;
-use netlist::Gate;
 use netlist::Twin;
 ghost use Prim.Native.Nat.{_<_, _^_};
 ghost use mathlib.Core.List.{[], _∷_};
+ghost use Rattle.netlist.specs.declared.Gate.the-variants.{Inv, Eqw};
 ghost use Rattle.netlist.specs.Mask.{xorGates, xorTwin, andGates, andTwin};
 ghost use Rattle.emit.specs.Emitted.{WroteChange, WroteTwin, WroteKind};
 
@@ -85,11 +85,20 @@ fn and(out: &mut [u8], at: usize, n: u32, c: u32, a: Twin, b: Twin) -> Emitted
     Emitted { at: end, twin }
 }
 
-// INV, EQW and EQ: one gate, which gives wire c with a code.
-fn single(out: &mut [u8], at: usize, g: Gate, c: u32, code: u8) -> Emitted
-    ensures { λ r. ⌜ WroteTwin (now (out .entry)) at (g ∷ []) (record { wire = c; code = code }) (now (out .exit)) r ⌝ }
+// INV of a wire, which gives wire c with a code.
+fn inv(out: &mut [u8], at: usize, a: u32, c: u32, code: u8) -> Emitted
+    ensures { λ r. ⌜ WroteTwin (now (out .entry)) at (Inv a c ∷ []) (record { wire = c; code = code }) (now (out .exit)) r ⌝ }
 {
-    let end = writer::gate::gate(out, at, g);
+    let end = writer::gate::inv(out, at, a, c);
+    let twin = Twin { wire: c, code };
+    Emitted { at: end, twin }
+}
+
+// EQW of a wire, likewise.
+fn eqw(out: &mut [u8], at: usize, a: u32, c: u32, code: u8) -> Emitted
+    ensures { λ r. ⌜ WroteTwin (now (out .entry)) at (Eqw a c ∷ []) (record { wire = c; code = code }) (now (out .exit)) r ⌝ }
+{
+    let end = writer::gate::eqw(out, at, a, c);
     let twin = Twin { wire: c, code };
     Emitted { at: end, twin }
 }
@@ -103,9 +112,9 @@ pub fn emit(out: &mut [u8], at: usize, n: u32, c: u32, kind: u64, a: Twin, b: Tw
     match kind {
         1 => xor(out, at, n, c, a, b),
         2 => and(out, at, n, c, a, b),
-        3 => single(out, at, Gate::Inv(a.wire, c), c, a.code),
-        4 => single(out, at, Gate::Eqw(a.wire, c), c, a.code),
-        5 => single(out, at, Gate::Eqw(n, c), c, 1),
-        _ => single(out, at, Gate::Inv(n, c), c, 1),
+        3 => inv(out, at, a.wire, c, a.code),
+        4 => eqw(out, at, a.wire, c, a.code),
+        5 => eqw(out, at, n, c, 1),
+        _ => inv(out, at, n, c, 1),
     }
 }

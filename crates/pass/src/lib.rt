@@ -4,7 +4,6 @@ pub mod outs;
 mod twins;
 
 use crate::gates::Next;
-use netlist::Gate;
 ghost use Prim.Native.Nat.{_<_, _^_};
 ghost use lib.ListN.{length};
 ghost use Rattle.netlist.specs.Netlist.{Netlist};
@@ -18,9 +17,9 @@ fn masks(out: &mut [u8], at: usize, n: u32) -> usize
     requires { ⌜ n < 2 ^ 31 ⌝ }
     ensures { λ r. ⌜ WroteGates (now (out .entry)) at (maskGates n) (now (out .exit)) r ⌝ }
 {
-    let second = writer::gate::gate(out, at, Gate::Xor(n, n + 1, n + 2));
-    let third = writer::gate::gate(out, second, Gate::And(n, n + 1, n + 3));
-    writer::gate::gate(out, third, Gate::Xor(n + 2, n + 3, n + 4))
+    let second = writer::gate::xor(out, at, n, n + 1, n + 2);
+    let third = writer::gate::and(out, second, n, n + 1, n + 3);
+    writer::gate::xor(out, third, n + 2, n + 3, n + 4)
 }
 
 // The gates of the masked netlist. The tables `wire` and `code` have an entry for each source wire,

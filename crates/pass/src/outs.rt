@@ -1,7 +1,6 @@
 // The gates of the output bits, and their codes. The output bits are the last source wires.
 use emit::code::mask_wire;
 use emit::code::third_code;
-use netlist::Gate;
 use netlist::Twin;
 ghost use mathlib.Core.Path.{_≡_};
 ghost use Prim.Native.Nat.{_+_, _<_, _^_};
@@ -18,14 +17,14 @@ fn one(out: &mut [u8], at: usize, n: u32, c: u32, t: Twin, want: u8) -> usize
     ensures { λ r. ⌜ WroteGates (now (out .entry)) at (outGate n c t want ∷ []) (now (out .exit)) r ⌝ }
 {
     if want == 0 {
-        return writer::gate::gate(out, at, Gate::Eqw(t.wire, c));
+        return writer::gate::eqw(out, at, t.wire, c);
     }
     if want == t.code {
-        return writer::gate::gate(out, at, Gate::Eqw(t.wire, c));
+        return writer::gate::eqw(out, at, t.wire, c);
     }
     let f = third_code(t.code, want);
     let m = mask_wire(n, f);
-    writer::gate::gate(out, at, Gate::Xor(t.wire, m, c))
+    writer::gate::xor(out, at, t.wire, m, c)
 }
 
 // The gates of the source wires from a wire on, at the wires from c.

@@ -17,7 +17,7 @@ fn gates(out: &mut [u8], at: usize, operands: &[u64], results: &[u64], count: us
     let mut next = at;
     let mut i = 0;
     while i < count {
-        next = writer::gate::gate(out, next, tables::entry::gate_of(operands[i], results[i]));
+        next = writer::gate::entry(out, next, operands[i], results[i]);
         i += 1;
     }
     next

@@ -3,7 +3,7 @@ use netlist::Gate;
 ghost use mathlib.Core.Path.{_≡_};
 ghost use Prim.Native.Nat.{ℕ, _+_, _*_, _<_};
 ghost use lib.ListN.{length};
-ghost use Rattle.netlist.specs.Table.{tables, half, gateIn, putEntry};
+ghost use Rattle.netlist.specs.Table.{tables, half, putEntry};
 ghost use Rattle.tables.specs.Entry.{Names, Entered};
 
 // 2^32: the right operand and the kind stand in the upper halves of their entries.
@@ -51,22 +51,4 @@ pub fn put(operands: &mut [u64], results: &mut [u64], at: usize, e: Entry)
 {
     operands[at] = e.operands;
     results[at] = e.results;
-}
-
-// The gate of two entries.
-pub fn gate_of(operands: u64, results: u64) -> Gate
-    ensures { λ g. ⌜ g ≡ gateIn operands results ⌝ }
-{
-    let a = (operands % HALF) as u32;
-    let b = (operands / HALF) as u32;
-    let c = (results % HALF) as u32;
-    let kind = results / HALF;
-    match kind {
-        1 => Gate::Xor(a, b, c),
-        2 => Gate::And(a, b, c),
-        3 => Gate::Inv(a, c),
-        4 => Gate::Eqw(a, c),
-        5 => Gate::Eq(0, c),
-        _ => Gate::Eq(1, c),
-    }
 }

@@ -13,7 +13,7 @@ use Rattle.netlist.proofs.Tests.{onBool}
 use Rattle.netlist.proofs.Decimal.{low, high, decimal-of, decimal-unique, decimal-length}
 use Rattle.writer.specs.Wrote.{Wrote, WroteFew}
 use Rattle.writer.proofs.Wrote.{wrote-then, wrote-as}
-use Rattle.writer.specs.Digits.{pairOf, lastFour, reaches, Counted}
+use Rattle.writer.specs.Digits.{lastTwo, lastFour, reaches, Counted}
 
 fits : {n : ℕ} → n < 2 ^ 64 → n < 10 ^ 20
 fits h = lt-of-lt-of-le h (lit≤ tt)
@@ -29,37 +29,35 @@ decimal-last n l h =
     decimal-unique (decimal-of (fits l)) (high (omega arith) (decimal-of (fits k)))
 
 -- a number of two digits
-pub decimal-two : (n : ℕ) → 10 ≤ n → n < 100 → decimal n ≡ pairOf n
-decimal-two n h l = decimal-last n (omega arith) h ∙ ap (λ (v : List ℕ). v ++ ((48 + n % 10) ∷ [])) (decimal-one (n / 10) (omega arith))
+pub decimal-two : (n : ℕ) → 10 ≤ n → n < 100 → decimal n ≡ lastTwo n
+decimal-two n h l =
+    let e : n / 10 ≡ n / 10 % 10 = omega arith in
+    decimal-last n (omega arith) h ∙ ap (λ (v : List ℕ). v ++ ((48 + n % 10) ∷ [])) (decimal-one (n / 10) (omega arith) ∙ (λ i. (48 + e i) ∷ []))
 
 -- the last two digits apart
-decimal-pair : (n : ℕ) → n < 2 ^ 64 → 100 ≤ n → decimal n ≡ decimal (n / 100) ++ pairOf (n % 100)
+decimal-pair : (n : ℕ) → n < 2 ^ 64 → 100 ≤ n → decimal n ≡ decimal (n / 100) ++ lastTwo n
 decimal-pair n l h =
     let e : n / 10 / 10 ≡ n / 100 = omega arith in
-    let p : n / 10 % 10 ≡ n % 100 / 10 = omega arith in
-    let q : n % 10 ≡ n % 100 % 10 = omega arith in
     decimal-last n l (omega arith)
     ∙ ap (λ (v : List ℕ). v ++ ((48 + n % 10) ∷ [])) (decimal-last (n / 10) (omega arith) (omega arith))
     ∙ append-assoc (decimal (n / 10 / 10)) ((48 + n / 10 % 10) ∷ []) ((48 + n % 10) ∷ [])
-    ∙ (λ i. decimal (e i) ++ ((48 + p i) ∷ (48 + q i) ∷ []))
+    ∙ ap (λ (q : ℕ). decimal q ++ lastTwo n) e
 
 -- a number of three digits, and one of four
-pub decimal-three : (n : ℕ) → 100 ≤ n → n < 1000 → decimal n ≡ (48 + n / 100) ∷ pairOf (n % 100)
-decimal-three n h l = decimal-pair n (omega arith) h ∙ ap (λ (v : List ℕ). v ++ pairOf (n % 100)) (decimal-one (n / 100) (omega arith))
+pub decimal-three : (n : ℕ) → 100 ≤ n → n < 1000 → decimal n ≡ (48 + n / 100) ∷ lastTwo n
+decimal-three n h l = decimal-pair n (omega arith) h ∙ ap (λ (v : List ℕ). v ++ lastTwo n) (decimal-one (n / 100) (omega arith))
 
 pub decimal-four : (n : ℕ) → 1000 ≤ n → n < 10000 → decimal n ≡ lastFour n
 decimal-four n h l =
-    let e : n / 100 ≡ n / 100 % 100 = omega arith in
-    decimal-pair n (omega arith) (omega arith)
-    ∙ ap (λ (v : List ℕ). v ++ pairOf (n % 100)) (decimal-two (n / 100) (omega arith) (omega arith) ∙ ap pairOf e)
+    decimal-pair n (omega arith) (omega arith) ∙ ap (λ (v : List ℕ). v ++ lastTwo n) (decimal-two (n / 100) (omega arith) (omega arith))
 
 -- the last four digits apart
 decimal-more : (n : ℕ) → n < 2 ^ 64 → 10000 ≤ n → decimal n ≡ decimal (n / 10000) ++ lastFour n
 decimal-more n l h =
     let e : n / 100 / 100 ≡ n / 10000 = omega arith in
     decimal-pair n l (omega arith)
-    ∙ ap (λ (v : List ℕ). v ++ pairOf (n % 100)) (decimal-pair (n / 100) (omega arith) (omega arith))
-    ∙ append-assoc (decimal (n / 100 / 100)) (pairOf (n / 100 % 100)) (pairOf (n % 100))
+    ∙ ap (λ (v : List ℕ). v ++ lastTwo n) (decimal-pair (n / 100) (omega arith) (omega arith))
+    ∙ append-assoc (decimal (n / 100 / 100)) (lastTwo (n / 100)) (lastTwo n)
     ∙ ap (λ (q : ℕ). decimal q ++ lastFour n) e
 
 pub wrote-more : {e m x : List ℕ} {at r t n : ℕ} → n < 2 ^ 64 → 10000 ≤ n

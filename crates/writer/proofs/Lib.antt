@@ -5,4 +5,5 @@ pub mod Lines
 pub mod Gates
 pub mod Headers
 pub mod Decimals
+pub mod Splitting
 pub mod Delivering

@@ -4,14 +4,21 @@ use mathlib.Core.Path.{_≡_}
 use mathlib.Core.List.{List, [], _∷_, _++_}
 use lib.ListN.{length}
 use Rattle.netlist.specs.Number.{decimal}
+use Rattle.writer.specs.declared.digits.FourDigits.{FourDigits}
 
--- both digits of a number below 100
-abbrev pub pairOf : ℕ → List ℕ
-pairOf n = (48 + n / 10) ∷ (48 + n % 10) ∷ []
+-- the last two digits, and the last four
+abbrev pub lastTwo : ℕ → List ℕ
+lastTwo n = (48 + n / 10 % 10) ∷ (48 + n % 10) ∷ []
 
--- the last four digits
 abbrev pub lastFour : ℕ → List ℕ
-lastFour n = pairOf (n / 100 % 100) ++ pairOf (n % 100)
+lastFour n = lastTwo (n / 100) ++ lastTwo n
+
+-- the digits of n, a number of at most four
+pub record Splits (n : ℕ) (r : FourDigits) : Type 0 where
+  pub thousands : r .thousands ≡ 48 + n / 1000
+  pub hundreds : r .hundreds ≡ 48 + n / 100 % 10
+  pub tens : r .tens ≡ 48 + n / 10 % 10
+  pub ones : r .ones ≡ 48 + n % 10
 
 -- 1 for a number from k on, and 0 below
 unfoldable pub reaches : ℕ → ℕ → ℕ

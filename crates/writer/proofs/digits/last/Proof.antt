@@ -1,20 +1,21 @@
--- `last`: the pair of the hundreds, and then the last pair.
-use Rattle.writer.proofs.Wrote.{wrote-then}
+-- `last`: the four digits of the remainder.
+use Rattle.writer.proofs.Wrote.{wrote-as}
+use Rattle.writer.proofs.Splitting.{last-digits}
 use borrow.Author.Needs.{needs}
 use Rattle.writer.proofs.digits.last.Statement.{statement}
 use Rattle.writer.proofs.digits.last.Tie as tie
 
-pair-requires : tie.Need-pair-requires
-pair-requires c κs = search needs
+split-requires : tie.Need-split-requires
+split-requires c κs = search needs
 
-pair-requires-2 : tie.Need-pair-requires-2
-pair-requires-2 c κs = search needs
+four-requires : tie.Need-four-requires
+four-requires c κs = search needs
 
 same-length : tie.Need-same-length
 same-length c = search needs
 
 returns : tie.Need-returns
-returns c = wrote-then (c .before .before .before .before .before .before .pair .ensures) (c .before .before .pair2 .ensures)
+returns c = wrote-as (last-digits (c .before .before .before .before .before .before .args .n) (c .before .before .before .before .split .ensures)) (c .before .before .four .ensures)
 
 pub last-spec : {M : Type 1} → statement M
-last-spec = tie.close (tie.spec pair-requires pair-requires-2 same-length returns)
+last-spec = tie.close (tie.spec split-requires four-requires same-length returns)

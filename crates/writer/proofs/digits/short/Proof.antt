@@ -1,9 +1,8 @@
 -- `short`: a way for each number of digits.
 use mathlib.Core.Path.{sym}
-use lib.Dec.{lit<}
-use Rattle.writer.proofs.Wrote.{wrote-as, wrote-then}
-use Rattle.writer.proofs.Decimals.{decimal-one, decimal-two, decimal-three, decimal-four, wrote-digits}
-use native.Mathlib.Omega.{arith}
+use Rattle.writer.proofs.Wrote.{wrote-as}
+use Rattle.writer.proofs.Decimals.{decimal-one}
+use Rattle.writer.proofs.Splitting.{two-digits, three-digits}
 use borrow.Author.Needs.{needs}
 use Rattle.writer.proofs.digits.short.Statement.{statement}
 use Rattle.writer.proofs.digits.short.Tie as tie
@@ -21,67 +20,30 @@ same-length : tie.Need-same-length
 same-length c = search needs
 
 returns : tie.Need-returns
-returns c =
-    wrote-digits 4 (omega arith) (lit< tt)
-    (c .before .before .before .before .before .before .pre .0)
-    (wrote-as (sym (decimal-one _ (c .before .before .before .before .if1 .taken))) (c .before .before .one .ensures))
+returns c = wrote-as (sym (decimal-one _ (c .before .before .before .before .if1 .taken))) (c .before .before .one .ensures)
 
-pair-requires : tie.Need-pair-requires
-pair-requires c κs = search needs
+split-requires : tie.Need-split-requires
+split-requires c κs = search needs
+
+two-requires : tie.Need-two-requires
+two-requires c κs = search needs
 
 same-length-2 : tie.Need-same-length-2
 same-length-2 c = search needs
 
 returns-2 : tie.Need-returns-2
 returns-2 c =
-    wrote-digits 4 (omega arith) (lit< tt)
-    (c .before .before .before .before .before .before .before .pre .0)
-    (wrote-as
-    (sym (decimal-two _ (c .before .before .before .before .before .if1 .left) (c .before .before .before .before .if2 .taken)))
-    (c .before .before .pair .ensures))
+    wrote-as (two-digits (c .before .before .before .before .before .split .ensures) (c .before .before .before .before .before .before .if1 .left) (c .before .before .before .before .if2 .taken)) (c .before .before .two .ensures)
 
-cast-one-2 : tie.Need-cast-one-2
-cast-one-2 c = search needs
-
-add-one-2 : tie.Need-add-one-2
-add-one-2 c = search needs
-
-one-requires-2 : tie.Need-one-requires-2
-one-requires-2 c κs = search needs
-
-pair-requires-2 : tie.Need-pair-requires-2
-pair-requires-2 c κs = search needs
+three-requires : tie.Need-three-requires
+three-requires c κs = search needs
 
 same-length-3 : tie.Need-same-length-3
 same-length-3 c = search needs
 
 returns-3 : tie.Need-returns-3
 returns-3 c =
-    wrote-digits 4 (omega arith) (lit< tt)
-    (c .before .before .before .before .before .before .before .before .before .before .before .before .pre .0)
-    (wrote-as
-    (sym
-    (decimal-three _
-    (c .before .before .before .before .before .before .before .before .before .if2 .left)
-    (c .before .before .before .before .before .before .before .before .if3 .taken)))
-    (wrote-then (c .before .before .before .before .before .before .one2 .ensures) (c .before .before .pair2 .ensures)))
-
-last-requires : tie.Need-last-requires
-last-requires c κs = search needs
-
-same-length-4 : tie.Need-same-length-4
-same-length-4 c = search needs
-
-returns-4 : tie.Need-returns-4
-returns-4 c =
-    wrote-digits 4 (omega arith) (lit< tt)
-    (c .before .before .before .before .before .before .before .before .pre .0)
-    (wrote-as
-    (sym
-    (decimal-four _
-    (c .before .before .before .before .if3 .left)
-    (c .before .before .before .before .before .before .before .before .pre .0)))
-    (c .before .before .last .ensures))
+    wrote-as (three-digits (c .before .before .before .before .before .split .ensures) (c .before .before .before .before .if2 .left) (c .before .before .before .before .before .before .before .before .pre .0)) (c .before .before .three .ensures)
 
 pub short-spec : {M : Type 1} → statement M
 short-spec =
@@ -92,15 +54,10 @@ short-spec =
     one-requires
     same-length
     returns
-    pair-requires
+    split-requires
+    two-requires
     same-length-2
     returns-2
-    cast-one-2
-    add-one-2
-    one-requires-2
-    pair-requires-2
+    three-requires
     same-length-3
-    returns-3
-    last-requires
-    same-length-4
-    returns-4)
+    returns-3)

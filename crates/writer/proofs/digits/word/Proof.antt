@@ -1,7 +1,9 @@
 -- `word`: four digits at a time, the first ones without leading zeros.
 use Prim.Native.Nat.{_/_}
+use mathlib.Core.Path.{sym}
 use lib.Dec.{lit<}
-use Rattle.writer.proofs.Decimals.{wrote-more, wrote-digits, digits-most}
+use Rattle.writer.proofs.Wrote.{wrote-as}
+use Rattle.writer.proofs.Decimals.{decimal-one, decimal-four, wrote-more, wrote-digits}
 use native.Mathlib.Omega.{arith}
 use borrow.Author.Needs.{needs}
 use Rattle.writer.proofs.digits.word.Statement.{statement}
@@ -14,10 +16,7 @@ same-length : tie.Need-same-length
 same-length c = search needs
 
 returns : tie.Need-returns
-returns c = search needs
-
-short-requires-2 : tie.Need-short-requires-2
-short-requires-2 c κs = search needs
+returns c = wrote-digits 10 (omega arith) (lit< tt) (omega arith) (c .before .before .short .ensures)
 
 last-requires : tie.Need-last-requires
 last-requires c κs = search needs
@@ -28,25 +27,19 @@ same-length-2 c = search needs
 returns-2 : tie.Need-returns-2
 returns-2 c =
     wrote-digits 10 (omega arith) (lit< tt) (omega arith)
-    (wrote-more (omega arith)
-    (c .before .before .before .before .before .before .before .before .before .if1 .left)
-    (c .before .before .before .before .before .before .short2 .ensures .wrote)
-    (c .before .before .last .ensures))
+    (wrote-as (sym (decimal-four _ (c .before .before .before .before .before .if1 .left) (c .before .before .before .before .if2 .taken))) (c .before .before .last .ensures))
 
-short-requires-3 : tie.Need-short-requires-3
-short-requires-3 c κs = search needs
+cast-one : tie.Need-cast-one
+cast-one c = search needs
+
+add-one : tie.Need-add-one
+add-one c = search needs
+
+one-requires : tie.Need-one-requires
+one-requires c κs = search needs
 
 last-requires-2 : tie.Need-last-requires-2
 last-requires-2 c κs = search needs
-
-last-requires-3 : tie.Need-last-requires-3
-last-requires-3 c κs =
-    omega (
-      arith,
-      digits-most 2
-          (c .before .before .before .before .before .before .before .before .before .before .before .before .args .n / 10000 / 10000)
-          (omega arith) (lit< tt) (omega arith),
-    )
 
 same-length-3 : tie.Need-same-length-3
 same-length-3 c = search needs
@@ -54,13 +47,18 @@ same-length-3 c = search needs
 returns-3 : tie.Need-returns-3
 returns-3 c =
     wrote-digits 10 (omega arith) (lit< tt) (omega arith)
-    (wrote-more (omega arith)
-    (c .before .before .before .before .before .before .before .before .before .before .before .before .before .if1 .left)
-    (wrote-more (omega arith)
-    (c .before .before .before .before .before .before .before .before .before .before .before .before .if2 .left)
-    (c .before .before .before .before .before .before .before .before .before .before .short3 .ensures .wrote)
-    (c .before .before .before .before .before .before .last2 .ensures))
-    (c .before .before .last3 .ensures))
+    (wrote-more (omega arith) (c .before .before .before .before .before .before .before .before .before .if2 .left)
+    (wrote-as (sym (decimal-one (c .before .before .before .before .before .before .before .before .before .before .before .before .args .n / 10000) (omega arith))) (c .before .before .before .before .before .before .one .ensures))
+    (c .before .before .last2 .ensures))
+
+number-requires : tie.Need-number-requires
+number-requires c κs = search needs
+
+same-length-4 : tie.Need-same-length-4
+same-length-4 c = search needs
+
+returns-4 : tie.Need-returns-4
+returns-4 c = wrote-digits 10 (omega arith) (lit< tt) (omega arith) (c .before .before .number .ensures)
 
 pub word-spec : {M : Type 1} → statement M
 word-spec =
@@ -69,12 +67,15 @@ word-spec =
     short-requires
     same-length
     returns
-    short-requires-2
     last-requires
     same-length-2
     returns-2
-    short-requires-3
+    cast-one
+    add-one
+    one-requires
     last-requires-2
-    last-requires-3
     same-length-3
-    returns-3)
+    returns-3
+    number-requires
+    same-length-4
+    returns-4)

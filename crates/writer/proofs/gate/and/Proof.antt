@@ -1,17 +1,55 @@
--- `and`: a line of two operands.
+-- `and`: behind the end, near it, and before it.
+use mathlib.Core.Path.{refl}
+use Rattle.netlist.specs.GateLine.{AND}
+use Rattle.writer.proofs.Lines.{line2, sized2, line-beyond, named}
 use Rattle.writer.proofs.Gates.{gates-one}
+use native.Mathlib.Omega.{arith}
 use borrow.Author.Needs.{needs}
 use Rattle.writer.proofs.gate.and.Statement.{statement}
 use Rattle.writer.proofs.gate.and.Tie as tie
 
-two-requires : tie.Need-two-requires
-two-requires c κs = search needs
+beyond2-requires : tie.Need-beyond2-requires
+beyond2-requires c κs = search needs
+
+returns : tie.Need-returns
+returns c = let a = c .before .before .before .args in
+    gates-one _ (line-beyond (omega arith) (omega arith) (c .beyond2 .ensures) (sized2 (a .a) (a .b) (a .c) AND refl))
+
+sub-if2 : tie.Need-sub-if2
+sub-if2 c = search needs
+
+near2-requires : tie.Need-near2-requires
+near2-requires c κs = search needs
 
 same-length : tie.Need-same-length
 same-length c = search needs
 
-returns : tie.Need-returns
-returns c = gates-one _ (c .before .before .two .ensures)
+returns-2 : tie.Need-returns-2
+returns-2 c = gates-one _ (c .before .before .near2 .ensures)
+
+front2-requires : tie.Need-front2-requires
+front2-requires c κs = search needs
+
+four-requires : tie.Need-four-requires
+four-requires c κs = search needs
+
+same-length-2 : tie.Need-same-length-2
+same-length-2 c = search needs
+
+returns-3 : tie.Need-returns-3
+returns-3 c = gates-one _ (named (line2 _ _ _ AND) (c .before .before .before .before .before .before .front2 .ensures) (c .before .before .four .ensures))
 
 pub and-spec : {M : Type 1} → statement M
-and-spec = tie.close (tie.spec two-requires same-length returns)
+and-spec =
+    tie.close
+    (tie.spec
+    beyond2-requires
+    returns
+    sub-if2
+    near2-requires
+    same-length
+    returns-2
+    front2-requires
+    four-requires
+    same-length-2
+    returns-3)
