@@ -8,7 +8,7 @@ use lib.ListN.{length}
 use lib.Seq.{length-take-le}
 use Rattle.io.specs.Counts.{Counts}
 
-counts : (n : ℕ) (xs : List ℕ) → n ≤ length xs → Counts n xs
+pub counts : (n : ℕ) (xs : List ℕ) → n ≤ length xs → Counts n xs
 counts n xs h = (h, sym (length-take-le n xs h))
 
 pub cut : (n : ℕ) (xs : List ℕ) → length xs < n → (length xs ≡ min n (length xs)) × Counts (length xs) xs
