@@ -17,7 +17,7 @@ pub(crate) struct Outcome {
 }
 
 // No call at all.
-pub(crate) const NOTHING: u8 = 98;
+const NOTHING: u8 = 98;
 
 // A result in a buffer, of whichever call.
 pub(crate) const DONE: u8 = 97;
@@ -30,6 +30,10 @@ fn one(kind: u8, a: usize) -> Outcome {
         c: 0,
         d: 0,
     }
+}
+
+pub(crate) fn nothing() -> Outcome {
+    one(NOTHING, 0)
 }
 
 fn of_answer(a: Answer) -> Outcome {

@@ -35,7 +35,7 @@ impl Case {
         Case {
             name: 0,
             faulty: false,
-            call: 0,
+            call: scan::UNKNOWN,
             gate: 0,
             text: 0,
             inputs: 0,
@@ -47,7 +47,7 @@ impl Case {
             third: 18500,
             fourth: 18500,
             fifth: 18500,
-            outcome: 0,
+            outcome: scan::UNKNOWN,
             a: 0,
             b: 0,
             c: 0,
@@ -100,7 +100,6 @@ impl Case {
         self
     }
 
-    // What a line without a text or a list says.
     fn lends(self, file: &[u8], w: u8, at: usize) -> Self {
         if w == scan::TABLES {
             return self.with_tables(file, at);
@@ -111,14 +110,12 @@ impl Case {
         if w == scan::CODE_ROOM {
             return self.with_code_room(file, at);
         }
-        if w == scan::UNKNOWN {
-            return self.misread();
-        }
         self
     }
 
+    // What a line says beside its text or list.
     fn says(self, file: &[u8], w: u8, at: usize) -> Self {
-        if w < scan::MASK || w == scan::UNKNOWN {
+        if w < scan::MASK {
             return self.lends(file, w, at);
         }
         if w < scan::REFUSED {
@@ -127,13 +124,19 @@ impl Case {
         if w < scan::MASKED {
             return self.gives(w).numbers(file, at);
         }
-        self.gives(w)
+        if w < scan::UNKNOWN {
+            return self.gives(w);
+        }
+        if w == scan::UNKNOWN {
+            return self.misread();
+        }
+        self
     }
 }
 
 // A line of a text goes to the text, and behind the outcome to what is wanted.
 fn written(mut c: Case, file: &[u8], w: u8, p: Place, text: &mut Bytes, want: &mut Bytes) -> Case {
-    if c.outcome == 0 {
+    if c.outcome == scan::UNKNOWN {
         c.text = recipe::text(text, c.text, file, w, p);
         return c;
     }

@@ -49,6 +49,71 @@ fn same(x: Outcome, y: Outcome) -> bool {
     x.c == y.c && x.d == y.d
 }
 
+fn ask_mask(
+    c: Case,
+    text: &Bytes,
+    inputs: &Bytes,
+    wanted: &Bytes,
+    out: &mut Bytes,
+    ends: &mut Bytes,
+    operands: &mut Words,
+    results: &mut Words,
+    wires: &mut Wires,
+    marks: &mut Bytes,
+) -> Outcome {
+    answer::mask(
+        c, text, inputs, wanted, out, ends, operands, results, wires, marks,
+    )
+}
+
+fn ask_check(
+    c: Case,
+    text: &Bytes,
+    inputs: &Bytes,
+    operands: &mut Words,
+    results: &mut Words,
+    marks: &mut Bytes,
+    words: &mut Words,
+    base: &mut Words,
+) -> Outcome {
+    answer::check(c, text, inputs, operands, results, marks, words, base)
+}
+
+fn ask_run(
+    c: Case,
+    text: &Bytes,
+    inputs: &Bytes,
+    out: &mut Bytes,
+    operands: &mut Words,
+    results: &mut Words,
+    marks: &mut Bytes,
+    words: &mut Words,
+) -> Outcome {
+    answer::run(c, text, inputs, out, operands, results, marks, words)
+}
+
+fn ask_rewrite(
+    c: Case,
+    text: &Bytes,
+    out: &mut Bytes,
+    operands: &mut Words,
+    results: &mut Words,
+    marks: &mut Bytes,
+) -> Outcome {
+    answer::rewrite(c, text, out, operands, results, marks)
+}
+
+// The calls without tables.
+fn ask_reader(c: Case, text: &mut Bytes, out: &mut Bytes) -> Outcome {
+    if c.call == scan::GATE {
+        return answer::gate(c, text, out);
+    }
+    if c.call == scan::LIST {
+        return answer::list(c, text, out);
+    }
+    answer::nothing()
+}
+
 fn ask(
     c: Case,
     text: &mut Bytes,
@@ -65,43 +130,29 @@ fn ask(
 ) -> Outcome {
     let call = c.call;
     match call {
-        scan::MASK => answer::mask(
-            c,
-            text,
-            inputs,
-            wanted,
-            out,
-            ends,
-            operands,
-            results,
-            wires,
-            marks,
+        scan::MASK => ask_mask(
+            c, text, inputs, wanted, out, ends, operands, results, wires, marks,
         ),
-        scan::CHECK => answer::check(c, text, inputs, operands, results, marks, words, base),
-        scan::RUN => answer::run(c, text, inputs, out, operands, results, marks, words),
-        scan::REWRITE => answer::rewrite(c, text, out, operands, results, marks),
-        scan::GATE => answer::gate(c, text, out),
-        scan::LIST => answer::list(c, text, out),
-        _ => Outcome {
-            kind: answer::NOTHING,
-            a: 0,
-            b: 0,
-            c: 0,
-            d: 0,
-        },
+        scan::CHECK => ask_check(c, text, inputs, operands, results, marks, words, base),
+        scan::RUN => ask_run(c, text, inputs, out, operands, results, marks, words),
+        scan::REWRITE => ask_rewrite(c, text, out, operands, results, marks),
+        _ => ask_reader(c, text, out),
     }
 }
 
-// The tables of a call that has none have length 0.
-fn zero(
+// Whether the tables that the call was lent are zero.
+fn cleared(
     c: Case,
-    operands: &[u64],
-    results: &[u64],
-    words: &[u64],
-    base: &[u64],
-    wires: &[u32],
-    marks: &[u8],
+    operands: &Words,
+    results: &Words,
+    words: &Words,
+    base: &Words,
+    wires: &Wires,
+    marks: &Bytes,
 ) -> bool {
+    if scan::REWRITE < c.call {
+        return true;
+    }
     if !tables::zero_words(operands, c.first) {
         return false;
     }
@@ -120,29 +171,18 @@ fn zero(
     if !tables::zero_words(words, c.fourth) {
         return false;
     }
-    if c.call == scan::RUN {
-        return true;
-    }
-    tables::zero_words(base, c.fifth)
+    c.call == scan::RUN || tables::zero_words(base, c.fifth)
 }
 
-fn cleared(
+// Whether the buffers hold the result: the text itself, the wanted bytes, or nothing.
+fn delivered(
     c: Case,
-    operands: &[u64],
-    results: &[u64],
-    words: &[u64],
-    base: &[u64],
-    wires: &[u32],
-    marks: &[u8],
+    text: &Bytes,
+    want: &Bytes,
+    codes: &Bytes,
+    out: &Bytes,
+    ends: &Bytes,
 ) -> bool {
-    if scan::REWRITE < c.call {
-        return true;
-    }
-    zero(c, operands, results, words, base, wires, marks)
-}
-
-// The bytes of the result: the text itself, the wanted ones, or none.
-fn delivered(c: Case, text: &[u8], want: &[u8], codes: &[u8], out: &[u8], ends: &[u8]) -> bool {
     if !tables::holds(ends, codes, c.codes) {
         return false;
     }
@@ -152,7 +192,36 @@ fn delivered(c: Case, text: &[u8], want: &[u8], codes: &[u8], out: &[u8], ends: 
     tables::holds(out, want, c.want)
 }
 
-// Whether a case that such a line ends agrees. Every table and result buffer is lent full of rubbish.
+// What is lent is full of rubbish.
+fn spoil(
+    out: &mut Bytes,
+    ends: &mut Bytes,
+    operands: &mut Words,
+    results: &mut Words,
+    words: &mut Words,
+    base: &mut Words,
+    wires: &mut Wires,
+    marks: &mut Bytes,
+) {
+    tables::fill_bytes(out);
+    tables::fill_bytes(ends);
+    tables::fill_words(operands);
+    tables::fill_words(results);
+    tables::fill_words(words);
+    tables::fill_words(base);
+    tables::fill_wires(wires);
+    tables::fill_bytes(marks);
+}
+
+// Whether such a line ends a case that could be read and says its outcome.
+fn whole(c: Case, w: u8) -> bool {
+    if c.faulty || c.outcome == scan::UNKNOWN {
+        return false;
+    }
+    scan::ends_case(w)
+}
+
+// Whether a case that such a line ends agrees.
 pub(crate) fn agrees(
     c: Case,
     w: u8,
@@ -170,33 +239,12 @@ pub(crate) fn agrees(
     wires: &mut Wires,
     marks: &mut Bytes,
 ) -> bool {
-    if !scan::ends_case(w) {
+    if !whole(c, w) {
         return false;
     }
-    if c.faulty {
-        return false;
-    }
-    tables::fill_bytes(out);
-    tables::fill_bytes(ends);
-    tables::fill_words(operands);
-    tables::fill_words(results);
-    tables::fill_words(words);
-    tables::fill_words(base);
-    tables::fill_wires(wires);
-    tables::fill_bytes(marks);
+    spoil(out, ends, operands, results, words, base, wires, marks);
     let o = ask(
-        c,
-        text,
-        inputs,
-        wanted,
-        out,
-        ends,
-        operands,
-        results,
-        words,
-        base,
-        wires,
-        marks,
+        c, text, inputs, wanted, out, ends, operands, results, words, base, wires, marks,
     );
     if !same(o, due(c)) {
         return false;

@@ -1,66 +1,37 @@
 // Keywords, words and numbers of a file of cases. A line ends with LF, the file with its buffer or a byte of 0.
 use std::num::wrapping_add_usize;
 
-pub(crate) const END: u8 = 0;
-
-pub(crate) const GROUP: u8 = 1;
-
-pub(crate) const CASE: u8 = 2;
-
-pub(crate) const LINE: u8 = 3;
-
-pub(crate) const PART: u8 = 4;
-
-pub(crate) const BYTE: u8 = 5;
-
-pub(crate) const PAD: u8 = 6;
-
-pub(crate) const EACH: u8 = 7;
-
-pub(crate) const NEXT: u8 = 8;
-
-pub(crate) const NOTE: u8 = 9;
-
-pub(crate) const INPUTS: u8 = 10;
-
-pub(crate) const WANTED: u8 = 11;
-
-pub(crate) const TABLES: u8 = 12;
-
-pub(crate) const ROOM: u8 = 13;
-
-pub(crate) const CODE_ROOM: u8 = 14;
-
-pub(crate) const MASK: u8 = 20;
-
-pub(crate) const CHECK: u8 = 21;
-
-pub(crate) const RUN: u8 = 22;
-
-pub(crate) const REWRITE: u8 = 23;
-
-pub(crate) const GATE: u8 = 24;
-
-pub(crate) const LIST: u8 = 25;
-
-pub(crate) const REFUSED: u8 = 30;
-
-pub(crate) const CLEAN: u8 = 31;
-
-pub(crate) const LEAK: u8 = 32;
-
-pub(crate) const NO_MORE: u8 = 33;
-
-pub(crate) const MASKED: u8 = 34;
-
-pub(crate) const WRITTEN: u8 = 35;
-
-pub(crate) const SAME: u8 = 36;
-
-pub(crate) const BITS: u8 = 37;
-
-pub(crate) const UNKNOWN: u8 = 99;
-
+// What a line is, by its first word, in the order of `written`, or by its first byte.
+pub(crate) const GROUP: u8 = 0;
+pub(crate) const CASE: u8 = 1;
+pub(crate) const BYTE: u8 = 2;
+pub(crate) const PAD: u8 = 3;
+pub(crate) const EACH: u8 = 4;
+pub(crate) const NEXT: u8 = 5;
+pub(crate) const INPUTS: u8 = 6;
+pub(crate) const WANTED: u8 = 7;
+pub(crate) const TABLES: u8 = 8;
+pub(crate) const ROOM: u8 = 9;
+pub(crate) const CODE_ROOM: u8 = 10;
+pub(crate) const MASK: u8 = 11;
+pub(crate) const CHECK: u8 = 12;
+pub(crate) const RUN: u8 = 13;
+pub(crate) const REWRITE: u8 = 14;
+pub(crate) const GATE: u8 = 15;
+pub(crate) const LIST: u8 = 16;
+pub(crate) const REFUSED: u8 = 17;
+pub(crate) const CLEAN: u8 = 18;
+pub(crate) const LEAK: u8 = 19;
+pub(crate) const NO_MORE: u8 = 20;
+pub(crate) const MASKED: u8 = 21;
+pub(crate) const WRITTEN: u8 = 22;
+pub(crate) const SAME: u8 = 23;
+pub(crate) const BITS: u8 = 24;
+pub(crate) const UNKNOWN: u8 = 25;
+pub(crate) const LINE: u8 = 26;
+pub(crate) const PART: u8 = 27;
+pub(crate) const NOTE: u8 = 28;
+pub(crate) const END: u8 = 29;
 // What a run of bytes is made of.
 const SPACES: u8 = 0;
 
@@ -164,109 +135,42 @@ pub(crate) fn argument(file: &[u8], at: usize, k: usize) -> usize {
     number(file, word(file, at, k))
 }
 
-// Whether a word stands at a place.
-fn is(file: &[u8], at: usize, word: &[u8]) -> bool {
-    let mut from = at;
-    let mut i = 0;
-    while i < word.len() {
-        if byte(file, from) != word[i] {
+// Whether the words at two places are the same.
+fn same_word(file: &[u8], at: usize, words: &[u8], from: usize) -> bool {
+    let mut i = at;
+    let mut k = from;
+    while k < words.len() {
+        let b = byte(file, i);
+        if !in_run(words[k], WORD) {
+            return !in_run(b, WORD);
+        }
+        if b != words[k] {
             return false;
         }
-        from = wrapping_add_usize(from, 1);
-        i += 1;
+        i = wrapping_add_usize(i, 1);
+        k += 1;
     }
-    !in_run(byte(file, from), WORD)
+    !in_run(byte(file, i), WORD)
 }
 
-fn call(file: &[u8], at: usize) -> u8 {
-    if is(file, at, b"mask") {
-        return MASK;
+// The number of the word at a place among some words.
+fn among(file: &[u8], at: usize, words: &[u8]) -> u8 {
+    let mut k: u8 = 0;
+    while k < UNKNOWN {
+        if same_word(file, at, words, word(words, 0, k as usize)) {
+            return k;
+        }
+        k += 1;
     }
-    if is(file, at, b"check") {
-        return CHECK;
-    }
-    if is(file, at, b"run") {
-        return RUN;
-    }
-    if is(file, at, b"rewrite") {
-        return REWRITE;
-    }
-    if is(file, at, b"gate") {
-        return GATE;
-    }
-    if is(file, at, b"list") {
-        return LIST;
-    }
-    UNKNOWN
-}
-
-fn outcome(file: &[u8], at: usize) -> u8 {
-    if is(file, at, b"refused") {
-        return REFUSED;
-    }
-    if is(file, at, b"clean") {
-        return CLEAN;
-    }
-    if is(file, at, b"leak") {
-        return LEAK;
-    }
-    if is(file, at, b"end") {
-        return NO_MORE;
-    }
-    if is(file, at, b"masked") {
-        return MASKED;
-    }
-    if is(file, at, b"written") {
-        return WRITTEN;
-    }
-    if is(file, at, b"same") {
-        return SAME;
-    }
-    if is(file, at, b"bits") {
-        return BITS;
-    }
-    call(file, at)
-}
-
-fn lent(file: &[u8], at: usize) -> u8 {
-    if is(file, at, b"inputs") {
-        return INPUTS;
-    }
-    if is(file, at, b"wanted") {
-        return WANTED;
-    }
-    if is(file, at, b"tables") {
-        return TABLES;
-    }
-    if is(file, at, b"room") {
-        return ROOM;
-    }
-    if is(file, at, b"code-room") {
-        return CODE_ROOM;
-    }
-    outcome(file, at)
+    k
 }
 
 fn written(file: &[u8], at: usize) -> u8 {
-    if is(file, at, b"group") {
-        return GROUP;
-    }
-    if is(file, at, b"case") {
-        return CASE;
-    }
-    if is(file, at, b"byte") {
-        return BYTE;
-    }
-    if is(file, at, b"pad") {
-        return PAD;
-    }
-    if is(file, at, b"each") {
-        return EACH;
-    }
-    if is(file, at, b"next") {
-        return NEXT;
-    }
-    lent(file, at)
+    among(
+        file,
+        at,
+        b"group case byte pad each next inputs wanted tables room code-room mask check run rewrite gate list refused clean leak end masked written same bits",
+    )
 }
 
 // What the line at a place is.
