@@ -11,6 +11,7 @@ pub(crate) struct Case {
     pub(crate) call: u8,
     pub(crate) gate: usize,
     pub(crate) text: usize,
+    last_text: usize,
     pub(crate) inputs: usize,
     pub(crate) wanted: usize,
     pub(crate) room: usize,
@@ -38,6 +39,7 @@ impl Case {
             call: scan::UNKNOWN,
             gate: 0,
             text: 0,
+            last_text: 0,
             inputs: 0,
             wanted: 0,
             room: 500200,
@@ -100,7 +102,15 @@ impl Case {
         self
     }
 
+    fn with_last_text(mut self) -> Self {
+        self.text = self.last_text;
+        self
+    }
+
     fn lends(self, file: &[u8], w: u8, at: usize) -> Self {
+        if w == scan::AGAIN {
+            return self.with_last_text();
+        }
         if w == scan::TABLES {
             return self.with_tables(file, at);
         }
@@ -173,9 +183,10 @@ fn listed(
     c
 }
 
-// A case of that name; before the first of a group there is none.
-fn begun(file: &[u8], w: u8, at: usize) -> Case {
+// A case behind another; it has no name before the first of a group.
+fn begun(before: Case, file: &[u8], w: u8, at: usize) -> Case {
     let mut c = Case::new();
+    c.last_text = before.text;
     if w == scan::CASE {
         c.name = scan::word(file, at, 1);
     }
@@ -196,7 +207,7 @@ pub(crate) fn next(
 ) -> Case {
     let at = p.at;
     if scan::ends_case(w) {
-        return begun(file, w, at);
+        return begun(c, file, w, at);
     }
     let a = written(c, file, w, p, text, want);
     let b = listed(a, file, w, at, inputs, wanted, want, codes);

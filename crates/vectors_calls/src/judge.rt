@@ -62,7 +62,16 @@ fn ask_mask(
     marks: &mut Bytes,
 ) -> Outcome {
     answer::mask(
-        c, text, inputs, wanted, out, ends, operands, results, wires, marks,
+        c,
+        text,
+        inputs,
+        wanted,
+        out,
+        ends,
+        operands,
+        results,
+        wires,
+        marks,
     )
 }
 
@@ -131,7 +140,16 @@ fn ask(
     let call = c.call;
     match call {
         scan::MASK => ask_mask(
-            c, text, inputs, wanted, out, ends, operands, results, wires, marks,
+            c,
+            text,
+            inputs,
+            wanted,
+            out,
+            ends,
+            operands,
+            results,
+            wires,
+            marks,
         ),
         scan::CHECK => ask_check(c, text, inputs, operands, results, marks, words, base),
         scan::RUN => ask_run(c, text, inputs, out, operands, results, marks, words),
@@ -244,7 +262,18 @@ pub(crate) fn agrees(
     }
     spoil(out, ends, operands, results, words, base, wires, marks);
     let o = ask(
-        c, text, inputs, wanted, out, ends, operands, results, words, base, wires, marks,
+        c,
+        text,
+        inputs,
+        wanted,
+        out,
+        ends,
+        operands,
+        results,
+        words,
+        base,
+        wires,
+        marks,
     );
     if !same(o, due(c)) {
         return false;
