@@ -75,7 +75,75 @@ fn wires(table: &[u32], n: usize) -> usize
     n
 }
 
-pub(crate) fn mask(
+// The first n bytes of a text or list, or all of a shorter one.
+pub(crate) fn first(bytes: &[u8], n: usize) -> &[u8] {
+    let m = front(bytes, n);
+    &bytes[..m]
+}
+
+// A service with the large limits.
+fn large(
+    call: u8,
+    text: &[u8],
+    inputs: &[u8],
+    out: &mut [u8],
+    operands: &mut [u64],
+    results: &mut [u64],
+    marks: &mut [u8],
+    lanes: &mut [u64],
+    base: &mut [u64],
+) -> Outcome {
+    if call == scan::CHECK {
+        return of_checked(checker::check(text, inputs, operands, results, marks, lanes, base));
+    }
+    if call == scan::RUN {
+        return of_answer(run::run(text, inputs, out, operands, results, marks, lanes));
+    }
+    of_answer(rewrite::rewrite(text, out, operands, results, marks))
+}
+
+fn service(
+    call: u8,
+    text: &[u8],
+    inputs: &[u8],
+    wanted: &[u8],
+    out: &mut [u8],
+    ends: &mut [u8],
+    operands: &mut [u64],
+    results: &mut [u64],
+    wire: &mut [u32],
+    marks: &mut [u8],
+    lanes: &mut [u64],
+    base: &mut [u64],
+) -> Outcome {
+    if call == scan::MASK {
+        return of_answer(mask::mask(
+            text,
+            inputs,
+            wanted,
+            out,
+            ends,
+            operands,
+            results,
+            wire,
+            marks,
+        ));
+    }
+    large(
+        call,
+        text,
+        inputs,
+        out,
+        operands,
+        results,
+        marks,
+        lanes,
+        base,
+    )
+}
+
+// With tables as long as the case says.
+fn with_tables(
     c: Case,
     text: &[u8],
     inputs: &[u8],
@@ -86,121 +154,76 @@ pub(crate) fn mask(
     results: &mut [u64],
     wire: &mut [u32],
     marks: &mut [u8],
+    lanes: &mut [u64],
+    base: &mut [u64],
 ) -> Outcome {
-    let n = front(text, c.text);
-    let i = front(inputs, c.inputs);
-    let w = front(wanted, c.wanted);
-    let o = front(out, c.room);
-    let e = front(ends, c.code_room);
     let first = words(operands, c.first);
     let second = words(results, c.second);
     let third = wires(wire, c.third);
-    let fourth = front(marks, c.fourth);
-    of_answer(mask::mask(
-        &text[..n],
-        &inputs[..i],
-        &wanted[..w],
-        &mut out[..o],
-        &mut ends[..e],
+    let fourth = words(lanes, c.fourth);
+    let fifth = words(base, c.fifth);
+    service(
+        c.call,
+        text,
+        inputs,
+        wanted,
+        out,
+        ends,
         &mut operands[..first],
         &mut results[..second],
         &mut wire[..third],
-        &mut marks[..fourth],
-    ))
+        marks,
+        &mut lanes[..fourth],
+        &mut base[..fifth],
+    )
 }
 
-pub(crate) fn check(
+// The service of a case: with result buffers and a table of marks as long as it says, and the other tables.
+pub(crate) fn serve(
     c: Case,
     text: &[u8],
     inputs: &[u8],
+    wanted: &[u8],
+    out: &mut [u8],
+    ends: &mut [u8],
     operands: &mut [u64],
     results: &mut [u64],
+    wire: &mut [u32],
     marks: &mut [u8],
     lanes: &mut [u64],
     base: &mut [u64],
 ) -> Outcome {
-    let n = front(text, c.text);
-    let i = front(inputs, c.inputs);
-    let first = words(operands, c.first);
-    let second = words(results, c.second);
-    let third = front(marks, c.third);
-    let fourth = words(lanes, c.fourth);
-    let fifth = words(base, c.fifth);
-    of_checked(checker::check(
-        &text[..n],
-        &inputs[..i],
-        &mut operands[..first],
-        &mut results[..second],
-        &mut marks[..third],
-        &mut lanes[..fourth],
-        &mut base[..fifth],
-    ))
-}
-
-pub(crate) fn run(
-    c: Case,
-    text: &[u8],
-    inputs: &[u8],
-    out: &mut [u8],
-    operands: &mut [u64],
-    results: &mut [u64],
-    marks: &mut [u8],
-    lanes: &mut [u64],
-) -> Outcome {
-    let n = front(text, c.text);
-    let i = front(inputs, c.inputs);
-    let o = front(out, c.room);
-    let first = words(operands, c.first);
-    let second = words(results, c.second);
-    let third = front(marks, c.third);
-    let fourth = words(lanes, c.fourth);
-    of_answer(run::run(
-        &text[..n],
-        &inputs[..i],
-        &mut out[..o],
-        &mut operands[..first],
-        &mut results[..second],
-        &mut marks[..third],
-        &mut lanes[..fourth],
-    ))
-}
-
-pub(crate) fn rewrite(
-    c: Case,
-    text: &[u8],
-    out: &mut [u8],
-    operands: &mut [u64],
-    results: &mut [u64],
-    marks: &mut [u8],
-) -> Outcome {
-    let n = front(text, c.text);
-    let o = front(out, c.room);
-    let first = words(operands, c.first);
-    let second = words(results, c.second);
-    let third = front(marks, c.third);
-    of_answer(rewrite::rewrite(
-        &text[..n],
-        &mut out[..o],
-        &mut operands[..first],
-        &mut results[..second],
-        &mut marks[..third],
-    ))
+    let room = front(out, c.room);
+    let code_room = front(ends, c.code_room);
+    let given = front(marks, c.marks());
+    with_tables(
+        c,
+        text,
+        inputs,
+        wanted,
+        &mut out[..room],
+        &mut ends[..code_room],
+        operands,
+        results,
+        wire,
+        &mut marks[..given],
+        lanes,
+        base,
+    )
 }
 
 // What the gate reader says when it is asked for the k-th time, from 0; a gate is written as a line.
-pub(crate) fn gate(c: Case, text: &[u8], out: &mut [u8]) -> Outcome {
-    let n = front(text, c.text);
-    match gates::calls::kth(&text[..n], c.gate) {
+pub(crate) fn gate(k: usize, text: &[u8], out: &mut [u8]) -> Outcome {
+    match gates::calls::kth(text, k) {
         Step::On(g, _) => one(DONE, writer::gate::gate(out, 0, g)),
         Step::End => one(scan::NO_MORE, 0),
         Step::Refused(question) => one(scan::REFUSED, question as usize),
     }
 }
 
-// The list in a file's bytes, which it takes the place of.
-pub(crate) fn list(c: Case, text: &mut [u8], out: &mut [u8]) -> Outcome {
-    let n = front(text, c.text);
-    let entries = console::list(&mut text[..n]);
-    let m = front(text, entries);
-    one(DONE, writer::bytes(out, 0, &text[..m]))
+// The list in a file's first n bytes, which it takes the place of.
+pub(crate) fn list(n: usize, text: &mut [u8], out: &mut [u8]) -> Outcome {
+    let m = front(text, n);
+    let entries = console::list(&mut text[..m]);
+    one(DONE, writer::bytes(out, 0, first(text, entries)))
 }
