@@ -1,0 +1,120 @@
+// What a leak is, by the second evaluator: the count of every wire in every input setting.
+use crate::buffers;
+use crate::codes;
+use crate::second;
+use crate::second::Shape;
+use crate::words;
+
+// The lowest wire that leaks, the smallest setting that shows it, and the counts of setting 0 and of that setting; the number of wires
+// in place of a wire where none leaks.
+pub(crate) struct Leak {
+    pub(crate) wire: usize,
+    pub(crate) setting: usize,
+    pub(crate) base: u8,
+    pub(crate) own: u8,
+}
+
+// The bits of a setting, input bit 0 its lowest.
+fn spread(bits: &mut [u8], setting: usize) {
+    let mut rest = setting;
+    for i in 0..bits.len() {
+        words::put(bits, i, (rest % 2) as u8);
+        rest = rest / 2;
+    }
+}
+
+// The first n wires of one more mask setting, the first or a further one, to the counts.
+fn add(counts: &mut [u8], wires: &[u8], n: usize, first: bool) {
+    for i in 0..n {
+        let mut count = words::byte(wires, i);
+        if !first {
+            count = std::num::wrapping_add_u8(count, words::byte(counts, i));
+        }
+        words::put(counts, i, count);
+    }
+}
+
+// The count of each wire in one input setting, of at most 12 bits.
+fn count(
+    counts: &mut [u8],
+    codes: &[u8],
+    setting: usize,
+    shape: Shape,
+    gates: &[u32],
+    wires: &mut [u8],
+) {
+    let mut all = [0u8; 12];
+    spread(&mut all, setting);
+    let bits = words::part(&all, 0, codes.len());
+    for m in 0..4 {
+        codes::settle(wires, bits, codes, m);
+        second::run(shape.gates, gates, wires);
+        add(counts, wires, shape.wires, m == 0);
+    }
+}
+
+// The lowest wire below `end` whose two counts differ, and `end` where there is none.
+fn differ(base: &[u8], own: &[u8], end: usize) -> usize {
+    for i in 0..end {
+        if words::byte(base, i) != words::byte(own, i) {
+            return i;
+        }
+    }
+    end
+}
+
+// The leak of a netlist of that shape whose gates lie in the tables.
+fn search(
+    shape: Shape,
+    codes: &[u8],
+    gates: &[u32],
+    wires: &mut [u8],
+    base: &mut [u8],
+    own: &mut [u8],
+) -> Leak {
+    count(base, codes, 0, shape, gates, wires);
+    let mut found = Leak {
+        wire: shape.wires,
+        setting: 0,
+        base: 0,
+        own: 0,
+    };
+    for setting in 1..settings(codes.len()) {
+        count(own, codes, setting, shape, gates, wires);
+        let wire = differ(base, own, found.wire);
+        if wire < found.wire {
+            found = Leak {
+                wire,
+                setting,
+                base: words::byte(base, wire),
+                own: words::byte(own, wire),
+            };
+        }
+    }
+    found
+}
+
+// How many settings so many bits have.
+fn settings(bits: usize) -> usize {
+    if bits <= 12 {
+        return 1usize << bits;
+    }
+    0
+}
+
+// The leak of a netlist of at most 12 input bits besides the mask pair.
+pub(crate) fn lowest(text: &[u8], codes: &[u8]) -> Leak {
+    let mut gates = buffers::gates();
+    let mut wires = buffers::bytes();
+    let mut base = buffers::bytes();
+    let mut own = buffers::bytes();
+    second::gates(text, &mut gates);
+    search(
+        second::header(text),
+        codes,
+        &gates,
+        &mut wires,
+        &mut base,
+        &mut own,
+    )
+}
