@@ -63,7 +63,15 @@ fn differ(base: &[u8], own: &[u8], end: usize) -> usize {
     end
 }
 
-// The leak of a netlist of that shape whose gates lie in the tables.
+// The smallest setting that shows the wire `now`, where `known` shows the wire `before`.
+fn shown(now: usize, before: usize, setting: usize, known: usize) -> usize {
+    if now < before {
+        return setting;
+    }
+    known
+}
+
+// The leak of a netlist of that shape whose gates lie in the table.
 fn search(
     shape: Shape,
     codes: &[u8],
@@ -72,26 +80,22 @@ fn search(
     base: &mut [u8],
     own: &mut [u8],
 ) -> Leak {
+    let mut wire = shape.wires;
+    let mut smallest = 0;
     count(base, codes, 0, shape, gates, wires);
-    let mut found = Leak {
-        wire: shape.wires,
-        setting: 0,
-        base: 0,
-        own: 0,
-    };
     for setting in 1..settings(codes.len()) {
         count(own, codes, setting, shape, gates, wires);
-        let wire = differ(base, own, found.wire);
-        if wire < found.wire {
-            found = Leak {
-                wire,
-                setting,
-                base: words::byte(base, wire),
-                own: words::byte(own, wire),
-            };
-        }
+        let lowest = differ(base, own, wire);
+        smallest = shown(lowest, wire, setting, smallest);
+        wire = lowest;
     }
-    found
+    count(own, codes, smallest, shape, gates, wires);
+    Leak {
+        wire,
+        setting: smallest,
+        base: words::byte(base, wire),
+        own: words::byte(own, wire),
+    }
 }
 
 // How many settings so many bits have.

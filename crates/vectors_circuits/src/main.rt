@@ -13,6 +13,7 @@ mod services;
 mod vectors;
 mod words;
 
+use crate::masked::Masked;
 use crate::score::Score;
 use libc::STDOUT_FILENO;
 
@@ -22,35 +23,32 @@ fn print(circuit: &[u8], group: &[u8], s: Score) {
     tally::print(group, s.agreed, s.cases);
 }
 
-// The masked netlists of a source under three lists of codes, on some eight of its vectors each.
-fn under_masks(name: &[u8], text: &[u8], file: &[u8], plain: Score, forms: Score) {
-    let step = plain.cases / 8 + 1;
+// A circuit on all of its vectors, and its masked netlists under three lists of codes on some eight of them each.
+fn circuit(name: &[u8], text: &[u8], file: &[u8]) {
+    let run = vectors::score(text, file, 1, b"", b"", 1);
+    let step = run.cases / 8 + 1;
     let a = masked::scored(text, file, step, 1, 1, 0, 0);
     let b = masked::scored(text, file, step, 1, 3, 1, 3);
     let c = masked::scored(text, file, step, 3, 3, 0, 3);
-    let all = masked::join(a, masked::join(b, c));
-    print(name, b"rewrite", score::join(forms, all.rewrite));
-    print(name, b"mask", all.mask);
-    print(name, b"check", all.check);
-    if 0 < all.leaks.cases {
-        print(name, b"edits that leak", all.leaks);
-    }
+    print(name, b"run", run);
+    report(
+        name,
+        forms::score(text),
+        masked::join(a, masked::join(b, c)),
+    );
 }
 
-fn circuit(name: &[u8], text: &[u8], file: &[u8]) {
-    let plain = vectors::score(text, file, 1, b"", b"", 1);
-    let forms = forms::score(text);
-    print(name, b"run", plain);
-    if masked::small(text) {
-        under_masks(name, text, file, plain, forms);
+fn report(name: &[u8], forms: Score, m: Masked) {
+    print(name, b"rewrite", score::join(forms, m.rewrite));
+    if m.check.cases == 0 {
+        print(name, b"refused by Mask", m.mask);
         return;
     }
-    print(name, b"rewrite", forms);
-    print(
-        name,
-        b"refused by Mask",
-        score::case(score::none(), masked::refused(text)),
-    );
+    print(name, b"mask", m.mask);
+    print(name, b"check", m.check);
+    if 0 < m.leaks.cases {
+        print(name, b"edits that leak", m.leaks);
+    }
 }
 
 // A circuit by the names of its two files.

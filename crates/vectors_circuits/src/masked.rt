@@ -33,7 +33,7 @@ pub(crate) fn join(a: Masked, b: Masked) -> Masked {
 
 // Question 12 refuses more than 12 input bits. With fewer the netlist is clean under the codes handed to Mask, and both judges
 // agree on it, on it under other codes, and on its edits.
-fn judged(text: &mut [u8], n: usize, ins: &[u8], others: &[u8]) -> Edited {
+fn judged(text: &mut [u8], n: usize, ins: &[u8]) -> Edited {
     let whole = words::part(text, 0, n);
     if 12 < ins.len() {
         return Edited {
@@ -43,6 +43,11 @@ fn judged(text: &mut [u8], n: usize, ins: &[u8], others: &[u8]) -> Edited {
     }
     let a = score::case(score::none(), judge::verdict(whole, ins) == 0);
     let b = score::case(a, judge::alike(whole, ins));
+    let others = words::part(
+        b"\x02\x03\x02\x03\x02\x03\x02\x03\x02\x03\x02\x03",
+        0,
+        ins.len(),
+    );
     let c = score::case(b, judge::alike(whole, others));
     let e = judge::edits(text, n, ins);
     let leaks = e.leaks;
@@ -59,7 +64,6 @@ fn scores(
     file: &[u8],
     step: usize,
     ins: &[u8],
-    others: &[u8],
     wanted: &[u8],
     ends: &[u8],
 ) -> Masked {
@@ -67,7 +71,7 @@ fn scores(
     let s = vectors::score(whole, file, step, ins, ends, 4);
     let mask = score::case(s, codes::suit(wanted, ends));
     let rewrite = forms::score(whole);
-    let e = judged(text, n, ins, others);
+    let e = judged(text, n, ins);
     let check = e.alike;
     let leaks = e.leaks;
     Masked {
@@ -78,7 +82,18 @@ fn scores(
     }
 }
 
-// A source that Mask takes, with input codes from `low` to `high` in turn and wanted codes from `least` to `most` in turn.
+// The question by which Mask refuses a source: 2 for its bytes, or else 5 for its wires. None, 0, refuses one within its limits.
+fn question(text: &[u8], shape: Shape) -> u8 {
+    if 60000 < text.len() {
+        return 2;
+    }
+    if 2048 < shape.wires {
+        return 5;
+    }
+    0
+}
+
+// A source, with input codes from `low` to `high` in turn and wanted codes from `least` to `most` in turn.
 pub(crate) fn scored(
     text: &[u8],
     file: &[u8],
@@ -90,71 +105,49 @@ pub(crate) fn scored(
 ) -> Masked {
     let shape = second::header(text);
     let mut ins = buffers::list();
-    let mut others = buffers::list();
     let mut wanted = buffers::list();
-    codes::turn(&mut ins, low, high);
-    codes::turn(&mut others, 2, 3);
-    codes::turn(&mut wanted, least, most);
     let mut ends = buffers::list();
     let mut out = buffers::text();
-    let answer = services::mask(
+    codes::turn(&mut ins, low, high);
+    codes::turn(&mut wanted, least, most);
+    delivered(
         text,
+        file,
+        step,
+        question(text, shape),
         words::part(&ins, 0, shape.ins),
         words::part(&wanted, 0, shape.outs),
         &mut out,
         &mut ends,
-    );
-    let Answer::Done(n) = answer else {
-        return Masked {
-            mask: score::case(score::none(), false),
-            rewrite: score::none(),
-            check: score::none(),
-            leaks: score::none(),
-        };
-    };
-    scores(
-        &mut out,
-        n,
-        file,
-        step,
-        words::part(&ins, 0, shape.ins),
-        words::part(&others, 0, shape.ins),
-        words::part(&wanted, 0, shape.outs),
-        words::part(&ends, 0, shape.outs),
     )
 }
 
-// The question by which Mask refuses a source that is too large for it, with as many codes as its input and output bits.
-fn question(text: &[u8], shape: Shape) -> u8 {
-    let mut ins = buffers::list();
-    codes::turn(&mut ins, 1, 1);
-    let wanted = buffers::list();
-    let mut ends = buffers::list();
-    let mut out = buffers::text();
-    let answer = services::mask(
-        text,
-        words::part(&ins, 0, shape.ins),
-        words::part(&wanted, 0, shape.outs),
-        &mut out,
-        &mut ends,
-    );
-    match answer {
-        Answer::Done(_) => 0,
-        Answer::Refused(q) => q,
+// Mask's answer to a source that it refuses by a question, or by none, and the scores of its result.
+fn delivered(
+    text: &[u8],
+    file: &[u8],
+    step: usize,
+    question: u8,
+    ins: &[u8],
+    wanted: &[u8],
+    out: &mut [u8],
+    ends: &mut [u8],
+) -> Masked {
+    match services::mask(text, ins, wanted, out, ends) {
+        Answer::Done(n) => scores(
+            out,
+            n,
+            file,
+            step,
+            ins,
+            wanted,
+            words::part(ends, 0, wanted.len()),
+        ),
+        Answer::Refused(q) => Masked {
+            mask: score::case(score::none(), q == question),
+            rewrite: score::none(),
+            check: score::none(),
+            leaks: score::none(),
+        },
     }
-}
-
-// Whether Mask refuses a source by 2, for its bytes, or else by 5, for its wires.
-pub(crate) fn refused(text: &[u8]) -> bool {
-    let q = question(text, second::header(text));
-    if 60000 < text.len() {
-        return q == 2;
-    }
-    q == 5
-}
-
-// Whether a source is within the limits of Mask.
-pub(crate) fn small(text: &[u8]) -> bool {
-    let shape = second::header(text);
-    text.len() <= 60000 && shape.wires <= 2048
 }
