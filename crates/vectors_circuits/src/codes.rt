@@ -23,18 +23,24 @@ pub(crate) fn turn(list: &mut [u8], low: u8, high: u8) {
     }
 }
 
+// The i-th bit under the mask of its code. A bit is the lowest of its byte, so that a digit serves; without codes no mask is put on.
+fn under(bits: &[u8], codes: &[u8], m: u8, i: usize) -> u8 {
+    (words::byte(bits, i) & 1) ^ mask(words::byte(codes, i), m)
+}
+
+// The mask pair, behind n input bits.
+fn pair(wires: &mut [u8], n: usize, m: u8) {
+    words::put(wires, n, m % 2);
+    words::put(wires, std::num::wrapping_add_usize(n, 1), m / 2);
+}
+
 // The input wires: each bit under the mask of its code, and the mask pair behind them, which the first gates of an unmasked
-// netlist write over. A bit is the lowest of its byte, so that a digit serves; without codes no mask is put on.
+// netlist write over.
 pub(crate) fn settle(wires: &mut [u8], bits: &[u8], codes: &[u8], m: u8) {
     for i in 0..bits.len() {
-        words::put(
-            wires,
-            i,
-            (words::byte(bits, i) & 1) ^ mask(words::byte(codes, i), m),
-        );
+        words::put(wires, i, under(bits, codes, m, i));
     }
-    words::put(wires, bits.len(), m % 2);
-    words::put(wires, bits.len() + 1, m / 2);
+    pair(wires, bits.len(), m);
 }
 
 // Whether bits are those of a vector's word, once the masks of their codes are off.
@@ -43,8 +49,7 @@ pub(crate) fn agrees(bits: &[u8], codes: &[u8], m: u8, word: &[u8]) -> bool {
         return false;
     }
     for i in 0..word.len() {
-        let bit = words::byte(bits, i) ^ mask(words::byte(codes, i), m);
-        if bit != words::byte(word, i) & 1 {
+        if under(bits, codes, m, i) != words::byte(word, i) & 1 {
             return false;
         }
     }

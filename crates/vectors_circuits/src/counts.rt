@@ -23,15 +23,35 @@ fn spread(bits: &mut [u8], setting: usize) {
     }
 }
 
-// The first n wires of one more mask setting, the first or a further one, to the counts.
-fn add(counts: &mut [u8], wires: &[u8], n: usize, first: bool) {
+// A count with the bit of one more mask setting; setting 0 begins it.
+fn more(count: u8, bit: u8, m: u8) -> u8 {
+    if m == 0 {
+        return bit;
+    }
+    std::num::wrapping_add_u8(count, bit)
+}
+
+// The first n wires under one more mask setting to the counts.
+fn add(counts: &mut [u8], wires: &[u8], n: usize, m: u8) {
     for i in 0..n {
-        let mut count = words::byte(wires, i);
-        if !first {
-            count = std::num::wrapping_add_u8(count, words::byte(counts, i));
-        }
+        let count = more(words::byte(counts, i), words::byte(wires, i), m);
         words::put(counts, i, count);
     }
+}
+
+// One mask setting.
+fn masks(
+    counts: &mut [u8],
+    bits: &[u8],
+    codes: &[u8],
+    m: u8,
+    shape: Shape,
+    gates: &[u32],
+    wires: &mut [u8],
+) {
+    codes::settle(wires, bits, codes, m);
+    second::run(shape.gates, gates, wires);
+    add(counts, wires, shape.wires, m);
 }
 
 // The count of each wire in one input setting, of at most 12 bits.
@@ -46,10 +66,8 @@ fn count(
     let mut all = [0u8; 12];
     spread(&mut all, setting);
     let bits = words::part(&all, 0, codes.len());
-    for m in 0..4 {
-        codes::settle(wires, bits, codes, m);
-        second::run(shape.gates, gates, wires);
-        add(counts, wires, shape.wires, m == 0);
+    for m in 0..4u8 {
+        masks(counts, bits, codes, m, shape, gates, wires);
     }
 }
 
@@ -71,30 +89,62 @@ fn shown(now: usize, before: usize, setting: usize, known: usize) -> usize {
     known
 }
 
-// The leak of a netlist of that shape whose gates lie in the table.
-fn search(
-    shape: Shape,
+// The lowest wire below `end` that a setting shows, by its counts and those of setting 0; `end` where there is none.
+fn lower(
+    end: usize,
+    setting: usize,
     codes: &[u8],
+    shape: Shape,
+    gates: &[u32],
+    wires: &mut [u8],
+    base: &[u8],
+    own: &mut [u8],
+) -> usize {
+    count(own, codes, setting, shape, gates, wires);
+    differ(base, own, end)
+}
+
+// The lowest wire that leaks, and its smallest setting, from the counts of setting 0; the two counts are left open.
+fn search(
+    codes: &[u8],
+    shape: Shape,
+    gates: &[u32],
+    wires: &mut [u8],
+    base: &[u8],
+    own: &mut [u8],
+) -> Leak {
+    let mut wire = shape.wires;
+    let mut smallest = 0;
+    for setting in 1..settings(codes.len()) {
+        let lowest = lower(wire, setting, codes, shape, gates, wires, base, own);
+        smallest = shown(lowest, wire, setting, smallest);
+        wire = lowest;
+    }
+    Leak {
+        wire,
+        setting: smallest,
+        base: 0,
+        own: 0,
+    }
+}
+
+// The leak of a netlist of that shape whose gates lie in the table.
+fn found(
+    codes: &[u8],
+    shape: Shape,
     gates: &[u32],
     wires: &mut [u8],
     base: &mut [u8],
     own: &mut [u8],
 ) -> Leak {
-    let mut wire = shape.wires;
-    let mut smallest = 0;
     count(base, codes, 0, shape, gates, wires);
-    for setting in 1..settings(codes.len()) {
-        count(own, codes, setting, shape, gates, wires);
-        let lowest = differ(base, own, wire);
-        smallest = shown(lowest, wire, setting, smallest);
-        wire = lowest;
-    }
-    count(own, codes, smallest, shape, gates, wires);
+    let l = search(codes, shape, gates, wires, base, own);
+    count(own, codes, l.setting, shape, gates, wires);
     Leak {
-        wire,
-        setting: smallest,
-        base: words::byte(base, wire),
-        own: words::byte(own, wire),
+        wire: l.wire,
+        setting: l.setting,
+        base: words::byte(base, l.wire),
+        own: words::byte(own, l.wire),
     }
 }
 
@@ -113,9 +163,9 @@ pub(crate) fn lowest(text: &[u8], codes: &[u8]) -> Leak {
     let mut base = buffers::bytes();
     let mut own = buffers::bytes();
     second::gates(text, &mut gates);
-    search(
-        second::header(text),
+    found(
         codes,
+        second::header(text),
         &gates,
         &mut wires,
         &mut base,

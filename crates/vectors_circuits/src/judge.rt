@@ -53,22 +53,27 @@ fn name(text: &mut [u8], at: usize, a: u8, b: u8, c: u8) {
     words::put(text, std::num::wrapping_add_usize(at, 2), c);
 }
 
+// One edited netlist more.
+fn tried(text: &[u8], codes: &[u8], e: Edited) -> Edited {
+    Edited {
+        alike: score::case(e.alike, alike(text, codes)),
+        leaks: score::case(e.leaks, verdict(text, codes) == 100),
+    }
+}
+
 // Four edits of a masked netlist, whose text is the first n bytes of a buffer: each makes one XOR an AND, and is taken back.
 pub(crate) fn edits(text: &mut [u8], n: usize, codes: &[u8]) -> Edited {
-    let mut alikes = score::none();
-    let mut leaks = score::none();
+    let mut e = Edited {
+        alike: score::none(),
+        leaks: score::none(),
+    };
     let mut place = 0;
     for _ in 0..4usize {
         let at = words::find(text, place, b'X', b'X');
         name(text, at, b'A', b'N', b'D');
-        let edited = words::part(text, 0, n);
-        alikes = score::case(alikes, alike(edited, codes));
-        leaks = score::case(leaks, verdict(edited, codes) == 100);
+        e = tried(words::part(text, 0, n), codes, e);
         name(text, at, b'X', b'O', b'R');
         place = std::num::wrapping_add_usize(place, n / 5);
     }
-    Edited {
-        alike: alikes,
-        leaks,
-    }
+    e
 }

@@ -32,29 +32,26 @@ pub(crate) fn join(a: Masked, b: Masked) -> Masked {
 }
 
 // Question 12 refuses more than 12 input bits. With fewer the netlist is clean under the codes handed to Mask, and both judges
-// agree on it, on it under other codes, and on its edits.
-fn judged(text: &mut [u8], n: usize, ins: &[u8]) -> Edited {
-    let whole = words::part(text, 0, n);
+// agree on it, and on it under other codes.
+fn judged(text: &[u8], ins: &[u8]) -> Score {
+    if 12 < ins.len() {
+        return score::case(score::none(), judge::verdict(text, ins) == 12);
+    }
+    let others = b"\x02\x03\x02\x03\x02\x03\x02\x03\x02\x03\x02\x03";
+    let a = score::case(score::none(), judge::verdict(text, ins) == 0);
+    let b = score::case(a, judge::alike(text, ins));
+    score::case(b, judge::alike(text, words::part(others, 0, ins.len())))
+}
+
+// The edits of a netlist that Check takes.
+fn edits(text: &mut [u8], n: usize, ins: &[u8]) -> Edited {
     if 12 < ins.len() {
         return Edited {
-            alike: score::case(score::none(), judge::verdict(whole, ins) == 12),
+            alike: score::none(),
             leaks: score::none(),
         };
     }
-    let a = score::case(score::none(), judge::verdict(whole, ins) == 0);
-    let b = score::case(a, judge::alike(whole, ins));
-    let others = words::part(
-        b"\x02\x03\x02\x03\x02\x03\x02\x03\x02\x03\x02\x03",
-        0,
-        ins.len(),
-    );
-    let c = score::case(b, judge::alike(whole, others));
-    let e = judge::edits(text, n, ins);
-    let leaks = e.leaks;
-    Edited {
-        alike: score::join(c, e.alike),
-        leaks,
-    }
+    judge::edits(text, n, ins)
 }
 
 // The masked netlist in the first n bytes of a buffer, with its output codes, on each `step`-th vector.
@@ -67,18 +64,39 @@ fn scores(
     wanted: &[u8],
     ends: &[u8],
 ) -> Masked {
-    let whole = words::part(text, 0, n);
-    let s = vectors::score(whole, file, step, ins, ends, 4);
-    let mask = score::case(s, codes::suit(wanted, ends));
-    let rewrite = forms::score(whole);
-    let e = judged(text, n, ins);
-    let check = e.alike;
+    let mut m = unedited(words::part(text, 0, n), file, step, ins, wanted, ends);
+    let e = edits(text, n, ins);
+    m.check = score::join(m.check, e.alike);
     let leaks = e.leaks;
+    m.leaks = leaks;
+    m
+}
+
+// What needs no edits.
+fn unedited(
+    text: &[u8],
+    file: &[u8],
+    step: usize,
+    ins: &[u8],
+    wanted: &[u8],
+    ends: &[u8],
+) -> Masked {
+    let mask = vectors::score(text, file, step, ins, ends, 4);
     Masked {
-        mask,
-        rewrite,
-        check,
-        leaks,
+        mask: score::case(mask, codes::suit(wanted, ends)),
+        rewrite: forms::score(text),
+        check: judged(text, ins),
+        leaks: score::none(),
+    }
+}
+
+// A source that Mask refuses, by the question that it should or by another.
+fn refused(right: bool) -> Masked {
+    Masked {
+        mask: score::case(score::none(), right),
+        rewrite: score::none(),
+        check: score::none(),
+        leaks: score::none(),
     }
 }
 
@@ -143,11 +161,6 @@ fn delivered(
             wanted,
             words::part(ends, 0, wanted.len()),
         ),
-        Answer::Refused(q) => Masked {
-            mask: score::case(score::none(), q == question),
-            rewrite: score::none(),
-            check: score::none(),
-            leaks: score::none(),
-        },
+        Answer::Refused(q) => refused(q == question),
     }
 }

@@ -162,13 +162,21 @@ fn made(kind: usize, a: u8, b: u8, left: usize) -> u8 {
     }
 }
 
+// The bit of the i-th gate's result.
+fn bit(gates: &[u32], i: usize, wires: &[u8]) -> u8 {
+    let left = entry(gates, i, 1);
+    let right = entry(gates, i, 2);
+    made(
+        entry(gates, i, 0),
+        words::byte(wires, left),
+        words::byte(wires, right),
+        left,
+    )
+}
+
 // Every wire, from the input bits at the front.
 pub(crate) fn run(count: usize, gates: &[u32], wires: &mut [u8]) {
     for i in 0..count {
-        let left = entry(gates, i, 1);
-        let a = words::byte(wires, left);
-        let b = words::byte(wires, entry(gates, i, 2));
-        let bit = made(entry(gates, i, 0), a, b, left);
-        words::put(wires, entry(gates, i, 3), bit);
+        words::put(wires, entry(gates, i, 3), bit(gates, i, wires));
     }
 }

@@ -7,10 +7,10 @@ use Rattle.vectors_circuits.proofs.counts.add.Statement.{statement}
 use Rattle.vectors_circuits.proofs.counts.add.Tie as tie
 
 abbrev Inv-loop : tie.InvT-loop
-Inv-loop counts₀ wires n first i₀ counts i = length counts ≡ length counts₀
+Inv-loop counts₀ wires n m i₀ counts i = length counts ≡ length counts₀
 
 abbrev μ-loop : tie.MeasureT-loop
-μ-loop counts₀ wires n first i₀ counts i = n - i
+μ-loop counts₀ wires n m i₀ counts i = n - i
 
 pub add-spec : {M : Type 1} → statement M
 add-spec =
