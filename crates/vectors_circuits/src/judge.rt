@@ -61,14 +61,22 @@ fn tried(text: &[u8], codes: &[u8], e: Edited) -> Edited {
     }
 }
 
-// Four edits of a masked netlist, whose text is the first n bytes of a buffer: each makes one XOR an AND, and is taken back.
+// How many edits are tried: none where Check refuses the netlist for its input bits.
+fn turns(bits: usize) -> usize {
+    if 12 < bits {
+        return 0;
+    }
+    4
+}
+
+// Edits of a masked netlist, whose text is the first n bytes of a buffer: each makes one XOR an AND, and is taken back.
 pub(crate) fn edits(text: &mut [u8], n: usize, codes: &[u8]) -> Edited {
     let mut e = Edited {
         alike: score::none(),
         leaks: score::none(),
     };
     let mut place = 0;
-    for _ in 0..4usize {
+    for _ in 0..turns(codes.len()) {
         let at = words::find(text, place, b'X', b'X');
         name(text, at, b'A', b'N', b'D');
         e = tried(words::part(text, 0, n), codes, e);

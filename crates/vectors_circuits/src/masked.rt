@@ -3,7 +3,6 @@ use crate::buffers;
 use crate::codes;
 use crate::forms;
 use crate::judge;
-use crate::judge::Edited;
 use crate::score;
 use crate::score::Score;
 use crate::second;
@@ -43,17 +42,6 @@ fn judged(text: &[u8], ins: &[u8]) -> Score {
     score::case(b, judge::alike(text, words::part(others, 0, ins.len())))
 }
 
-// The edits of a netlist that Check takes.
-fn edits(text: &mut [u8], n: usize, ins: &[u8]) -> Edited {
-    if 12 < ins.len() {
-        return Edited {
-            alike: score::none(),
-            leaks: score::none(),
-        };
-    }
-    judge::edits(text, n, ins)
-}
-
 // The masked netlist in the first n bytes of a buffer, with its output codes, on each `step`-th vector.
 fn scores(
     text: &mut [u8],
@@ -65,7 +53,7 @@ fn scores(
     ends: &[u8],
 ) -> Masked {
     let mut m = unedited(words::part(text, 0, n), file, step, ins, wanted, ends);
-    let e = edits(text, n, ins);
+    let e = judge::edits(text, n, ins);
     m.check = score::join(m.check, e.alike);
     let leaks = e.leaks;
     m.leaks = leaks;

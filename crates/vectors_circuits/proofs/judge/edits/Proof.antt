@@ -7,10 +7,10 @@ use Rattle.vectors_circuits.proofs.judge.edits.Statement.{statement}
 use Rattle.vectors_circuits.proofs.judge.edits.Tie as tie
 
 abbrev Inv-loop : tie.InvT-loop
-Inv-loop text₀ n codes e₀ place₀ counter₀ text e place counter = length text ≡ length text₀
+Inv-loop text₀ n codes e₀ place₀ counter₀ end text e place counter = length text ≡ length text₀
 
 abbrev μ-loop : tie.MeasureT-loop
-μ-loop text₀ n codes e₀ place₀ counter₀ text e place counter = 4 - counter
+μ-loop text₀ n codes e₀ place₀ counter₀ end text e place counter = end - counter
 
 pub edits-spec : {M : Type 1} → statement M
 edits-spec =
@@ -18,6 +18,7 @@ edits-spec =
     (tie.spec
     Inv-loop
     μ-loop
+    (λ c κs. search needs)
     (λ c κs. search needs)
     (λ c κs. search needs)
     (λ c. search needs)
