@@ -1,4 +1,4 @@
-//! The circuits of data/circuits and their vectors.
+//! The circuits of crates/vectors_circuits/data and their vectors.
 
 use std::fs;
 use std::path::PathBuf;
@@ -11,14 +11,14 @@ pub struct Circuit {
 }
 
 fn folder() -> PathBuf {
-    PathBuf::from(env!("CARGO_MANIFEST_DIR")).join("../../data/circuits")
+    PathBuf::from(env!("CARGO_MANIFEST_DIR")).join("../../crates/vectors_circuits/data")
 }
 
 /// All circuits, by name.
 pub fn all() -> Vec<Circuit> {
-    let files = fs::read_dir(folder()).expect("data/circuits is a folder");
+    let files = fs::read_dir(folder()).expect("crates/vectors_circuits/data is a folder");
     let mut names: Vec<String> = files
-        .filter_map(|file| file.expect("data/circuits can be read").file_name().into_string().ok())
+        .filter_map(|file| file.expect("crates/vectors_circuits/data can be read").file_name().into_string().ok())
         .filter_map(|name| name.strip_suffix(".txt").map(String::from))
         .collect();
     names.sort();

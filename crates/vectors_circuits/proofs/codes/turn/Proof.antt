@@ -1,0 +1,28 @@
+-- `codes::turn` ends. The measure is what is left of the range.
+use mathlib.Core.Path.{_≡_}
+use Prim.Native.Nat.{_-_}
+use lib.ListN.{length}
+use borrow.Author.Needs.{needs}
+use Rattle.vectors_circuits.proofs.codes.turn.Statement.{statement}
+use Rattle.vectors_circuits.proofs.codes.turn.Tie as tie
+
+abbrev Inv-loop : tie.InvT-loop
+Inv-loop list₀ low high code₀ i₀ i-end list code i = length list ≡ length list₀
+
+abbrev μ-loop : tie.MeasureT-loop
+μ-loop list₀ low high code₀ i₀ i-end list code i = i-end - i
+
+pub turn-spec : {M : Type 1} → statement M
+turn-spec =
+    tie.close
+    (tie.spec
+    Inv-loop
+    μ-loop
+    (λ c. search needs)
+    (λ c κs. search needs)
+    (λ c. search needs)
+    (λ c. search needs)
+    (λ c. search needs)
+    (λ c. search needs)
+    (λ c. search needs)
+    (λ c. search needs))

@@ -1,0 +1,68 @@
+// The four services, each with tables of its own, as long as question 1 asks.
+use crate::buffers;
+use checker::Checked;
+use netlist::Answer;
+
+pub(crate) fn rewrite(text: &[u8], out: &mut [u8]) -> Answer {
+    let mut operands = buffers::words();
+    let mut results = buffers::words();
+    let mut given = buffers::bytes();
+    rewrite::rewrite(text, out, &mut operands, &mut results, &mut given)
+}
+
+pub(crate) fn run(text: &[u8], list: &[u8], out: &mut [u8]) -> Answer {
+    let mut operands = buffers::words();
+    let mut results = buffers::words();
+    let mut given = buffers::bytes();
+    let mut words = buffers::words();
+    run::run(
+        text,
+        list,
+        out,
+        &mut operands,
+        &mut results,
+        &mut given,
+        &mut words,
+    )
+}
+
+pub(crate) fn mask(
+    text: &[u8],
+    codes: &[u8],
+    wanted: &[u8],
+    out: &mut [u8],
+    ends: &mut [u8],
+) -> Answer {
+    let mut operands = buffers::words();
+    let mut results = buffers::words();
+    let mut wires = buffers::gates();
+    let mut marks = buffers::bytes();
+    mask::mask(
+        text,
+        codes,
+        wanted,
+        out,
+        ends,
+        &mut operands,
+        &mut results,
+        &mut wires,
+        &mut marks,
+    )
+}
+
+pub(crate) fn check(text: &[u8], codes: &[u8]) -> Checked {
+    let mut operands = buffers::words();
+    let mut results = buffers::words();
+    let mut given = buffers::bytes();
+    let mut words = buffers::words();
+    let mut base = buffers::words();
+    checker::check(
+        text,
+        codes,
+        &mut operands,
+        &mut results,
+        &mut given,
+        &mut words,
+        &mut base,
+    )
+}
