@@ -2,7 +2,7 @@
 use Prim.Native.Nat.{ℕ, _≤_, _<_}
 use mathlib.Core.Path.{_≡_, refl, sym, ap, _∙_}
 use mathlib.Core.Bool.{Bool, true, false, _&&_}
-use mathlib.Core.List.{List, [], _∷_}
+use mathlib.Core.List.{List, _∷_}
 use native.Mathlib.Omega.{arith}
 use lib.Dec.{leb}
 use lib.ListN.{length, take}
@@ -12,7 +12,7 @@ use Rattle.netlist.specs.declared.Limits.{Limits}
 use Rattle.netlist.specs.declared.Answer.{Answer}
 use Rattle.netlist.specs.declared.Answer.the-variants.{Done, Refused}
 use Rattle.netlist.specs.Outcome.{Outcome, refused, done, ask}
-use Rattle.netlist.specs.Services.{tablesLong, delivered, outcomeOf, answerOf, written, Answers, Delivers}
+use Rattle.netlist.specs.Services.{tablesLong, answerOf, Answers, Delivers}
 
 pub answers-as : {c d : Outcome (List ℕ)} {e x : List ℕ} {a : Answer} → c ≡ d → Answers c e x a → Answers d e x a
 answers-as p h = rw p at h
@@ -31,7 +31,10 @@ take-sets bs e h = ap (take (length bs)) (sets-eq bs e 0 (omega arith)) ∙ take
 
 -- the result is written
 pub delivers-done : (bs e x : List ℕ) → length bs ≤ length e → x ≡ sets e 0 bs → Delivers bs e x (Done (length bs))
-delivers-done bs e x h p = record { answers = rw (le-leb (length bs) (length e) h) (record { answer = refl; outcome = ap done (ap (take (length bs)) p ∙ take-sets bs e h); buffer = p }) }
+delivers-done bs e x h p = record {
+  answers = rw (le-leb (length bs) (length e) h)
+      (record { answer = refl; outcome = ap done (ap (take (length bs)) p ∙ take-sets bs e h); buffer = p });
+}
 
 -- ---- question 1
 
@@ -42,12 +45,6 @@ and-true false b e = let z : _≡_ {A = ℕ} 0 1 = cc in absurd (omega arith)
 -- a table that question 1 admits, and the others
 pub tables-long : (L : Limits) (n : ℕ) (ns : List ℕ) → tablesLong L (n ∷ ns) ≡ true → (L .table ≤ n) × (tablesLong L ns ≡ true)
 tables-long L n ns e = let p = and-true (leb (L .table) n) (tablesLong L ns) e in (leb-true (L .table) n (p .0), p .1)
-
-pub tables-short : (L : Limits) (n : ℕ) (ns : List ℕ) → n < L .table → false ≡ tablesLong L (n ∷ ns)
-tables-short L n ns h = rw (lt-leb (L .table) n h)
-
-pub tables-more : (L : Limits) (n : ℕ) (ns : List ℕ) {b : Bool} → L .table ≤ n → b ≡ tablesLong L ns → b ≡ tablesLong L (n ∷ ns)
-tables-more L n ns h e = rw (le-leb (L .table) n h) e
 
 pub answers-one : (b : Bool) (o : Outcome (List ℕ)) (e : List ℕ) → b ≡ false → Answers (ask 1 b o) e e (Refused 1)
 answers-one b o e p = answers-refused e (rw p)

@@ -67,11 +67,13 @@ first-good n W rs g gs h =
     record { operands = q .0; resultOk = q .1; below = ltb→lt (result g) W (both low high (both (low && high) fresh (q .1) .0) .1); others = p .1 }
 
 -- every number of gates that they admit is below B, where W and 2 are at most B
-pub gates-below : {n W B : ℕ} {rs : List ℕ} (gs : List Gate) → n ≤ W → W ≤ B → 2 ≤ B → All (Below W) rs → T (gatesGood n W rs gs) → All (GateBelow B) gs
+pub gates-below : {n W B : ℕ} {rs : List ℕ} (gs : List Gate) → n ≤ W → W ≤ B → 2 ≤ B → All (Below W) rs → T (gatesGood n W rs gs)
+    → All (GateBelow B) gs
 gates-below [] nW WB two≤B rsW h = empty
 gates-below {n} {W} {B} {rs} (g ∷ gs) nW WB two≤B rsW h =
     let s = first-good n W rs g gs h in
-    each (gate-below nW rsW WB two≤B g (s .operands) (s .below)) (gates-below {n = n} {W = W} {B = B} {rs = result g ∷ rs} gs nW WB two≤B (each (s .below) rsW) (s .others))
+    each (gate-below nW rsW WB two≤B g (s .operands) (s .below))
+    (gates-below {n = n} {W = W} {B = B} {rs = result g ∷ rs} gs nW WB two≤B (each (s .below) rsW) (s .others))
 
 -- ---- the numbers of a well-formed netlist
 
@@ -109,7 +111,12 @@ gates-read : (n W : ℕ) (rs : List ℕ) {gs : List Gate} → All GateFits gs �
 gates-read n W rs empty h = refl
 gates-read n W rs (each {x = g} {xs = gs} p ps) h =
     let s = first-good n W rs g gs h in
-    rw (gate-read g p, isTrue (operandsGiven (isGiven n rs) g) (s .operands), isTrue (resultGood n W rs g) (s .resultOk), gates-read n W (result g ∷ rs) ps (s .others))
+    rw (
+      gate-read g p,
+      isTrue (operandsGiven (isGiven n rs) g) (s .operands),
+      isTrue (resultGood n W rs g) (s .resultOk),
+      gates-read n W (result g ∷ rs) ps (s .others),
+    )
 
 values-of : (xs : List ℕ) → 1 ≤ length xs → T (every (leb 1) xs) → values (some (length xs ∷ xs)) ≡ some xs
 values-of xs l h = rw (le-leb 1 (length xs) l, eq-eqb (length xs) (length xs) refl, isTrue (every (leb 1) xs) h)
@@ -120,7 +127,13 @@ headerOf N = record { count = length (N .gates); wires = N .wires; inputs = N .i
 
 header-of : (N : Netlist) → WellFormed N → NumbersFit N → header (fullLines N) ≡ some (headerOf N)
 header-of N F f =
-    rw (numbers-of (f .first), numbers-of (f .second), numbers-of (f .third), values-of (N .inputs) (F .someInput) (F .inputsPositive), values-of (N .outputs) (F .someOutput) (F .outputsPositive))
+    rw (
+      numbers-of (f .first),
+      numbers-of (f .second),
+      numbers-of (f .third),
+      values-of (N .inputs) (F .someInput) (F .inputsPositive),
+      values-of (N .outputs) (F .someOutput) (F .outputsPositive),
+    )
 
 module _ (L : Limits) (N : Netlist) (F : WellFormed N) (w : Fits (N .wires)) (I : Within L N) (t : length (writeNetlist N) ≤ L .text) where
   fit : NumbersFit N
