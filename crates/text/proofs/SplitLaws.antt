@@ -24,7 +24,8 @@ unfolding rest
 split-line [] = refl
 split-line (x ∷ xs) = go (isLineEnd x) (split-line xs)
   where
-    go : (b : Bool) → split lf xs ≡ firstLine xs ∷ rest xs → cond b ([] ∷ split lf xs) (onto x (split lf xs)) ≡ cond b [] (x ∷ firstLine xs) ∷ cond b (split lf xs) (rest xs)
+    go : (b : Bool) → split lf xs ≡ firstLine xs ∷ rest xs
+        → cond b ([] ∷ split lf xs) (onto x (split lf xs)) ≡ cond b [] (x ∷ firstLine xs) ∷ cond b (split lf xs) (rest xs)
     go true e = refl
     go false e = ap (onto x) e
 
@@ -33,7 +34,8 @@ unfolding rest wordLines words
 rest-lines [] = refl
 rest-lines (x ∷ xs) = go (isLineEnd x) (rest-lines xs)
   where
-    go : (b : Bool) → filled (map words (rest xs)) ≡ wordLines (afterLine xs) → filled (map words (cond b (split lf xs) (rest xs))) ≡ wordLines (cond b xs (afterLine xs))
+    go : (b : Bool) → filled (map words (rest xs)) ≡ wordLines (afterLine xs)
+        → filled (map words (cond b (split lf xs) (rest xs))) ≡ wordLines (cond b xs (afterLine xs))
     go true e = refl
     go false e = e
 
@@ -44,7 +46,9 @@ filled-line (w ∷ ws) ps = refl
 -- the lines of a text are its first line's words and the lines behind it
 pub lines-step : (s : List ℕ) → wordLines s ≡ addLine (lineWords s) (wordLines (afterLine s))
 unfolding wordLines lineWords
-lines-step s = ap (λ (ls : List (List ℕ)). filled (map words ls)) (split-line s) ∙ filled-line (lineWords s) (map words (rest s)) ∙ ap (addLine (lineWords s)) (rest-lines s)
+lines-step s =
+    ap (λ (ls : List (List ℕ)). filled (map words ls)) (split-line s) ∙ filled-line (lineWords s) (map words (rest s))
+    ∙ ap (addLine (lineWords s)) (rest-lines s)
 
 -- ---- words
 
@@ -64,7 +68,8 @@ split-word [] = refl
 split-word (x ∷ xs) = go (isLineEnd x) (isSpace x) refl (split-word xs)
   where
     go : (a b : Bool) → isSpace x ≡ b → split space (firstLine xs) ≡ takeWhile inWord xs ∷ restOfLine xs
-        → split space (cond a [] (x ∷ firstLine xs)) ≡ cond (not (b || a)) (x ∷ takeWhile inWord xs) [] ∷ cond a [] (cond b (split space (firstLine xs)) (restOfLine xs))
+        → split space (cond a [] (x ∷ firstLine xs))
+        ≡ cond (not (b || a)) (x ∷ takeWhile inWord xs) [] ∷ cond a [] (cond b (split space (firstLine xs)) (restOfLine xs))
     go true true q e = refl
     go true false q e = refl
     go false true q e = rw q
@@ -107,7 +112,8 @@ pub skip-words : (s : List ℕ) → lineWords (dropWhile isSpace s) ≡ lineWord
 skip-words [] = refl
 skip-words (x ∷ xs) = go (isSpace x) refl (skip-words xs)
   where
-    go : (b : Bool) → isSpace x ≡ b → lineWords (dropWhile isSpace xs) ≡ lineWords xs → lineWords (cond b (dropWhile isSpace xs) (x ∷ xs)) ≡ lineWords (x ∷ xs)
+    go : (b : Bool) → isSpace x ≡ b → lineWords (dropWhile isSpace xs) ≡ lineWords xs
+        → lineWords (cond b (dropWhile isSpace xs) (x ∷ xs)) ≡ lineWords (x ∷ xs)
     go true q e = e ∙ sym (space-words x xs q)
     go false q e = refl
 
@@ -115,7 +121,8 @@ pub skip-after : (s : List ℕ) → afterLine (dropWhile isSpace s) ≡ afterLin
 skip-after [] = refl
 skip-after (x ∷ xs) = go (isSpace x) refl (skip-after xs)
   where
-    go : (b : Bool) → isSpace x ≡ b → afterLine (dropWhile isSpace xs) ≡ afterLine xs → afterLine (cond b (dropWhile isSpace xs) (x ∷ xs)) ≡ afterLine (x ∷ xs)
+    go : (b : Bool) → isSpace x ≡ b → afterLine (dropWhile isSpace xs) ≡ afterLine xs
+        → afterLine (cond b (dropWhile isSpace xs) (x ∷ xs)) ≡ afterLine (x ∷ xs)
     go true q e = e ∙ sym (space-after x xs q)
     go false q e = refl
 
@@ -123,7 +130,8 @@ word-after : (s : List ℕ) → afterLine (dropWhile inWord s) ≡ afterLine s
 word-after [] = refl
 word-after (x ∷ xs) = go (isLineEnd x) (isSpace x) refl (word-after xs)
   where
-    go : (a b : Bool) → isLineEnd x ≡ a → afterLine (dropWhile inWord xs) ≡ afterLine xs → afterLine (cond (not (b || a)) (dropWhile inWord xs) (x ∷ xs)) ≡ cond a xs (afterLine xs)
+    go : (a b : Bool) → isLineEnd x ≡ a → afterLine (dropWhile inWord xs) ≡ afterLine xs
+        → afterLine (cond (not (b || a)) (dropWhile inWord xs) (x ∷ xs)) ≡ cond a xs (afterLine xs)
     go true true p e = rw p
     go true false p e = rw p
     go false true p e = rw p
@@ -145,7 +153,8 @@ unfolding nextWord lineWords words
 no-word [] h = refl
 no-word (x ∷ xs) h = go (isLineEnd x) (isSpace x) refl refl h (no-word xs)
   where
-    go : (a b : Bool) → isLineEnd x ≡ a → isSpace x ≡ b → takeWhile inWord (cond b (dropWhile isSpace xs) (x ∷ xs)) ≡ [] → (takeWhile inWord (dropWhile isSpace xs) ≡ [] → lineWords xs ≡ [])
+    go : (a b : Bool) → isLineEnd x ≡ a → isSpace x ≡ b → takeWhile inWord (cond b (dropWhile isSpace xs) (x ∷ xs)) ≡ []
+        → (takeWhile inWord (dropWhile isSpace xs) ≡ [] → lineWords xs ≡ [])
         → lineWords (x ∷ xs) ≡ []
     go a true p q h f = space-words x xs q ∙ f h
     go true false p q h f = rw p
@@ -157,7 +166,8 @@ unfolding lineWords words
 blank-lines [] = refl
 blank-lines (x ∷ xs) = go (isLineEnd x) (isSpace x) refl refl (blank-lines xs)
   where
-    go : (a b : Bool) → isLineEnd x ≡ a → isSpace x ≡ b → wordLines (dropWhile isBlank xs) ≡ wordLines xs → wordLines (cond (b || a) (dropWhile isBlank xs) (x ∷ xs)) ≡ wordLines (x ∷ xs)
+    go : (a b : Bool) → isLineEnd x ≡ a → isSpace x ≡ b → wordLines (dropWhile isBlank xs) ≡ wordLines xs
+        → wordLines (cond (b || a) (dropWhile isBlank xs) (x ∷ xs)) ≡ wordLines (x ∷ xs)
     go a true p q e = e ∙ lines-step xs ∙ ap₂ addLine (sym (space-words x xs q)) (ap wordLines (sym (space-after x xs q))) ∙ sym (lines-step (x ∷ xs))
     go true false p q e = e ∙ sym (lines-step (x ∷ xs) ∙ rw p)
     go false false p q e = refl
