@@ -43,19 +43,36 @@ returns-4 : tie.Need-returns-4
 returns-4 c =
     let a = c .before .before .before .before .before .args in
     let l = c .before .before .before .before .large .ensures in
-    rw (long l (a .operands) (c .before .before .before .if1 .left), long l (a .results) (c .before .before .if2 .left), long l (a .given) (c .before .if3 .left), short l (a .words) (c .if4 .taken))
+    rw (
+      long l (a .operands) (c .before .before .before .if1 .left),
+      long l (a .results) (c .before .before .if2 .left),
+      long l (a .given) (c .before .if3 .left),
+      short l (a .words) (c .if4 .taken),
+    )
 
 returns-5 : tie.Need-returns-5
 returns-5 c =
     let a = c .before .before .before .before .before .before .args in
     let l = c .before .before .before .before .before .large .ensures in
-    rw (long l (a .operands) (c .before .before .before .before .if1 .left), long l (a .results) (c .before .before .before .if2 .left), long l (a .given) (c .before .before .if3 .left), long l (a .words) (c .before .if4 .left), short l (a .base) (c .if5 .taken))
+    rw (
+      long l (a .operands) (c .before .before .before .before .if1 .left),
+      long l (a .results) (c .before .before .before .if2 .left),
+      long l (a .given) (c .before .before .if3 .left),
+      long l (a .words) (c .before .if4 .left),
+      short l (a .base) (c .if5 .taken),
+    )
 
 returns-6 : tie.Need-returns-6
 returns-6 c =
     let a = c .before .before .before .before .before .before .args in
     let l = c .before .before .before .before .before .large .ensures in
-    rw (long l (a .operands) (c .before .before .before .before .if1 .left), long l (a .results) (c .before .before .before .if2 .left), long l (a .given) (c .before .before .if3 .left), long l (a .words) (c .before .if4 .left), long l (a .base) (c .if5 .left))
+    rw (
+      long l (a .operands) (c .before .before .before .before .if1 .left),
+      long l (a .results) (c .before .before .before .if2 .left),
+      long l (a .given) (c .before .before .if3 .left),
+      long l (a .words) (c .before .if4 .left),
+      long l (a .base) (c .if5 .left),
+    )
 
 pub tables-long-spec : {M : Type 1} → statement M
 tables-long-spec =

@@ -6,9 +6,6 @@ use native.Mathlib.Omega.{arith}
 use borrow.Author.Needs.{needs}
 use Rattle.run.proofs.tables_long.Statement.{statement}
 use Rattle.run.proofs.tables_long.Tie as tie
-use Rattle.run.proofs.tables_long.Reads as reads
-use Rattle.run.proofs.tables_long.Lts as lts
-use Rattle.netlist.proofs.large.Reads as large-reads
 
 large-requires : tie.Need-large-requires
 large-requires c κs = search needs
@@ -17,16 +14,47 @@ returns : tie.Need-returns
 returns c = rw (lt-leb 18430 (c .before .before .args .a) (omega (arith, c .if1 .taken, ap (λ (l : Limits). l .table) (c .before .large .ensures))))
 
 returns-2 : tie.Need-returns-2
-returns-2 c = rw (le-leb 18430 (c .before .before .before .args .a) (omega (arith, c .before .if1 .left, ap (λ (l : Limits). l .table) (c .before .before .large .ensures))), lt-leb 18430 (c .before .before .before .args .b) (omega (arith, c .if2 .taken, ap (λ (l : Limits). l .table) (c .before .before .large .ensures))))
+returns-2 c =
+    rw (
+      le-leb 18430 (c .before .before .before .args .a) (omega (
+        arith,
+        c .before .if1 .left,
+        ap (λ (l : Limits). l .table) (c .before
+            .before .large .ensures),
+      )),
+      lt-leb 18430 (c .before .before .before .args .b) (omega (arith, c .if2 .taken, ap (λ (l : Limits). l .table) (c .before .before .large .ensures))),
+    )
 
 returns-3 : tie.Need-returns-3
-returns-3 c = rw (le-leb 18430 (c .before .before .before .before .args .a) (omega (arith, c .before .before .if1 .left, ap (λ (l : Limits). l .table) (c .before .before .before .large .ensures))), le-leb 18430 (c .before .before .before .before .args .b) (omega (arith, c .before .if2 .left, ap (λ (l : Limits). l .table) (c .before .before .before .large .ensures))), lt-leb 18430 (c .before .before .before .before .args .c) (omega (arith, c .if3 .taken, ap (λ (l : Limits). l .table) (c .before .before .before .large .ensures))))
+returns-3 c =
+    let s = c .before .before .before .before .args in
+    rw (
+      le-leb 18430 (s .a) (omega (arith, c .before .before .if1 .left, ap (λ (l : Limits). l .table) (c .before .before .before .large .ensures))),
+      le-leb 18430 (s .b) (omega (arith, c .before .if2 .left, ap (λ (l : Limits). l .table) (c .before .before .before .large .ensures))),
+      lt-leb 18430 (s .c) (omega (arith, c .if3 .taken, ap (λ (l : Limits). l .table) (c .before .before .before .large .ensures))),
+    )
 
 returns-4 : tie.Need-returns-4
-returns-4 c = rw (le-leb 18430 (c .before .before .before .before .before .args .a) (omega (arith, c .before .before .before .if1 .left, ap (λ (l : Limits). l .table) (c .before .before .before .before .large .ensures))), le-leb 18430 (c .before .before .before .before .before .args .b) (omega (arith, c .before .before .if2 .left, ap (λ (l : Limits). l .table) (c .before .before .before .before .large .ensures))), le-leb 18430 (c .before .before .before .before .before .args .c) (omega (arith, c .before .if3 .left, ap (λ (l : Limits). l .table) (c .before .before .before .before .large .ensures))), lt-leb 18430 (c .before .before .before .before .before .args .d) (omega (arith, c .if4 .taken, ap (λ (l : Limits). l .table) (c .before .before .before .before .large .ensures))))
+returns-4 c =
+    let at-large = c .before .before .before .before in
+    let s = at-large .before .args in
+    rw (
+      le-leb 18430 (s .a) (omega (arith, c .before .before .before .if1 .left, ap (λ (l : Limits). l .table) (at-large .large .ensures))),
+      le-leb 18430 (s .b) (omega (arith, c .before .before .if2 .left, ap (λ (l : Limits). l .table) (at-large .large .ensures))),
+      le-leb 18430 (s .c) (omega (arith, c .before .if3 .left, ap (λ (l : Limits). l .table) (at-large .large .ensures))),
+      lt-leb 18430 (s .d) (omega (arith, c .if4 .taken, ap (λ (l : Limits). l .table) (at-large .large .ensures))),
+    )
 
 returns-5 : tie.Need-returns-5
-returns-5 c = rw (le-leb 18430 (c .before .before .before .before .before .args .a) (omega (arith, c .before .before .before .if1 .left, ap (λ (l : Limits). l .table) (c .before .before .before .before .large .ensures))), le-leb 18430 (c .before .before .before .before .before .args .b) (omega (arith, c .before .before .if2 .left, ap (λ (l : Limits). l .table) (c .before .before .before .before .large .ensures))), le-leb 18430 (c .before .before .before .before .before .args .c) (omega (arith, c .before .if3 .left, ap (λ (l : Limits). l .table) (c .before .before .before .before .large .ensures))), le-leb 18430 (c .before .before .before .before .before .args .d) (omega (arith, c .if4 .left, ap (λ (l : Limits). l .table) (c .before .before .before .before .large .ensures))))
+returns-5 c =
+    let at-large = c .before .before .before .before in
+    let s = at-large .before .args in
+    rw (
+      le-leb 18430 (s .a) (omega (arith, c .before .before .before .if1 .left, ap (λ (l : Limits). l .table) (at-large .large .ensures))),
+      le-leb 18430 (s .b) (omega (arith, c .before .before .if2 .left, ap (λ (l : Limits). l .table) (at-large .large .ensures))),
+      le-leb 18430 (s .c) (omega (arith, c .before .if3 .left, ap (λ (l : Limits). l .table) (at-large .large .ensures))),
+      le-leb 18430 (s .d) (omega (arith, c .if4 .left, ap (λ (l : Limits). l .table) (at-large .large .ensures))),
+    )
 
 pub tables-long-spec : {M : Type 1} → statement M
 tables-long-spec =
