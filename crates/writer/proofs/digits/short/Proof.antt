@@ -31,7 +31,9 @@ same-length-2 : tie.Need-same-length-2
 same-length-2 c = search needs
 
 returns-2 : tie.Need-returns-2
-returns-2 c = wrote-as (sym (decimal-two _ (c .before .before .before .before .before .if1 .left) (c .before .before .before .before .if2 .taken))) (c .before .before .pair .ensures)
+returns-2 c =
+    wrote-as (sym (decimal-two _ (c .before .before .before .before .before .if1 .left) (c .before .before .before .before .if2 .taken)))
+    (c .before .before .pair .ensures)
 
 cast-one-2 : tie.Need-cast-one-2
 cast-one-2 c = search needs
@@ -54,8 +56,12 @@ same-length-3 c = search needs
 returns-3 : tie.Need-returns-3
 returns-3 c =
     wrote-as
-    (sym (decimal-three _ (c .before .before .before .before .before .before .before .before .if2 .left) (c .before .before .before .before .before .before .before .before .before .before .before .pre .0)))
-    (wrote-then (c .before .before .before .before .before .before .one2 .ensures) (wrote-as (two-rest (c .before .before .before .before .before .before .before .before .before .before .before .args .n)) (c .before .before .pair2 .ensures)))
+    (sym
+    (decimal-three _ (c .before .before .before .before .before .before .before .before .if2 .left)
+    (c .before .before .before .before .before .before .before .before .before .before .before .pre .0)))
+    (wrote-then (c .before .before .before .before .before .before .one2 .ensures)
+    (wrote-as (two-rest (c .before .before .before .before .before .before .before .before .before .before .before .args .n))
+    (c .before .before .pair2 .ensures)))
 
 pub short-spec : {M : Type 1} → statement M
 short-spec =
