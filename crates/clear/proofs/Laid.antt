@@ -18,13 +18,15 @@ module _ {A : Type 0} where
   pub laid-none : (z : A) (s d : List A) → Laid z s d d 0
   laid-none z s d = record { passed = omega arith; long = refl; list = refl }
 
-  laid-suc : (z : A) (s d : List A) (i : ℕ) → i < length s → i < length d → set (take i s ++ drop i d) i (getD s i z) ≡ take (suc i) s ++ drop (suc i) d
+  laid-suc : (z : A) (s d : List A) (i : ℕ) → i < length s → i < length d
+      → set (take i s ++ drop i d) i (getD s i z) ≡ take (suc i) s ++ drop (suc i) d
   laid-suc z [] d i h k = absurd (not-suc-le-zero h)
   laid-suc z (x ∷ xs) [] i h k = absurd (not-suc-le-zero k)
   laid-suc z (x ∷ xs) (y ∷ ys) zero h k = refl
   laid-suc z (x ∷ xs) (y ∷ ys) (suc i) h k = ap (λ (l : List A). x ∷ l) (laid-suc z xs ys i (le-of-suc-le-suc h) (le-of-suc-le-suc k))
 
-  pub laid-more : {z : A} {s d₀ d : List A} {i : ℕ} (v : A) → Laid z s d₀ d i → i < length s → i < length d → v ≡ getD s i z → Laid z s d₀ (set d i v) (i + 1)
+  pub laid-more : {z : A} {s d₀ d : List A} {i : ℕ} (v : A) → Laid z s d₀ d i → i < length s → i < length d → v ≡ getD s i z
+      → Laid z s d₀ (set d i v) (i + 1)
   laid-more {z} {s} {d₀} {d} {i} v f h k e = record {
     passed = omega arith;
     long = length-set d i v ∙ f .long;

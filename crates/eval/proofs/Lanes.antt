@@ -22,7 +22,8 @@ module _ (op f : ℕ → ℕ → ℕ) (g : Bool → Bool → Bool)
       let x = a % 2 in
       let y = b % 2 in
       let row = below-at 2 (λ x. below 2 (λ y. ltb (f x y) 2 && same (eqb (f x y) 1) (g (eqb x 1) (eqb y 1)))) agree x (omega arith) in
-      let p = both (ltb (f x y) 2) (same (eqb (f x y) 1) (g (eqb x 1) (eqb y 1))) (below-at 2 (λ y. ltb (f x y) 2 && same (eqb (f x y) 1) (g (eqb x 1) (eqb y 1))) row y (omega arith)) in
+      let p = both (ltb (f x y) 2) (same (eqb (f x y) 1) (g (eqb x 1) (eqb y 1)))
+      (below-at 2 (λ y. ltb (f x y) 2 && same (eqb (f x y) 1) (g (eqb x 1) (eqb y 1))) row y (omega arith)) in
       (ltb→lt (f x y) 2 (p .0), same-eq (eqb (f x y) 1) (g (eqb x 1) (eqb y 1)) (p .1))
 
   lane-op : (j a b : ℕ) → lane j (op a b) ≡ g (lane j a) (lane j b)

@@ -32,19 +32,21 @@ lanes-bits [] = refl
 lanes-bits (b ∷ bs) = ap₂ (λ (x : Bool) (l : List Bool). x ∷ l) (lane-bit b) (lanes-bits bs)
 
 -- the words behind the inputs are set to zero, and the gates run
-module _ (t : Tables) (n ins : ℕ) (ws zs us : List ℕ) (room : ins ≤ length ws) (cleared : zs ≡ replicate (length (midOf ins (length ws - ins) ws)) 0) where
-  start : putMid ins (length ws - ins) ws zs ≡ take ins ws ++ replicate (length ws - ins) 0
-  start =
-      let e : drop (length ws) ws ≡ [] = drop-of-length-le ws {i = length ws} (omega arith) in
-      let m = mid-len ins (length ws) ws (omega arith) in
-      ap₂ (λ (z r : List ℕ). take ins ws ++ (z ++ r)) (cleared ∙ ap (λ (k : ℕ). replicate k 0) m) (post-is ins (length ws) ws room ∙ e)
-      ∙ ap (λ (z : List ℕ). take ins ws ++ z) (append-nil (replicate (length ws - ins) 0))
+module _ (t : Tables) (n ins : ℕ) (ws zs us : List ℕ) (room : ins ≤ length ws) (cleared : zs ≡ replicate (length (midOf ins (length ws - ins) ws)) 0)
+  where
+    start : putMid ins (length ws - ins) ws zs ≡ take ins ws ++ replicate (length ws - ins) 0
+    start =
+        let e : drop (length ws) ws ≡ [] = drop-of-length-le ws {i = length ws} (omega arith) in
+        let m = mid-len ins (length ws) ws (omega arith) in
+        ap₂ (λ (z r : List ℕ). take ins ws ++ (z ++ r)) (cleared ∙ ap (λ (k : ℕ). replicate k 0) m) (post-is ins (length ws) ws room ∙ e)
+        ∙ ap (λ (z : List ℕ). take ins ws ++ z) (append-nil (replicate (length ws - ins) 0))
 
-  pub wires-law : (j : ℕ) → lanes j us ≡ runGates (lanes j (putMid ins (length ws - ins) ws zs)) (gatesOf t n) → lanes j us ≡ wireBits (bare t n (length ws)) (lanes j (take ins ws))
-  unfolding wireBits
-  wires-law j ran =
-      let long : length (lanes j (take ins ws)) ≡ ins = length-map (take ins ws) (lane j) ∙ length-take-le ins ws room in
-      rw long (ran ∙ ap (λ (v : List Bool). runGates v (gatesOf t n)) (ap (lanes j) start ∙ lanes-zeros j (take ins ws) (length ws - ins)))
+    pub wires-law : (j : ℕ) → lanes j us ≡ runGates (lanes j (putMid ins (length ws - ins) ws zs)) (gatesOf t n)
+        → lanes j us ≡ wireBits (bare t n (length ws)) (lanes j (take ins ws))
+    unfolding wireBits
+    wires-law j ran =
+        let long : length (lanes j (take ins ws)) ≡ ins = length-map (take ins ws) (lane j) ∙ length-take-le ins ws room in
+        rw long (ran ∙ ap (λ (v : List Bool). runGates v (gatesOf t n)) (ap (lanes j) start ∙ lanes-zeros j (take ins ws) (length ws - ins)))
 
 -- the header of a netlist does not matter to its wires
 pub bare-wires : {t : Tables} {m W n o : ℕ} {N : Netlist} → Holds t m W n o N → (x : List Bool) → wireBits (bare t m W) x ≡ wireBits N x
@@ -61,18 +63,22 @@ module _ (ws list laid us : List ℕ) {t : Tables} {n m o : ℕ} {N : Netlist} (
   last-long : length (last o us) ≡ o
   last-long = mid-len (length us - o) (length us) us (omega arith) ∙ omega arith
 
-  outputs-law : (j : ℕ) → lanes j us ≡ wireBits (bare t n (length laid)) (lanes j (take (length list) laid)) → lanes j (last o us) ≡ outputsOf N (lanes j list)
+  outputs-law : (j : ℕ) → lanes j us ≡ wireBits (bare t n (length laid)) (lanes j (take (length list) laid))
+      → lanes j (last o us) ≡ outputsOf N (lanes j list)
   unfolding outputsOf
   outputs-law j ran =
       let l = length-drop (length us - o) us in
       let whole : last o us ≡ drop (length us - o) us = take-all (length us - (length us - o)) (drop (length us - o) us) (omega arith) in
       let in-all : wireBits (bare t n (length laid)) (lanes j (take (length list) laid)) ≡ wireBits (bare t n (length ws)) (lanes j list) =
-      ap₂ (λ (k : ℕ) (x : List ℕ). wireBits (bare t n k) (lanes j x)) (ap length front ∙ length-sets ws 0 list) (ap (take (length list)) front ∙ take-front list ws fits) in
+      ap₂ (λ (k : ℕ) (x : List ℕ). wireBits (bare t n k) (lanes j x)) (ap length front ∙ length-sets ws 0 list)
+      (ap (take (length list)) front ∙ take-front list ws fits) in
       let out : drop (length ws - o) (wireBits N (lanes j list)) ≡ outputsOf N (lanes j list) = rw (h .wires, h .outs) in
-      ap (lanes j) whole ∙ lanes-drop j (length us - o) us ∙ ap₂ (λ (k : ℕ) (v : List Bool). drop (k - o) v) long (ran ∙ in-all ∙ bare-wires h (lanes j list)) ∙ out
+      ap (lanes j) whole ∙ lanes-drop j (length us - o) us
+      ∙ ap₂ (λ (k : ℕ) (v : List Bool). drop (k - o) v) long (ran ∙ in-all ∙ bare-wires h (lanes j list)) ∙ out
 
   -- sixty-four runs
-  pub wide-law : (out₀ out : List ℕ) → o ≤ length out₀ → ((j : ℕ) → j < 64 → lanes j us ≡ wireBits (bare t n (length laid)) (lanes j (take (length list) laid)))
+  pub wide-law : (out₀ out : List ℕ) → o ≤ length out₀
+      → ((j : ℕ) → j < 64 → lanes j us ≡ wireBits (bare t n (length laid)) (lanes j (take (length list) laid)))
       → out ≡ sets out₀ 0 (last o us) → Runs N list out₀ out
   wide-law out₀ out space ran e =
       let k : outputBits N ≡ length (last o us) = h .outs ∙ sym last-long in

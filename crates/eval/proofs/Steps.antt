@@ -71,7 +71,8 @@ ran-more {t} {n} {ws₀} {ws} {i} us r l k h = record {
       ∙ sym (run-more (lanes j ws₀) (gatesOf t i) (gateAt t i)) ∙ ap (runGates (lanes j ws₀)) (sym (gates-more t i));
 }
 
-pub ran-all : {t : Tables} {n : ℕ} {ws₀ ws : List ℕ} {i : ℕ} → Ran t n ws₀ ws i → n ≤ i → (j : ℕ) → j < 64 → lanes j ws ≡ runGates (lanes j ws₀) (gatesOf t n)
+pub ran-all : {t : Tables} {n : ℕ} {ws₀ ws : List ℕ} {i : ℕ} → Ran t n ws₀ ws i → n ≤ i → (j : ℕ) → j < 64
+    → lanes j ws ≡ runGates (lanes j ws₀) (gatesOf t n)
 ran-all {t} {n} {ws₀} {ws} {i} r l j m =
     let e : i ≡ n = omega (arith, r .passed) in
     r .same j m ∙ ap (λ (k : ℕ). runGates (lanes j ws₀) (gatesOf t k)) e
@@ -88,5 +89,6 @@ module _ {t : Tables} {n : ℕ} {ws₀ ws : List ℕ} {i : ℕ} {p : Parts} (a :
       let k = w .each i (a .inside) in
       rw (a .parts, a .ran .long) (record { kind = k .kind; left = k .left; right = k .right; result = k .result })
 
-  pub ahead-step : (us : List ℕ) → length us ≡ length ws → ((j : ℕ) → j < 64 → lanes j us ≡ runGates (lanes j ws) (gateBy p ∷ [])) → Ran t n ws₀ us (i + 1)
+  pub ahead-step : (us : List ℕ) → length us ≡ length ws → ((j : ℕ) → j < 64 → lanes j us ≡ runGates (lanes j ws) (gateBy p ∷ []))
+      → Ran t n ws₀ us (i + 1)
   ahead-step us k h = ran-more us (a .ran) (a .inside) k (λ j l. h j l ∙ ap (λ (q : Parts). runGates (lanes j ws) (gateBy q ∷ [])) (a .parts))

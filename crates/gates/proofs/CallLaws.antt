@@ -49,7 +49,8 @@ calling-start t from k =
 module _ {t : List ℕ} {from k at i : ℕ} (c : Calling t from k at i) where
   -- the lines behind a step
   behind : (r : Step) → StepIs t at r → Behind t (wordLines (drop from t)) (i + 1) r
-  behind (S.On g to) s = (s .lines ∙ gate-onward g (wordLines (drop at t)) (s .said) ∙ ap (drop 1) (c .lines) ∙ drop-drop 1 i (wordLines (drop from t)), s .passed .1)
+  behind (S.On g to) s =
+      (s .lines ∙ gate-onward g (wordLines (drop at t)) (s .said) ∙ ap (drop 1) (c .lines) ∙ drop-drop 1 i (wordLines (drop from t)), s .passed .1)
   behind S.End s = tt
   behind (S.Refused q) s = tt
 
@@ -110,11 +111,13 @@ reader-is {t} {k} p b = record {
 
 module _ {t ins ins′ outs outs′ : List ℕ} where
   -- the reader of an opened text begins at its place
-  opened-says : {h : HeaderNumbers} {at : ℕ} (k : ℕ) → OpeningIs t ins ins′ outs outs′ (O.At h at) → callSays k (wordLines (drop at t)) ≡ readerSays t k
+  opened-says : {h : HeaderNumbers} {at : ℕ} (k : ℕ) → OpeningIs t ins ins′ outs outs′ (O.At h at)
+      → callSays k (wordLines (drop at t)) ≡ readerSays t k
   unfolding readerSays
   opened-says {h} k o = ap (callSays k) (o .place .0) ∙ go (opening large t) (o .said)
     where
-      go : (x : Outcome Header) → done h ≡ (andThen x λ H. done (numbersOf H)) → callSays k (drop 3 (wordLines t)) ≡ afterOpening x (callSays k (drop 3 (wordLines t)))
+      go : (x : Outcome Header) → done h ≡ (andThen x λ H. done (numbersOf H))
+          → callSays k (drop 3 (wordLines t)) ≡ afterOpening x (callSays k (drop 3 (wordLines t)))
       go (refused p) e = let z : _≡_ {A = ℕ} 0 1 = cc in absurd (omega arith)
       go (done H) e = refl
 
@@ -152,5 +155,6 @@ calls-of t (suc k) at step a =
     ∙ ap (callSays k) (ap (λ (x : ℕ). wordLines (drop x t)) (a .moves 0) ∙ a .says 0 .lines)
 
 -- from an opened place on they are the reader's answers
-pub reader-calls : {t ins ins′ outs outs′ : List ℕ} {h : HeaderNumbers} (at : ℕ → ℕ) (step : ℕ → Step) → OpeningIs t ins ins′ outs outs′ (O.At h (at 0)) → Asked t at step → (k : ℕ) → stepSaid (step k) ≡ readerSays t k
+pub reader-calls : {t ins ins′ outs outs′ : List ℕ} {h : HeaderNumbers} (at : ℕ → ℕ) (step : ℕ → Step)
+    → OpeningIs t ins ins′ outs outs′ (O.At h (at 0)) → Asked t at step → (k : ℕ) → stepSaid (step k) ≡ readerSays t k
 reader-calls {t} at step o a k = calls-of t k at step a ∙ opened-says k o

@@ -31,22 +31,24 @@ pub record Copying (ws before table : List ℕ) (i : ℕ) : Type 0 where
 pub copying-start : (ws table : List ℕ) → Copying ws table table 0
 copying-start ws table = record { left = refl; size = refl }
 
-module _ (widths : List ℕ) (count : ℕ) (fits : count ≤ length widths) {before table : List ℕ} {i : ℕ} (k : Copying (take count widths) before table i) where
-  pub copying-on : {after : List ℕ} → i < count → after ≡ set table i (getD widths i 0) → Copying (take count widths) before after (i + 1)
-  copying-on {after} h e =
-      let ws = take count widths in
-      let n : length ws ≡ count = length-take-le count widths fits in
-      let d : drop i ws ≡ getD widths i 0 ∷ drop (suc i) ws = drop-cons ws i 0 (omega arith) ∙ ap (λ (w : ℕ). w ∷ drop (suc i) ws) (getD-take count widths i 0 h) in
-      record {
-        left = rw add-one (ap (λ (x : List ℕ). sets x (suc i) (drop (suc i) ws)) e ∙ sym (ap (sets table i) d) ∙ k .left);
-        size = ap length e ∙ length-set table i (getD widths i 0) ∙ k .size;
-      }
+module _ (widths : List ℕ) (count : ℕ) (fits : count ≤ length widths) {before table : List ℕ} {i : ℕ} (k : Copying (take count widths) before table i)
+  where
+    pub copying-on : {after : List ℕ} → i < count → after ≡ set table i (getD widths i 0) → Copying (take count widths) before after (i + 1)
+    copying-on {after} h e =
+        let ws = take count widths in
+        let n : length ws ≡ count = length-take-le count widths fits in
+        let d : drop i ws ≡ getD widths i 0 ∷ drop (suc i) ws
+        = drop-cons ws i 0 (omega arith) ∙ ap (λ (w : ℕ). w ∷ drop (suc i) ws) (getD-take count widths i 0 h) in
+        record {
+          left = rw add-one (ap (λ (x : List ℕ). sets x (suc i) (drop (suc i) ws)) e ∙ sym (ap (sets table i) d) ∙ k .left);
+          size = ap length e ∙ length-set table i (getD widths i 0) ∙ k .size;
+        }
 
-  pub copying-end : count ≤ i → table ≡ sets before 0 (take count widths)
-  copying-end h =
-      let ws = take count widths in
-      let n : length ws ≡ count = length-take-le count widths fits in
-      sym (ap (sets table i) (drop-of-length-le ws {i = i} (omega arith))) ∙ k .left
+    pub copying-end : count ≤ i → table ≡ sets before 0 (take count widths)
+    copying-end h =
+        let ws = take count widths in
+        let n : length ws ≡ count = length-take-le count widths fits in
+        sym (ap (sets table i) (drop-of-length-le ws {i = i} (omega arith))) ∙ k .left
 
 -- ---- the answer
 
@@ -55,7 +57,15 @@ pub head-large : {L : Limits} (t ws vs : List ℕ) {r s : Head} → L ≡ large 
 head-large t ws vs {r} e p h = subst (HeadIs large t ws vs) p (subst (λ (L : Limits). HeadIs L t ws vs r) e h)
 
 numbers-same : {t ws vs : List ℕ} {h : HeaderNumbers} {to : ℕ} (a : HeaderAt t ws vs h to) → h ≡ numbersOf (a .is)
-numbers-same a = λ i. record { gates = sym (a .gates) i; wires = sym (a .wires) i; inputs = sym (a .inputs) i; ins = sym (a .inputBits) i; outputs = sym (a .outputs) i; outs = sym (a .outputBits) i }
+numbers-same a =
+    λ i. record {
+      gates = sym (a .gates) i;
+      wires = sym (a .wires) i;
+      inputs = sym (a .inputs) i;
+      ins = sym (a .inputBits) i;
+      outputs = sym (a .outputs) i;
+      outs = sym (a .outputBits) i;
+    }
 
 -- a question gets a no, and nothing is written
 refuses : {t ins outs : List ℕ} {q : ℕ} → opening large t ≡ refused q → OpeningIs t ins ins outs outs (O.Refused q)

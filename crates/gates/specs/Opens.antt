@@ -16,7 +16,14 @@ use Rattle.gates.specs.declared.opening.Opening.the-variants as O
 
 -- a header's numbers: the gate count, W, and of the values in and out how many there are and their bits
 abbrev pub numbersOf : Header → HeaderNumbers
-numbersOf H = record { gates = H .count; wires = H .wires; inputs = length (H .inputs); ins = sum (H .inputs); outputs = length (H .outputs); outs = sum (H .outputs) }
+numbersOf H = record {
+  gates = H .count;
+  wires = H .wires;
+  inputs = length (H .inputs);
+  ins = sum (H .inputs);
+  outputs = length (H .outputs);
+  outs = sum (H .outputs);
+}
 
 -- what an answer stands for
 abbrev pub openingSaid : Opening → Outcome HeaderNumbers

@@ -27,7 +27,8 @@ use Rattle.leak.proofs.Bases.{secret-leak}
 use Rattle.leak.proofs.Spots.{spot-same}
 
 -- a count is that of the netlist that the tables hold
-count-bare : {t : Tables} {m W n o : ℕ} {N : Netlist} → Holds t m W n o N → (codes : List ℕ) (w : ℕ) (x : List Bool) → count (bare t m W) codes w x ≡ count N codes w x
+count-bare : {t : Tables} {m W n o : ℕ} {N : Netlist} → Holds t m W n o N → (codes : List ℕ) (w : ℕ) (x : List Bool)
+    → count (bare t m W) codes w x ≡ count N codes w x
 unfolding count
 count-bare h codes w x = simp (bare-wires h)
 
@@ -44,7 +45,9 @@ module _ {t : Tables} {m W n o : ℕ} {N : Netlist} (h : Holds t m W n o N) (cod
   round whole w s = ap (λ (x : List Bool). count N codes w (part whole codes x)) (setting-mod (length codes) s)
 
   spot : Spotted f g W S p
-  spot = spot-same (λ w s l. count-bare h codes w (part false codes (setting (length codes) s))) (λ w s l. count-bare h codes w (part true codes (setting (length codes) s))) spotted
+  spot =
+      spot-same (λ w s l. count-bare h codes w (part false codes (setting (length codes) s)))
+      (λ w s l. count-bare h codes w (part true codes (setting (length codes) s))) spotted
 
   -- so the first that differs is one of them
   inside : p .wire < W → p .at < 2 ^ length codes
@@ -59,7 +62,8 @@ module _ {t : Tables} {m W n o : ℕ} {N : Netlist} (h : Holds t m W n o N) (cod
   tells : (v : Verdict) → Searched f g (2 ^ length codes) W (foundOf v) → Tells N codes v
   unfolding publicLeak
   tells v s =
-      let e : foundOf v ≡ publicLeak N codes = search-is f g (2 ^ length codes) W (foundOf v) s ∙ ap (λ (k : ℕ). firstWire f g (2 ^ length codes) k 0) (sym (h .wires)) in
+      let e : foundOf v ≡ publicLeak N codes
+      = search-is f g (2 ^ length codes) W (foundOf v) s ∙ ap (λ (k : ℕ). firstWire f g (2 ^ length codes) k 0) (sym (h .wires)) in
       record { public = e; secret = λ k. e ∙ secret-leak N codes k }
 
   pub tells-leak : p .wire < W → Tells N codes (Leak (p .wire) (p .at) (p .base) (p .own))

@@ -30,7 +30,8 @@ base-zero (e ∷ es) s h =
     (base-zero es (s / 2) (λ i l. h (suc i) (omega arith)))
 
 -- the same counts held in another way
-pub counted-same : {N : Netlist} {whole : Bool} {codes : List ℕ} {own held : ℕ → ℕ → ℕ} {block : ℕ} → Counted N whole codes own block → ((w s : ℕ) → s < 16 → held w s ≡ own w s) → Counted N whole codes held block
+pub counted-same : {N : Netlist} {whole : Bool} {codes : List ℕ} {own held : ℕ → ℕ → ℕ} {block : ℕ} → Counted N whole codes own block
+    → ((w s : ℕ) → s < 16 → held w s ≡ own w s) → Counted N whole codes held block
 counted-same c h = record { each = λ w s l. h w s l ∙ c .each w s l }
 
 module _ (N : Netlist) (codes : List ℕ) (secret : Secret codes) where
@@ -44,7 +45,8 @@ module _ (N : Netlist) (codes : List ℕ) (secret : Secret codes) where
   }
 
   -- those of the first setting
-  pub first-base : {own held : ℕ → ℕ → ℕ} {b : ℕ} (block : ℕ) → b ≡ 0 → Counted N true codes own b → ((w s : ℕ) → s < 16 → held w s ≡ own w 0) → Counted N false codes held block
+  pub first-base : {own held : ℕ → ℕ → ℕ} {b : ℕ} (block : ℕ) → b ≡ 0 → Counted N true codes own b → ((w s : ℕ) → s < 16 → held w s ≡ own w 0)
+      → Counted N false codes held block
   first-base block e c h = record {
     each = λ w s l. h w s l ∙ c .each w 0 (omega arith) ∙ ap (λ (b : ℕ). countIn N true codes w (b * 16 + 0)) e ∙ sym (base-count w (block * 16 + s));
   }

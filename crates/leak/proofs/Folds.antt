@@ -24,12 +24,14 @@ module _ (k : ℕ) where
   lowers-step : (n w : ℕ) → bitAnd w (lowers k (suc n)) ≡ bitAnd (w / 2 ^ (k + k)) (lowers k n) * 2 ^ (k + k) + w % 2 ^ k
   lowers-step n w =
       ap (λ (x : ℕ). bitAnd x (lowers k (suc n))) (sym (split w (k + k)))
-      ∙ and-block (k + k) (w / 2 ^ (k + k)) (lowers k n) (w % 2 ^ (k + k)) (2 ^ k - 1) (mod-lt w (pow-pos (k + k))) (lt-of-lt-of-le (ones-lt k) (pow-mono (omega arith)))
+      ∙ and-block (k + k) (w / 2 ^ (k + k)) (lowers k n) (w % 2 ^ (k + k)) (2 ^ k - 1) (mod-lt w (pow-pos (k + k)))
+      (lt-of-lt-of-le (ones-lt k) (pow-mono (omega arith)))
       ∙ ap (λ (x : ℕ). bitAnd (w / 2 ^ (k + k)) (lowers k n) * 2 ^ (k + k) + x) (and-mask (w % 2 ^ (k + k)) k ∙ mod-mod-pow w k k)
 
   fold-step : (n w : ℕ) → fold k (suc n) w ≡ fold k n (w / 2 ^ (k + k)) * 2 ^ (k + k) + (w % 2 ^ k + w / 2 ^ k % 2 ^ k)
   fold-step n w =
-      let e : w / 2 ^ k / 2 ^ (k + k) ≡ w / 2 ^ (k + k) / 2 ^ k = shr-shr w k (k + k) ∙ ap (λ (m : ℕ). w / 2 ^ m) (add-comm k (k + k)) ∙ sym (shr-shr w (k + k) k) in
+      let e : w / 2 ^ k / 2 ^ (k + k) ≡ w / 2 ^ (k + k) / 2 ^ k
+      = shr-shr w k (k + k) ∙ ap (λ (m : ℕ). w / 2 ^ m) (add-comm k (k + k)) ∙ sym (shr-shr w (k + k) k) in
       let a = bitAnd (w / 2 ^ (k + k)) (lowers k n) in
       let b = bitAnd (w / 2 ^ (k + k) / 2 ^ k) (lowers k n) in
       let d = add-mul a b (2 ^ (k + k)) in
@@ -55,7 +57,8 @@ module _ (k : ℕ) where
       ap (λ (x : ℕ). x % 2 ^ (k + k))
       (shift-more (fold k (suc n) w) s
       ∙ ap (λ (x : ℕ). x / 2 ^ ((k + k) * s))
-      (ap (λ (x : ℕ). x / 2 ^ (k + k)) (fold-step n w) ∙ high (fold k n (w / 2 ^ (k + k))) (k + k) (fits (w % 2 ^ k) (w / 2 ^ k % 2 ^ k) (mod-lt w (pow-pos k)) (mod-lt (w / 2 ^ k) (pow-pos k)))))
+      (ap (λ (x : ℕ). x / 2 ^ (k + k)) (fold-step n w)
+      ∙ high (fold k n (w / 2 ^ (k + k))) (k + k) (fits (w % 2 ^ k) (w / 2 ^ k % 2 ^ k) (mod-lt w (pow-pos k)) (mod-lt (w / 2 ^ k) (pow-pos k)))))
       ∙ fold-field fits n (w / 2 ^ (k + k)) s (omega arith)
       ∙ ap (λ (x : ℕ). x % 2 ^ k + x / 2 ^ k % 2 ^ k) (sym (shift-more w s))
 
@@ -93,5 +96,6 @@ module _ (w s : ℕ) (l : s < 16) where
       let d = add-assoc (bit (lane (4 * s) w) + bit (lane (4 * s + 1) w)) (bit (lane (4 * s + 2) w)) (bit (lane (4 * s + 3) w)) in
       fold-field 2 nibbles-lt 16 (fold 1 32 w) s l
       ∙ ap₂ _+_ (two (4 * s) (omega arith) (omega arith))
-      (ap (λ (x : ℕ). x % 4) (shr-shr (fold 1 32 w) (4 * s) 2) ∙ two (4 * s + 2) (omega arith) (omega arith) ∙ ap (λ (j : ℕ). bit (lane (4 * s + 2) w) + bit (lane j w)) e)
+      (ap (λ (x : ℕ). x % 4) (shr-shr (fold 1 32 w) (4 * s) 2) ∙ two (4 * s + 2) (omega arith) (omega arith)
+      ∙ ap (λ (j : ℕ). bit (lane (4 * s + 2) w) + bit (lane j w)) e)
       ∙ sym d

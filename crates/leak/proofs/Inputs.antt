@@ -34,7 +34,8 @@ base-at (e ∷ es) (b ∷ x) zero l = refl
 base-at (e ∷ es) [] (suc i) l = base-at es [] i (le-of-suc-le-suc l)
 base-at (e ∷ es) (b ∷ x) (suc i) l = base-at es x i (le-of-suc-le-suc l)
 
-part-at : (whole : Bool) (codes : List ℕ) (s i : ℕ) → i < length codes → getD (part whole codes (setting (length codes) s)) i false ≡ kept whole (getD codes i 0) (lane i s)
+part-at : (whole : Bool) (codes : List ℕ) (s i : ℕ) → i < length codes
+    → getD (part whole codes (setting (length codes) s)) i false ≡ kept whole (getD codes i 0) (lane i s)
 part-at true codes s i l = setting-at (length codes) s i l
 part-at false codes s i l = base-at codes (setting (length codes) s) i l ∙ ap (kept false (getD codes i 0)) (setting-at (length codes) s i l)
 
@@ -44,7 +45,8 @@ module _ (m0 m1 : Bool) where
   masked-long (e ∷ es) [] = let p = masked-long es [] in omega arith
   masked-long (e ∷ es) (b ∷ x) = let p = masked-long es x in omega arith
 
-  masked-at : (es : List ℕ) (x : List Bool) (i : ℕ) → i < length es → getD (masked m0 m1 es x) i false ≡ differs (getD x i false) (maskOf m0 m1 (getD es i 0))
+  masked-at : (es : List ℕ) (x : List Bool) (i : ℕ) → i < length es
+      → getD (masked m0 m1 es x) i false ≡ differs (getD x i false) (maskOf m0 m1 (getD es i 0))
   masked-at [] x i l = absurd (not-suc-le-zero l)
   masked-at (e ∷ es) [] zero l = refl
   masked-at (e ∷ es) (b ∷ x) zero l = refl
@@ -68,7 +70,8 @@ module _ (whole : Bool) (codes : List ℕ) (n : ℕ) where
   pub inputs-long : length (inputsAt whole codes n) ≡ length codes + 2
   inputs-long = masked-long (lane 0 n) (lane 1 n) codes x
 
-  pub inputs-at : (i : ℕ) → i < length codes → getD (inputsAt whole codes n) i false ≡ differs (kept whole (getD codes i 0) (lane i (n / 4))) (maskOf (lane 0 n) (lane 1 n) (getD codes i 0))
+  pub inputs-at : (i : ℕ) → i < length codes
+      → getD (inputsAt whole codes n) i false ≡ differs (kept whole (getD codes i 0) (lane i (n / 4))) (maskOf (lane 0 n) (lane 1 n) (getD codes i 0))
   inputs-at i l =
       masked-at (lane 0 n) (lane 1 n) codes x i l
       ∙ ap (λ (b : Bool). differs b (maskOf (lane 0 n) (lane 1 n) (getD codes i 0))) (part-at whole codes (n / 4) i l)

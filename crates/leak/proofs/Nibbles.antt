@@ -127,6 +127,7 @@ module _ (d : ℕ) (fits : d < 2 ^ 64) (some : d ≢ 0) where
             let e : (t - (4 + 4 * s)) + (4 + 4 * s) ≡ t = omega arith in
             sym (field d 4 (4 * s))
             ∙ ap (λ (x : ℕ). x / 2 ^ (4 * s))
-            (sym (mod-mod-pow d (t - (4 + 4 * s)) (4 + 4 * s)) ∙ ap (λ (m : ℕ). d % 2 ^ m % 2 ^ (4 + 4 * s)) e ∙ ap (λ (x : ℕ). x % 2 ^ (4 + 4 * s)) (zeros-below 64 d) ∙ zero-mod (2 ^ (4 + 4 * s)))
+            (sym (mod-mod-pow d (t - (4 + 4 * s)) (4 + 4 * s)) ∙ ap (λ (m : ℕ). d % 2 ^ m % 2 ^ (4 + 4 * s)) e
+            ∙ ap (λ (x : ℕ). x % 2 ^ (4 + 4 * s)) (zeros-below 64 d) ∙ zero-mod (2 ^ (4 + 4 * s)))
             ∙ zero-div (2 ^ (4 * s)),
       )

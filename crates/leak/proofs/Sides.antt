@@ -37,6 +37,7 @@ module _ (N : Netlist) (whole : Bool) (codes : List ℕ) (block : ℕ) (us : Lis
     each = λ w s l.
         let z : 4 * s ≡ 4 * s + 0 = omega arith in
         ap₂ _+_
-        (ap₂ _+_ (ap₂ _+_ (ap (λ (j : ℕ). bit (lane j (getD us w 0))) z ∙ one w s 0 l (omega arith)) (one w s 1 l (omega arith))) (one w s 2 l (omega arith)))
+        (ap₂ _+_ (ap₂ _+_ (ap (λ (j : ℕ). bit (lane j (getD us w 0))) z ∙ one w s 0 l (omega arith)) (one w s 1 l (omega arith)))
+        (one w s 2 l (omega arith)))
         (one w s 3 l (omega arith));
   }

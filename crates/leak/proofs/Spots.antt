@@ -23,7 +23,8 @@ spot-none {W = W} {p = p} e h =
     record { within = omega arith; lower = λ w l. h w (omega arith); differs = λ l. absurd (no l) }
 
 -- by equal counts
-pub spot-same : {f g f′ g′ : ℕ → ℕ → ℕ} {W S : ℕ} {p : Spot} → ((w s : ℕ) → s < S → f w s ≡ f′ w s) → ((w s : ℕ) → s < S → g w s ≡ g′ w s) → Spotted f g W S p → Spotted f′ g′ W S p
+pub spot-same : {f g f′ g′ : ℕ → ℕ → ℕ} {W S : ℕ} {p : Spot} → ((w s : ℕ) → s < S → f w s ≡ f′ w s) → ((w s : ℕ) → s < S → g w s ≡ g′ w s)
+    → Spotted f g W S p → Spotted f′ g′ W S p
 spot-same {p = p} ef eg h = record {
   within = h .within;
   lower = λ w l s m. sym (ef w s m) ∙ h .lower w l s m ∙ eg w s m;
@@ -42,52 +43,54 @@ spot-same {p = p} ef eg h = record {
 }
 
 -- T settings more, from S on, searched for wires below the best
-module _ {f g : ℕ → ℕ → ℕ} {W S T : ℕ} {best spot : Spot} (past : Spotted f g W S best) (next : Spotted (from S f) (from S g) (best .wire) T spot) where
-  -- a setting is one of those before, or one of the T
-  split : {P : Type 0} (s : ℕ) → (s < S → P) → (S ≤ s → P) → P
-  split s old new = onBool (ltb s S) (λ t. old (ltb-true s S t)) (λ t. new (ltb-false s S t))
+module _ {f g : ℕ → ℕ → ℕ} {W S T : ℕ} {best spot : Spot} (past : Spotted f g W S best) (next : Spotted (from S f) (from S g) (best .wire) T spot)
+  where
+    -- a setting is one of those before, or one of the T
+    split : {P : Type 0} (s : ℕ) → (s < S → P) → (S ≤ s → P) → P
+    split s old new = onBool (ltb s S) (λ t. old (ltb-true s S t)) (λ t. new (ltb-false s S t))
 
-  shifted : (w s : ℕ) → S ≤ s → from S f w (s - S) ≡ from S g w (s - S) → f w s ≡ g w s
-  shifted w s k e = let q : S + (s - S) ≡ s = omega arith in subst (λ (n : ℕ). f w n ≡ g w n) q e
+    shifted : (w s : ℕ) → S ≤ s → from S f w (s - S) ≡ from S g w (s - S) → f w s ≡ g w s
+    shifted w s k e = let q : S + (s - S) ≡ s = omega arith in subst (λ (n : ℕ). f w n ≡ g w n) q e
 
-  lower-both : Agree f g (spot .wire) (S + T)
-  lower-both w l s m =
-      let k = next .within in
-      split s (λ h. past .lower w (omega arith) s h) (λ h. shifted w s h (next .lower w l (s - S) (omega arith)))
+    lower-both : Agree f g (spot .wire) (S + T)
+    lower-both w l s m =
+        let k = next .within in
+        split s (λ h. past .lower w (omega arith) s h) (λ h. shifted w s h (next .lower w l (s - S) (omega arith)))
 
-  -- a lower wire
-  pub spot-hit : spot .wire < best .wire → Spotted f g W (S + T) (record { wire = spot .wire; at = S + spot .at; base = spot .base; own = spot .own })
-  spot-hit h =
-      let i = past .within in
-      let d = next .differs h in
-      let n = d .inside in
-      record {
-        within = omega arith;
-        lower = lower-both;
-        differs = λ _. record {
-          inside = omega arith;
-          smaller = λ s m. split s (λ q. past .lower (spot .wire) h s q) (λ q. shifted (spot .wire) s q (d .smaller (s - S) (omega arith)));
-          other = d .other;
-          base = d .base;
-          own = d .own;
-        };
-      }
-
-  -- none
-  pub spot-miss : best .wire ≤ spot .wire → Spotted f g W (S + T) best
-  spot-miss h = record {
-    within = past .within;
-    lower = λ w l. lower-both w (omega arith);
-    differs = λ l.
-        let d = past .differs l in
+    -- a lower wire
+    pub spot-hit : spot .wire < best .wire → Spotted f g W (S + T) (record { wire = spot .wire; at = S + spot .at; base = spot .base; own = spot .own })
+    spot-hit h =
+        let i = past .within in
+        let d = next .differs h in
         let n = d .inside in
-        record { inside = omega arith; smaller = d .smaller; other = d .other; base = d .base; own = d .own };
-  }
+        record {
+          within = omega arith;
+          lower = lower-both;
+          differs = λ _. record {
+            inside = omega arith;
+            smaller = λ s m. split s (λ q. past .lower (spot .wire) h s q) (λ q. shifted (spot .wire) s q (d .smaller (s - S) (omega arith)));
+            other = d .other;
+            base = d .base;
+            own = d .own;
+          };
+        }
+
+    -- none
+    pub spot-miss : best .wire ≤ spot .wire → Spotted f g W (S + T) best
+    spot-miss h = record {
+      within = past .within;
+      lower = λ w l. lower-both w (omega arith);
+      differs = λ l.
+          let d = past .differs l in
+          let n = d .inside in
+          record { inside = omega arith; smaller = d .smaller; other = d .other; base = d .base; own = d .own };
+    }
 
 -- ---- the loop over the blocks
 
 -- a scan of a block's counts and of those of its bases
-pub turn-law : {N : Netlist} {codes : List ℕ} {own held : ℕ → ℕ → ℕ} {block limit : ℕ} {p : Spot} → Counted N true codes own block → Counted N false codes held block
+pub turn-law : {N : Netlist} {codes : List ℕ} {own held : ℕ → ℕ → ℕ} {block limit : ℕ} {p : Spot} → Counted N true codes own block
+    → Counted N false codes held block
     → Spotted held own limit 16 p → Spotted (from (block * 16) (countIn N false codes)) (from (block * 16) (countIn N true codes)) limit 16 p
 turn-law own based scanned = spot-same (based .each) (own .each) scanned
 
@@ -99,23 +102,37 @@ pub record Finding (t : Tables) (n W : ℕ) (codes : List ℕ) (mixed : Bool) (b
   pub ready : Ready mixed (bare t n W) codes base block
   pub spotted : Spotted (countIn (bare t n W) false codes) (countIn (bare t n W) true codes) W (block * 16) best
 
-pub find-none : {t : Tables} {n W : ℕ} {codes : List ℕ} {mixed : Bool} (blocks : ℕ) {words base : List ℕ} {best : Spot} → length words ≡ W → length base ≡ W → Ready mixed (bare t n W) codes base 0 → best .wire ≡ W
+pub find-none : {t : Tables} {n W : ℕ} {codes : List ℕ} {mixed : Bool} (blocks : ℕ) {words base : List ℕ} {best : Spot} → length words ≡ W
+    → length base ≡ W → Ready mixed (bare t n W) codes base 0 → best .wire ≡ W
     → Finding t n W codes mixed blocks words base best 0
-find-none blocks e d r w = record { passed = omega arith; long-words = e; long-base = d; ready = r; spotted = spot-none w (λ w l s m. absurd (omega arith)) }
+find-none blocks e d r w = record {
+  passed = omega arith;
+  long-words = e;
+  long-base = d;
+  ready = r;
+  spotted = spot-none w (λ w l s m. absurd (omega arith));
+}
 
 -- a block is searched, and the better of two spots kept
-pub find-more : {t : Tables} {n W : ℕ} {codes : List ℕ} {mixed : Bool} {blocks : ℕ} {words base : List ℕ} {best : Spot} {block : ℕ} → Finding t n W codes mixed blocks words base best block → block < blocks
+pub find-more : {t : Tables} {n W : ℕ} {codes : List ℕ} {mixed : Bool} {blocks : ℕ} {words base : List ℕ} {best : Spot} {block : ℕ}
+    → Finding t n W codes mixed blocks words base best block → block < blocks
     → (us vs : List ℕ) (spot next : Spot) → length us ≡ length words → length vs ≡ length base
-    → Spotted (from (block * 16) (countIn (bare t n (length words)) false codes)) (from (block * 16) (countIn (bare t n (length words)) true codes)) (best .wire) 16 spot
+    → Spotted (from (block * 16) (countIn (bare t n (length words)) false codes)) (from (block * 16) (countIn (bare t n (length words)) true codes))
+    (best .wire) 16 spot
     → Ready mixed (bare t n (length words)) codes vs (block + 1)
-    → ((f g : ℕ → ℕ → ℕ) (W : ℕ) → Spotted f g W (block * 16) best → Spotted (from (block * 16) f) (from (block * 16) g) (best .wire) 16 spot → Spotted f g W (block * 16 + 16) next)
+    →
+    ((f g : ℕ → ℕ → ℕ) (W : ℕ) → Spotted f g W (block * 16) best → Spotted (from (block * 16) f) (from (block * 16) g) (best .wire) 16 spot
+    → Spotted f g W (block * 16 + 16) next)
     → Finding t n W codes mixed blocks us vs next (block + 1)
 find-more {t} {n} {W} {codes} {mixed} {best = best} {block} r l us vs spot next e d turned ready better =
     let f = countIn (bare t n W) false codes in
     let g = countIn (bare t n W) true codes in
     let q : block * 16 + 16 ≡ (block + 1) * 16 = omega arith in
     let turned′ : Spotted (from (block * 16) f) (from (block * 16) g) (best .wire) 16 spot =
-    subst (λ (k : ℕ). Spotted (from (block * 16) (countIn (bare t n k) false codes)) (from (block * 16) (countIn (bare t n k) true codes)) (best .wire) 16 spot) (r .long-words) turned in
+    subst
+    (λ (k : ℕ). Spotted (from (block * 16) (countIn (bare t n k) false codes)) (from (block * 16) (countIn (bare t n k) true codes)) (best .wire) 16
+    spot)
+    (r .long-words) turned in
     record {
       passed = omega arith;
       long-words = e ∙ r .long-words;
@@ -124,7 +141,8 @@ find-more {t} {n} {W} {codes} {mixed} {best = best} {block} r l us vs spot next 
       spotted = subst (λ (S : ℕ). Spotted f g W S next) q (better f g W (r .spotted) turned′);
     }
 
-pub find-all : {t : Tables} {n W : ℕ} {codes : List ℕ} {mixed : Bool} {blocks : ℕ} {words base : List ℕ} {best : Spot} {block : ℕ} → Finding t n W codes mixed blocks words base best block → blocks ≤ block
+pub find-all : {t : Tables} {n W : ℕ} {codes : List ℕ} {mixed : Bool} {blocks : ℕ} {words base : List ℕ} {best : Spot} {block : ℕ}
+    → Finding t n W codes mixed blocks words base best block → blocks ≤ block
     → Spotted (countIn (bare t n W) false codes) (countIn (bare t n W) true codes) W (blocks * 16) best
 find-all {t} {n} {W} {codes} {blocks = blocks} {best = best} {block} r l =
     let e : block ≡ blocks = omega (arith, r .passed) in

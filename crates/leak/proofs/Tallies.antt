@@ -25,7 +25,8 @@ pub record Tallied (f : ℕ → ℕ → ℕ) (base₀ base : List ℕ) (w : ℕ)
 pub tallied-none : (f : ℕ → ℕ → ℕ) (base : List ℕ) → Tallied f base base 0
 tallied-none f base = record { long = refl; done = λ v l. absurd (omega arith); rest = λ v l. refl }
 
-pub tallied-more : {f : ℕ → ℕ → ℕ} {base₀ base : List ℕ} {w : ℕ} (x : ℕ) → Tallied f base₀ base w → w < length base₀ → ((s : ℕ) → s < 16 → nibble x s ≡ f w s) → Tallied f base₀ (set base w x) (w + 1)
+pub tallied-more : {f : ℕ → ℕ → ℕ} {base₀ base : List ℕ} {w : ℕ} (x : ℕ) → Tallied f base₀ base w → w < length base₀
+    → ((s : ℕ) → s < 16 → nibble x s ≡ f w s) → Tallied f base₀ (set base w x) (w + 1)
 tallied-more {f} {base₀} {base} {w} x r l h = record {
   long = length-set base w x ∙ r .long;
   done = below-more (λ v. (s : ℕ) → s < 16 → nibblesOf (set base w x) v s ≡ f v s) w
@@ -43,7 +44,8 @@ ones-none s =
 pub ones-past : (words : List ℕ) (v s : ℕ) → length words ≤ v → onesOf words v s ≡ 0
 ones-past words v s l = ap (λ (x : ℕ). ones x s) (List·getD-eq-default words 0 l) ∙ ones-none s
 
-pub tallied-all : {f : ℕ → ℕ → ℕ} {base₀ base : List ℕ} {w : ℕ} → Tallied f base₀ base w → length base₀ ≤ w → ((v s : ℕ) → length base₀ ≤ v → f v s ≡ 0)
+pub tallied-all : {f : ℕ → ℕ → ℕ} {base₀ base : List ℕ} {w : ℕ} → Tallied f base₀ base w → length base₀ ≤ w
+    → ((v s : ℕ) → length base₀ ≤ v → f v s ≡ 0)
     → (v s : ℕ) → s < 16 → nibblesOf base v s ≡ f v s
 tallied-all {f} {base₀} {base} {w} r l past v s m =
     onBool (ltb v w) (λ t. r .done v (ltb-true v w t) s m)

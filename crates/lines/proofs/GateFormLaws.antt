@@ -60,7 +60,9 @@ module _ (k n : ℕ) where
       go (some a) = nothing
   behind (w ∷ (v ∷ [])) = go (number w) (number v)
     where
-      go : (o p : Option ℕ) → makeGate v (consOption (some k) (consOption (some n) (consOption o (some [])))) ≡ by (onValue o λ a. onValue p λ c. none) (onValue o λ a. onValue p λ b. none)
+      go : (o p : Option ℕ)
+          → makeGate v (consOption (some k) (consOption (some n) (consOption o (some [])))) ≡ by (onValue o λ a. onValue p λ c. none)
+          (onValue o λ a. onValue p λ b. none)
       go none p = nothing
       go (some a) none = nothing
       go (some a) (some b) = nothing
@@ -82,7 +84,8 @@ module _ (k n : ℕ) where
       go (some a) (some b) (some c) = pick-two (eqb n 1) (eqb k 1) (eqb k 2) (gate2 t a b c) (not-both k)
   behind (w ∷ (v ∷ (u ∷ (t ∷ (s ∷ ss))))) = go (number w) (number v) (number u) (number t) (numbers (allButLast (s ∷ ss)))
     where
-      go : (o p q r : Option ℕ) (m : Option (List ℕ)) → makeGate (lastWord (s ∷ ss)) (consOption (some k) (consOption (some n) (consOption o (consOption p (consOption q (consOption r m))))))
+      go : (o p q r : Option ℕ) (m : Option (List ℕ))
+          → makeGate (lastWord (s ∷ ss)) (consOption (some k) (consOption (some n) (consOption o (consOption p (consOption q (consOption r m))))))
           ≡ by (onValue o λ a. onValue p λ c. none) (onValue o λ a. onValue p λ b. onValue q λ c. none)
       go none p q r m = nothing
       go (some a) none q r m = nothing
@@ -126,7 +129,9 @@ gate-form (w ∷ (v ∷ [])) = go (number w) (number v)
     go (some k) (some n) = behind k n []
 gate-form (w ∷ (v ∷ (u ∷ us))) = go (number w) (number v)
   where
-    go : (o p : Option ℕ) → makeGate (lastWord (u ∷ us)) (consOption o (consOption p (numbers (allButLast (u ∷ us))))) ≡ onValue o λ k. onValue p λ n. counted k n (u ∷ us)
+    go : (o p : Option ℕ)
+        → makeGate (lastWord (u ∷ us)) (consOption o (consOption p (numbers (allButLast (u ∷ us))))) ≡ onValue o
+        λ k. onValue p λ n. counted k n (u ∷ us)
     go none p = refl
     go (some k) none = refl
     go (some k) (some n) = behind k n (u ∷ us)

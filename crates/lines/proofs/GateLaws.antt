@@ -45,7 +45,8 @@ next-behind t at to e h L.Not n = tt
 
 module _ (t : List ℕ) (at : ℕ) (f : ℕ → List (List ℕ) → Option Gate) where
   -- it was taken, and the rest of the line read
-  pub line-behind : (v to : ℕ) (r : GateLine) → NumberAt t at v to → LineIs t to (f v (lineWords (drop to t))) r → LineIs t at (onNumber (lineWords (drop at t)) f) r
+  pub line-behind : (v to : ℕ) (r : GateLine) → NumberAt t at v to → LineIs t to (f v (lineWords (drop to t))) r
+      → LineIs t at (onNumber (lineWords (drop at t)) f) r
   unfolding onNumber
   line-behind v to r n l = record {
     gate = l .gate ∙ sym (ap (λ (ws : List (List ℕ)). onNumber ws f) (number-word t at v to n) ∙ rw (n .value));
@@ -65,7 +66,8 @@ alone-none [] = refl
 alone-none (w ∷ ws) = refl
 
 -- the word at a place is the name, and the rest of the line was read
-pub line-named : (f : List ℕ → Option Gate) → f [] ≡ none → (t : List ℕ) (at from to : ℕ) (g : Option Gate) (r : GateLine) → WordAt t at from to → g ≡ f (take (to - from) (drop from t))
+pub line-named : (f : List ℕ → Option Gate) → f [] ≡ none → (t : List ℕ) (at from to : ℕ) (g : Option Gate) (r : GateLine) → WordAt t at from to
+    → g ≡ f (take (to - from) (drop from t))
     → LineIs t to (alone g (lineWords (drop to t))) r → LineIs t at (named f (lineWords (drop at t))) r
 unfolding named
 line-named f empty t at from to g r w n l = record {
@@ -74,7 +76,9 @@ line-named f empty t at from to g r w n l = record {
 }
   where
     go : (u : List ℕ) → take (to - from) (drop from t) ≡ u → named f (lineWords (drop at t)) ≡ alone (f u) (lineWords (drop to t))
-    go [] e = ap (named f) (word-none t at from to w e) ∙ sym (alone-none (lineWords (drop to t))) ∙ ap (λ (g : Option Gate). alone g (lineWords (drop to t))) (sym empty)
+    go [] e =
+        ap (named f) (word-none t at from to w e) ∙ sym (alone-none (lineWords (drop to t)))
+        ∙ ap (λ (g : Option Gate). alone g (lineWords (drop to t))) (sym empty)
     go (x ∷ u) e = ap (named f) (word-words t at from to w ∙ ap (λ (v : List ℕ). addWord v (lineWords (drop to t))) e)
 
 module _ (t : List ℕ) (at : ℕ) where
@@ -92,7 +96,8 @@ module _ (t : List ℕ) (at : ℕ) where
       go (w ∷ ws) e = refl
 
   -- the line ends
-  pub last-gate : (n : NamedGate) (g : Gate) (c : Cursor) → n ≡ N.Is g → EndAt t at (c .at) → LineIs t at (alone (gateNamed n) (lineWords (drop at t))) (L.Is g c)
+  pub last-gate : (n : NamedGate) (g : Gate) (c : Cursor) → n ≡ N.Is g → EndAt t at (c .at)
+      → LineIs t at (alone (gateNamed n) (lineWords (drop at t))) (L.Is g c)
   unfolding alone
   last-gate n g c p e = record {
     gate = sym (ap (alone (gateNamed n)) (e .none) ∙ ap gateNamed p);

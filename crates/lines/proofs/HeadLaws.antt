@@ -26,7 +26,8 @@ use Rattle.lines.specs.declared.head.Head.the-variants as H
 
 module _ (L : Limits) (h : HeaderNumbers) (e : withinNumbers L h ≡ true) where
   -- the five tests of question 5, of which the fourth lets the input bits be taken off the wires
-  tests : T (leb (h .wires) (L .wires)) × T (leb (h .inputs) (L .inputs)) × T (leb (h .outputs) (L .outputs)) × T (leb (h .ins) (h .wires)) × T (leb (h .outs) (h .wires))
+  tests : T (leb (h .wires) (L .wires)) × T (leb (h .inputs) (L .inputs)) × T (leb (h .outputs) (L .outputs)) × T (leb (h .ins) (h .wires))
+      × T (leb (h .outs) (h .wires))
   unfolding withinNumbers
   tests =
       let a = leb (h .wires) (L .wires) in

@@ -34,7 +34,8 @@ counts-is t at r g w c p h = subst (CountsIs t at) p h
 pub counts-not : (t : List ℕ) (at : ℕ) (r : Counts) → r ≡ C.Not → CountsIs t at r → pairOnly (numbers (lineWords (drop at t))) ≡ none
 counts-not t at r p h = subst (CountsIs t at) p h
 
-pub header-is : (t ins outs : List ℕ) (r : HeaderRead) (h : HeaderNumbers) (c : Cursor) → r ≡ R.Is h c → HeaderIs t ins outs r → HeaderAt t ins outs h (c .at)
+pub header-is : (t ins outs : List ℕ) (r : HeaderRead) (h : HeaderNumbers) (c : Cursor) → r ≡ R.Is h c → HeaderIs t ins outs r
+    → HeaderAt t ins outs h (c .at)
 header-is t ins outs r h c p k = subst (HeaderIs t ins outs) p k
 
 pub header-not : (t ins outs : List ℕ) (r : HeaderRead) → r ≡ R.Not → HeaderIs t ins outs r → header (wordLines t) ≡ none
@@ -45,8 +46,10 @@ header-not t ins outs r p k = subst (HeaderIs t ins outs) p k
 pub pair-first : (s : List ℕ) → number (nextWord s) ≡ none → pairOnly (numbers (lineWords s)) ≡ none
 pair-first s h = no-number (λ ws. pairOnly (numbers ws) ≡ none) s h refl (λ w ws e. rw e)
 
-pub pair-second : (t : List ℕ) (at g c : ℕ) → NumberAt t at g c → number (nextWord (drop c t)) ≡ none → pairOnly (numbers (lineWords (drop at t))) ≡ none
-pair-second t at g c a h = ap pairOnly (numbers-on t at g c a) ∙ no-number (λ ws. pairOnly (consOption (some g) (numbers ws)) ≡ none) (drop c t) h refl (λ w ws e. rw e)
+pub pair-second : (t : List ℕ) (at g c : ℕ) → NumberAt t at g c → number (nextWord (drop c t)) ≡ none
+    → pairOnly (numbers (lineWords (drop at t))) ≡ none
+pair-second t at g c a h =
+    ap pairOnly (numbers-on t at g c a) ∙ no-number (λ ws. pairOnly (consOption (some g) (numbers ws)) ≡ none) (drop c t) h refl (λ w ws e. rw e)
 
 module _ (t : List ℕ) (at g c w d : ℕ) (a : NumberAt t at g c) (b : NumberAt t c w d) where
   pair-on : numbers (lineWords (drop at t)) ≡ consOption (some g) (consOption (some w) (numbers (lineWords (drop d t))))
@@ -77,9 +80,11 @@ some-not-none : (ws : List ℕ) → _≡_ {A = Option (List ℕ)} none (some ws)
 some-not-none ws e = let z : _≡_ {A = ℕ} 0 1 = cc in omega arith
 
 -- a line that has what no line without words has is the first line
-read-line : (f : List (List ℕ) → Option (List ℕ)) → f [] ≡ none → (t : List ℕ) (a : ℕ) (ws : List ℕ) (b : ℕ) → f (lineWords (drop a t)) ≡ some ws → LineTaken t a b
+read-line : (f : List (List ℕ) → Option (List ℕ)) → f [] ≡ none → (t : List ℕ) (a : ℕ) (ws : List ℕ) (b : ℕ) → f (lineWords (drop a t)) ≡ some ws
+    → LineTaken t a b
     → wordLines (drop a t) ≡ lineWords (drop a t) ∷ wordLines (drop b t)
-read-line f empty t a ws b e n = lines-step (drop a t) ∙ go (lineWords (drop a t)) e ∙ ap (λ (s : List ℕ). lineWords (drop a t) ∷ wordLines s) (sym (n .left))
+read-line f empty t a ws b e n =
+    lines-step (drop a t) ∙ go (lineWords (drop a t)) e ∙ ap (λ (s : List ℕ). lineWords (drop a t) ∷ wordLines s) (sym (n .left))
   where
     go : (l : List (List ℕ)) → f l ≡ some ws → addLine l (wordLines (afterLine (drop a t))) ≡ l ∷ wordLines (afterLine (drop a t))
     go [] h = absurd (some-not-none ws (sym empty ∙ h))
@@ -90,7 +95,8 @@ abbrev Without : (List (List ℕ) → Option (List ℕ)) → List (List (List �
 Without f [] = Unit {0}
 Without f (l ∷ ls) = f l ≡ none
 
-first-line : (f : List (List ℕ) → Option (List ℕ)) (t : List ℕ) (i : ℕ) → AtWord t i → f (lineWords (drop i t)) ≡ none → Without f (wordLines (drop i t))
+first-line : (f : List (List ℕ) → Option (List ℕ)) (t : List ℕ) (i : ℕ) → AtWord t i → f (lineWords (drop i t)) ≡ none
+    → Without f (wordLines (drop i t))
 first-line f t i a e = onBool (ltb i (length t))
     (λ h. subst (Without f) (sym (word-line t i (ltb-true i (length t) h) a)) e)
     (λ h. subst (Without f) (sym (no-line t i (ltb-false i (length t) h))) tt)
@@ -128,7 +134,8 @@ header-2 a g w [] p e = refl
 header-2 a g w (b ∷ []) p e = refl
 header-2 a g w (b ∷ (c ∷ ls)) p e = rw (p, e)
 
-header-3 : (a b : List (List ℕ)) (g w : ℕ) (is : List ℕ) (ls : List (List (List ℕ))) → numbers a ≡ some (g ∷ w ∷ []) → values (numbers b) ≡ some is → Without valuesOf ls → header (a ∷ (b ∷ ls)) ≡ none
+header-3 : (a b : List (List ℕ)) (g w : ℕ) (is : List ℕ) (ls : List (List (List ℕ))) → numbers a ≡ some (g ∷ w ∷ []) → values (numbers b) ≡ some is
+    → Without valuesOf ls → header (a ∷ (b ∷ ls)) ≡ none
 header-3 a b g w is [] p q e = refl
 header-3 a b g w is (c ∷ ls) p q e = rw (p, q, e)
 
@@ -143,7 +150,9 @@ module _ (t : List ℕ) (a : ℕ) (sa : Scanned isBlank t 0 a) where
 
   module _ (g w b : ℕ) (c : CountsAt t a g w b) (b′ : ℕ) (sb : Scanned isBlank t b b′) where
     one : wordLines t ≡ lineWords (drop a t) ∷ wordLines (drop b′ t)
-    one = start ∙ read-line pairOf refl t a _ b (c .line) (c .next) ∙ ap (λ (ls : List (List (List ℕ))). lineWords (drop a t) ∷ ls) (sym (blanks-lines t b b′ sb))
+    one =
+        start ∙ read-line pairOf refl t a _ b (c .line) (c .next)
+        ∙ ap (λ (ls : List (List (List ℕ))). lineWords (drop a t) ∷ ls) (sym (blanks-lines t b b′ sb))
 
     pair : numbers (lineWords (drop a t)) ≡ some (g ∷ w ∷ [])
     pair = pair-is _ _ (c .line)
@@ -151,16 +160,28 @@ module _ (t : List ℕ) (a : ℕ) (sa : Scanned isBlank t 0 a) where
     pub no-header-2 : values (numbers (lineWords (drop b′ t))) ≡ none → header (wordLines t) ≡ none
     no-header-2 e = ap header one ∙ header-2 (lineWords (drop a t)) g w (wordLines (drop b′ t)) pair (first-line valuesOf t b′ (at-word t b b′ sb) e)
 
-    module _ (ins : List ℕ) (ni si d : ℕ) (x : WidthsAt t b′ (values (numbers (lineWords (drop b′ t)))) ins ni si d) (d′ : ℕ) (sd : Scanned isBlank t d d′) where
+    module _ (ins : List ℕ) (ni si d : ℕ) (x : WidthsAt t b′ (values (numbers (lineWords (drop b′ t)))) ins ni si d) (d′ : ℕ)
+        (sd : Scanned isBlank t d d′) where
       two : wordLines t ≡ lineWords (drop a t) ∷ (lineWords (drop b′ t) ∷ wordLines (drop d′ t))
-      two = one ∙ ap (λ (ls : List (List (List ℕ))). lineWords (drop a t) ∷ ls) (read-line valuesOf refl t b′ _ d (x .line) (x .next) ∙ ap (λ (ls : List (List (List ℕ))). lineWords (drop b′ t) ∷ ls) (sym (blanks-lines t d d′ sd)))
+      two =
+          one
+          ∙ ap (λ (ls : List (List (List ℕ))). lineWords (drop a t) ∷ ls)
+          (read-line valuesOf refl t b′ _ d (x .line) (x .next)
+          ∙ ap (λ (ls : List (List (List ℕ))). lineWords (drop b′ t) ∷ ls) (sym (blanks-lines t d d′ sd)))
 
       pub no-header-3 : values (numbers (lineWords (drop d′ t))) ≡ none → header (wordLines t) ≡ none
-      no-header-3 e = ap header two ∙ header-3 (lineWords (drop a t)) (lineWords (drop b′ t)) g w (x .ws) (wordLines (drop d′ t)) pair (x .line) (first-line valuesOf t d′ (at-word t d d′ sd) e)
+      no-header-3 e =
+          ap header two
+          ∙ header-3 (lineWords (drop a t)) (lineWords (drop b′ t)) g w (x .ws) (wordLines (drop d′ t)) pair (x .line)
+          (first-line valuesOf t d′ (at-word t d d′ sd) e)
 
-      pub a-header : (outs : List ℕ) (mo so to : ℕ) → WidthsAt t d′ (values (numbers (lineWords (drop d′ t)))) outs mo so to → HeaderAt t ins outs (record { gates = g; wires = w; inputs = ni; ins = si; outputs = mo; outs = so }) to
+      pub a-header : (outs : List ℕ) (mo so to : ℕ) → WidthsAt t d′ (values (numbers (lineWords (drop d′ t)))) outs mo so to
+          → HeaderAt t ins outs (record { gates = g; wires = w; inputs = ni; ins = si; outputs = mo; outs = so }) to
       a-header outs mo so to y =
-          let three : wordLines t ≡ lineWords (drop a t) ∷ (lineWords (drop b′ t) ∷ (lineWords (drop d′ t) ∷ wordLines (drop to t))) = two ∙ ap (λ (ls : List (List (List ℕ))). lineWords (drop a t) ∷ (lineWords (drop b′ t) ∷ ls)) (read-line valuesOf refl t d′ _ to (y .line) (y .next)) in
+          let three : wordLines t ≡ lineWords (drop a t) ∷ (lineWords (drop b′ t) ∷ (lineWords (drop d′ t) ∷ wordLines (drop to t)))
+          = two
+          ∙ ap (λ (ls : List (List (List ℕ))). lineWords (drop a t) ∷ (lineWords (drop b′ t) ∷ ls))
+          (read-line valuesOf refl t d′ _ to (y .line) (y .next)) in
           record {
             is = record { count = g; wires = w; inputs = x .ws; outputs = y .ws };
             read = ap header three ∙ rw (pair, x .line, y .line);

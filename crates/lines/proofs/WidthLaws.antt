@@ -32,7 +32,8 @@ module _ (t : List ℕ) (at : ℕ) (e : Option (List ℕ)) (table : List ℕ) (r
 
 -- ---- the numbers of a line
 
-pub numbers-on : (t : List ℕ) (at v to : ℕ) → NumberAt t at v to → numbers (lineWords (drop at t)) ≡ consOption (some v) (numbers (lineWords (drop to t)))
+pub numbers-on : (t : List ℕ) (at v to : ℕ) → NumberAt t at v to
+    → numbers (lineWords (drop at t)) ≡ consOption (some v) (numbers (lineWords (drop to t)))
 numbers-on t at v to n = ap numbers (number-word t at v to n) ∙ rw (n .value)
 
 -- numbers in front of numbers
@@ -71,7 +72,8 @@ kept-more table seen n v size k i h′ l = onBool (ltb i n) before at
     at e =
         let p : n ≤ i = ltb-false i n e in
         let q : i ≡ n = omega (arith, length-append seen (v ∷ [])) in
-        ap (λ (m : ℕ). getD (set table n v) m 0) q ∙ getD-set-same table n v 0 (omega (arith, h)) ∙ sym (ap (λ (m : ℕ). getD (seen ++ (v ∷ [])) m 0) q ∙ getD-at seen v [] 0 n size)
+        ap (λ (m : ℕ). getD (set table n v) m 0) q ∙ getD-set-same table n v 0 (omega (arith, h))
+        ∙ sym (ap (λ (m : ℕ). getD (seen ++ (v ∷ [])) m 0) q ∙ getD-at seen v [] 0 n size)
 
 -- ---- widths up to the line's end
 
@@ -128,7 +130,8 @@ module _ (t : List ℕ) (from : ℕ) where
     pub widen-end : (to : ℕ) → EndAt t i to → WidthsAt t from (positives (numbers (lineWords (drop from t)))) table n s to
     widen-end to e = record {
       ws = w .seen;
-      line = ap positives (w .line ∙ ap (λ (l : List (List ℕ)). joined (w .seen) (numbers l)) (e .none) ∙ ap some (append-nil (w .seen))) ∙ rw (w .ones);
+      line = ap positives (w .line ∙ ap (λ (l : List (List ℕ)). joined (w .seen) (numbers l)) (e .none) ∙ ap some (append-nil (w .seen)))
+          ∙ rw (w .ones);
       size = w .size;
       all = w .all;
       kept = w .kept;
@@ -136,9 +139,13 @@ module _ (t : List ℕ) (from : ℕ) where
     }
 
     -- a word is no number
-    pub widen-not : number (nextWord (drop i t)) ≡ none → isEmpty (lineWords (drop i t)) ≡ false → positives (numbers (lineWords (drop from t))) ≡ none
+    pub widen-not : number (nextWord (drop i t)) ≡ none → isEmpty (lineWords (drop i t)) ≡ false
+        → positives (numbers (lineWords (drop from t))) ≡ none
     unfolding isEmpty
-    widen-not h f = ap positives (w .line) ∙ no-number (λ ws. isEmpty ws ≡ false → positives (joined (w .seen) (numbers ws)) ≡ none) (drop i t) h (λ e. let z : _≡_ {A = ℕ} 0 1 = cc in absurd (omega arith)) (λ v ws e g. rw e) f
+    widen-not h f =
+        ap positives (w .line)
+        ∙ no-number (λ ws. isEmpty ws ≡ false → positives (joined (w .seen) (numbers ws)) ≡ none) (drop i t) h
+        (λ e. let z : _≡_ {A = ℕ} 0 1 = cc in absurd (omega arith)) (λ v ws e g. rw e) f
 
     -- a width is 0
     pub widen-zero : (v j : ℕ) → v ≡ 0 → NumberAt t i v j → positives (numbers (lineWords (drop from t))) ≡ none

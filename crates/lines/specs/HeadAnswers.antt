@@ -16,7 +16,8 @@ use Rattle.lines.specs.declared.head.Head.the-variants as H
 
 -- question 5 of a header's numbers
 unfoldable pub withinNumbers : Limits → HeaderNumbers → Bool
-withinNumbers L h = leb (h .wires) (L .wires) && leb (h .inputs) (L .inputs) && leb (h .outputs) (L .outputs) && leb (h .ins) (h .wires) && leb (h .outs) (h .wires)
+withinNumbers L h =
+    leb (h .wires) (L .wires) && leb (h .inputs) (L .inputs) && leb (h .outputs) (L .outputs) && leb (h .ins) (h .wires) && leb (h .outs) (h .wires)
 
 -- the first half of question 6: the gate count is W less n
 unfoldable pub gatesCounted : HeaderNumbers → Bool

@@ -20,7 +20,8 @@ pub record MaskInputs (N : Netlist) (codes wanted : List ℕ) : Type 0 where
   pub wantedGood : T (every isWanted wanted)
 
 -- from the answers to questions 11 and 13
-pub mask-inputs : {N : Netlist} {codes wanted : List ℕ} → WellFormed N → T (listGood isCode (inputBits N) codes) → T (listGood isWanted (outputBits N) wanted)
+pub mask-inputs : {N : Netlist} {codes wanted : List ℕ} → WellFormed N → T (listGood isCode (inputBits N) codes)
+    → T (listGood isWanted (outputBits N) wanted)
     → MaskInputs N codes wanted
 mask-inputs {N} {codes} {wanted} F c w =
     let p = both (eqb (length codes) (inputBits N)) (every isCode codes) c in

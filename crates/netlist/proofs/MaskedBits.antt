@@ -30,7 +30,8 @@ not-differs false m = refl
 
 -- the XOR of two masked bits is the XOR of the bits under the XOR of the masks
 differs-swap : (s p t q : Bool) → differs (differs s p) (differs t q) ≡ differs (differs s t) (differs p q)
-differs-swap s p t q = same-eq _ _ (every4-at (λ s p t q. same (differs (differs s p) (differs t q)) (differs (differs s t) (differs p q))) tt s p t q)
+differs-swap s p t q =
+    same-eq _ _ (every4-at (λ s p t q. same (differs (differs s p) (differs t q)) (differs (differs s t) (differs p q))) tt s p t q)
 
 -- the OR of the masks, as the three gates make it
 pub or-law : (p q : Bool) → differs (differs p q) (p && q) ≡ p || q
@@ -42,7 +43,8 @@ or-law false q = differs-false q
 sumTest : ℕ → ℕ → Bool → Bool → Bool
 sumTest e f m0 m1 = same (differs (maskOf m0 m1 e) (maskOf m0 m1 f)) (maskOf m0 m1 (third e f))
 
-pub mask-sum : (e f : ℕ) → T (isCode e) → T (isCode f) → T (not (eqb e f)) → (m0 m1 : Bool) → differs (maskOf m0 m1 e) (maskOf m0 m1 f) ≡ maskOf m0 m1 (third e f)
+pub mask-sum : (e f : ℕ) → T (isCode e) → T (isCode f) → T (not (eqb e f)) → (m0 m1 : Bool)
+    → differs (maskOf m0 m1 e) (maskOf m0 m1 f) ≡ maskOf m0 m1 (third e f)
 unfolding sumTest
 mask-sum e f c d n m0 m1 =
     let te = everyTwo-at (λ e f. everyBit λ m0. everyBit λ m1. sumTest e f m0 m1) tt e f c d n in
@@ -89,7 +91,8 @@ masked-at m0 m1 (e ∷ es) [] l w h = absurd (omega arith)
 masked-at m0 m1 (e ∷ es) (b ∷ x) l zero h = refl
 masked-at m0 m1 (e ∷ es) (b ∷ x) l (suc w) h = masked-at m0 m1 es x (omega arith) w (omega arith)
 
-pub masked-pair : (m0 m1 : Bool) (es : List ℕ) (x : List Bool) (k w : ℕ) → w ≡ length es + k → getD (masked m0 m1 es x) w false ≡ getD (m0 ∷ m1 ∷ []) k false
+pub masked-pair : (m0 m1 : Bool) (es : List ℕ) (x : List Bool) (k w : ℕ) → w ≡ length es + k
+    → getD (masked m0 m1 es x) w false ≡ getD (m0 ∷ m1 ∷ []) k false
 masked-pair m0 m1 [] x k w e = let z : w ≡ k = omega arith in rw z refl
 masked-pair m0 m1 (e ∷ es) [] k zero z = absurd (omega arith)
 masked-pair m0 m1 (e ∷ es) (b ∷ x) k zero z = absurd (omega arith)

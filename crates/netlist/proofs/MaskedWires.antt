@@ -68,8 +68,10 @@ module _ {N : Netlist} {codes wanted : List ℕ} (C : MaskInputs N codes wanted)
   masks : Masks U n
   masks =
       let l : length codes ≡ inputBits N = C .codesLength in
-      let a : (x : Setting N) (m0 m1 : Bool) → U x m0 m1 n ≡ m0 = λ x m0 m1. input-wire x m0 m1 n (omega arith) ∙ masked-pair m0 m1 codes (x .0) 0 n (omega arith) in
-      let b : (x : Setting N) (m0 m1 : Bool) → U x m0 m1 (n + 1) ≡ m1 = λ x m0 m1. input-wire x m0 m1 (n + 1) (omega arith) ∙ masked-pair m0 m1 codes (x .0) 1 (n + 1) (omega arith) in
+      let a : (x : Setting N) (m0 m1 : Bool) → U x m0 m1 n ≡ m0
+      = λ x m0 m1. input-wire x m0 m1 n (omega arith) ∙ masked-pair m0 m1 codes (x .0) 0 n (omega arith) in
+      let b : (x : Setting N) (m0 m1 : Bool) → U x m0 m1 (n + 1) ≡ m1
+      = λ x m0 m1. input-wire x m0 m1 (n + 1) (omega arith) ∙ masked-pair m0 m1 codes (x .0) 1 (n + 1) (omega arith) in
       record {
         first = a;
         second = b;
@@ -126,7 +128,8 @@ module _ {N : Netlist} {codes wanted : List ℕ} (C : MaskInputs N codes wanted)
       let l : length codes ≡ inputBits N = C .codesLength in
       onBool (ltb w n)
       (λ e. let b = ltb-true w n e in
-      carries-balanced U (record { wire = w; code = getD codes w 0 }) (λ x. sourceBits N x w) (every-at isCode codes (C .codesGood) w (omega arith)) (input-carries w b))
+      carries-balanced U (record { wire = w; code = getD codes w 0 }) (λ x. sourceBits N x w) (every-at isCode codes (C .codesGood) w (omega arith))
+      (input-carries w b))
       (λ e. onBool (eqb w n)
       (λ q. rw (eqb-true w n q) (balanced U n 2 (λ x m0 m1. m0) (masks .first) (λ x. refl)))
       (λ q. onBool (eqb w (n + 1))

@@ -32,7 +32,8 @@ length-runGates v [] = refl
 length-runGates v (g ∷ gs) = length-runGates (set v (result g) (made (bitsAt v) g)) gs ∙ length-set v (result g) (made (bitsAt v) g)
 
 -- gates leave given wires as they are
-pub run-keeps : (n W : ℕ) (rs : List ℕ) (gs : List Gate) (v : List Bool) → T (gatesGood n W rs gs) → (w : ℕ) → T (isGiven n rs w) → bitsAt (runGates v gs) w ≡ bitsAt v w
+pub run-keeps : (n W : ℕ) (rs : List ℕ) (gs : List Gate) (v : List Bool) → T (gatesGood n W rs gs) → (w : ℕ) → T (isGiven n rs w)
+    → bitsAt (runGates v gs) w ≡ bitsAt v w
 run-keeps n W rs [] v t w h = refl
 run-keeps n W rs (g ∷ gs) v t w h =
     let G : GoodGate n W rs g gs = goodGate t in
@@ -41,7 +42,8 @@ run-keeps n W rs (g ∷ gs) v t w h =
     ∙ getD-set-other v (result g) w b false (fresh-ne n rs w (result g) h (G .low) (G .fresh))
 
 -- so the bits after all gates satisfy each
-pub run-models : (n W : ℕ) (rs : List ℕ) (gs : List Gate) (v : List Bool) → T (gatesGood n W rs gs) → W ≤ length v → Models (bitsAt (runGates v gs)) gs
+pub run-models : (n W : ℕ) (rs : List ℕ) (gs : List Gate) (v : List Bool) → T (gatesGood n W rs gs) → W ≤ length v
+    → Models (bitsAt (runGates v gs)) gs
 run-models n W rs [] v t l = empty
 run-models n W rs (g ∷ gs) v t l =
     let G : GoodGate n W rs g gs = goodGate t in
@@ -58,7 +60,9 @@ run-models n W rs (g ∷ gs) v t l =
 module _ {N : Netlist} (F : WellFormed N) where
   pub bits-satisfy : (ins : List Bool) → Models (bitsAt (wireBits N ins)) (N .gates)
   unfolding wireBits
-  bits-satisfy ins = run-models (inputBits N) (N .wires) [] (N .gates) (ins ++ replicate (N .wires - length ins) false) (F .good) (simp (length-append, length-replicate) (omega arith))
+  bits-satisfy ins =
+      run-models (inputBits N) (N .wires) [] (N .gates) (ins ++ replicate (N .wires - length ins) false) (F .good)
+      (simp (length-append, length-replicate) (omega arith))
 
   pub bits-inputs : (ins : List Bool) → length ins ≡ inputBits N → (w : ℕ) → w < inputBits N → bitsAt (wireBits N ins) w ≡ getD ins w false
   unfolding wireBits

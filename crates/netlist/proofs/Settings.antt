@@ -43,7 +43,8 @@ numberOf-below (b ∷ x) = let h = numberOf-below x in let l = bit-below b in rw
 pub setting-numberOf : (x : List Bool) → setting (length x) (numberOf x) ≡ x
 unfolding numberOf
 setting-numberOf [] = refl
-setting-numberOf (b ∷ x) = ap₂ (λ (c : Bool) (y : List Bool). c ∷ y) (lowest b (numberOf x)) (ap (setting (length x)) (others b (numberOf x)) ∙ setting-numberOf x)
+setting-numberOf (b ∷ x) =
+    ap₂ (λ (c : Bool) (y : List Bool). c ∷ y) (lowest b (numberOf x)) (ap (setting (length x)) (others b (numberOf x)) ∙ setting-numberOf x)
   where
     lowest : (b : Bool) (n : ℕ) → eqb ((bit b + 2 * n) % 2) 1 ≡ b
     lowest true n = let e : (1 + 2 * n) % 2 ≡ 1 = omega arith in rw e

@@ -33,7 +33,8 @@ getD-inputTwins k (e ∷ es) (suc w) h =
 pub start-twin : (N : Netlist) (codes : List ℕ) (w : ℕ) → w < length codes → twin (start N codes) w ≡ record { wire = w; code = getD codes w 0 }
 start-twin N codes w h =
     let z : 0 + w ≡ w = omega arith in
-    List·getD-append (inputTwins 0 codes) _ noTwin w (rw length-inputTwins h) ∙ getD-inputTwins 0 codes w h ∙ (λ i. record { wire = z i; code = getD codes w 0 })
+    List·getD-append (inputTwins 0 codes) _ noTwin w (rw length-inputTwins h) ∙ getD-inputTwins 0 codes w h
+    ∙ (λ i. record { wire = z i; code = getD codes w 0 })
 
 -- the three gates of the masks
 mask-ordered : (n : ℕ) → Ordered (n + 2) (maskGates n) (n + 5)
@@ -70,7 +71,8 @@ module _ {N : Netlist} {codes wanted : List ℕ} (C : MaskInputs N codes wanted)
         room = omega arith;
         placed = λ w t.
             let h : w < inputBits N = given-none (inputBits N) w t in
-            let p : Placed (inputBits N + 5) (record { wire = w; code = getD codes w 0 }) = record { below = omega arith; code = every-at isCode codes (C .codesGood) w (omega arith) } in
+            let p : Placed (inputBits N + 5) (record { wire = w; code = getD codes w 0 })
+            = record { below = omega arith; code = every-at isCode codes (C .codesGood) w (omega arith) } in
             rw (start-twin N codes w (omega arith)) p;
       }
 

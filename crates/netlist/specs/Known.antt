@@ -5,7 +5,6 @@ use mathlib.Core.List.{List, [], _∷_, map}
 use mathlib.Core.Option.{Option, none, some}
 use mathlib.Core.Path.{_≡_}
 use lib.ListN.{replicate}
-use Rattle.netlist.specs.declared.Limits.{Limits}
 use Rattle.netlist.specs.Lists.{ascii}
 use Rattle.netlist.specs.Netlist.{Netlist, small, large}
 use Rattle.netlist.specs.Outcome.{Outcome, refused, done, andThen}

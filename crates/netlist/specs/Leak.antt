@@ -55,7 +55,11 @@ pub record Found : Type 0 where
 -- the first setting from s on, of as many as left, whose count g on wire w differs from f
 abbrev pub firstSetting : (ℕ → ℕ → ℕ) → (ℕ → ℕ → ℕ) → ℕ → ℕ → ℕ → Option Found
 firstSetting f g w zero s = none
-firstSetting f g w (suc left) s = elim (eqb (f w s) (g w s)) [ true ↦ firstSetting f g w left (s + 1) | false ↦ some (record { wire = w; at = s; base = f w s; own = g w s }) ]
+firstSetting f g w (suc left) s =
+    elim (eqb (f w s) (g w s)) [
+      | true ↦ firstSetting f g w left (s + 1)
+      | false ↦ some (record { wire = w; at = s; base = f w s; own = g w s })
+    ]
 
 abbrev pub orElse : Option Found → Option Found → Option Found
 orElse none r = r

@@ -52,7 +52,10 @@ rows =
     ∷ []
 
 abbrev pub rowGate : Row → List ℕ → ℕ → Gate
-rowGate r places c = cond (r .isAnd) (And (getD places (r .first) 0) (getD places (r .second) 0) c) (Xor (getD places (r .first) 0) (getD places (r .second) 0) c)
+rowGate r places c =
+    cond (r .isAnd)
+    (And (getD places (r .first) 0) (getD places (r .second) 0) c)
+    (Xor (getD places (r .first) 0) (getD places (r .second) 0) c)
 
 -- the rows' gates at the wires from c on; each new wire is the next place
 abbrev pub rowGates : List Row → List ℕ → ℕ → List Gate
@@ -146,7 +149,10 @@ start N codes = record { next = inputBits N + 5; twins = inputTwins 0 codes ++ r
 
 -- the gate of an output bit at wire c
 abbrev pub outGate : ℕ → ℕ → Twin → ℕ → Gate
-outGate n c t want = cond (eqb want 0) (Eqw (t .wire) c) (cond (eqb want (t .code)) (Eqw (t .wire) c) (Xor (t .wire) (maskWire n (third (t .code) want)) c))
+outGate n c t want =
+    cond (eqb want 0) (Eqw (t .wire) c)
+    (cond (eqb want (t .code)) (Eqw (t .wire) c)
+    (Xor (t .wire) (maskWire n (third (t .code) want)) c))
 
 -- its code
 abbrev pub outCode : ℕ → ℕ → ℕ

@@ -1,6 +1,6 @@
 -- A netlist and its parts, and the limits of a call (document 01, "The text" and "Questions, in order").
 use Prim.Native.Nat.{ℕ}
-use mathlib.Core.List.{List, [], _∷_}
+use mathlib.Core.List.{List}
 use Rattle.netlist.specs.declared.Gate.{Gate}
 use Rattle.netlist.specs.declared.Gate.the-variants.{Xor, And, Inv, Eqw, Eq}
 use Rattle.netlist.specs.declared.Limits.{Limits}

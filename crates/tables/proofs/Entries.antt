@@ -1,7 +1,7 @@
 -- The two entries of each kind of gate.
 use Prim.Native.Nat.{ℕ, _+_, _*_, _<_}
 use mathlib.Core.Path.{_≡_, refl, ap, _∙_}
-use mathlib.Core.List.{List, [], _∷_, _++_}
+use mathlib.Core.List.{[], _∷_, _++_}
 use native.Mathlib.Omega.{arith}
 use lib.Dec.{lit<}
 use Rattle.netlist.specs.declared.Gate.{Gate}
@@ -36,10 +36,12 @@ module _ {g : Gate} {a c o r : ℕ} (fa : a < half) (fc : c < half) where
   enter-and {b} e h W n = let m : Names W (And a b c) = rw e at n in rw e (entered W 2 a b c (lit< tt) (m .0) (m .1) (m .2) fa fc (And a b c) refl h)
 
   pub enter-inv : g ≡ Inv a c → Packed 3 a 0 c o r → (W : ℕ) → Names W g → Entered W g o r
-  enter-inv e h W n = let m : Names W (Inv a c) = rw e at n in rw e (entered W 3 a 0 c (lit< tt) (m .0) (omega (arith, m .0)) (m .1) fa fc (Inv a c) refl h)
+  enter-inv e h W n =
+      let m : Names W (Inv a c) = rw e at n in rw e (entered W 3 a 0 c (lit< tt) (m .0) (omega (arith, m .0)) (m .1) fa fc (Inv a c) refl h)
 
   pub enter-eqw : g ≡ Eqw a c → Packed 4 a 0 c o r → (W : ℕ) → Names W g → Entered W g o r
-  enter-eqw e h W n = let m : Names W (Eqw a c) = rw e at n in rw e (entered W 4 a 0 c (lit< tt) (m .0) (omega (arith, m .0)) (m .1) fa fc (Eqw a c) refl h)
+  enter-eqw e h W n =
+      let m : Names W (Eqw a c) = rw e at n in rw e (entered W 4 a 0 c (lit< tt) (m .0) (omega (arith, m .0)) (m .1) fa fc (Eqw a c) refl h)
 
 -- the constants 0 and 1
 module _ {g : Gate} {v c o r : ℕ} (fc : c < half) where

@@ -30,7 +30,8 @@ pub marks-result : {table rs : List ℕ} {n W : ℕ} → Marks table n W rs → 
     → (leb n (result g) && ltb (result g) W && not (marked table (result g))) ≡ resultGood n W rs g
 marks-result {table} {rs} {n} {W} m g = go (leb n (result g)) refl
   where
-    go : (b : Bool) → leb n (result g) ≡ b → (b && ltb (result g) W && not (marked table (result g))) ≡ (b && ltb (result g) W && not (member (result g) rs))
+    go : (b : Bool) → leb n (result g) ≡ b
+        → (b && ltb (result g) W && not (marked table (result g))) ≡ (b && ltb (result g) W && not (member (result g) rs))
     go true e =
         let k : ltb (result g) n ≡ false = le-ltb (result g) n (leb-true n (result g) e) in
         let j : marked table (result g) ≡ member (result g) rs = m .each (result g) ∙ rw k in
@@ -103,7 +104,9 @@ inputs-none table n W h e = record {
   passed = omega arith;
   long = refl;
   marks = record {
-    each = λ x. ap (λ (l : List ℕ). eqb (getD l x 0) 1) e ∙ ap (λ (v : ℕ). eqb v 1) (zero-at (length table) x) ∙ sym (or-false (ltb x 0) ∙ le-ltb x 0 (omega arith));
+    each =
+        λ x. ap (λ (l : List ℕ). eqb (getD l x 0) 1) e ∙ ap (λ (v : ℕ). eqb v 1) (zero-at (length table) x) ∙ sym (or-false (ltb x 0)
+        ∙ le-ltb x 0 (omega arith));
     inputs = omega arith;
     below = empty;
     room = h;
@@ -127,7 +130,8 @@ inputs-more {table₀} {table} {u} {n} {W} {i} s h l e = subst (λ (v : List ℕ
   passed = omega arith;
   long = length-set table i 1 ∙ s .long;
   marks = record {
-    each = λ x. marked-set table i x (omega (arith, s .marks .room)) ∙ ap (λ (b : Bool). eqb x i || b) (s .marks .each x ∙ or-false (ltb x i)) ∙ less-suc x i ∙ sym (or-false (ltb x (i + 1)));
+    each =
+        λ x. marked-set table i x (omega (arith, s .marks .room)) ∙ ap (λ (b : Bool). eqb x i || b) (s .marks .each x ∙ or-false (ltb x i)) ∙ less-suc x i ∙ sym (or-false (ltb x (i + 1)));
     inputs = omega arith;
     below = empty;
     room = rw length-set (s .marks .room);

@@ -58,7 +58,8 @@ module _ (t : List ℕ) (at n W : ℕ) (given : List ℕ) where
 pub one-room : (n W c : ℕ) (given : List ℕ) → W ≤ length given → (leb n c && ltb c W && not (marked given c)) ≡ true → c < length given
 one-room n W c given h f = let q : c < W = free-below n c W _ f in omega arith
 
-pub gate-step-is : (t : List ℕ) (at n W : ℕ) (rs given : List ℕ) {r s : GateStep} → r ≡ s → GateStepIs t at n W rs given r → GateStepIs t at n W rs given s
+pub gate-step-is : (t : List ℕ) (at n W : ℕ) (rs given : List ℕ) {r s : GateStep} → r ≡ s → GateStepIs t at n W rs given r
+    → GateStepIs t at n W rs given s
 gate-step-is t at n W rs given p h = subst (GateStepIs t at n W rs given) p h
 
 -- ---- all lines
@@ -94,75 +95,81 @@ reading-none {t} {given} {from} {n} {W} tabs h m = record {
   within = h;
 }
 
-module _ {t given : List ℕ} {from n W : ℕ} {tabs : Tables} {i at start : ℕ} (s : Reading t from n W given tabs i at) (b : Scanned isBlank t at start) where
-  -- the next line
-  next-line : start < length t → wordLines (drop at t) ≡ lineWords (drop start t) ∷ wordLines (afterLine (drop start t))
-  next-line h = sym (blanks-lines t at start b) ∙ word-line t start h (at-word t at start b)
+module _ {t given : List ℕ} {from n W : ℕ} {tabs : Tables} {i at start : ℕ} (s : Reading t from n W given tabs i at) (b : Scanned isBlank t at start)
+  where
+    -- the next line
+    next-line : start < length t → wordLines (drop at t) ≡ lineWords (drop start t) ∷ wordLines (afterLine (drop start t))
+    next-line h = sym (blanks-lines t at start b) ∙ word-line t start h (at-word t at start b)
 
-  -- a line more
-  pub reading-more : {after : List ℕ} {g : Gate} {to : ℕ} {tabs′ : Tables} → start < length t → Admitted t start n W (s .results) after g to
-      → Stored W tabs i g tabs′ → Reading t from n W after tabs′ (i + 1) to
-  reading-more {after} {g} {to} {tabs′} h a u =
-      let l = lineWords (drop start t) in
-      let ls = wordLines (afterLine (drop start t)) in
-      let e : wordLines (drop to t) ≡ ls = ap wordLines (a .next .left) in
-      let k : length (wordLines (drop at t)) ≡ suc (length ls) = ap length (next-line h) in
-      let j : length (wordLines (drop to t)) ≡ length ls = ap length e in
-      record {
-        results = result g ∷ s .results;
-        same =
-            s .same ∙ ap (λ (x : List (List (List ℕ))). behind (gatesOf tabs i) (gateLines n W (s .results) x)) (next-line h)
-            ∙ ap (behind (gatesOf tabs i)) (a .same ls) ∙ behind-one (gatesOf tabs i) g (gateLines n W (result g ∷ s .results) ls)
-            ∙ ap₂ (λ (gs : List Gate) (x : List (List (List ℕ))). behind gs (gateLines n W (result g ∷ s .results) x)) (sym (u .gates)) (sym e);
-        lines = omega (arith, s .lines);
-        marks = a .marks;
-        wired = u .wired (s .wired);
-        within = a .next .within;
-      }
+    -- a line more
+    pub reading-more : {after : List ℕ} {g : Gate} {to : ℕ} {tabs′ : Tables} → start < length t → Admitted t start n W (s .results) after g to
+        → Stored W tabs i g tabs′ → Reading t from n W after tabs′ (i + 1) to
+    reading-more {after} {g} {to} {tabs′} h a u =
+        let l = lineWords (drop start t) in
+        let ls = wordLines (afterLine (drop start t)) in
+        let e : wordLines (drop to t) ≡ ls = ap wordLines (a .next .left) in
+        let k : length (wordLines (drop at t)) ≡ suc (length ls) = ap length (next-line h) in
+        let j : length (wordLines (drop to t)) ≡ length ls = ap length e in
+        record {
+          results = result g ∷ s .results;
+          same =
+              s .same ∙ ap (λ (x : List (List (List ℕ))). behind (gatesOf tabs i) (gateLines n W (s .results) x)) (next-line h)
+              ∙ ap (behind (gatesOf tabs i)) (a .same ls) ∙ behind-one (gatesOf tabs i) g (gateLines n W (result g ∷ s .results) ls)
+              ∙ ap₂ (λ (gs : List Gate) (x : List (List (List ℕ))). behind gs (gateLines n W (result g ∷ s .results) x)) (sym (u .gates)) (sym e);
+          lines = omega (arith, s .lines);
+          marks = a .marks;
+          wired = u .wired (s .wired);
+          within = a .next .within;
+        }
 
-  counted : (count : ℕ) → i ≤ count → eqb (length (wordLines (drop from t))) count ≡ eqb (length (wordLines (drop start t))) (count - i)
-  counted count h =
-      let k : length (wordLines (drop start t)) ≡ length (wordLines (drop at t)) = ap length (blanks-lines t at start b) in
-      onBool (eqb (length (wordLines (drop start t))) (count - i))
-      (λ e. let q : length (wordLines (drop start t)) ≡ count - i = eqb-true _ _ e in rw e (eq-eqb (length (wordLines (drop from t))) count (omega (arith, s .lines))))
-      (λ e. let q : length (wordLines (drop start t)) ≡ count - i → ⊥ = eqb-false _ _ e in
-      rw e (ne-eqb (length (wordLines (drop from t))) count (λ p. q (omega (arith, s .lines)))))
+    counted : (count : ℕ) → i ≤ count → eqb (length (wordLines (drop from t))) count ≡ eqb (length (wordLines (drop start t))) (count - i)
+    counted count h =
+        let k : length (wordLines (drop start t)) ≡ length (wordLines (drop at t)) = ap length (blanks-lines t at start b) in
+        onBool (eqb (length (wordLines (drop start t))) (count - i))
+        (λ e. let q : length (wordLines (drop start t)) ≡ count - i = eqb-true _ _ e in
+        rw e (eq-eqb (length (wordLines (drop from t))) count (omega (arith, s .lines))))
+        (λ e. let q : length (wordLines (drop start t)) ≡ count - i → ⊥ = eqb-false _ _ e in
+        rw e (ne-eqb (length (wordLines (drop from t))) count (λ p. q (omega (arith, s .lines)))))
 
-  -- there is no further line, and there should be
-  pub reading-short : (count : ℕ) → i < count → length t ≤ start → GatesNot t from count n W 6
-  reading-short count h l =
-      let k : length (wordLines (drop start t)) ≡ 0 = ap length (no-line t start l) in
-      record { refuses = rw (counted count (omega arith), ne-eqb (length (wordLines (drop start t))) (count - i) (λ p. omega arith)) }
+    -- there is no further line, and there should be
+    pub reading-short : (count : ℕ) → i < count → length t ≤ start → GatesNot t from count n W 6
+    reading-short count h l =
+        let k : length (wordLines (drop start t)) ≡ 0 = ap length (no-line t start l) in
+        record { refuses = rw (counted count (omega arith), ne-eqb (length (wordLines (drop start t))) (count - i) (λ p. omega arith)) }
 
-  -- the next line is refused
-  pub reading-refused : (count q : ℕ) → i ≤ count → start < length t → RefusedAt t start n W (s .results) q
-      → GatesNot t from count n W (cond (eqb (length (wordLines (drop start t))) (count - i)) q 6)
-  reading-refused count q h l r =
-      let e : gateLines n W [] (wordLines (drop from t)) ≡ refused q =
-      s .same ∙ ap (λ (x : List (List (List ℕ))). behind (gatesOf tabs i) (gateLines n W (s .results) x)) (next-line l)
-      ∙ ap (behind (gatesOf tabs i)) (r .same (wordLines (afterLine (drop start t)))) in
-      onBool (eqb (length (wordLines (drop start t))) (count - i))
-      (λ p. record { refuses = rw (counted count h, p) e })
-      (λ p. record { refuses = rw (counted count h, p) })
+    -- the next line is refused
+    pub reading-refused : (count q : ℕ) → i ≤ count → start < length t → RefusedAt t start n W (s .results) q
+        → GatesNot t from count n W (cond (eqb (length (wordLines (drop start t))) (count - i)) q 6)
+    reading-refused count q h l r =
+        let e : gateLines n W [] (wordLines (drop from t)) ≡ refused q =
+        s .same ∙ ap (λ (x : List (List (List ℕ))). behind (gatesOf tabs i) (gateLines n W (s .results) x)) (next-line l)
+        ∙ ap (behind (gatesOf tabs i)) (r .same (wordLines (afterLine (drop start t)))) in
+        onBool (eqb (length (wordLines (drop start t))) (count - i))
+        (λ p. record { refuses = rw (counted count h, p) e })
+        (λ p. record { refuses = rw (counted count h, p) })
 
-  -- all lines are read, and there is one more
-  pub reading-more-left : (count : ℕ) → i ≤ count → count ≤ i → start < length t → GatesNot t from count n W 6
-  reading-more-left count h h′ l =
-      let k : length (wordLines (drop start t)) ≡ suc (length (wordLines (afterLine (drop start t)))) = ap length (word-line t start l (at-word t at start b)) in
-      record { refuses = rw (counted count h, ne-eqb (length (wordLines (drop start t))) (count - i) (λ p. omega arith)) }
+    -- all lines are read, and there is one more
+    pub reading-more-left : (count : ℕ) → i ≤ count → count ≤ i → start < length t → GatesNot t from count n W 6
+    reading-more-left count h h′ l =
+        let k : length (wordLines (drop start t)) ≡ suc (length (wordLines (afterLine (drop start t))))
+        = ap length (word-line t start l (at-word t at start b)) in
+        record { refuses = rw (counted count h, ne-eqb (length (wordLines (drop start t))) (count - i) (λ p. omega arith)) }
 
-  -- all lines are read
-  pub reading-all : (count : ℕ) → i ≤ count → count ≤ i → length t ≤ start → GatesRead t from count n W tabs
-  reading-all count h h′ l =
-      let z : i ≡ count = omega arith in
-      let k : length (wordLines (drop start t)) ≡ 0 = ap length (no-line t start l) in
-      let e : gateLines n W [] (wordLines (drop from t)) ≡ done (gatesOf tabs i) =
-      s .same ∙ ap (λ (x : List (List (List ℕ))). behind (gatesOf tabs i) (gateLines n W (s .results) x)) (sym (blanks-lines t at start b) ∙ no-line t start l)
-      ∙ ap done (append-nil (gatesOf tabs i)) in
-      record {
-        lines = rw (counted count h, eq-eqb (length (wordLines (drop start t))) (count - i) (omega arith)) (e ∙ ap (λ (x : ℕ). done (gatesOf tabs x)) z);
-        wired = subst (Wired tabs W) z (s .wired);
-      }
+    -- all lines are read
+    pub reading-all : (count : ℕ) → i ≤ count → count ≤ i → length t ≤ start → GatesRead t from count n W tabs
+    reading-all count h h′ l =
+        let z : i ≡ count = omega arith in
+        let k : length (wordLines (drop start t)) ≡ 0 = ap length (no-line t start l) in
+        let e : gateLines n W [] (wordLines (drop from t)) ≡ done (gatesOf tabs i) =
+        s .same
+        ∙ ap (λ (x : List (List (List ℕ))). behind (gatesOf tabs i) (gateLines n W (s .results) x))
+        (sym (blanks-lines t at start b) ∙ no-line t start l)
+        ∙ ap done (append-nil (gatesOf tabs i)) in
+        record {
+          lines = rw (counted count h, eq-eqb (length (wordLines (drop start t))) (count - i) (omega arith))
+              (e ∙ ap (λ (x : ℕ). done (gatesOf tabs x)) z);
+          wired = subst (Wired tabs W) z (s .wired);
+        }
 
 -- question 6 comes before the one that a line is refused by
 pub refuse-line : {m k left q : ℕ} → k ≡ m → k ≡ left → G.Refused q ≡ G.Refused (cond (eqb m left) q 6)
@@ -179,5 +186,6 @@ pub record Going (t : List ℕ) (from count n W : ℕ) (g₀ o₀ r₀ g o r : L
   pub results : length r ≡ length r₀
   pub reading : Reading t from n W g (tables o r) i at
 
-pub refused-is : {t : List ℕ} {from count n W : ℕ} {r : Gates} {q : ℕ} (tabs : Tables) → r ≡ G.Refused q → GatesNot t from count n W q → GatesIs t from count n W tabs r
+pub refused-is : {t : List ℕ} {from count n W : ℕ} {r : Gates} {q : ℕ} (tabs : Tables) → r ≡ G.Refused q → GatesNot t from count n W q
+    → GatesIs t from count n W tabs r
 refused-is {t} {from} {count} {n} {W} tabs p h = subst (GatesIs t from count n W tabs) (sym p) h

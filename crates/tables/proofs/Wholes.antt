@@ -1,5 +1,5 @@
 -- Questions 2 to 9 together: the head, and then the gate lines.
-use Prim.Native.Nat.{ℕ, _-_, _≤_}
+use Prim.Native.Nat.{ℕ, _≤_}
 use mathlib.Core.Path.{_≡_, refl, ap, _∙_, subst}
 use mathlib.Core.Bool.{Bool, true, false}
 use mathlib.Core.List.{List, []}
@@ -46,7 +46,8 @@ module _ {L : Limits} {t : List ℕ} where
     pub read-not : {q : ℕ} → GatesNot t to (h .gates) (h .ins) (h .wires) q → ReadNot L t q
     read-not g = record { refuses = reached ∙ ap (λ (o : Outcome (List Gate)). andThen o λ gs. done (netlistOf (a .header .is) gs)) (g .refuses) }
 
-    pub read-done : {tabs : Tables} → L .inputs ≤ length ins → L .outputs ≤ length outs → GatesRead t to (h .gates) (h .ins) (h .wires) tabs → ReadAt L t ins outs tabs h
+    pub read-done : {tabs : Tables} → L .inputs ≤ length ins → L .outputs ≤ length outs → GatesRead t to (h .gates) (h .ins) (h .wires) tabs
+        → ReadAt L t ins outs tabs h
     read-done {tabs} room room′ g =
         let H = a .header in
         let i = a .inside in
@@ -77,5 +78,6 @@ module _ (t : List ℕ) (at count n W : ℕ) (tabs : Tables) {r : Gates} (k : Ga
   gates-refused p = subst (GatesIs t at count n W tabs) p k
 
 -- what an answer of the reader stands for
-pub read-is : {l L : Limits} (t ins outs : List ℕ) (tabs : Tables) {r s : Reading} → l ≡ L → r ≡ s → ReadIs l t ins outs tabs r → ReadIs L t ins outs tabs s
+pub read-is : {l L : Limits} (t ins outs : List ℕ) (tabs : Tables) {r s : Reading} → l ≡ L → r ≡ s → ReadIs l t ins outs tabs r
+    → ReadIs L t ins outs tabs s
 read-is {L = L} t ins outs tabs {r} e p h = subst (ReadIs L t ins outs tabs) p (subst (λ (l : Limits). ReadIs l t ins outs tabs r) e h)

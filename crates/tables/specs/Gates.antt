@@ -20,7 +20,8 @@ use Rattle.tables.specs.declared.gates.Gates.the-variants as G
 
 -- the line at a place is the gate g, and the lines behind it follow its result
 pub record Admitted (t : List ℕ) (at n W : ℕ) (results given : List ℕ) (g : Gate) (to : ℕ) : Type 0 where
-  pub same : (ls : List (List (List ℕ))) → gateLines n W results (lineWords (drop at t) ∷ ls) ≡ (andThen (gateLines n W (result g ∷ results) ls) λ gs. done (g ∷ gs))
+  pub same : (ls : List (List (List ℕ)))
+      → gateLines n W results (lineWords (drop at t) ∷ ls) ≡ (andThen (gateLines n W (result g ∷ results) ls) λ gs. done (g ∷ gs))
   pub marks : Marks given n W (result g ∷ results)
   pub names : Names W g
   pub next : LineTaken t at to

@@ -14,7 +14,9 @@ abbrev μ-loop : tie.MeasureT-loop
 μ-loop operands results count words₀ i₀ next₀ words i next = count - i
 
 returns : tie.Need-returns Inv-loop μ-loop
-returns c = let s = c .before .before .before .before in ran-all (ran-none (tables (s .args .operands .now) (s .args .results .now)) (s .args .count) (s .args .words .now)) (omega arith)
+returns c =
+    let s = c .before .before .before .before in
+    ran-all (ran-none (tables (s .args .operands .now) (s .args .results .now)) (s .args .count) (s .args .words .now)) (omega arith)
 
 shared-slice-read-split : tie.Need-shared-slice-read-split Inv-loop μ-loop
 shared-slice-read-split c = omega arith
@@ -32,7 +34,8 @@ add-loop : tie.Need-add-loop Inv-loop μ-loop
 add-loop c = omega (arith, c .loop .inv .inside)
 
 step-requires : tie.Need-step-requires Inv-loop μ-loop
-step-requires c κs = ahead-within (c .before .before .loop .inv) (c .before .before .before .before .before .before .before .before .before .before .pre)
+step-requires c κs =
+    ahead-within (c .before .before .loop .inv) (c .before .before .before .before .before .before .before .before .before .before .pre)
 
 add-i : tie.Need-add-i Inv-loop μ-loop
 add-i c = omega arith
@@ -58,10 +61,15 @@ loop-less c = omega arith
 loop-again : tie.Need-loop-again Inv-loop μ-loop
 loop-again c =
     let step = c .before .before .before .before .before .step in
-    record { ran = ahead-step (c .before .before .before .before .before .before .before .before .loop .inv) (step .last .0) (step .kept .0) (step .ensures); inside = omega (arith, c .before .before .before .before .before .before .before .loop-test .taken); parts = c .split2 .ensures }
+    record {
+      ran = ahead-step (c .before .before .before .before .before .before .before .before .loop .inv) (step .last .0) (step .kept .0) (step .ensures);
+      inside = omega (arith, c .before .before .before .before .before .before .before .loop-test .taken);
+      parts = c .split2 .ensures;
+    }
 
 step-requires-2 : tie.Need-step-requires-2 Inv-loop μ-loop
-step-requires-2 c κs = ahead-within (c .before .before .loop .inv) (c .before .before .before .before .before .before .before .before .before .before .pre)
+step-requires-2 c κs =
+    ahead-within (c .before .before .loop .inv) (c .before .before .before .before .before .before .before .before .before .before .pre)
 
 same-length : tie.Need-same-length Inv-loop μ-loop
 same-length c = search needs
@@ -69,7 +77,8 @@ same-length c = search needs
 returns-2 : tie.Need-returns-2 Inv-loop μ-loop
 returns-2 c =
     let step = c .before .before .step2 in
-    ran-all (ahead-step (c .before .before .before .before .before .loop .inv) (step .last .0) (step .kept .0) (step .ensures)) (c .before .before .before .before .loop-test .left)
+    ran-all (ahead-step (c .before .before .before .before .before .loop .inv) (step .last .0) (step .kept .0) (step .ensures))
+    (c .before .before .before .before .loop-test .left)
 
 pub run-spec : {M : Type 1} → statement M
 run-spec =

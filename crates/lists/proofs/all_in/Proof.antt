@@ -4,11 +4,8 @@ use lib.ListN.{length}
 use Rattle.lists.specs.Range.{inRange}
 use Rattle.lists.proofs.Ranges.{Passing, passing-none, passing-more, passing-fails, passing-all, in-low, in-high, in-both}
 use borrow.Author.Needs.{needs}
-use native.Mathlib.Omega.{arith}
 use Rattle.lists.proofs.all_in.Statement.{statement}
 use Rattle.lists.proofs.all_in.Tie as tie
-use Rattle.lists.proofs.all_in.Reads as reads
-use Rattle.lists.proofs.all_in.Lts as lts
 
 abbrev Inv-loop : tie.InvT-loop
 Inv-loop list low high i₀ i = Passing (inRange low high) list i
@@ -29,7 +26,9 @@ shared-slice-read-if2 : tie.Need-shared-slice-read-if2 Inv-loop μ-loop
 shared-slice-read-if2 c = search needs
 
 returns-2 : tie.Need-returns-2 Inv-loop μ-loop
-returns-2 c = passing-fails (c .before .before .before .before .before .loop .inv) (c .before .before .before .before .loop-test .taken) (in-high (c .before .before .if1 .left) (c .if2 .taken))
+returns-2 c =
+    passing-fails (c .before .before .before .before .before .loop .inv) (c .before .before .before .before .loop-test .taken)
+    (in-high (c .before .before .if1 .left) (c .if2 .taken))
 
 add-i : tie.Need-add-i Inv-loop μ-loop
 add-i c = search needs
@@ -38,7 +37,9 @@ loop-less : tie.Need-loop-less Inv-loop μ-loop
 loop-less c = search needs
 
 loop-again : tie.Need-loop-again Inv-loop μ-loop
-loop-again c = passing-more (c .before .before .before .before .before .loop .inv) (c .before .before .before .before .loop-test .taken) (in-both (c .before .before .if1 .left) (c .if2 .left))
+loop-again c =
+    passing-more (c .before .before .before .before .before .loop .inv) (c .before .before .before .before .loop-test .taken)
+    (in-both (c .before .before .if1 .left) (c .if2 .left))
 
 returns-3 : tie.Need-returns-3 Inv-loop μ-loop
 returns-3 c = passing-all (c .before .loop .inv) (c .loop-test .left)

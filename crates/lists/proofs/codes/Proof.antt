@@ -1,13 +1,9 @@
 -- `codes`: the length, and then the range.
 use Rattle.netlist.specs.Mask.{isCode}
 use Rattle.lists.proofs.Ranges.{list-short, list-good}
-use native.Mathlib.Omega.{arith}
 use borrow.Author.Needs.{needs}
 use Rattle.lists.proofs.codes.Statement.{statement}
 use Rattle.lists.proofs.codes.Tie as tie
-use Rattle.lists.proofs.codes.Reads as reads
-use Rattle.lists.proofs.codes.Lts as lts
-use Rattle.lists.proofs.all_in.Reads as all-in-reads
 
 returns : tie.Need-returns
 returns c = list-short isCode _ (c .before .before .args .list .now) (c .if1 .taken)

@@ -13,7 +13,8 @@ term-requires c κs = search needs
 returns : tie.Need-returns
 returns c j l =
     let s = c .before .before in
-    made-law (s .args .kind) (s .args .a) (s .args .b) j (c .before .factor .result) (c .term .result) (s .pre) (c .before .factor .ensures j l) (c .term .ensures j l)
+    made-law (s .args .kind) (s .args .a) (s .args .b) j (c .before .factor .result) (c .term .result) (s .pre) (c .before .factor .ensures j l)
+    (c .term .ensures j l)
 
 pub made-spec : {M : Type 1} → statement M
 made-spec = tie.close (tie.spec factor-requires term-requires returns)

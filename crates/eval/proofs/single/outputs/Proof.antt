@@ -43,11 +43,14 @@ same-length-2 c = search needs
 
 returns : tie.Need-returns
 returns c N h =
-    let s = c .before .before .before .before .before .before .before .before .before .before .before .before .before .before .before .before .before .before .before in
+    let s = c .before .before .before .before .before .before .before .before .before .before .before .before .before .before .before
+    .before .before .before .before in
     let laid = c .before .before .before .before .before .before .before .before .before .before .before .before .bits in
     let wires = c .before .before .before .before .before .before .before .before .wires in
-    single-law (s .args .words .now) (s .args .bits .now) (laid .last .1 .0) (wires .last .1 .1 .1 .1 .0) (s .args .out .now) (c .before .before .lows .last .1 .0)
-    h (laid .ensures) (s .pre .1 .0) (wires .kept .1 .1 .1 .1 .0 ∙ laid .kept .1 .0) (s .pre .1 .1) (wires .ensures 0 (lit< tt)) (c .before .before .lows .ensures)
+    single-law (s .args .words .now) (s .args .bits .now) (laid .last .1 .0) (wires .last .1 .1 .1 .1 .0) (s .args .out .now)
+    (c .before .before .lows .last .1 .0)
+    h (laid .ensures) (s .pre .1 .0) (wires .kept .1 .1 .1 .1 .0 ∙ laid .kept .1 .0) (s .pre .1 .1) (wires .ensures 0 (lit< tt))
+    (c .before .before .lows .ensures)
 
 pub outputs-spec : {M : Type 1} → statement M
 outputs-spec =

@@ -42,11 +42,13 @@ same-length-2 c = search needs
 
 returns : tie.Need-returns
 returns c N h =
-    let s = c .before .before .before .before .before .before .before .before .before .before .before .before .before .before .before .before .before .before .before in
+    let s = c .before .before .before .before .before .before .before .before .before .before .before .before .before .before .before
+    .before .before .before .before in
     let laid = c .before .before .before .before .before .before .before .before .before .before .before .before .words in
     let wires = c .before .before .before .before .before .before .before .before .wires in
     wide-law (s .args .words .now) (s .args .list .now) (laid .last .1 .0) (wires .last .1 .1 .1 .1 .0)
-    h (laid .ensures) (s .pre .1 .0) (wires .kept .1 .1 .1 .1 .0 ∙ laid .kept .1 .0) (s .pre .1 .1) (s .args .out .now) (c .before .before .words5 .last .1 .0) (s .pre .1 .2) (wires .ensures) (c .before .before .words5 .ensures)
+    h (laid .ensures) (s .pre .1 .0) (wires .kept .1 .1 .1 .1 .0 ∙ laid .kept .1 .0) (s .pre .1 .1) (s .args .out .now)
+    (c .before .before .words5 .last .1 .0) (s .pre .1 .2) (wires .ensures) (c .before .before .words5 .ensures)
 
 pub outputs-spec : {M : Type 1} → statement M
 outputs-spec =

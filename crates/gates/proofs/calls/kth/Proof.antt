@@ -4,10 +4,6 @@ use Rattle.gates.proofs.CallLaws.{reader-no, reader-on}
 use borrow.Author.Needs.{needs}
 use Rattle.gates.proofs.calls.kth.Statement.{statement}
 use Rattle.gates.proofs.calls.kth.Tie as tie
-use Rattle.gates.proofs.calls.kth.Reads as reads
-use Rattle.gates.proofs.calls.kth.Lts as lts
-use Rattle.gates.proofs.calls.call_at.Reads as call-at-reads
-use Rattle.gates.proofs.opening.open_at.Reads as open-at-reads
 
 slice-aggregate-open-at : tie.Need-slice-aggregate-open-at
 slice-aggregate-open-at c = search needs
@@ -31,7 +27,9 @@ returns : tie.Need-returns
 returns c = reader-no (open-is _ _ _ _ _ (c .before .question .given .1) (c .before .before .before .before .before .open-at .ensures))
 
 returns-2 : tie.Need-returns-2
-returns-2 c = reader-on (open-is _ _ _ _ _ (c .before .before .at .given .1) (c .before .before .before .before .before .before .open-at .ensures)) (c .call-at .ensures)
+returns-2 c =
+    reader-on (open-is _ _ _ _ _ (c .before .before .at .given .1) (c .before .before .before .before .before .before .open-at .ensures))
+    (c .call-at .ensures)
 
 pub kth-spec : {M : Type 1} → statement M
 kth-spec =

@@ -5,12 +5,6 @@ use native.Mathlib.Omega.{arith}
 use borrow.Author.Needs.{needs}
 use Rattle.gates.proofs.opening.open_at.Statement.{statement}
 use Rattle.gates.proofs.opening.open_at.Tie as tie
-use Rattle.gates.proofs.opening.open_at.Reads as reads
-use Rattle.gates.proofs.opening.open_at.Lts as lts
-use Rattle.gates.proofs.opening.copy.Reads as copy-reads
-use Rattle.lines.proofs.head.read_head.Reads as read-head-reads
-use Rattle.netlist.proofs.large.Reads as large-reads
-use Rattle.text.proofs.lines.count_lines.Reads as count-lines-reads
 
 large-requires : tie.Need-large-requires
 large-requires c κs = search needs
@@ -31,7 +25,9 @@ enum-known-h : tie.Need-enum-known-h
 enum-known-h c = search needs
 
 count-lines-requires : tie.Need-count-lines-requires
-count-lines-requires c κs = head-large _ _ _ (c .before .before .before .before .before .before .before .before .large .ensures) (c .before .h .given .1) (c .before .before .before .before .before .read-head .ensures) .header .within
+count-lines-requires c κs =
+    head-large _ _ _ (c .before .before .before .before .before .before .before .before .large .ensures) (c .before .h .given .1)
+    (c .before .before .before .before .before .read-head .ensures) .header .within
 
 cast-if1 : tie.Need-cast-if1
 cast-if1 c = search needs
@@ -39,7 +35,8 @@ cast-if1 c = search needs
 returns : tie.Need-returns
 returns c =
     let k = c .before .before .before .before .before .before .before .before in
-    open-6 (head-large _ _ _ (k .before .before .before .large .ensures) (c .before .before .before .before .h .given .1) (k .read-head .ensures)) (c .before .before .count-lines .ensures) (c .if1 .taken)
+    open-6 (head-large _ _ _ (k .before .before .before .large .ensures) (c .before .before .before .before .h .given .1) (k .read-head .ensures))
+    (c .before .before .count-lines .ensures) (c .if1 .taken)
 
 slice-aggregate-copy : tie.Need-slice-aggregate-copy
 slice-aggregate-copy c = search needs
@@ -47,7 +44,8 @@ slice-aggregate-copy c = search needs
 copy-requires : tie.Need-copy-requires
 copy-requires c κs =
     let k = c .before .before .before .before .before .before .before .before .before .before in
-    let a = head-large _ _ _ (k .before .before .before .large .ensures) (c .before .before .before .before .before .before .h .given .1) (k .read-head .ensures) in
+    let a = head-large _ _ _ (k .before .before .before .large .ensures) (c .before .before .before .before .before .before .h .given .1)
+    (k .read-head .ensures) in
     omega (arith, a .inside .inputs, k .read-head .kept .1 .1 .0)
 
 slice-aggregate-copy-2 : tie.Need-slice-aggregate-copy-2
@@ -55,12 +53,16 @@ slice-aggregate-copy-2 c = search needs
 
 copy-requires-2 : tie.Need-copy-requires-2
 copy-requires-2 c κs =
-    let k = c .before .before .before .before .before .before .before .before .before .before .before .before .before .before .before in
-    let a = head-large _ _ _ (k .before .before .before .large .ensures) (c .before .before .before .before .before .before .before .before .before .before .before .h .given .1) (k .read-head .ensures) in
+    let at-h = c .before .before .before .before .before .before .before .before .before .before .before in
+    let k = at-h .before .before .before .before in
+    let a = head-large _ _ _ (k .before .before .before .large .ensures) (at-h .h .given .1) (k .read-head .ensures) in
     omega (arith, a .inside .outputs, k .read-head .kept .1 .1 .1 .0)
 
 returns-2 : tie.Need-returns-2
-returns-2 c = open-not (head-large _ _ _ (c .before .before .before .before .before .before .before .before .large .ensures) (c .before .question .given .1) (c .before .before .before .before .before .read-head .ensures))
+returns-2 c =
+    open-not
+    (head-large _ _ _ (c .before .before .before .before .before .before .before .before .large .ensures) (c .before .question .given .1)
+    (c .before .before .before .before .before .read-head .ensures))
 
 same-length : tie.Need-same-length
 same-length c = search needs
@@ -70,9 +72,14 @@ same-length-2 c = search needs
 
 returns-3 : tie.Need-returns-3
 returns-3 c =
-    let k = c .before .before .before .before .before .before .before .before .before .before .before .before .before .before .before .before .before .before in
-    let a = head-large _ _ _ (k .before .before .before .large .ensures) (c .before .before .before .before .before .before .before .before .before .before .before .before .before .before .h .given .1) (k .read-head .ensures) in
-    open-at a (c .before .before .before .before .before .before .before .before .before .before .before .before .count-lines .ensures) (c .before .before .before .before .before .before .before .before .before .before .if1 .left) (omega (arith, k .read-head .kept .1 .1 .0)) (omega (arith, k .read-head .kept .1 .1 .1 .0)) (c .before .before .before .before .before .before .before .copy .ensures) (c .before .before .copy2 .ensures)
+    let at-if1 = c .before .before .before .before .before .before .before .before .before .before in
+    let at-count-lines = at-if1 .before .before in
+    let at-h = at-count-lines .before .before in
+    let k = at-h .before .before .before .before in
+    let a = head-large _ _ _ (k .before .before .before .large .ensures) (at-h .h .given .1) (k .read-head .ensures) in
+    open-at a (at-count-lines .count-lines .ensures) (at-if1 .if1 .left) (omega (arith, k .read-head .kept .1 .1 .0))
+    (omega (arith, k .read-head .kept .1 .1 .1 .0)) (c .before .before .before .before .before .before .before .copy .ensures)
+    (c .before .before .copy2 .ensures)
 
 pub open-at-spec : {M : Type 1} → statement M
 open-at-spec =

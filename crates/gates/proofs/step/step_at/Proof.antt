@@ -4,10 +4,6 @@ use Rattle.gates.proofs.StepLaws.{end-past, end-blank, no-step, on-step
 use borrow.Author.Needs.{needs}
 use Rattle.gates.proofs.step.step_at.Statement.{statement}
 use Rattle.gates.proofs.step.step_at.Tie as tie
-use Rattle.gates.proofs.step.step_at.Reads as reads
-use Rattle.gates.proofs.step.step_at.Lts as lts
-use Rattle.lines.proofs.gate.gate_line.Reads as gate-line-reads
-use Rattle.text.proofs.cursor.Cursor.skip_blanks.Reads as skip-blanks-reads
 
 returns : tie.Need-returns
 returns c = end-past _ _ (c .if1 .taken)
@@ -28,12 +24,15 @@ enum-told : tie.Need-enum-told
 enum-told c = search needs
 
 returns-3 : tie.Need-returns-3
-returns-3 c = no-step _ _ _ (c .before .before .before .before .before .skip-blanks .ensures) (c .before .before .before .if2 .left) (line-is-not _ _ _ _ (c .before .before .gate-line .ensures) (c .enum-told .given .1))
+returns-3 c =
+    no-step _ _ _ (c .before .before .before .before .before .skip-blanks .ensures) (c .before .before .before .if2 .left)
+    (line-is-not _ _ _ _ (c .before .before .gate-line .ensures) (c .enum-told .given .1))
 
 returns-4 : tie.Need-returns-4
 returns-4 c =
     let l = line-is _ _ _ _ (c .before .before .before .gate-line .ensures) _ _ (c .before .g .given .1) in
-    on-step _ _ _ (c .before .before .before .before .before .before .skip-blanks .ensures) (c .before .before .before .before .if2 .left) _ _ (l .0) (l .1)
+    on-step _ _ _ (c .before .before .before .before .before .before .skip-blanks .ensures) (c .before .before .before .before .if2 .left) _ _ (l .0)
+    (l .1)
 
 pub step-at-spec : {M : Type 1} → statement M
 step-at-spec =

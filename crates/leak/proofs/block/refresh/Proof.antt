@@ -31,11 +31,14 @@ same-length c = search needs
 
 returns : tie.Need-returns
 returns c =
-    let s = c .before .before .before .before .before .before .before .before .before .before .before .before .before .before in
+    let at-if1 = c .before .before .before .before .before .before .before .before in
+    let s = at-if1 .before .before .before .before .before .before in
     let side = c .before .before .before .before .before .before .side in
     let t = tables (s .args .operands .now) (s .args .results .now) in
-    let ran = subst (λ (W : ℕ). Counted (bare t (s .args .count) W) false (s .args .codes .now) (onesOf (side .last .1 .1 .1 .1 .1 .1 .0)) (s .args .block)) (s .pre .1 .0 .2) (side .ensures) in
-    (counted-same ran (c .before .before .tally .ensures), λ e. absurd (subst T (sym (c .before .before .before .before .before .before .before .before .if1 .taken) ∙ e) tt))
+    let ran = subst
+    (λ (W : ℕ). Counted (bare t (s .args .count) W) false (s .args .codes .now) (onesOf (side .last .1 .1 .1 .1 .1 .1 .0)) (s .args .block))
+    (s .pre .1 .0 .2) (side .ensures) in
+    (counted-same ran (c .before .before .tally .ensures), λ e. absurd (subst T (sym (at-if1 .if1 .taken) ∙ e) tt))
 
 same-length-2 : tie.Need-same-length-2
 same-length-2 c = search needs
@@ -45,7 +48,8 @@ returns-2 c =
     let s = c .before .before .before .before .before .before .before .before .before .before .before in
     let N = bare (tables (s .args .operands .now) (s .args .results .now)) (s .args .count) (length (s .args .words .now)) in
     let secret = s .pre .1 .1 .1 (c .before .before .before .before .before .if1 .left) .0 in
-    let first = first-base N (s .args .codes .now) secret (s .args .block) (c .before .before .before .before .if2 .taken) (s .pre .1 .1 .0) (c .before .before .first .ensures) in
+    let first = first-base N (s .args .codes .now) secret (s .args .block) (c .before .before .before .before .if2 .taken) (s .pre .1 .1 .0)
+    (c .before .before .first .ensures) in
     (first, λ _. (secret, λ _. same-base N (s .args .codes .now) secret (s .args .block) (s .args .block + 1) first))
 
 returns-3 : tie.Need-returns-3

@@ -43,7 +43,8 @@ loop-less c = omega arith
 loop-again : tie.Need-loop-again Inv-loop μ-loop
 loop-again c =
     let at = c .before .before .before .loop in
-    tallied-more (c .counts .result) (at .inv) (omega arith) (λ s l. c .counts .ensures s l ∙ ap (λ (x : ℕ). ones x s) (at .inv .rest (at .w) (le-refl _)))
+    tallied-more (c .counts .result) (at .inv) (omega arith)
+    (λ s l. c .counts .ensures s l ∙ ap (λ (x : ℕ). ones x s) (at .inv .rest (at .w) (le-refl _)))
 
 same-length : tie.Need-same-length Inv-loop μ-loop
 same-length c = c .before .loop .inv .long

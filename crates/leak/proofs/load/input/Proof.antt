@@ -13,7 +13,9 @@ mask-requires : tie.Need-mask-requires
 mask-requires c κs = search needs
 
 returns : tie.Need-returns
-returns c j l = lane-xor j (c .before .chosen .result) (c .mask .result) ∙ ap₂ differs (c .before .chosen .ensures j l) (c .mask .ensures (c .before .before .args .block) j l)
+returns c j l =
+    lane-xor j (c .before .chosen .result) (c .mask .result)
+    ∙ ap₂ differs (c .before .chosen .ensures j l) (c .mask .ensures (c .before .before .args .block) j l)
 
 pub input-spec : {M : Type 1} → statement M
 input-spec = tie.close (tie.spec chosen-requires mask-requires returns)

@@ -38,7 +38,8 @@ loop-again : tie.Need-loop-again Inv-loop μ-loop
 loop-again c =
     let s = c .before .before .before .before .before .before in
     let at = c .before .before .before .loop in (
-      loaded-input (s .args .codes .now) (s .args .whole) (s .args .block) (s .args .words .now) (at .words) (s .pre .1) (at .i) (c .input .result) (at .inv .0) (c .before .before .loop-test .taken) (c .input .ensures),
+      loaded-input (s .args .codes .now) (s .args .whole) (s .args .block) (s .args .words .now) (at .words) (s .pre .1) (at .i) (c .input .result)
+          (at .inv .0) (c .before .before .loop-test .taken) (c .input .ensures),
       omega arith,
     )
 
@@ -70,7 +71,8 @@ returns : tie.Need-returns Inv-loop μ-loop
 returns c j l =
     let s = c .before .before .before .before .before .before in
     let at = c .before .before .before .loop in
-    loaded-all (s .args .codes .now) (s .args .whole) (s .args .block) (s .args .words .now) (at .words) (at .i) (c .before .mask .result) (c .mask2 .result) (s .pre .1) (at .inv .0) (omega arith)
+    loaded-all (s .args .codes .now) (s .args .whole) (s .args .block) (s .args .words .now) (at .words) (at .i) (c .before .mask .result)
+    (c .mask2 .result) (s .pre .1) (at .inv .0) (omega arith)
     (c .before .mask .ensures (s .args .block)) (c .mask2 .ensures (s .args .block)) j l
 
 pub inputs-spec : {M : Type 1} → statement M

@@ -43,7 +43,10 @@ turn-requires c κs =
         omega (arith, s .pre .1 .1, w),
         at .inv .long-base ∙ sym w,
         omega (arith, at .inv .spotted .within, w),
-        subst (λ (W : ℕ). Ready (c .before .before .before .before .before .public .result) (bare t (s .args .count) W) (s .args .codes .now) (at .base) (at .block)) (sym w) (at .inv .ready),
+        subst
+            (λ (W : ℕ). Ready (c .before .before .before .before .before .public .result) (bare t (s .args .count) W) (s .args .codes .now) (at .base)
+            (at .block))
+            (sym w) (at .inv .ready),
       ),
     )
 
@@ -53,16 +56,22 @@ better-requires c κs =
     (omega (arith, s .pre .1 .3), λ l. c .before .before .before .before .turn .ensures .0 .differs l .inside)
 
 add-block : tie.Need-add-block Inv-loop μ-loop
-add-block c = omega (arith, c .before .before .before .before .before .before .before .before .before .before .before .before .before .before .before .before .before .pre .1 .3)
+add-block c =
+    omega (
+      arith,
+      c .before .before .before .before .before .before .before .before .before .before .before .before .before .before .before .before .before .pre .1 .3,
+    )
 
 loop-less : tie.Need-loop-less Inv-loop μ-loop
 loop-less c = omega arith
 
 loop-again : tie.Need-loop-again Inv-loop μ-loop
 loop-again c =
-    let at = c .before .before .before .before .before .before .before .before .before .loop in
+    let at-loop-test = c .before .before .before .before .before .before .before .before in
+    let at = at-loop-test .before .loop in
     let turn = c .before .before .before .before .before .turn in
-    find-more (at .inv) (c .before .before .before .before .before .before .before .before .loop-test .taken) (turn .last .1 .1 .1 .1 .1 .1 .0) (turn .last .1 .1 .1 .1 .1 .1 .1 .0) (turn .result) (c .better .result)
+    find-more (at .inv) (at-loop-test .loop-test .taken) (turn .last .1 .1 .1 .1 .1 .1 .0) (turn .last .1 .1 .1 .1 .1 .1 .1 .0) (turn .result)
+    (c .better .result)
     (turn .kept .1 .1 .1 .1 .1 .1 .0) (turn .kept .1 .1 .1 .1 .1 .1 .1 .0) (turn .ensures .0) (turn .ensures .1) (c .better .ensures)
 
 same-length : tie.Need-same-length Inv-loop μ-loop

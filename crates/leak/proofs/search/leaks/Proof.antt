@@ -23,7 +23,8 @@ returns c n o N h =
     let s = c .before .before .before .before .before .before .before .before .before .before .before .before .before .before .args in
     let find = c .before .before .before .before .before .find in
     let blocks = c .before .before .before .before .before .before .before .before .blocks-of in
-    tells-leak h (s .codes .now) (blocks .result * 16) (find .result) (blocks .ensures .0) (find .ensures) (omega (arith, c .if1 .taken, find .kept .1 .1 .1 .1 .1 .0))
+    tells-leak h (s .codes .now) (blocks .result * 16) (find .result) (blocks .ensures .0) (find .ensures)
+    (omega (arith, c .if1 .taken, find .kept .1 .1 .1 .1 .1 .0))
 
 same-length-3 : tie.Need-same-length-3
 same-length-3 c = search needs
@@ -36,7 +37,8 @@ returns-2 c n o N h =
     let s = c .before .before .before .before .before .before .before .before .before .before .before .before .before .before .args in
     let find = c .before .before .before .before .before .find in
     let blocks = c .before .before .before .before .before .before .before .before .blocks-of in
-    tells-clean h (s .codes .now) (blocks .result * 16) (find .result) (blocks .ensures .0) (find .ensures) (omega (arith, c .if1 .left, find .kept .1 .1 .1 .1 .1 .0, find .ensures .within))
+    tells-clean h (s .codes .now) (blocks .result * 16) (find .result) (blocks .ensures .0) (find .ensures)
+    (omega (arith, c .if1 .left, find .kept .1 .1 .1 .1 .1 .0, find .ensures .within))
 
 pub leaks-spec : {M : Type 1} → statement M
 leaks-spec =

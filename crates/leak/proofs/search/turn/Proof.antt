@@ -25,7 +25,8 @@ refresh-requires c κs =
       (
         (s .pre .1 .0, omega (arith, s .pre .1 .1, k), s .pre .1 .2 ∙ sym k),
         subst
-            (λ (W : ℕ). Counted (bare t (s .args .count) W) true (s .args .codes .now) (onesOf (side .last .1 .1 .1 .1 .1 .1 .0)) (s .args .block) × Ready (s .args .mixed) (bare t (s .args .count) W) (s .args .codes .now) (s .args .base .now) (s .args .block))
+            (λ (W : ℕ). Counted (bare t (s .args .count) W) true (s .args .codes .now) (onesOf (side .last .1 .1 .1 .1 .1 .1 .0)) (s .args .block)
+            × Ready (s .args .mixed) (bare t (s .args .count) W) (s .args .codes .now) (s .args .base .now) (s .args .block))
             (sym k) (side .ensures, s .pre .1 .4),
       ),
     )
@@ -41,14 +42,16 @@ same-length-2 c = search needs
 
 returns : tie.Need-returns
 returns c =
-    let s = c .before .before .before .before .before .before .before .before .before .before .before .before .before .before .before .before .before in
-    let side = c .before .before .before .before .before .before .before .before .before .before .side in
+    let at-side = c .before .before .before .before .before .before .before .before .before .before in
+    let s = at-side .before .before .before .before .before .before .before in
+    let side = at-side .side in
     let refresh = c .before .before .before .before .before .refresh in
     let base = refresh .last .1 .1 .1 .1 .1 .1 .1 .0 in
     let t = tables (s .args .operands .now) (s .args .results .now) in
     let based =
     subst
-    (λ (W : ℕ). Counted (bare t (s .args .count) W) false (s .args .codes .now) (nibblesOf base) (s .args .block) × Ready (s .args .mixed) (bare t (s .args .count) W) (s .args .codes .now) base (s .args .block + 1))
+    (λ (W : ℕ). Counted (bare t (s .args .count) W) false (s .args .codes .now) (nibblesOf base) (s .args .block)
+    × Ready (s .args .mixed) (bare t (s .args .count) W) (s .args .codes .now) base (s .args .block + 1))
     (side .kept .1 .1 .1 .1 .1 .1 .0) (refresh .ensures) in
     (turn-law (side .ensures) (based .0) (c .scan .ensures), based .1)
 

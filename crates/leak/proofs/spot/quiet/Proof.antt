@@ -13,7 +13,8 @@ use Rattle.leak.proofs.spot.quiet.Statement.{statement}
 use Rattle.leak.proofs.spot.quiet.Tie as tie
 
 abbrev Inv-loop : tie.InvT-loop
-Inv-loop words base limit d₀ w₀ d w = (w ≤ limit) × (d ≡ 0 → Agree (nibblesOf base) (onesOf words) w 16) × (Agree (nibblesOf base) (onesOf words) w 16 → d ≡ 0)
+Inv-loop words base limit d₀ w₀ d w =
+    (w ≤ limit) × (d ≡ 0 → Agree (nibblesOf base) (onesOf words) w 16) × (Agree (nibblesOf base) (onesOf words) w 16 → d ≡ 0)
 
 abbrev μ-loop : tie.MeasureT-loop
 μ-loop words base limit d₀ w₀ d w = limit - w

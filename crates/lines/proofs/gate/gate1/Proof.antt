@@ -20,7 +20,9 @@ same-requires-2 : tie.Need-same-requires-2
 same-requires-2 c κs = search needs
 
 returns-2 : tie.Need-returns-2
-returns-2 c = rw (sym (c .before .before .before .before .same .ensures) ∙ c .before .before .before .if1 .left) (rw (sym (c .before .same2 .ensures) ∙ c .if2 .taken))
+returns-2 c =
+    rw (sym (c .before .before .before .before .same .ensures) ∙ c .before .before .before .if1 .left)
+    (rw (sym (c .before .same2 .ensures) ∙ c .if2 .taken))
 
 slice-aggregate-same-3 : tie.Need-slice-aggregate-same-3
 slice-aggregate-same-3 c = search needs
@@ -31,12 +33,14 @@ same-requires-3 c κs = search needs
 returns-3 : tie.Need-returns-3
 returns-3 c =
     let d = c .before .before .before in
-    rw (sym (d .before .before .before .before .same .ensures) ∙ d .before .before .before .if1 .left) (rw (sym (d .before .same2 .ensures) ∙ d .if2 .left) (rw (sym (c .before .same3 .ensures) ∙ c .if3 .taken)))
+    rw (sym (d .before .before .before .before .same .ensures) ∙ d .before .before .before .if1 .left)
+    (rw (sym (d .before .same2 .ensures) ∙ d .if2 .left) (rw (sym (c .before .same3 .ensures) ∙ c .if3 .taken)))
 
 returns-4 : tie.Need-returns-4
 returns-4 c =
     let d = c .before .before .before in
-    rw (sym (d .before .before .before .before .same .ensures) ∙ d .before .before .before .if1 .left) (rw (sym (d .before .same2 .ensures) ∙ d .if2 .left) (rw (sym (c .before .same3 .ensures) ∙ c .if3 .left)))
+    rw (sym (d .before .before .before .before .same .ensures) ∙ d .before .before .before .if1 .left)
+    (rw (sym (d .before .same2 .ensures) ∙ d .if2 .left) (rw (sym (c .before .same3 .ensures) ∙ c .if3 .left)))
 
 pub gate1-spec : {M : Type 1} → statement M
 gate1-spec =

@@ -57,7 +57,9 @@ returns-3 c =
     let r = number-is _ _ _ _ _ (n .before .c .given .1) (n .before .before .before .next-number2 .ensures) in
     let m = n .before .before .before .before in
     let a = number-is _ _ _ _ _ (m .before .a .given .1) (m .before .before .before .next-number .ensures) in
-    line-behind _ _ _ _ _ _ a (line-behind _ _ _ _ _ _ r (line-named _ refl _ _ _ _ _ _ (c .before .before .before .next-word .ensures) (c .before .gate1 .ensures) (c .last-word .ensures)))
+    line-behind _ _ _ _ _ _ a
+    (line-behind _ _ _ _ _ _ r
+    (line-named _ refl _ _ _ _ _ _ (c .before .before .before .next-word .ensures) (c .before .gate1 .ensures) (c .last-word .ensures)))
 
 pub one-operand-spec : {M : Type 1} → statement M
 one-operand-spec =

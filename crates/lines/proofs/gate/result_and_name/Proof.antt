@@ -40,7 +40,8 @@ returns-2 : tie.Need-returns-2
 returns-2 c =
     let n = c .before .before .before .before in
     let r = number-is _ _ _ _ _ (n .before .c .given .1) (n .before .before .before .next-number .ensures) in
-    line-behind _ _ _ _ _ _ r (line-named _ refl _ _ _ _ _ _ (c .before .before .before .next-word .ensures) (c .before .gate2 .ensures) (c .last-word .ensures))
+    line-behind _ _ _ _ _ _ r
+    (line-named _ refl _ _ _ _ _ _ (c .before .before .before .next-word .ensures) (c .before .gate2 .ensures) (c .last-word .ensures))
 
 pub result-and-name-spec : {M : Type 1} → statement M
 result-and-name-spec =

@@ -3,16 +3,9 @@ use mathlib.Core.Path.{sym, _∙_}
 use borrow.Author.Tests.{not-true, not-false}
 use Rattle.lines.proofs.HeaderLaws.{header-is, header-not}
 use Rattle.lines.proofs.HeadLaws.{bits-fit, head-2, head-3, head-4, head-5, head-6, head-at}
-use native.Mathlib.Omega.{arith}
 use borrow.Author.Needs.{needs}
 use Rattle.lines.proofs.head.read_head.Statement.{statement}
 use Rattle.lines.proofs.head.read_head.Tie as tie
-use Rattle.lines.proofs.head.read_head.Reads as reads
-use Rattle.lines.proofs.head.read_head.Lts as lts
-use Rattle.lines.proofs.head.gates_counted.Reads as gates-counted-reads
-use Rattle.lines.proofs.head.within.Reads as within-reads
-use Rattle.lines.proofs.header.read_header.Reads as read-header-reads
-use Rattle.text.proofs.allowed.all_allowed.Reads as all-allowed-reads
 
 returns : tie.Need-returns
 returns c = head-2 _ _ (c .if1 .taken)
@@ -41,7 +34,9 @@ same-length-2 c = search needs
 returns-3 : tie.Need-returns-3
 returns-3 c =
     let k = c .before .before .before .before .before .before in
-    head-4 _ _ (k .before .before .before .before .before .if1 .left) (sym (k .before .before .before .before .all-allowed .ensures) ∙ not-false _ (k .before .before .before .if2 .left)) (header-not _ _ _ _ (c .enum-told .given .1) (k .read-header .ensures))
+    head-4 _ _ (k .before .before .before .before .before .if1 .left)
+    (sym (k .before .before .before .before .all-allowed .ensures) ∙ not-false _ (k .before .before .before .if2 .left))
+    (header-not _ _ _ _ (c .enum-told .given .1) (k .read-header .ensures))
 
 within-requires : tie.Need-within-requires
 within-requires c κs = search needs
@@ -56,7 +51,9 @@ returns-4 : tie.Need-returns-4
 returns-4 c =
     let k = c .before .before .before .before .before .before .before .before .before in
     let a = header-is _ _ _ _ _ _ (c .before .before .before .h .given .1) (k .read-header .ensures) in
-    head-5 _ _ (k .before .before .before .before .before .if1 .left) (sym (k .before .before .before .before .all-allowed .ensures) ∙ not-false _ (k .before .before .before .if2 .left)) a (sym (c .before .within .ensures) ∙ not-true _ (c .if3 .taken))
+    head-5 _ _ (k .before .before .before .before .before .if1 .left)
+    (sym (k .before .before .before .before .all-allowed .ensures) ∙ not-false _ (k .before .before .before .if2 .left)) a
+    (sym (c .before .within .ensures) ∙ not-true _ (c .if3 .taken))
 
 gates-counted-requires : tie.Need-gates-counted-requires
 gates-counted-requires c κs = bits-fit _ _ (sym (c .before .within .ensures) ∙ not-false _ (c .if3 .left))
@@ -71,7 +68,10 @@ returns-5 : tie.Need-returns-5
 returns-5 c =
     let k = c .before .before .before .before .before .before .before .before .before .before .before in
     let a = header-is _ _ _ _ _ _ (c .before .before .before .before .before .h .given .1) (k .read-header .ensures) in
-    head-6 _ _ (k .before .before .before .before .before .if1 .left) (sym (k .before .before .before .before .all-allowed .ensures) ∙ not-false _ (k .before .before .before .if2 .left)) a (sym (c .before .before .before .within .ensures) ∙ not-false _ (c .before .before .if3 .left)) (sym (c .before .gates-counted .ensures) ∙ not-true _ (c .if4 .taken))
+    head-6 _ _ (k .before .before .before .before .before .if1 .left)
+    (sym (k .before .before .before .before .all-allowed .ensures) ∙ not-false _ (k .before .before .before .if2 .left)) a
+    (sym (c .before .before .before .within .ensures) ∙ not-false _ (c .before .before .if3 .left))
+    (sym (c .before .gates-counted .ensures) ∙ not-true _ (c .if4 .taken))
 
 same-length-7 : tie.Need-same-length-7
 same-length-7 c = search needs
@@ -83,7 +83,10 @@ returns-6 : tie.Need-returns-6
 returns-6 c =
     let k = c .before .before .before .before .before .before .before .before .before .before .before in
     let a = header-is _ _ _ _ _ _ (c .before .before .before .before .before .h .given .1) (k .read-header .ensures) in
-    head-at _ _ (k .before .before .before .before .before .if1 .left) (sym (k .before .before .before .before .all-allowed .ensures) ∙ not-false _ (k .before .before .before .if2 .left)) a (sym (c .before .before .before .within .ensures) ∙ not-false _ (c .before .before .if3 .left)) (sym (c .before .gates-counted .ensures) ∙ not-false _ (c .if4 .left))
+    head-at _ _ (k .before .before .before .before .before .if1 .left)
+    (sym (k .before .before .before .before .all-allowed .ensures) ∙ not-false _ (k .before .before .before .if2 .left)) a
+    (sym (c .before .before .before .within .ensures) ∙ not-false _ (c .before .before .if3 .left))
+    (sym (c .before .gates-counted .ensures) ∙ not-false _ (c .if4 .left))
 
 pub read-head-spec : {M : Type 1} → statement M
 read-head-spec =

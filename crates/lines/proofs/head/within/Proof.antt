@@ -1,12 +1,9 @@
 -- `within`: the five tests in order.
 use Rattle.lines.specs.HeadAnswers.{withinNumbers}
 use borrow.Author.Tests.{lt-leb, le-leb}
-use native.Mathlib.Omega.{arith}
 use borrow.Author.Needs.{needs}
 use Rattle.lines.proofs.head.within.Statement.{statement}
 use Rattle.lines.proofs.head.within.Tie as tie
-use Rattle.lines.proofs.head.within.Reads as reads
-use Rattle.lines.proofs.head.within.Lts as lts
 
 returns : tie.Need-returns
 unfolding withinNumbers
@@ -18,21 +15,30 @@ returns-2 c = rw (le-leb _ _ (c .before .before .before .if1 .left)) (rw (lt-leb
 
 returns-3 : tie.Need-returns-3
 unfolding withinNumbers
-returns-3 c = rw (le-leb _ _ (c .before .before .before .before .before .before .if1 .left)) (rw (le-leb _ _ (c .before .before .before .if2 .left)) (rw (lt-leb _ _ (c .if3 .taken))))
+returns-3 c =
+    rw (le-leb _ _ (c .before .before .before .before .before .before .if1 .left))
+    (rw (le-leb _ _ (c .before .before .before .if2 .left)) (rw (lt-leb _ _ (c .if3 .taken))))
 
 cast-if4 : tie.Need-cast-if4
 cast-if4 c = search needs
 
 returns-4 : tie.Need-returns-4
 unfolding withinNumbers
-returns-4 c = rw (le-leb _ _ (c .before .before .before .before .before .before .before .before .before .if1 .left)) (rw (le-leb _ _ (c .before .before .before .before .before .before .if2 .left)) (rw (le-leb _ _ (c .before .before .before .if3 .left)) (rw (lt-leb _ _ (c .if4 .taken)))))
+returns-4 c =
+    rw (le-leb _ _ (c .before .before .before .before .before .before .before .before .before .if1 .left))
+    (rw (le-leb _ _ (c .before .before .before .before .before .before .if2 .left))
+    (rw (le-leb _ _ (c .before .before .before .if3 .left)) (rw (lt-leb _ _ (c .if4 .taken)))))
 
 cast-result : tie.Need-cast-result
 cast-result c = search needs
 
 returns-5 : tie.Need-returns-5
 unfolding withinNumbers
-returns-5 c = rw (le-leb _ _ (c .before .before .before .before .before .before .before .before .before .before .before .if1 .left)) (rw (le-leb _ _ (c .before .before .before .before .before .before .before .before .if2 .left)) (rw (le-leb _ _ (c .before .before .before .before .before .if3 .left)) (rw (le-leb _ _ (c .before .before .if4 .left)))))
+returns-5 c =
+    let at-if2 = c .before .before .before .before .before .before .before .before in
+    rw (le-leb _ _ (at-if2 .before .before .before .if1 .left))
+    (rw (le-leb _ _ (at-if2 .if2 .left))
+    (rw (le-leb _ _ (c .before .before .before .before .before .if3 .left)) (rw (le-leb _ _ (c .before .before .if4 .left)))))
 
 pub within-spec : {M : Type 1} → statement M
 within-spec =

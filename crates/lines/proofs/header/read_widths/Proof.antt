@@ -28,7 +28,9 @@ same-length : tie.Need-same-length Inv-loop μ-loop
 same-length c = search needs
 
 returns : tie.Need-returns Inv-loop μ-loop
-returns c = widen-end _ _ _ _ _ _ (c .before .before .before .before .loop .inv .0) _ (end-is _ _ _ _ (c .before .next .given .1) (c .before .before .before .line-end .ensures))
+returns c =
+    widen-end _ _ _ _ _ _ (c .before .before .before .before .loop .inv .0) _
+    (end-is _ _ _ _ (c .before .next .given .1) (c .before .before .before .line-end .ensures))
 
 enum-told : tie.Need-enum-told Inv-loop μ-loop
 enum-told c = search needs
@@ -48,7 +50,9 @@ same-length-2 c = search needs
 returns-2 : tie.Need-returns-2 Inv-loop μ-loop
 returns-2 c =
     let e = c .before .before .before in
-    widen-not _ _ _ _ _ _ (e .before .before .before .loop .inv .0) (number-not _ _ _ (c .enum-told2 .given .1) (c .before .before .next-number .ensures)) (end-more _ _ _ (e .enum-told .given .1) (e .before .before .line-end .ensures))
+    widen-not _ _ _ _ _ _ (e .before .before .before .loop .inv .0)
+    (number-not _ _ _ (c .enum-told2 .given .1) (c .before .before .next-number .ensures))
+    (end-more _ _ _ (e .enum-told .given .1) (e .before .before .line-end .ensures))
 
 same-length-3 : tie.Need-same-length-3 Inv-loop μ-loop
 same-length-3 c = search needs
@@ -56,7 +60,8 @@ same-length-3 c = search needs
 returns-3 : tie.Need-returns-3 Inv-loop μ-loop
 returns-3 c =
     let k = c .before in
-    widen-zero _ _ _ _ _ _ (k .before .before .before .before .before .before .before .loop .inv .0) _ _ (c .if1 .taken) (number-is _ _ _ _ _ (k .before .width .given .1) (k .before .before .before .next-number .ensures))
+    widen-zero _ _ _ _ _ _ (k .before .before .before .before .before .before .before .loop .inv .0) _ _ (c .if1 .taken)
+    (number-is _ _ _ _ _ (k .before .width .given .1) (k .before .before .before .next-number .ensures))
 
 keep-requires : tie.Need-keep-requires Inv-loop μ-loop
 keep-requires c κs = search needs
@@ -78,10 +83,13 @@ loop-less c =
 
 loop-again : tie.Need-loop-again Inv-loop μ-loop
 loop-again c =
-    let k = c .before .before .before .before .before in
+    let at-before = c .before .before .before .before in
+    let k = at-before .before in
     let a = number-is _ _ _ _ _ (k .before .width .given .1) (k .before .before .before .next-number .ensures) in
-    let h = k .before .before .before .before .before .before .before .loop in
-    (rw (c .before .before .keep .ensures) (widen-on _ _ _ _ _ _ (h .inv .0) _ _ (c .before .before .before .before .if1 .left) (omega arith) a), ap length (c .before .before .keep .ensures) ∙ simp length-set (h .inv .1))
+    let h = k .before .before .before .before .before .before .before .loop in (
+      rw (c .before .before .keep .ensures) (widen-on _ _ _ _ _ _ (h .inv .0) _ _ (at-before .if1 .left) (omega arith) a),
+      ap length (c .before .before .keep .ensures) ∙ simp length-set (h .inv .1),
+    )
 
 pub read-widths-spec : {M : Type 1} → statement M
 read-widths-spec =

@@ -18,7 +18,10 @@ returns : tie.Need-returns
 returns c = values-off _ (number-not _ _ _ (c .enum-told .given .1) (c .before .before .next-number .ensures))
 
 read-widths-requires : tie.Need-read-widths-requires
-read-widths-requires c κs = (number-is _ _ _ _ _ (c .before .before .count .given .1) (c .before .before .before .before .next-number .ensures) .within, c .before .before .before .before .before .before .before .pre .1)
+read-widths-requires c κs = (
+  number-is _ _ _ _ _ (c .before .before .count .given .1) (c .before .before .before .before .next-number .ensures) .within,
+  c .before .before .before .before .before .before .before .pre .1,
+)
 
 enum-known-n : tie.Need-enum-known-n
 enum-known-n c = search needs
@@ -55,7 +58,8 @@ returns-4 : tie.Need-returns-4
 returns-4 c =
     let k = c .before .before .before .before .before .before .before .before .before in
     let a = number-is _ _ _ _ _ (k .before .count .given .1) (k .before .before .before .next-number .ensures) in
-    let w = widths-is _ _ _ _ _ _ _ _ (c .before .before .before .n .given .1) (c .before .before .before .before .before .before .before .read-widths .ensures) in
+    let w = widths-is _ _ _ _ _ _ _ _ (c .before .before .before .n .given .1)
+    (c .before .before .before .before .before .before .before .read-widths .ensures) in
     values-count _ _ _ _ a _ _ _ _ w (c .before .if1 .left) (c .if2 .taken)
 
 same-length-4 : tie.Need-same-length-4
@@ -65,7 +69,8 @@ returns-5 : tie.Need-returns-5
 returns-5 c =
     let k = c .before .before .before .before .before .before .before .before .before in
     let a = number-is _ _ _ _ _ (k .before .count .given .1) (k .before .before .before .next-number .ensures) in
-    let w = widths-is _ _ _ _ _ _ _ _ (c .before .before .before .n .given .1) (c .before .before .before .before .before .before .before .read-widths .ensures) in
+    let w = widths-is _ _ _ _ _ _ _ _ (c .before .before .before .n .given .1)
+    (c .before .before .before .before .before .before .before .read-widths .ensures) in
     values-good _ _ _ _ a _ _ _ _ w (c .before .if1 .left) (c .if2 .left)
 
 pub values-line-spec : {M : Type 1} → statement M

@@ -4,9 +4,6 @@ use native.Mathlib.Omega.{arith}
 use borrow.Author.Needs.{needs}
 use Rattle.tables.proofs.entry.entry_of.Statement.{statement}
 use Rattle.tables.proofs.entry.entry_of.Tie as tie
-use Rattle.tables.proofs.entry.entry_of.Reads as reads
-use Rattle.tables.proofs.entry.entry_of.Lts as lts
-use Rattle.tables.proofs.entry.pack.Reads as pack-reads
 
 enum-known-g : tie.Need-enum-known-g
 enum-known-g c = search needs

@@ -3,17 +3,9 @@ use mathlib.Core.Path.{sym, _∙_}
 use borrow.Author.Tests.{not-true, not-false}
 use Rattle.lines.proofs.GateLaws.{line-is, line-is-not}
 use Rattle.tables.proofs.Reading.{one-7, one-8, one-9, one-on, one-room}
-use native.Mathlib.Omega.{arith}
 use borrow.Author.Needs.{needs}
 use Rattle.tables.proofs.gates.one_gate.Statement.{statement}
 use Rattle.tables.proofs.gates.one_gate.Tie as tie
-use Rattle.tables.proofs.gates.one_gate.Reads as reads
-use Rattle.tables.proofs.gates.one_gate.Lts as lts
-use Rattle.lines.proofs.gate.gate_line.Reads as gate-line-reads
-use Rattle.tables.proofs.marks.mark.Reads as mark-reads
-use Rattle.tables.proofs.marks.operands_given.Reads as operands-given-reads
-use Rattle.tables.proofs.marks.result_free.Reads as result-free-reads
-use Rattle.tables.proofs.marks.result_of.Reads as result-of-reads
 
 gate-line-requires : tie.Need-gate-line-requires
 gate-line-requires c κs = search needs
@@ -34,7 +26,9 @@ same-length : tie.Need-same-length
 same-length c = search needs
 
 returns-2 : tie.Need-returns-2
-returns-2 c = let l = line-is _ _ _ _ (c .before .before .before .before .before .before .gate-line .ensures) _ _ (c .before .before .before .before .g .given .1) in
+returns-2 c =
+    let l = line-is _ _ _ _ (c .before .before .before .before .before .before .gate-line .ensures) _ _
+    (c .before .before .before .before .g .given .1) in
     one-8 _ _ _ _ _ _ (l .0) (sym (c .before .operands-given .ensures) ∙ not-true _ (c .if1 .taken))
 
 result-of-requires : tie.Need-result-of-requires
@@ -47,18 +41,31 @@ same-length-2 : tie.Need-same-length-2
 same-length-2 c = search needs
 
 returns-3 : tie.Need-returns-3
-returns-3 c = let l = line-is _ _ _ _ (c .before .before .before .before .before .before .before .before .before .before .gate-line .ensures) _ _ (c .before .before .before .before .before .before .before .before .g .given .1) in
-    one-9 _ _ _ _ _ _ (l .0) (sym (c .before .before .before .before .before .operands-given .ensures) ∙ not-false _ (c .before .before .before .before .if1 .left)) _ (c .before .before .before .result-of .ensures) (sym (c .before .result-free .ensures) ∙ not-true _ (c .if2 .taken))
+returns-3 c =
+    let at-g = c .before .before .before .before .before .before .before .before in
+    let l = line-is _ _ _ _ (at-g .before .before .gate-line .ensures) _ _ (at-g .g .given .1) in
+    one-9 _ _ _ _ _ _ (l .0)
+    (sym (c .before .before .before .before .before .operands-given .ensures) ∙ not-false _ (c .before .before .before .before .if1 .left)) _
+    (c .before .before .before .result-of .ensures) (sym (c .before .result-free .ensures) ∙ not-true _ (c .if2 .taken))
 
 mark-requires : tie.Need-mark-requires
-mark-requires c κs = one-room _ _ _ _ (c .before .before .before .before .before .before .before .before .before .before .before .before .before .before .pre .1) (sym (c .before .before .result-free .ensures) ∙ not-false _ (c .before .if2 .left))
+mark-requires c κs =
+    one-room _ _ _ _ (c .before .before .before .before .before .before .before .before .before .before .before .before .before .before .pre .1)
+    (sym (c .before .before .result-free .ensures) ∙ not-false _ (c .before .if2 .left))
 
 same-length-3 : tie.Need-same-length-3
 same-length-3 c = search needs
 
 returns-4 : tie.Need-returns-4
-returns-4 c = let l = line-is _ _ _ _ (c .before .before .before .before .before .before .before .before .before .before .before .before .before .before .gate-line .ensures) _ _ (c .before .before .before .before .before .before .before .before .before .before .before .before .g .given .1) in
-    one-on _ _ _ _ _ _ (l .0) (sym (c .before .before .before .before .before .before .before .before .before .operands-given .ensures) ∙ not-false _ (c .before .before .before .before .before .before .before .before .if1 .left)) _ (c .before .before .before .before .before .before .before .result-of .ensures) _ _ (sym (c .before .before .before .before .before .result-free .ensures) ∙ not-false _ (c .before .before .before .before .if2 .left)) (l .1) (c .before .before .mark .ensures)
+returns-4 c =
+    let at-if1 = c .before .before .before .before .before .before .before .before in
+    let at-operands-given = at-if1 .before in
+    let at-g = at-operands-given .before .before .before in
+    let l = line-is _ _ _ _ (at-g .before .before .gate-line .ensures) _ _ (at-g .g .given .1) in
+    one-on _ _ _ _ _ _ (l .0) (sym (at-operands-given .operands-given .ensures) ∙ not-false _ (at-if1 .if1 .left)) _
+    (c .before .before .before .before .before .before .before .result-of .ensures) _ _
+    (sym (c .before .before .before .before .before .result-free .ensures) ∙ not-false _ (c .before .before .before .before .if2 .left)) (l .1)
+    (c .before .before .mark .ensures)
 
 pub one-gate-spec : {M : Type 1} → statement M
 one-gate-spec =

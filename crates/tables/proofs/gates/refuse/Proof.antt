@@ -1,12 +1,8 @@
 -- `refuse`: by the number of lines left.
 use Rattle.tables.proofs.Reading.{refuse-line, refuse-count}
-use native.Mathlib.Omega.{arith}
 use borrow.Author.Needs.{needs}
 use Rattle.tables.proofs.gates.refuse.Statement.{statement}
 use Rattle.tables.proofs.gates.refuse.Tie as tie
-use Rattle.tables.proofs.gates.refuse.Reads as reads
-use Rattle.tables.proofs.gates.refuse.Lts as lts
-use Rattle.text.proofs.lines.count_lines.Reads as count-lines-reads
 
 count-lines-requires : tie.Need-count-lines-requires
 count-lines-requires c κs = search needs

@@ -1,13 +1,8 @@
 -- `store`: the gate's entries are put behind the first.
 use Rattle.tables.proofs.Entries.{stored}
-use native.Mathlib.Omega.{arith}
 use borrow.Author.Needs.{needs}
 use Rattle.tables.proofs.gates.store.Statement.{statement}
 use Rattle.tables.proofs.gates.store.Tie as tie
-use Rattle.tables.proofs.gates.store.Reads as reads
-use Rattle.tables.proofs.gates.store.Lts as lts
-use Rattle.tables.proofs.entry.entry_of.Reads as entry-of-reads
-use Rattle.tables.proofs.entry.put.Reads as put-reads
 
 entry-of-requires : tie.Need-entry-of-requires
 entry-of-requires c κs = search needs
@@ -22,7 +17,10 @@ same-length-2 : tie.Need-same-length-2
 same-length-2 c = search needs
 
 returns : tie.Need-returns
-returns c = λ W n. stored _ (record { operands = c .before .before .before .before .before .before .before .before .before .before .pre .0; results = c .before .before .before .before .before .before .before .before .before .before .pre .1 }) (c .before .before .before .before .before .entry-of .ensures W n) (c .before .before .before .before .put .ensures)
+returns c =
+    let pre = c .before .before .before .before .before .before .before .before .before .before .pre in
+    λ W n. stored _ (record { operands = pre .0; results = pre .1 }) (c .before .before .before .before .before .entry-of .ensures W n)
+    (c .before .before .before .before .put .ensures)
 
 pub store-spec : {M : Type 1} → statement M
 store-spec = tie.close (tie.spec entry-of-requires put-requires same-length same-length-2 returns)

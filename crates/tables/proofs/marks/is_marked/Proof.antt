@@ -1,12 +1,9 @@
 -- `is_marked`: past the table's end nothing is marked.
-use native.Mathlib.Omega.{arith}
 use borrow.Author.Needs.{needs}
 use Rattle.tables.specs.Marks.{marked}
 use Rattle.tables.proofs.Marking.{unmarked}
 use Rattle.tables.proofs.marks.is_marked.Statement.{statement}
 use Rattle.tables.proofs.marks.is_marked.Tie as tie
-use Rattle.tables.proofs.marks.is_marked.Reads as reads
-use Rattle.tables.proofs.marks.is_marked.Lts as lts
 
 shared-slice-read-result : tie.Need-shared-slice-read-result
 shared-slice-read-result c = search needs

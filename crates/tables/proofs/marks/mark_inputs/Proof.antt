@@ -5,9 +5,6 @@ use borrow.Author.Needs.{needs}
 use native.Mathlib.Omega.{arith}
 use Rattle.tables.proofs.marks.mark_inputs.Statement.{statement}
 use Rattle.tables.proofs.marks.mark_inputs.Tie as tie
-use Rattle.tables.proofs.marks.mark_inputs.Reads as reads
-use Rattle.tables.proofs.marks.mark_inputs.Lts as lts
-use Rattle.tables.proofs.marks.mark.Reads as mark-reads
 
 abbrev Inv-loop : tie.InvT-loop
 Inv-loop table₀ n w i₀ table i = Inputs table₀ table n w i
@@ -19,7 +16,9 @@ loop-holds : tie.Need-loop-holds Inv-loop μ-loop
 loop-holds c = inputs-none _ _ _ (c .before .pre .1) (c .before .pre .2)
 
 mark-requires : tie.Need-mark-requires Inv-loop μ-loop
-mark-requires c κs = omega (arith, c .before .before .loop .inv .long, c .before .before .before .before .pre .0, c .before .before .before .before .pre .1)
+mark-requires c κs =
+    let pre = c .before .before .before .before .pre in
+    omega (arith, c .before .before .loop .inv .long, pre .0, pre .1)
 
 add-i : tie.Need-add-i Inv-loop μ-loop
 add-i c = search needs
@@ -28,7 +27,9 @@ loop-less : tie.Need-loop-less Inv-loop μ-loop
 loop-less c = search needs
 
 loop-again : tie.Need-loop-again Inv-loop μ-loop
-loop-again c = inputs-more (c .before .before .before .before .before .loop .inv) (c .before .before .before .before .loop-test .taken) (c .before .before .before .before .before .before .before .pre .0) (c .before .before .mark .ensures)
+loop-again c =
+    inputs-more (c .before .before .before .before .before .loop .inv) (c .before .before .before .before .loop-test .taken)
+    (c .before .before .before .before .before .before .before .pre .0) (c .before .before .mark .ensures)
 
 same-length : tie.Need-same-length Inv-loop μ-loop
 same-length c = c .before .loop .inv .long

@@ -3,13 +3,9 @@ use mathlib.Core.Path.{sym, ap, _∙_}
 use Rattle.netlist.specs.Read.{operandsGiven}
 use Rattle.tables.specs.Marks.{marked}
 use Rattle.tables.proofs.Marking.{and-second, and-first}
-use native.Mathlib.Omega.{arith}
 use borrow.Author.Needs.{needs}
 use Rattle.tables.proofs.marks.operands_given.Statement.{statement}
 use Rattle.tables.proofs.marks.operands_given.Tie as tie
-use Rattle.tables.proofs.marks.operands_given.Reads as reads
-use Rattle.tables.proofs.marks.operands_given.Lts as lts
-use Rattle.tables.proofs.marks.is_marked.Reads as is-marked-reads
 
 enum-known-g : tie.Need-enum-known-g
 enum-known-g c = search needs
@@ -45,22 +41,39 @@ enum-known-g-5 : tie.Need-enum-known-g-5
 enum-known-g-5 c = search needs
 
 returns : tie.Need-returns
-returns c = and-second (c .before .before .is-marked .ensures) (c .before .if1 .taken) (c .is-marked2 .ensures) ∙ sym (ap (operandsGiven (marked (c .before .before .before .before .before .before .before .args .table .now))) (c .before .before .before .before .g .given .1))
+returns c =
+    and-second (c .before .before .is-marked .ensures) (c .before .if1 .taken) (c .is-marked2 .ensures)
+    ∙ sym
+    (ap (operandsGiven (marked (c .before .before .before .before .before .before .before .args .table .now)))
+    (c .before .before .before .before .g .given .1))
 
 returns-2 : tie.Need-returns-2
-returns-2 c = and-first _ (c .before .is-marked .ensures) (c .if1 .left) ∙ sym (ap (operandsGiven (marked (c .before .before .before .before .before .before .args .table .now))) (c .before .before .before .g .given .1))
+returns-2 c =
+    and-first _ (c .before .is-marked .ensures) (c .if1 .left)
+    ∙ sym (ap (operandsGiven (marked (c .before .before .before .before .before .before .args .table .now))) (c .before .before .before .g .given .1))
 
 returns-3 : tie.Need-returns-3
-returns-3 c = and-second (c .before .before .is-marked3 .ensures) (c .before .if2 .taken) (c .is-marked4 .ensures) ∙ sym (ap (operandsGiven (marked (c .before .before .before .before .before .before .before .args .table .now))) (c .before .before .before .before .g2 .given .1))
+returns-3 c =
+    and-second (c .before .before .is-marked3 .ensures) (c .before .if2 .taken) (c .is-marked4 .ensures)
+    ∙ sym
+    (ap (operandsGiven (marked (c .before .before .before .before .before .before .before .args .table .now)))
+    (c .before .before .before .before .g2 .given .1))
 
 returns-4 : tie.Need-returns-4
-returns-4 c = and-first _ (c .before .is-marked3 .ensures) (c .if2 .left) ∙ sym (ap (operandsGiven (marked (c .before .before .before .before .before .before .args .table .now))) (c .before .before .before .g2 .given .1))
+returns-4 c =
+    and-first _ (c .before .is-marked3 .ensures) (c .if2 .left)
+    ∙ sym
+    (ap (operandsGiven (marked (c .before .before .before .before .before .before .args .table .now))) (c .before .before .before .g2 .given .1))
 
 returns-5 : tie.Need-returns-5
-returns-5 c = c .is-marked5 .ensures ∙ sym (ap (operandsGiven (marked (c .before .before .before .before .before .args .table .now))) (c .before .before .g3 .given .1))
+returns-5 c =
+    c .is-marked5 .ensures
+    ∙ sym (ap (operandsGiven (marked (c .before .before .before .before .before .args .table .now))) (c .before .before .g3 .given .1))
 
 returns-6 : tie.Need-returns-6
-returns-6 c = c .is-marked6 .ensures ∙ sym (ap (operandsGiven (marked (c .before .before .before .before .before .args .table .now))) (c .before .before .g4 .given .1))
+returns-6 c =
+    c .is-marked6 .ensures
+    ∙ sym (ap (operandsGiven (marked (c .before .before .before .before .before .args .table .now))) (c .before .before .g4 .given .1))
 
 returns-7 : tie.Need-returns-7
 returns-7 c = sym (ap (operandsGiven (marked (c .before .before .before .before .args .table .now))) (c .before .g5 .given .1))

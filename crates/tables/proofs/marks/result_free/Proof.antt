@@ -2,13 +2,9 @@
 use mathlib.Core.Bool.{not}
 use mathlib.Core.Path.{ap}
 use borrow.Author.Tests.{lt-leb, le-leb, le-ltb, lt-ltb}
-use native.Mathlib.Omega.{arith}
 use borrow.Author.Needs.{needs}
 use Rattle.tables.proofs.marks.result_free.Statement.{statement}
 use Rattle.tables.proofs.marks.result_free.Tie as tie
-use Rattle.tables.proofs.marks.result_free.Reads as reads
-use Rattle.tables.proofs.marks.result_free.Lts as lts
-use Rattle.tables.proofs.marks.is_marked.Reads as is-marked-reads
 
 returns : tie.Need-returns
 returns c = rw (lt-leb _ _ (c .if1 .taken))

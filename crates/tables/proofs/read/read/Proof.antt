@@ -6,10 +6,6 @@ use native.Mathlib.Omega.{arith}
 use borrow.Author.Needs.{needs}
 use Rattle.tables.proofs.read.read.Statement.{statement}
 use Rattle.tables.proofs.read.read.Tie as tie
-use Rattle.tables.proofs.read.read.Reads as reads
-use Rattle.tables.proofs.read.read.Lts as lts
-use Rattle.lines.proofs.head.read_head.Reads as read-head-reads
-use Rattle.tables.proofs.read.read_body.Reads as read-body-reads
 
 read-head-requires : tie.Need-read-head-requires
 read-head-requires c κs = search needs
@@ -41,7 +37,9 @@ same-length-2 : tie.Need-same-length-2
 same-length-2 c = search needs
 
 returns : tie.Need-returns
-returns c = read-no-head (head-refused _ _ _ _ (c .before .before .before .before .before .before .before .read-head .ensures) (c .before .question .given .1))
+returns c =
+    read-no-head
+    (head-refused _ _ _ _ (c .before .before .before .before .before .before .before .read-head .ensures) (c .before .question .given .1))
 
 same-length-3 : tie.Need-same-length-3
 same-length-3 c = search needs
@@ -61,8 +59,11 @@ same-length-7 c = search needs
 returns-2 : tie.Need-returns-2
 returns-2 c =
     let b = c .before .before .before .before .before .before .before .before .before in
-    let a = head-is _ _ _ _ (b .before .before .before .before .before .before .before .before .before .before .before .read-head .ensures) (b .before .before .before .before .before .h .given .1) in
-    read-not a (gates-refused _ _ _ _ _ (tables (b .read-body .last .1 .1 .1 .1 .0) (b .read-body .last .1 .1 .1 .1 .1 .0)) (b .read-body .ensures) (c .before .question2 .given .1))
+    let a = head-is _ _ _ _ (b .before .before .before .before .before .before .before .before .before .before .before .read-head .ensures)
+    (b .before .before .before .before .before .h .given .1) in
+    read-not a
+    (gates-refused _ _ _ _ _ (tables (b .read-body .last .1 .1 .1 .1 .0) (b .read-body .last .1 .1 .1 .1 .1 .0)) (b .read-body .ensures)
+    (c .before .question2 .given .1))
 
 same-length-8 : tie.Need-same-length-8
 same-length-8 c = search needs
@@ -85,7 +86,9 @@ returns-3 c =
     let k = b .before .before .before .before .before .before .before .before .before .before .before in
     let a = head-is _ _ _ _ (k .read-head .ensures) (b .before .before .before .before .before .h .given .1) in
     let p = k .before .before .before .before .before .before .before .before .before .pre .0 in
-    read-done a (omega (arith, p .1, k .read-head .kept .1 .1 .0)) (omega (arith, p .2, k .read-head .kept .1 .1 .1 .0)) (gates-done _ _ _ _ _ (tables (b .read-body .last .1 .1 .1 .1 .0) (b .read-body .last .1 .1 .1 .1 .1 .0)) (b .read-body .ensures) (c .enum-told .given .1))
+    read-done a (omega (arith, p .1, k .read-head .kept .1 .1 .0)) (omega (arith, p .2, k .read-head .kept .1 .1 .1 .0))
+    (gates-done _ _ _ _ _ (tables (b .read-body .last .1 .1 .1 .1 .0) (b .read-body .last .1 .1 .1 .1 .1 .0)) (b .read-body .ensures)
+    (c .enum-told .given .1))
 
 pub read-spec : {M : Type 1} → statement M
 read-spec =

@@ -17,10 +17,18 @@ is-blank-requires : tie.Need-is-blank-requires
 is-blank-requires c κs = search needs
 
 returns-2 : tie.Need-returns-2
-returns-2 c = c .if2 .taken ∙ sym (rw (sym (c .before .before .before .is-digit .ensures) ∙ c .before .before .if1 .left) (rw (sym (c .before .is-capital .ensures) ∙ c .if2 .taken)))
+returns-2 c =
+    c .if2 .taken
+    ∙ sym
+    (rw (sym (c .before .before .before .is-digit .ensures) ∙ c .before .before .if1 .left)
+    (rw (sym (c .before .is-capital .ensures) ∙ c .if2 .taken)))
 
 returns-3 : tie.Need-returns-3
-returns-3 c = c .is-blank .ensures ∙ sym (rw (sym (c .before .before .before .before .is-digit .ensures) ∙ c .before .before .before .if1 .left) (rw (sym (c .before .before .is-capital .ensures) ∙ c .before .if2 .left)))
+returns-3 c =
+    c .is-blank .ensures
+    ∙ sym
+    (rw (sym (c .before .before .before .before .is-digit .ensures) ∙ c .before .before .before .if1 .left)
+    (rw (sym (c .before .before .is-capital .ensures) ∙ c .before .if2 .left)))
 
 pub byte-allowed-spec : {M : Type 1} → statement M
 byte-allowed-spec =

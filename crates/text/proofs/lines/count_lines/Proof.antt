@@ -33,7 +33,8 @@ loop-less : tie.Need-loop-less Inv-loop μ-loop
 loop-less c = let o = line-on _ _ _ (search needs) (c .before .next-line .ensures) in omega arith
 
 loop-again : tie.Need-loop-again Inv-loop μ-loop
-loop-again c = counting-on _ _ _ _ _ _ (search needs) (c .before .before .before .loop .inv) (c .before .next-line .ensures) (c .skip-blanks2 .ensures)
+loop-again c =
+    counting-on _ _ _ _ _ _ (search needs) (c .before .before .before .loop .inv) (c .before .next-line .ensures) (c .skip-blanks2 .ensures)
 
 returns : tie.Need-returns Inv-loop μ-loop
 returns c = counting-end _ _ _ _ (search needs) (c .before .loop .inv) ∙ ap length (blanks-lines _ _ _ (c .before .before .skip-blanks .ensures))
