@@ -36,10 +36,11 @@ mod tables;
 
 pub use tables::Tables;
 
-/// The example of docs/LIBRARY.md, as a documentation test.
+/// The examples of README.md and docs/LIBRARY.md, as documentation tests.
 #[cfg(doctest)]
+#[doc = include_str!("../../../README.md")]
 #[doc = include_str!("../../../docs/LIBRARY.md")]
-struct Page;
+struct Pages;
 
 /// A call was refused: the number of the first question that was answered no, 1 to 14.
 ///

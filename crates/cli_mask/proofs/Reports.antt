@@ -18,7 +18,7 @@ use Rattle.netlist.specs.Programs.{listFile, printList, printMask, maskProgram}
 use Rattle.netlist.proofs.Answering.{take-sets}
 use Rattle.netlist.proofs.Questions.{done-same}
 use Rattle.netlist.proofs.Masking.{output-codes-length}
-use Rattle.mask.specs.Whole.{MaskAnswers}
+use Rattle.masked.specs.Whole.{MaskAnswers}
 use Rattle.mask.specs.Promise.{call}
 use Rattle.mask.proofs.Promised.{made}
 use Rattle.console.specs.Front.{Front}

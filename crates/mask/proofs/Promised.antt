@@ -28,7 +28,7 @@ use Rattle.netlist.proofs.Masking.{outputs-unmask, counts-equal, output-codes-l
 use Rattle.netlist.proofs.MaskedText.{masked-reads}
 use Rattle.lines.specs.declared.header.HeaderNumbers.{HeaderNumbers}
 use Rattle.tables.specs.Whole.{ReadAt, ReadNot}
-use Rattle.mask.specs.Whole.{Source, textIn, codesIn, MaskAnswers}
+use Rattle.masked.specs.Whole.{Source, textIn, codesIn, MaskAnswers}
 use Rattle.mask.specs.Fronts.{Fronts, Read}
 use Rattle.mask.specs.Promise.{call, Masks}
 

@@ -1,7 +1,5 @@
 // Mask: a source netlist, the codes of its input bits and the wanted codes of its output bits become the masked netlist's text
 // and the code of each output bit. Questions 1 to 9 with the small limits, 11, 13 and 14.
-mod whole;
-
 use lines::header::HeaderNumbers;
 use netlist::Answer;
 use tables::read::Reading;
@@ -15,7 +13,7 @@ ghost use Rattle.netlist.specs.Read.{readNetlist};
 ghost use Rattle.netlist.specs.Services.{tablesLong, maskedText, deliverOutcome, maskOutcome};
 ghost use Rattle.netlist.specs.Mask.{maskNetlist};
 ghost use Rattle.netlist.specs.Table.{tables};
-ghost use Rattle.mask.specs.Whole.{Source, MaskAnswers};
+ghost use Rattle.masked.specs.Whole.{Source, MaskAnswers};
 ghost use Rattle.mask.specs.Fronts.{Fronts, Read};
 ghost use Rattle.mask.specs.Promise.{call, Promise};
 
@@ -61,7 +59,7 @@ fn write(
     let all = h.wires as usize;
     let ins = h.inputs + 1;
     let outs = h.outputs;
-    whole::mask(
+    masked::deliver(
         out,
         ends,
         operands,

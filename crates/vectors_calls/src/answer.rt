@@ -4,6 +4,7 @@ use crate::scan;
 use checker::Checked;
 use gates::step::Step;
 use netlist::Answer;
+use netlist::Gate;
 use tally::front;
 ghost use Rattle.io.specs.Counts.{Counts};
 
@@ -212,10 +213,21 @@ pub(crate) fn serve(
     )
 }
 
+// A gate as a line.
+fn line(g: Gate, out: &mut [u8]) -> usize {
+    match g {
+        Gate::Xor(a, b, c) => writer::gate::xor(out, 0, a, b, c),
+        Gate::And(a, b, c) => writer::gate::and(out, 0, a, b, c),
+        Gate::Inv(a, c) => writer::gate::inv(out, 0, a, c),
+        Gate::Eqw(a, c) => writer::gate::eqw(out, 0, a, c),
+        Gate::Eq(v, c) => writer::gate::eq(out, 0, v, c),
+    }
+}
+
 // What the gate reader says when it is asked for the k-th time, from 0; a gate is written as a line.
 pub(crate) fn gate(k: usize, text: &[u8], out: &mut [u8]) -> Outcome {
     match gates::calls::kth(text, k) {
-        Step::On(g, _) => one(DONE, writer::gate::gate(out, 0, g)),
+        Step::On(g, _) => one(DONE, line(g, out)),
         Step::End => one(scan::NO_MORE, 0),
         Step::Refused(question) => one(scan::REFUSED, question as usize),
     }

@@ -28,6 +28,16 @@ decimal-last n l h =
     let k : n / 10 < 2 ^ 64 = omega arith in
     decimal-unique (decimal-of (fits l)) (high (omega arith) (decimal-of (fits k)))
 
+-- the last two digits of a number below 100, and of a remainder
+pub two-below : (n : ℕ) → n < 100 → (48 + n / 10) ∷ (48 + n % 10) ∷ [] ≡ lastTwo n
+two-below n h = let e : n / 10 ≡ n / 10 % 10 = omega arith in ap (λ (x : ℕ). (48 + x) ∷ (48 + n % 10) ∷ []) e
+
+pub two-rest : (n : ℕ) → lastTwo (n % 100) ≡ lastTwo n
+two-rest n =
+    let e : n % 100 / 10 % 10 ≡ n / 10 % 10 = omega arith in
+    let f : n % 100 % 10 ≡ n % 10 = omega arith in
+    λ i. (48 + e i) ∷ (48 + f i) ∷ []
+
 -- a number of two digits
 pub decimal-two : (n : ℕ) → 10 ≤ n → n < 100 → decimal n ≡ lastTwo n
 decimal-two n h l =

@@ -5,10 +5,8 @@ use mathlib.Core.List.{[], _∷_}
 use native.Mathlib.Omega.{arith}
 use lib.Dec.{lit<}
 use lib.Bits.{bitOr, or-block, or-shifted-r}
-use Rattle.netlist.specs.Number.{decimal}
 use Rattle.writer.specs.declared.digits.FourDigits.{FourDigits}
-use Rattle.writer.specs.Digits.{lastTwo, lastFour, Splits}
-use Rattle.writer.proofs.Decimals.{decimal-two, decimal-three, decimal-four}
+use Rattle.writer.specs.Digits.{lastFour, Splits}
 
 -- both pairs
 abbrev pairs : ℕ → ℕ
@@ -98,22 +96,7 @@ splits n h =
     let b = bytes-in (word n) (48 + n / 1000) (48 + n / 100 % 10) (48 + n / 10 % 10) (48 + n % 10) (word-of n h) (omega arith) (omega arith) (omega arith) in
     record { thousands = b .0; hundreds = b .1; tens = b .2; ones = b .3 }
 
--- digits split off are those of a number of two, of three and of four, and the last four of any
-module _ {n : ℕ} {d : FourDigits} (s : Splits n d) where
-  pub two-digits : 10 ≤ n → n < 100 → d .tens ∷ d .ones ∷ [] ≡ decimal n
-  two-digits h l = (λ i. s .tens i ∷ s .ones i ∷ []) ∙ sym (decimal-two n h l)
-
-  pub three-digits : 100 ≤ n → n < 1000 → d .hundreds ∷ d .tens ∷ d .ones ∷ [] ≡ decimal n
-  three-digits h l =
-      let e : n / 100 % 10 ≡ n / 100 = omega arith in
-      (λ i. s .hundreds i ∷ s .tens i ∷ s .ones i ∷ []) ∙ ap (λ (x : ℕ). (48 + x) ∷ lastTwo n) e ∙ sym (decimal-three n h l)
-
-  pub four-digits : 1000 ≤ n → n < 10000 → d .thousands ∷ d .hundreds ∷ d .tens ∷ d .ones ∷ [] ≡ decimal n
-  four-digits h l =
-      let e : n / 1000 ≡ n / 100 / 10 % 10 = omega arith in
-      (λ i. s .thousands i ∷ s .hundreds i ∷ s .tens i ∷ s .ones i ∷ [])
-      ∙ ap (λ (x : ℕ). (48 + x) ∷ (48 + n / 100 % 10) ∷ lastTwo n) e ∙ sym (decimal-four n h l)
-
+-- the last four digits of any number
 pub last-digits : (n : ℕ) {d : FourDigits} → Splits (n % 10000) d → d .thousands ∷ d .hundreds ∷ d .tens ∷ d .ones ∷ [] ≡ lastFour n
 last-digits n s =
     let a : n % 10000 / 1000 ≡ n / 100 / 10 % 10 = omega arith in

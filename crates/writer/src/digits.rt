@@ -5,7 +5,7 @@ ghost use Prim.Native.Nat.{_+_, _<_, _≤_};
 ghost use lib.ListN.{length};
 ghost use Rattle.netlist.specs.Number.{decimal};
 ghost use Rattle.writer.specs.Wrote.{Wrote, WroteFew};
-ghost use Rattle.writer.specs.Digits.{lastFour, Splits, Reaches, Counted};
+ghost use Rattle.writer.specs.Digits.{lastTwo, lastFour, Splits, Reaches, Counted};
 
 // The digits of a number of at most four, zeros in front.
 struct FourDigits {
@@ -42,6 +42,14 @@ fn last(out: &mut [u8], at: usize, n: u32) -> usize
     store::four(out, at, d.thousands, d.hundreds, d.tens, d.ones)
 }
 
+// Both digits of a number below 100.
+fn pair(out: &mut [u8], at: usize, n: u8) -> usize
+    requires { ⌜ (n < 100) × (at + 2 ≤ length (now out)) ⌝ }
+    ensures { λ r. ⌜ Wrote (now (out .entry)) at (lastTwo n) (now (out .exit)) r ⌝ }
+{
+    store::two(out, at, 48 + n / 10, 48 + n % 10)
+}
+
 // A number of at most three digits.
 fn short(out: &mut [u8], at: usize, n: u32) -> usize
     requires { ⌜ (n < 1000) × (at + 3 ≤ length (now out)) ⌝ }
@@ -50,11 +58,11 @@ fn short(out: &mut [u8], at: usize, n: u32) -> usize
     if n < 10 {
         return store::one(out, at, 48 + n as u8);
     }
-    let d = split(n);
     if n < 100 {
-        return store::two(out, at, d.tens, d.ones);
+        return pair(out, at, n as u8);
     }
-    store::three(out, at, d.hundreds, d.tens, d.ones)
+    let second = store::one(out, at, 48 + (n / 100) as u8);
+    pair(out, second, (n % 100) as u8)
 }
 
 // A number, where there is room for the ten digits that it may have. Up to five are stored straight.

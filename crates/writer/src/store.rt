@@ -22,15 +22,6 @@ pub fn two(out: &mut [u8], at: usize, a: u8, b: u8) -> usize
     one(out, second, b)
 }
 
-// Three bytes.
-pub fn three(out: &mut [u8], at: usize, a: u8, b: u8, c: u8) -> usize
-    requires { ⌜ at + 3 ≤ length (now out) ⌝ }
-    ensures { λ r. ⌜ Wrote (now (out .entry)) at (a ∷ b ∷ c ∷ []) (now (out .exit)) r ⌝ }
-{
-    let third = two(out, at, a, b);
-    one(out, third, c)
-}
-
 // Four bytes.
 pub fn four(out: &mut [u8], at: usize, a: u8, b: u8, c: u8, d: u8) -> usize
     requires { ⌜ at + 4 ≤ length (now out) ⌝ }

@@ -27,7 +27,10 @@ same-length : tie.Need-same-length
 same-length c = search needs
 
 returns : tie.Need-returns
-returns c = and-made (c .before .before .before .before .before .before .before .before .before .before .change .ensures) (c .before .before .before .before .before .before .mask-wire .ensures) (c .before .before .before .before .before .mask-wire2 .ensures) (c .before .before .before .steps .ensures)
+returns c =
+    and-made (c .before .before .before .before .before .before .before .before .before .before .change .ensures)
+    (c .before .before .before .before .before .before .mask-wire .ensures) (c .before .before .before .before .before .mask-wire2 .ensures)
+    (c .before .before .before .steps .ensures)
 
 pub and-spec : {M : Type 1} → statement M
 and-spec =

@@ -27,7 +27,10 @@ same-length : tie.Need-same-length
 same-length c = search needs
 
 returns-2 : tie.Need-returns-2
-returns-2 c = change-made _ _ (c .before .before .before .before .before .before .before .if1 .left) (c .before .before .before .before .before .before .code-after .ensures) (c .before .before .before .before .before .mask-wire .ensures) (c .third-code .ensures) (c .before .before .before .xor .ensures)
+returns-2 c =
+    change-made _ _ (c .before .before .before .before .before .before .before .if1 .left)
+    (c .before .before .before .before .before .before .code-after .ensures) (c .before .before .before .before .before .mask-wire .ensures)
+    (c .third-code .ensures) (c .before .before .before .xor .ensures)
 
 pub change-spec : {M : Type 1} → statement M
 change-spec =

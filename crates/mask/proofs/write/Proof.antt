@@ -4,7 +4,7 @@ use Prim.Native.Nat.{_+_, _≤_}
 use lib.ListN.{length}
 use lib.Seq.{length-take-le}
 use Rattle.netlist.proofs.Puts.{wired-same}
-use Rattle.mask.proofs.Wholes.{source-same}
+use Rattle.masked.proofs.Wholes.{source-same}
 use Rattle.mask.proofs.Promised.{ready-small}
 use native.Mathlib.Omega.{arith}
 use borrow.Author.Needs.{needs}
@@ -12,7 +12,6 @@ use Rattle.mask.proofs.write.Statement.{statement}
 use Rattle.mask.proofs.write.Tie as tie
 use Rattle.mask.proofs.write.Reads as reads
 use Rattle.mask.proofs.write.Lts as lts
-use Rattle.mask.proofs.whole.mask.Reads as mask-reads
 
 cast-all : tie.Need-cast-all
 cast-all c = search needs
@@ -20,29 +19,29 @@ cast-all c = search needs
 add-ins : tie.Need-add-ins
 add-ins c = search needs
 
-cast-mask : tie.Need-cast-mask
-cast-mask c = search needs
+cast-deliver : tie.Need-cast-deliver
+cast-deliver c = search needs
 
-slice-aggregate-mask : tie.Need-slice-aggregate-mask
-slice-aggregate-mask c = let l : c .before .before .before .before .before .before .before .before .before .before .before .before .before .before .before .before .args .h .inputs + 1 ≤ length (c .before .before .before .before .before .before .before .before .before .before .before .before .before .before .before .before .args .inputs .now) = omega (arith, c .before .before .before .before .before .before .before .before .before .before .before .before .before .before .before .before .pre .0 .inputs) in sym (length-take-le _ _ l)
+slice-aggregate-deliver : tie.Need-slice-aggregate-deliver
+slice-aggregate-deliver c = let l : c .before .before .before .before .before .before .before .before .before .before .before .before .before .before .before .before .args .h .inputs + 1 ≤ length (c .before .before .before .before .before .before .before .before .before .before .before .before .before .before .before .before .args .inputs .now) = omega (arith, c .before .before .before .before .before .before .before .before .before .before .before .before .before .before .before .before .pre .0 .inputs) in sym (length-take-le _ _ l)
 
-slice-aggregate-mask-2 : tie.Need-slice-aggregate-mask-2
-slice-aggregate-mask-2 c = sym (length-take-le _ _ (c .before .before .before .before .before .before .before .before .before .before .before .before .before .before .before .before .before .pre .0 .outputs))
+slice-aggregate-deliver-2 : tie.Need-slice-aggregate-deliver-2
+slice-aggregate-deliver-2 c = sym (length-take-le _ _ (c .before .before .before .before .before .before .before .before .before .before .before .before .before .before .before .before .before .pre .0 .outputs))
 
-slice-relend-prefix-mask : tie.Need-slice-relend-prefix-mask
-slice-relend-prefix-mask c = search needs
+slice-relend-prefix-deliver : tie.Need-slice-relend-prefix-deliver
+slice-relend-prefix-deliver c = search needs
 
-slice-aggregate-mask-3 : tie.Need-slice-aggregate-mask-3
-slice-aggregate-mask-3 c = sym (length-take-le _ _ (c .before .before .before .before .before .before .before .before .before .before .before .before .before .before .before .before .before .before .pre .0 .wires))
+slice-aggregate-deliver-3 : tie.Need-slice-aggregate-deliver-3
+slice-aggregate-deliver-3 c = sym (length-take-le _ _ (c .before .before .before .before .before .before .before .before .before .before .before .before .before .before .before .before .before .before .pre .0 .wires))
 
-slice-relend-prefix-mask-2 : tie.Need-slice-relend-prefix-mask-2
-slice-relend-prefix-mask-2 c = search needs
+slice-relend-prefix-deliver-2 : tie.Need-slice-relend-prefix-deliver-2
+slice-relend-prefix-deliver-2 c = search needs
 
-slice-aggregate-mask-4 : tie.Need-slice-aggregate-mask-4
-slice-aggregate-mask-4 c = sym (length-take-le _ _ (c .before .before .before .before .before .before .before .before .before .before .before .before .before .before .before .before .before .before .before .pre .0 .marks))
+slice-aggregate-deliver-4 : tie.Need-slice-aggregate-deliver-4
+slice-aggregate-deliver-4 c = sym (length-take-le _ _ (c .before .before .before .before .before .before .before .before .before .before .before .before .before .before .before .before .before .before .before .pre .0 .marks))
 
-mask-requires : tie.Need-mask-requires
-mask-requires c κs = let p = c .before .before .before .before .before .before .before .before .before .before .before .before .before .before .before .before .before .before .before .pre in
+deliver-requires : tie.Need-deliver-requires
+deliver-requires c κs = let p = c .before .before .before .before .before .before .before .before .before .before .before .before .before .before .before .before .before .before .before .pre in
     let w = length-take-le (c .before .before .before .before .before .before .before .before .before .before .before .before .before .before .before .before .before .before .before .args .h .wires) (c .before .before .before .before .before .before .before .before .before .before .before .before .before .before .before .before .before .before .before .args .wires .now) (c .before .before .before .before .before .before .before .before .before .before .before .before .before .before .before .before .before .before .before .pre .0 .wires) in
     let m = length-take-le (c .before .before .before .before .before .before .before .before .before .before .before .before .before .before .before .before .before .before .before .args .h .wires) (c .before .before .before .before .before .before .before .before .before .before .before .before .before .before .before .before .before .before .before .args .marks .now) (c .before .before .before .before .before .before .before .before .before .before .before .before .before .before .before .before .before .before .before .pre .0 .marks) in
     record {
@@ -66,7 +65,7 @@ same-length-4 : tie.Need-same-length-4
 same-length-4 c = search needs
 
 returns : tie.Need-returns
-returns c = λ N s. c .before .before .before .before .before .before .before .before .mask .ensures N (source-same (length-take-le (c .before .before .before .before .before .before .before .before .before .before .before .before .before .before .before .before .before .before .before .before .before .before .before .before .before .before .before .before .args .h .wires) (c .before .before .before .before .before .before .before .before .before .before .before .before .before .before .before .before .before .before .before .before .before .before .before .before .before .before .before .before .args .wires .now) (c .before .before .before .before .before .before .before .before .before .before .before .before .before .before .before .before .before .before .before .before .before .before .before .before .before .before .before .before .pre .0 .wires)) s)
+returns c = λ N s. c .before .before .before .before .before .before .before .before .deliver .ensures N (source-same (length-take-le (c .before .before .before .before .before .before .before .before .before .before .before .before .before .before .before .before .before .before .before .before .before .before .before .before .before .before .before .before .args .h .wires) (c .before .before .before .before .before .before .before .before .before .before .before .before .before .before .before .before .before .before .before .before .before .before .before .before .before .before .before .before .args .wires .now) (c .before .before .before .before .before .before .before .before .before .before .before .before .before .before .before .before .before .before .before .before .before .before .before .before .before .before .before .before .pre .0 .wires)) s)
 
 pub write-spec : {M : Type 1} → statement M
 write-spec =
@@ -74,14 +73,14 @@ write-spec =
     (tie.spec
     cast-all
     add-ins
-    cast-mask
-    slice-aggregate-mask
-    slice-aggregate-mask-2
-    slice-relend-prefix-mask
-    slice-aggregate-mask-3
-    slice-relend-prefix-mask-2
-    slice-aggregate-mask-4
-    mask-requires
+    cast-deliver
+    slice-aggregate-deliver
+    slice-aggregate-deliver-2
+    slice-relend-prefix-deliver
+    slice-aggregate-deliver-3
+    slice-relend-prefix-deliver-2
+    slice-aggregate-deliver-4
+    deliver-requires
     same-length
     same-length-2
     same-length-3

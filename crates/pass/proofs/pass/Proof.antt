@@ -34,13 +34,19 @@ outs-requires c κs =
     let p = c .before .before .before .before .before .before .before .before .before .before .before .before .before .before .before .before .before .before .before .before .before .before .before .before .before .before .before .before .before .before .before .pre in
     let s = c .before .before .before .before .before .before .before .before .before .before .before .before .before .before .before .before .before .before .before .before .before .start in
     let g = c .before .before .before .before .before .before .before .before .before .gates in
-    omega (arith, p .small, p .ins, p .outs, p .codes, s .kept .1 .0, s .kept .1 .1 .0, g .kept .1 .1 .1 .1 .1 .1 .1 .0, g .kept .1 .1 .1 .1 .1 .1 .1 .1 .0, g .ensures .grown)
+    omega
+    (arith, p .small, p .ins, p .outs, p .codes, s .kept .1 .0, s .kept .1 .1 .0, g .kept .1 .1 .1 .1 .1 .1 .1 .0, g .kept .1 .1 .1 .1 .1 .1 .1 .1 .0,
+    g .ensures .grown)
 
 cast-t25 : tie.Need-cast-t25
-cast-t25 c = let p = c .before .before .before .before .before .before .before .before .before .before .before .before .before .before .before .before .before .before .before .before .before .before .before .before .before .before .before .before .before .before .before .before .before .before .pre in omega (arith, p .small, p .outs)
+cast-t25 c = let p = c .before .before .before .before .before .before .before .before .before .before .before .before .before .before .before .before .before .before .before .before .before .before .before .before .before .before .before .before .before .before .before .before .before .before .pre in
+    omega (arith, p .small, p .outs)
 
 add-t37 : tie.Need-add-t37
-add-t37 c = let p = c .before .before .before .before .before .before .before .before .before .before .before .before .before .before .before .before .before .before .before .before .before .before .before .before .before .before .before .before .before .before .before .before .before .before .before .pre in omega (arith, p .small, p .ins, p .outs, c .before .before .before .before .before .before .before .before .before .before .before .before .before .gates .ensures .grown)
+add-t37 c = let p = c .before .before .before .before .before .before .before .before .before .before .before .before .before .before .before .before .before .before .before .before .before .before .before .before .before .before .before .before .before .before .before .before .before .before .before .pre in
+    omega
+    (arith, p .small, p .ins, p .outs,
+    c .before .before .before .before .before .before .before .before .before .before .before .before .before .gates .ensures .grown)
 
 same-length : tie.Need-same-length
 same-length c = search needs
@@ -60,7 +66,9 @@ returns c = let a = c .before .before .before .before .before .before .before .b
     let codes = g .kept .1 .1 .1 .1 .1 .1 .1 .1 .0 ∙ s .kept .1 .1 .0 ∙ p .codes in
     λ N h. pass-made (tables (a .operands .now) (a .results .now)) (a .count) (length (a .wire .now)) (a .codes .now) (a .wanted .now)
     (s .last .1 .0) (s .last .1 .1 .0) (g .last .1 .1 .1 .1 .1 .1 .1 .0) (g .last .1 .1 .1 .1 .1 .1 .1 .1 .0) N h (g .result)
-    (p .outs) wires codes (s .ensures) (c .before .before .before .before .before .before .before .before .before .before .before .before .before .before .before .before .before .before .before .masks .ensures) (g .ensures) (c .before .before .before .outs .ensures)
+    (p .outs) wires codes (s .ensures)
+    (c .before .before .before .before .before .before .before .before .before .before .before .before .before .before .before .before .before .before .before .masks .ensures)
+    (g .ensures) (c .before .before .before .outs .ensures)
 
 pub pass-spec : {M : Type 1} → statement M
 pass-spec =

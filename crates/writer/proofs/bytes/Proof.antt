@@ -1,7 +1,7 @@
 -- `bytes`: the first i bytes are written.
+use Prim.Native.Nat.{_-_}
 use borrow.Author.Needs.{needs}
 use native.Mathlib.Omega.{arith}
-use Prim.Native.Nat.{_-_}
 use lib.ListN.{length}
 use Rattle.writer.proofs.Wrote.{Copied, copied-none, copied-more, copied-all, wrote-length}
 use Rattle.writer.proofs.bytes.Statement.{statement}

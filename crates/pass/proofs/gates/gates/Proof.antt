@@ -35,7 +35,8 @@ step-requires : tie.Need-step-requires Inv-loop μ-loop
 step-requires c κs =
     let p = c .before .before .before .before .before .before .before .before .before .before .before .before .pre in
     let inv = c .before .before .before .before .before .before .loop .inv in
-    (omega (arith, p .0, inv .made .grown), (rw (inv .wires) (p .1 .0 .each _ (c .before .before .before .before .before .loop-test .taken)), omega (arith, inv .wires, inv .codes)))
+    (omega (arith, p .0, inv .made .grown),
+    (rw (inv .wires) (p .1 .0 .each _ (c .before .before .before .before .before .loop-test .taken)), omega (arith, inv .wires, inv .codes)))
 
 add-i : tie.Need-add-i Inv-loop μ-loop
 add-i c = search needs
@@ -44,7 +45,10 @@ loop-less : tie.Need-loop-less Inv-loop μ-loop
 loop-less c = search needs
 
 loop-again : tie.Need-loop-again Inv-loop μ-loop
-loop-again c = let s = c .before .before .before .before .before .before .step in emitting-more (c .before .before .before .before .before .before .before .before .before .before .before .before .before .loop .inv) (c .before .before .before .before .before .before .before .before .before .before .before .before .loop-test .taken) (s .kept .1 .1 .1 .1 .1 .1 .0) (s .kept .1 .1 .1 .1 .1 .1 .1 .0) (s .ensures)
+loop-again c = let s = c .before .before .before .before .before .before .step in
+    emitting-more (c .before .before .before .before .before .before .before .before .before .before .before .before .before .loop .inv)
+    (c .before .before .before .before .before .before .before .before .before .before .before .before .loop-test .taken)
+    (s .kept .1 .1 .1 .1 .1 .1 .0) (s .kept .1 .1 .1 .1 .1 .1 .1 .0) (s .ensures)
 
 same-length : tie.Need-same-length Inv-loop μ-loop
 same-length c = wrote-length (c .before .loop .inv .made .wrote .wrote)

@@ -37,7 +37,10 @@ same-length-3 : tie.Need-same-length-3
 same-length-3 c = search needs
 
 returns : tie.Need-returns
-returns c = let a = c .before .before .before .before .before .before .before .before .before .before .before .before .before .before .before .args in step-made (a .wire .now) (a .code .now) (a .operands) (a .results) (c .before .before .before .before .before .before .before .before .before .twin .ensures) (c .before .before .before .before .before .before .twin2 .ensures) (c .before .before .before .before .emit .ensures)
+returns c = let a = c .before .before .before .before .before .before .before .before .before .before .before .before .before .before .before .args in
+    step-made (a .wire .now) (a .code .now) (a .operands) (a .results)
+    (c .before .before .before .before .before .before .before .before .before .twin .ensures)
+    (c .before .before .before .before .before .before .twin2 .ensures) (c .before .before .before .before .emit .ensures)
 
 pub step-spec : {M : Type 1} → statement M
 step-spec =

@@ -36,7 +36,11 @@ loop-less : tie.Need-loop-less Inv-loop μ-loop
 loop-less c = omega (arith, c .before .before .put .ensures .next)
 
 loop-again : tie.Need-loop-again Inv-loop μ-loop
-loop-again c = picked-more (c .before .before .before .before .before .before .before .before .loop .inv) (c .before .before .before .before .before .before .before .loop-test .taken) (omega arith) (c .before .before .before .before .before .before .before .before .before .before .before .before .pre) (c .before .before .before .pick .ensures) (c .before .before .put .ensures)
+loop-again c =
+    picked-more (c .before .before .before .before .before .before .before .before .loop .inv)
+    (c .before .before .before .before .before .before .before .loop-test .taken) (omega arith)
+    (c .before .before .before .before .before .before .before .before .before .before .before .before .pre)
+    (c .before .before .before .pick .ensures) (c .before .before .put .ensures)
 
 same-length : tie.Need-same-length Inv-loop μ-loop
 same-length c = wrote-length (c .before .loop .inv .wrote)

@@ -38,7 +38,9 @@ same-length-3 c = search needs
 returns-3 : tie.Need-returns-3
 returns-3 c =
     let s = c .before .before .before .before .before .before .before .before .before .before .args in
-    out-changed (s .n) (s .t) (s .want) (c .before .before .before .before .before .before .before .before .if1 .left) (c .before .before .before .before .before .before .if2 .left) (c .before .before .before .before .before .third-code .ensures) (c .before .before .before .before .mask-wire .ensures) (c .before .before .xor .ensures)
+    out-changed (s .n) (s .t) (s .want) (c .before .before .before .before .before .before .before .before .if1 .left)
+    (c .before .before .before .before .before .before .if2 .left) (c .before .before .before .before .before .third-code .ensures)
+    (c .before .before .before .before .mask-wire .ensures) (c .before .before .xor .ensures)
 
 pub one-spec : {M : Type 1} → statement M
 one-spec =

@@ -39,7 +39,10 @@ loop-less : tie.Need-loop-less Inv-loop μ-loop
 loop-less c = search needs
 
 loop-again : tie.Need-loop-again Inv-loop μ-loop
-loop-again c = let p = c .before .before .before .before .before .before .before .before .before .before .before .before .pre .1 in outed-more (c .before .before .before .before .before .before .before .loop .inv) (c .before .before .before .before .before .before .loop-test .taken) (p .0) (p .1) (c .before .before .before .before .before .twin .ensures) (c .before .before .one .ensures)
+loop-again c = let p = c .before .before .before .before .before .before .before .before .before .before .before .before .pre .1 in
+    outed-more (c .before .before .before .before .before .before .before .loop .inv)
+    (c .before .before .before .before .before .before .loop-test .taken) (p .0) (p .1) (c .before .before .before .before .before .twin .ensures)
+    (c .before .before .one .ensures)
 
 same-length : tie.Need-same-length Inv-loop μ-loop
 same-length c = wrote-length (c .before .loop .inv .wrote .wrote)

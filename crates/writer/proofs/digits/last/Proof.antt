@@ -15,7 +15,9 @@ same-length : tie.Need-same-length
 same-length c = search needs
 
 returns : tie.Need-returns
-returns c = wrote-as (last-digits (c .before .before .before .before .before .before .args .n) (c .before .before .before .before .split .ensures)) (c .before .before .four .ensures)
+returns c =
+    wrote-as (last-digits (c .before .before .before .before .before .before .args .n) (c .before .before .before .before .split .ensures))
+    (c .before .before .four .ensures)
 
 pub last-spec : {M : Type 1} → statement M
 last-spec = tie.close (tie.spec split-requires four-requires same-length returns)

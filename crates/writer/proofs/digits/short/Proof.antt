@@ -1,8 +1,7 @@
 -- `short`: a way for each number of digits.
 use mathlib.Core.Path.{sym}
-use Rattle.writer.proofs.Wrote.{wrote-as}
-use Rattle.writer.proofs.Decimals.{decimal-one}
-use Rattle.writer.proofs.Splitting.{two-digits, three-digits}
+use Rattle.writer.proofs.Wrote.{wrote-then, wrote-as}
+use Rattle.writer.proofs.Decimals.{decimal-one, decimal-two, decimal-three, two-rest}
 use borrow.Author.Needs.{needs}
 use Rattle.writer.proofs.digits.short.Statement.{statement}
 use Rattle.writer.proofs.digits.short.Tie as tie
@@ -22,28 +21,47 @@ same-length c = search needs
 returns : tie.Need-returns
 returns c = wrote-as (sym (decimal-one _ (c .before .before .before .before .if1 .taken))) (c .before .before .one .ensures)
 
-split-requires : tie.Need-split-requires
-split-requires c κs = search needs
+cast-pair : tie.Need-cast-pair
+cast-pair c = search needs
 
-two-requires : tie.Need-two-requires
-two-requires c κs = search needs
+pair-requires : tie.Need-pair-requires
+pair-requires c κs = search needs
 
 same-length-2 : tie.Need-same-length-2
 same-length-2 c = search needs
 
 returns-2 : tie.Need-returns-2
 returns-2 c =
-    wrote-as (two-digits (c .before .before .before .before .before .split .ensures) (c .before .before .before .before .before .before .if1 .left) (c .before .before .before .before .if2 .taken)) (c .before .before .two .ensures)
+    wrote-as (sym (decimal-two _ (c .before .before .before .before .before .if1 .left) (c .before .before .before .before .if2 .taken)))
+    (c .before .before .pair .ensures)
 
-three-requires : tie.Need-three-requires
-three-requires c κs = search needs
+cast-one-2 : tie.Need-cast-one-2
+cast-one-2 c = search needs
+
+add-one-2 : tie.Need-add-one-2
+add-one-2 c = search needs
+
+one-requires-2 : tie.Need-one-requires-2
+one-requires-2 c κs = search needs
+
+cast-pair-2 : tie.Need-cast-pair-2
+cast-pair-2 c = search needs
+
+pair-requires-2 : tie.Need-pair-requires-2
+pair-requires-2 c κs = search needs
 
 same-length-3 : tie.Need-same-length-3
 same-length-3 c = search needs
 
 returns-3 : tie.Need-returns-3
 returns-3 c =
-    wrote-as (three-digits (c .before .before .before .before .before .split .ensures) (c .before .before .before .before .if2 .left) (c .before .before .before .before .before .before .before .before .pre .0)) (c .before .before .three .ensures)
+    wrote-as
+    (sym
+    (decimal-three _ (c .before .before .before .before .before .before .before .before .if2 .left)
+    (c .before .before .before .before .before .before .before .before .before .before .before .pre .0)))
+    (wrote-then (c .before .before .before .before .before .before .one2 .ensures)
+    (wrote-as (two-rest (c .before .before .before .before .before .before .before .before .before .before .before .args .n))
+    (c .before .before .pair2 .ensures)))
 
 pub short-spec : {M : Type 1} → statement M
 short-spec =
@@ -54,10 +72,14 @@ short-spec =
     one-requires
     same-length
     returns
-    split-requires
-    two-requires
+    cast-pair
+    pair-requires
     same-length-2
     returns-2
-    three-requires
+    cast-one-2
+    add-one-2
+    one-requires-2
+    cast-pair-2
+    pair-requires-2
     same-length-3
     returns-3)

@@ -27,7 +27,8 @@ same-length-2 c = search needs
 returns-2 : tie.Need-returns-2
 returns-2 c =
     wrote-digits 10 (omega arith) (lit< tt) (omega arith)
-    (wrote-as (sym (decimal-four _ (c .before .before .before .before .before .if1 .left) (c .before .before .before .before .if2 .taken))) (c .before .before .last .ensures))
+    (wrote-as (sym (decimal-four _ (c .before .before .before .before .before .if1 .left) (c .before .before .before .before .if2 .taken)))
+    (c .before .before .last .ensures))
 
 cast-one : tie.Need-cast-one
 cast-one c = search needs
@@ -48,7 +49,10 @@ returns-3 : tie.Need-returns-3
 returns-3 c =
     wrote-digits 10 (omega arith) (lit< tt) (omega arith)
     (wrote-more (omega arith) (c .before .before .before .before .before .before .before .before .before .if2 .left)
-    (wrote-as (sym (decimal-one (c .before .before .before .before .before .before .before .before .before .before .before .before .args .n / 10000) (omega arith))) (c .before .before .before .before .before .before .one .ensures))
+    (wrote-as
+    (sym
+    (decimal-one (c .before .before .before .before .before .before .before .before .before .before .before .before .args .n / 10000) (omega arith)))
+    (c .before .before .before .before .before .before .one .ensures))
     (c .before .before .last2 .ensures))
 
 number-requires : tie.Need-number-requires

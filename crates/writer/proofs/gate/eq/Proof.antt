@@ -33,7 +33,8 @@ returns c =
     (wrote-as (line-eq _ _)
     (wrote-then
     (c .before .before .before .before .before .before .before .before .before .before .before .before .before .before .before .bytes .ensures)
-    (wrote-then (c .before .before .before .before .before .before .before .before .before .before .before .spaced .ensures) (wrote-then (c .before .before .before .before .before .before .before .number .ensures) (c .before .before .bytes2 .ensures)))))
+    (wrote-then (c .before .before .before .before .before .before .before .before .before .before .before .spaced .ensures)
+    (wrote-then (c .before .before .before .before .before .before .before .number .ensures) (c .before .before .bytes2 .ensures)))))
 
 pub eq-spec : {M : Type 1} → statement M
 eq-spec =

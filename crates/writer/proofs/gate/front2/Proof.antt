@@ -21,7 +21,8 @@ same-length c = search needs
 
 returns : tie.Need-returns
 returns c =
-    few-then 4 33 (exactly (c .before .before .before .before .before .before .before .before .before .before .before .before .before .before .four .ensures))
+    few-then 4 33
+    (exactly (c .before .before .before .before .before .before .before .before .before .before .before .before .before .before .four .ensures))
     (few-then 11 22 (c .before .before .before .before .before .before .before .before .before .before .wire .ensures)
     (few-then 11 11 (c .before .before .before .before .before .before .wire2 .ensures) (c .before .before .wire3 .ensures)))
 

@@ -22,7 +22,8 @@ same-length c = search needs
 returns : tie.Need-returns
 returns c =
     wrote-then (c .before .before .before .before .before .before .before .before .before .before .before .before .before .before .put .ensures)
-    (wrote-then (c .before .before .before .before .before .before .before .before .before .before .put2 .ensures) (wrote-then (c .before .before .before .before .before .before .put3 .ensures) (c .before .before .put4 .ensures)))
+    (wrote-then (c .before .before .before .before .before .before .before .before .before .before .put2 .ensures)
+    (wrote-then (c .before .before .before .before .before .before .put3 .ensures) (c .before .before .put4 .ensures)))
 
 pub name-spec : {M : Type 1} → statement M
 name-spec =

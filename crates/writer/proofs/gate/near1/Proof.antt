@@ -28,7 +28,9 @@ returns : tie.Need-returns
 returns c = let a = c .before .before .before .before .before .before .before .before .before .before .before .before .before .before .before .before .before .before .args in
     wrote-as (line1 _ _ (a .x ∷ a .y ∷ a .z ∷ []))
     (wrote-then
-    (wrote-then (c .before .before .before .before .before .before .before .before .before .before .before .before .before .before .bytes .ensures) (wrote-then (c .before .before .before .before .before .before .before .before .before .before .spaced .ensures) (c .before .before .before .before .before .before .spaced2 .ensures)))
+    (wrote-then (c .before .before .before .before .before .before .before .before .before .before .before .before .before .before .bytes .ensures)
+    (wrote-then (c .before .before .before .before .before .before .before .before .before .before .spaced .ensures)
+    (c .before .before .before .before .before .before .spaced2 .ensures)))
     (c .before .before .name .ensures))
 
 pub near1-spec : {M : Type 1} → statement M

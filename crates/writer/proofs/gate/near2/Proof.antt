@@ -33,7 +33,9 @@ returns c = let a = c .before .before .before .before .before .before .before .b
     (wrote-then
     (wrote-then
     (c .before .before .before .before .before .before .before .before .before .before .before .before .before .before .before .before .before .before .bytes .ensures)
-    (wrote-then (c .before .before .before .before .before .before .before .before .before .before .before .before .before .before .spaced .ensures) (wrote-then (c .before .before .before .before .before .before .before .before .before .before .spaced2 .ensures) (c .before .before .before .before .before .before .spaced3 .ensures))))
+    (wrote-then (c .before .before .before .before .before .before .before .before .before .before .before .before .before .before .spaced .ensures)
+    (wrote-then (c .before .before .before .before .before .before .before .before .before .before .spaced2 .ensures)
+    (c .before .before .before .before .before .before .spaced3 .ensures))))
     (c .before .before .name .ensures))
 
 pub near2-spec : {M : Type 1} → statement M

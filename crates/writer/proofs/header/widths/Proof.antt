@@ -1,6 +1,6 @@
 -- `widths`: the first i widths are written.
-use Rattle.writer.proofs.Wrote.{wrote-length}
 use Prim.Native.Nat.{_-_}
+use Rattle.writer.proofs.Wrote.{wrote-length}
 use lib.ListN.{length}
 use Rattle.writer.proofs.Headers.{Spaced, spaced-none, spaced-more, spaced-all}
 use borrow.Author.Needs.{needs}

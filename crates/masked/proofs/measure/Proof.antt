@@ -1,9 +1,9 @@
--- `mask::whole::measure` meets its contract.
-use Rattle.mask.proofs.Wholes.{least, measure-made}
+-- `measure`: the gates of a pass, and the header behind them.
+use Rattle.masked.proofs.Wholes.{least, measure-made}
 use native.Mathlib.Omega.{arith}
 use borrow.Author.Needs.{needs}
-use Rattle.mask.proofs.whole.measure.Statement.{statement}
-use Rattle.mask.proofs.whole.measure.Tie as tie
+use Rattle.masked.proofs.measure.Statement.{statement}
+use Rattle.masked.proofs.measure.Tie as tie
 
 slice-aggregate-pass : tie.Need-slice-aggregate-pass
 slice-aggregate-pass c = search needs

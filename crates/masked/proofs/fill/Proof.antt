@@ -1,8 +1,8 @@
--- `mask::whole::deliver` meets its contract.
-use Rattle.mask.proofs.Wholes.{deliver-made}
+-- `fill`: the text, and the codes that the pass left in their table.
+use Rattle.masked.proofs.Wholes.{fill-made}
 use borrow.Author.Needs.{needs}
-use Rattle.mask.proofs.whole.deliver.Statement.{statement}
-use Rattle.mask.proofs.whole.deliver.Tie as tie
+use Rattle.masked.proofs.fill.Statement.{statement}
+use Rattle.masked.proofs.fill.Tie as tie
 
 write-requires : tie.Need-write-requires
 write-requires c κs = search needs
@@ -26,10 +26,10 @@ same-length-4 : tie.Need-same-length-4
 same-length-4 c = search needs
 
 returns : tie.Need-returns
-returns c = λ N h p q. deliver-made (c .before .before .before .before .before .before .before .before .before .before .before .write .ensures N h p q) (c .before .before .codes .ensures)
+returns c = λ N h p q. fill-made (c .before .before .before .before .before .before .before .before .before .before .before .write .ensures N h p q) (c .before .before .codes .ensures)
 
-pub deliver-spec : {M : Type 1} → statement M
-deliver-spec =
+pub fill-spec : {M : Type 1} → statement M
+fill-spec =
     tie.close
     (tie.spec
     write-requires

@@ -13,7 +13,7 @@ use Rattle.netlist.specs.Mask.{Masked}
 use Rattle.netlist.specs.Services.{MaskedText, written, Answers}
 use Rattle.writer.specs.Wrote.{cap}
 use Rattle.pass.specs.State.{codesOf}
-use Rattle.mask.specs.declared.whole.Size.{Size}
+use Rattle.masked.specs.declared.Size.{Size}
 
 -- a netlist that the gate tables hold, with the widths of the masked input values and of the output values
 pub record Source (t : Tables) (count W n m : ℕ) (ins outs : List ℕ) (N : Netlist) : Type 0 where
@@ -34,7 +34,7 @@ pub record WroteText (e : List ℕ) (M : Masked) (vs x es : List ℕ) : Type 0 w
   pub codes : codesOf (drop (length es - length vs) es) vs ≡ M .codes
 
 -- the masked text and the output codes were written, each into its buffer
-pub record Delivered (M : Masked) (e x f y : List ℕ) : Type 0 where
+pub record Filled (M : Masked) (e x f y : List ℕ) : Type 0 where
   pub text : x ≡ sets e 0 (writeNetlist (M .netlist))
   pub codes : y ≡ sets f 0 (M .codes)
 

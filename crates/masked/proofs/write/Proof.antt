@@ -1,8 +1,8 @@
--- `mask::whole::write` meets its contract.
-use Rattle.mask.proofs.Wholes.{write-made}
+-- `write`: the header, and the gates behind it.
+use Rattle.masked.proofs.Wholes.{write-made}
 use borrow.Author.Needs.{needs}
-use Rattle.mask.proofs.whole.write.Statement.{statement}
-use Rattle.mask.proofs.whole.write.Tie as tie
+use Rattle.masked.proofs.write.Statement.{statement}
+use Rattle.masked.proofs.write.Tie as tie
 
 header-requires : tie.Need-header-requires
 header-requires c κs = search needs

@@ -23,8 +23,8 @@ use Rattle.writer.proofs.Headers.{header-gates}
 use Rattle.pass.specs.declared.gates.Next.{Next}
 use Rattle.pass.specs.State.{codesOf}
 use Rattle.pass.specs.Pass.{Ready, WrotePass}
-use Rattle.mask.specs.declared.whole.Size.{Size}
-use Rattle.mask.specs.Whole.{Source, Measured, WroteText, Delivered, MaskAnswers}
+use Rattle.masked.specs.declared.Size.{Size}
+use Rattle.masked.specs.Whole.{Source, Measured, WroteText, Filled, MaskAnswers}
 
 text-made : (M : Netlist) (g w : ℕ) (ins outs : List ℕ) → g ≡ length (M .gates) → w ≡ M .wires → ins ≡ M .inputs → outs ≡ M .outputs
     → headerText g w ins outs ++ gateText (M .gates) ≡ writeNetlist M
@@ -70,8 +70,8 @@ least cs {t = t} {count = count} {W = W} {n = n} {m = m} h =
     let p = h (bare t count W n m) (record { gates = refl; wires = refl; ins = omega arith; outs = omega arith }) in
     omega (arith, p .count, p .wires)
 
-pub deliver-made : {M : Masked} {e x f y vs es : List ℕ} {r : ℕ} → WroteText e M vs x es → Wrote f 0 (codesOf (drop (length es - length vs) es) vs) y r → Delivered M e x f y
-deliver-made {f = f} w c = record { text = w .text; codes = c .list ∙ ap (sets f 0) (w .codes) }
+pub fill-made : {M : Masked} {e x f y vs es : List ℕ} {r : ℕ} → WroteText e M vs x es → Wrote f 0 (codesOf (drop (length es - length vs) es) vs) y r → Filled M e x f y
+fill-made {f = f} w c = record { text = w .text; codes = c .list ∙ ap (sets f 0) (w .codes) }
 
 -- question 14: the size as measured is the text's length where it fits, since no buffer is as long as the largest place
 measured : {M : Masked} {m : ℕ} {z : Size} (n : ℕ) → Measured M m z → n < top → z .size ≤ n → z .size ≡ length (writeNetlist (M .netlist))
@@ -90,7 +90,7 @@ module _ {M : Masked} {m : ℕ} {e f : List ℕ} {z : Size} (h : Measured M m z)
         let u = lt-leb (length (M .codes)) (length f) (omega (arith, h .codes)) in
         record { text = answers-refused e (rw (t, u)); codes = rw (t, u) }
 
-    pub delivered : {x y : List ℕ} → m ≤ length f → Delivered M e x f y → MaskAnswers (deliverOutcome (length e) (length f) (maskedText M)) e x f y (Done (z .size))
+    pub delivered : {x y : List ℕ} → m ≤ length f → Filled M e x f y → MaskAnswers (deliverOutcome (length e) (length f) (maskedText M)) e x f y (Done (z .size))
     delivered k d =
         let s = measured (length e) h small l in
         let fits = rw s at l in

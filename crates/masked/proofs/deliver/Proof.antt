@@ -1,10 +1,10 @@
--- `mask::whole::mask` meets its contract.
+-- `deliver`: question 14, and both buffers filled.
 use Rattle.netlist.specs.Mask.{maskNetlist}
-use Rattle.mask.proofs.Wholes.{short-text, short-codes, delivered, ready-same, source-same}
+use Rattle.masked.proofs.Wholes.{short-text, short-codes, delivered, ready-same, source-same}
 use native.Mathlib.Omega.{arith}
 use borrow.Author.Needs.{needs}
-use Rattle.mask.proofs.whole.mask.Statement.{statement}
-use Rattle.mask.proofs.whole.mask.Tie as tie
+use Rattle.masked.proofs.deliver.Statement.{statement}
+use Rattle.masked.proofs.deliver.Tie as tie
 
 measure-requires : tie.Need-measure-requires
 measure-requires c κs = search needs
@@ -27,8 +27,8 @@ same-length-4 c = search needs
 returns-2 : tie.Need-returns-2
 returns-2 c = λ N h. short-codes (c .before .before .before .before .before .before .measure .ensures N h) (omega arith) (c .before .if1 .left) (c .if2 .taken)
 
-deliver-requires : tie.Need-deliver-requires
-deliver-requires c κs = let m = c .before .before .before .before .before .before .before .before .before .before .measure in ready-same {ws′ = m .last .1 .1 .1 .1 .1 .1 .1 .0} {es′ = m .last .1 .1 .1 .1 .1 .1 .1 .1 .0} (m .kept .1 .1 .1 .1 .1 .1 .1 .0) (m .kept .1 .1 .1 .1 .1 .1 .1 .1 .0) (c .before .before .before .before .before .before .before .before .before .before .before .before .before .before .before .before .before .before .before .before .before .before .before .pre)
+fill-requires : tie.Need-fill-requires
+fill-requires c κs = let m = c .before .before .before .before .before .before .before .before .before .before .measure in ready-same {ws′ = m .last .1 .1 .1 .1 .1 .1 .1 .0} {es′ = m .last .1 .1 .1 .1 .1 .1 .1 .1 .0} (m .kept .1 .1 .1 .1 .1 .1 .1 .0) (m .kept .1 .1 .1 .1 .1 .1 .1 .1 .0) (c .before .before .before .before .before .before .before .before .before .before .before .before .before .before .before .before .before .before .before .before .before .before .before .pre)
 
 same-length-5 : tie.Need-same-length-5
 same-length-5 c = search needs
@@ -47,10 +47,10 @@ returns-3 c = let m = c .before .before .before .before .before .before .before 
     let a = c .before .before .before .before .before .before .before .before .before .before .before .before .before .before .before .before .before .before .before .before .before .before .before .before .before .before .before .before .before .before .before .before .args in
     λ N h.
     let d = m .ensures N h in
-    delivered {M = maskNetlist N (a .codes .now) (a .wanted .now)} d (omega (arith, c .before .before .before .before .before .before .before .before .before .before .before .before .before .before .before .before .before .before .before .before .before .before .before .before .before .before .before .before .before .before .before .before .good .0)) (c .before .before .before .before .before .before .before .before .before .before .before .before .before .before .if1 .left) (c .before .before .before .before .before .before .before .before .before .before .before .before .before .if2 .left) (c .before .before .before .before .before .before .before .before .deliver .ensures N (source-same (m .kept .1 .1 .1 .1 .1 .1 .1 .0) h) (d .gates) (d .wires))
+    delivered {M = maskNetlist N (a .codes .now) (a .wanted .now)} d (omega (arith, c .before .before .before .before .before .before .before .before .before .before .before .before .before .before .before .before .before .before .before .before .before .before .before .before .before .before .before .before .before .before .before .before .good .0)) (c .before .before .before .before .before .before .before .before .before .before .before .before .before .before .if1 .left) (c .before .before .before .before .before .before .before .before .before .before .before .before .before .if2 .left) (c .before .before .before .before .before .before .before .before .fill .ensures N (source-same (m .kept .1 .1 .1 .1 .1 .1 .1 .0) h) (d .gates) (d .wires))
 
-pub mask-spec : {M : Type 1} → statement M
-mask-spec =
+pub deliver-spec : {M : Type 1} → statement M
+deliver-spec =
     tie.close
     (tie.spec
     measure-requires
@@ -60,7 +60,7 @@ mask-spec =
     same-length-3
     same-length-4
     returns-2
-    deliver-requires
+    fill-requires
     same-length-5
     same-length-6
     same-length-7

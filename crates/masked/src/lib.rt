@@ -1,5 +1,5 @@
-// The whole masked text and the output codes, of a source that lies in the gate tables: measured
-// first, then written where both buffers hold them.
+// The masked text and the output codes of a source that lies in the gate tables: measured first, then written where both
+// buffers can hold them.
 use netlist::Answer;
 ghost use mathlib.Core.Path.{_≡_};
 ghost use lib.ListN.{length};
@@ -8,7 +8,7 @@ ghost use Rattle.netlist.specs.Mask.{maskNetlist};
 ghost use Rattle.netlist.specs.Table.{tables};
 ghost use Rattle.netlist.specs.Services.{maskedText, deliverOutcome};
 ghost use Rattle.pass.specs.Pass.{Ready};
-ghost use Rattle.mask.specs.Whole.{Source, Measured, WroteText, Delivered, MaskAnswers};
+ghost use Rattle.masked.specs.Whole.{Source, Measured, WroteText, Filled, MaskAnswers};
 
 // How long the masked text is, and the two numbers of its line one.
 struct Size {
@@ -17,8 +17,7 @@ struct Size {
     wires: usize,
 }
 
-// A pass whose bytes go nowhere. The header stands in front of the gates and needs their count, so
-// it is measured behind them.
+// A pass whose bytes go nowhere. The header stands in front of the gates and needs their count, so it is measured behind them.
 fn measure(
     operands: &[u64],
     results: &[u64],
@@ -74,9 +73,9 @@ fn write(
 }
 
 // The masked text and the output codes, each into its buffer.
-fn deliver(
+fn fill(
     out: &mut [u8],
-    bits: &mut [u8],
+    ends: &mut [u8],
     gates: usize,
     wires: usize,
     operands: &[u64],
@@ -90,7 +89,7 @@ fn deliver(
     code: &mut [u8],
 )
     requires { ⌜ Ready (tables (now operands) (now results)) count (now codes) (now wanted) (now wire) (now code) ⌝ }
-    ensures { λ _. ⌜ ((N : Netlist) → Source (tables (now (operands .entry)) (now (results .entry))) count (length (now (wire .entry))) (length (now (codes .entry))) (length (now (wanted .entry))) (now (ins .entry)) (now (outs .entry)) N → gates ≡ length (maskNetlist N (now (codes .entry)) (now (wanted .entry)) .netlist .gates) → wires ≡ maskNetlist N (now (codes .entry)) (now (wanted .entry)) .netlist .wires → Delivered (maskNetlist N (now (codes .entry)) (now (wanted .entry))) (now (out .entry)) (now (out .exit)) (now (bits .entry)) (now (bits .exit))) ⌝ }
+    ensures { λ _. ⌜ ((N : Netlist) → Source (tables (now (operands .entry)) (now (results .entry))) count (length (now (wire .entry))) (length (now (codes .entry))) (length (now (wanted .entry))) (now (ins .entry)) (now (outs .entry)) N → gates ≡ length (maskNetlist N (now (codes .entry)) (now (wanted .entry)) .netlist .gates) → wires ≡ maskNetlist N (now (codes .entry)) (now (wanted .entry)) .netlist .wires → Filled (maskNetlist N (now (codes .entry)) (now (wanted .entry))) (now (out .entry)) (now (out .exit)) (now (ends .entry)) (now (ends .exit))) ⌝ }
 {
     write(
         out,
@@ -107,15 +106,14 @@ fn deliver(
         code,
     );
     let from = code.len() - wanted.len();
-    pass::outs::codes(code, from, wanted, bits);
+    pass::outs::codes(code, from, wanted, ends);
 }
 
-// Question 14, and the text and the codes where it gets a yes. `ins` are the widths of the masked
-// input values, the last of them 2, and `outs` those of the output values; `wire` and `code` have
-// an entry for each source wire, and may hold anything.
-pub fn mask(
+// Question 14, and the text and the codes where it gets a yes. `ins` are the widths of the masked input values, the last of
+// them 2, and `outs` those of the output values; `wire` and `code` have an entry for each source wire, and may hold anything.
+pub fn deliver(
     out: &mut [u8],
-    bits: &mut [u8],
+    ends: &mut [u8],
     operands: &[u64],
     results: &[u64],
     count: usize,
@@ -127,7 +125,7 @@ pub fn mask(
     code: &mut [u8],
 ) -> Answer
     requires { ⌜ Ready (tables (now operands) (now results)) count (now codes) (now wanted) (now wire) (now code) ⌝ }
-    ensures { λ r. ⌜ ((N : Netlist) → Source (tables (now (operands .entry)) (now (results .entry))) count (length (now (wire .entry))) (length (now (codes .entry))) (length (now (wanted .entry))) (now (ins .entry)) (now (outs .entry)) N → MaskAnswers (deliverOutcome (length (now (out .entry))) (length (now (bits .entry))) (maskedText (maskNetlist N (now (codes .entry)) (now (wanted .entry))))) (now (out .entry)) (now (out .exit)) (now (bits .entry)) (now (bits .exit)) r) ⌝ }
+    ensures { λ r. ⌜ ((N : Netlist) → Source (tables (now (operands .entry)) (now (results .entry))) count (length (now (wire .entry))) (length (now (codes .entry))) (length (now (wanted .entry))) (now (ins .entry)) (now (outs .entry)) N → MaskAnswers (deliverOutcome (length (now (out .entry))) (length (now (ends .entry))) (maskedText (maskNetlist N (now (codes .entry)) (now (wanted .entry))))) (now (out .entry)) (now (out .exit)) (now (ends .entry)) (now (ends .exit)) r) ⌝ }
 {
     let m = measure(
         operands,
@@ -144,12 +142,12 @@ pub fn mask(
     if size > out.len() {
         return Answer::Refused(14);
     }
-    if wanted.len() > bits.len() {
+    if wanted.len() > ends.len() {
         return Answer::Refused(14);
     }
-    deliver(
+    fill(
         out,
-        bits,
+        ends,
         m.gates,
         m.wires,
         operands,
