@@ -30,7 +30,8 @@ use Rattle.checker.specs.Promise.{call}
 pub read-bits : {t ins outs : List ℕ} {tabs : Tables} {h : HeaderNumbers} → ReadAt large t ins outs tabs h → h .ins ≡ sum (take (h .inputs) ins)
 read-bits r = sym (r .holds .ins) ∙ ap sum (sym (r .inputs))
 
-pub judge-read : {t ins outs : List ℕ} {tabs : Tables} {h : HeaderNumbers} (codes : List ℕ) {a : Outcome (Option Found)} (r : ReadAt large t ins outs tabs h)
+pub judge-read : {t ins outs : List ℕ} {tabs : Tables} {h : HeaderNumbers} (codes : List ℕ) {a : Outcome (Option Found)}
+    (r : ReadAt large t ins outs tabs h)
     → ((N : Netlist) → Holds tabs (h .gates) (h .wires) (h .ins) (h .outs) N → take (h .inputs) ins ≡ N .inputs → a ≡ checkOutcome codes N)
     → a ≡ andThen (readNetlist large t) (checkOutcome codes)
 judge-read codes r f = f (r .is) (r .holds) (r .inputs) ∙ sym (ap (λ (o : Outcome Netlist). andThen o (checkOutcome codes)) (r .read))
@@ -52,7 +53,8 @@ module _ (text codes o r g w b : List ℕ) where
     pub call-one : k ≡ false → refused 1 ≡ call text codes o r g w b
     call-one e = call-asks (sym asked ∙ e)
 
-    pub call-rest : {a : Outcome (Option Found)} → k ≡ true → a ≡ andThen (readNetlist large text) (checkOutcome codes) → a ≡ call text codes o r g w b
+    pub call-rest : {a : Outcome (Option Found)} → k ≡ true → a ≡ andThen (readNetlist large text) (checkOutcome codes)
+        → a ≡ call text codes o r g w b
     call-rest e p = p ∙ call-asks (sym asked ∙ e)
 
     -- the tables that question 1 admits

@@ -51,7 +51,8 @@ module _ (n : ℕ) (codes : List ℕ) (good : listGood isCode n codes ≡ true) 
 -- ---- the core's verdict, where it is handed as many words as there are wires
 
 pub told : {t : Tables} {m k W n o : ℕ} {N : Netlist} {codes : List ℕ} {v : Verdict} (u : Verdict) → k ≡ W → v ≡ u → Secret codes
-    → ((n o : ℕ) (N : Netlist) → Holds t m k n o N → Tells N codes v) → Holds t m W n o N → _≡_ {A = Outcome (Option Found)} (done (foundOf u)) (done (leak N codes))
+    → ((n o : ℕ) (N : Netlist) → Holds t m k n o N → Tells N codes v) → Holds t m W n o N
+    → _≡_ {A = Outcome (Option Found)} (done (foundOf u)) (done (leak N codes))
 told {n = n} {o = o} {N = N} u p e s f h = ap done (ap foundOf (sym e) ∙ f n o N (rw p h) .secret s)
 
 -- ---- questions 10 to 12, from the widths and the number of the input bits

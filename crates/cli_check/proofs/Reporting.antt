@@ -55,7 +55,8 @@ asked-short netlist inputs codes room h e p =
 
 -- ---- the line
 
-pub printed : {e x : List ℕ} {r : ℕ} {a : Checked} (v : Checked) → a ≡ v → Wrote e 0 (printCheck (outcomeOf v)) x r → Wrote e 0 (printCheck (outcomeOf a)) x r
+pub printed : {e x : List ℕ} {r : ℕ} {a : Checked} (v : Checked) → a ≡ v → Wrote e 0 (printCheck (outcomeOf v)) x r
+    → Wrote e 0 (printCheck (outcomeOf a)) x r
 printed v p w = rw p w
 
 length-digits : (k n : ℕ) → length (digits k n) ≤ k
@@ -78,7 +79,8 @@ length-printed (done (some f)) =
     let k = length-decimal (f .own) in
     simp length-append (omega arith)
 
-pub reported : {e x : List ℕ} {r : ℕ} {a : Outcome (Option Found)} (netlist inputs : List ℕ) → a ≡ asked netlist inputs → Wrote e 0 (printCheck a) x r → 128 ≤ length e
+pub reported : {e x : List ℕ} {r : ℕ} {a : Outcome (Option Found)} (netlist inputs : List ℕ) → a ≡ asked netlist inputs → Wrote e 0 (printCheck a) x r
+    → 128 ≤ length e
     → (r ≤ length x) × (take r x ≡ checkProgram netlist inputs)
 unfolding checkProgram
 reported {a = a} netlist inputs p w h =

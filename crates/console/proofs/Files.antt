@@ -1,11 +1,9 @@
 -- The bytes of a list file that count, and the list that they are.
 use Prim.Native.Nat.{ℕ, zero, suc, _+_, _-_, _≤_, _<_}
 use mathlib.Core.Path.{_≡_, refl, sym, ap, ap₂, _∙_}
-use mathlib.Core.Bool.{cond}
 use mathlib.Core.List.{List, [], _∷_, _++_, map}
 use native.Mathlib.Numerals.{add-one}
 use native.Mathlib.Omega.{arith}
-use lib.Dec.{eqb}
 use lib.ListN.{length, getD, set, take, drop, length-set}
 use lib.Seq.{drop-cons, take-suc, take-suc-set, drop-set-lt}
 use borrow.Author.Tests.{eq-eqb, ne-eqb, le-leb, lt-leb}
@@ -35,12 +33,19 @@ module _ {s : List ℕ} {n : ℕ} (c : Front s n (take fileLimit s)) where
   pub counts-end : (n ≡ 0 → ⊥) → getD s (n - 1) 0 ≡ lf → Front s (n - 1) (listBytes s)
   counts-end z e =
       let k : suc (n - 1) ≡ n = omega arith in
-      record { within = omega (arith, c .within); same = sym (without-end s (n - 1) (omega (arith, c .within)) e) ∙ ap (λ (m : ℕ). withoutLF (take m s)) k ∙ cut }
+      record {
+        within = omega (arith, c .within);
+        same = sym (without-end s (n - 1) (omega (arith, c .within)) e) ∙ ap (λ (m : ℕ). withoutLF (take m s)) k ∙ cut;
+      }
 
   pub counts-all : (n ≡ 0 → ⊥) → (getD s (n - 1) 0 ≡ lf → ⊥) → Front s n (listBytes s)
   counts-all z e =
       let k : suc (n - 1) ≡ n = omega arith in
-      record { within = c .within; same = ap (λ (m : ℕ). take m s) (sym k) ∙ sym (without-none s (n - 1) (omega (arith, c .within)) e) ∙ ap (λ (m : ℕ). withoutLF (take m s)) k ∙ cut }
+      record {
+        within = c .within;
+        same = ap (λ (m : ℕ). take m s) (sym k) ∙ sym (without-none s (n - 1) (omega (arith, c .within)) e) ∙ ap (λ (m : ℕ). withoutLF (take m s)) k
+            ∙ cut;
+      }
 
 -- a list byte as an entry
 pub entry-low : (b : ℕ) → b < 48 → 9 ≡ entry b
@@ -72,7 +77,8 @@ module _ {file₀ file : List ℕ} {n i : ℕ} (l : Listing file₀ file n i) wh
   listing-more {v} h e =
       let w = l .within in
       let k = l .long in
-      let tails : getD file i 0 ∷ drop (suc i) file ≡ getD file₀ i 0 ∷ drop (suc i) file₀ = sym (drop-cons file i 0 (omega arith)) ∙ l .left ∙ drop-cons file₀ i 0 (omega arith) in
+      let tails : getD file i 0 ∷ drop (suc i) file ≡ getD file₀ i 0 ∷ drop (suc i) file₀
+      = sym (drop-cons file i 0 (omega arith)) ∙ l .left ∙ drop-cons file₀ i 0 (omega arith) in
       let b : getD file i 0 ≡ getD file₀ i 0 = cc in
       record {
         passed = omega arith;

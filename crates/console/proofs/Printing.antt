@@ -14,7 +14,8 @@ use Rattle.writer.proofs.Wrote.{wrote-none, wrote-then, wrote-as}
 
 printList-append : (xs ys : List ℕ) → printList (xs ++ ys) ≡ printList xs ++ printList ys
 printList-append [] ys = refl
-printList-append (x ∷ xs) ys = ap (λ (l : List ℕ). decimal x ++ l) (printList-append xs ys) ∙ sym (append-assoc (decimal x) (printList xs) (printList ys))
+printList-append (x ∷ xs) ys =
+    ap (λ (l : List ℕ). decimal x ++ l) (printList-append xs ys) ∙ sym (append-assoc (decimal x) (printList xs) (printList ys))
 
 -- the first i entries, each of three digits at most, are printed
 pub record Printing (e : List ℕ) (at : ℕ) (s x : List ℕ) (r i : ℕ) : Type 0 where
@@ -25,7 +26,8 @@ pub record Printing (e : List ℕ) (at : ℕ) (s x : List ℕ) (r i : ℕ) : Typ
 pub printing-none : (e : List ℕ) (at : ℕ) (s : List ℕ) → length e ≤ top → at ≤ top → Printing e at s e at 0
 printing-none e at s h k = record { passed = omega arith; wrote = wrote-none e at h k; few = omega arith }
 
-pub printing-more : {e m x s : List ℕ} {at r t i v : ℕ} → Printing e at s m r i → i < length s → v ≡ getD s i 0 → v < 256 → Wrote m r (decimal v) x t → Printing e at s x t (i + 1)
+pub printing-more : {e m x s : List ℕ} {at r t i v : ℕ} → Printing e at s m r i → i < length s → v ≡ getD s i 0 → v < 256 → Wrote m r (decimal v) x t
+    → Printing e at s x t (i + 1)
 printing-more {s = s} {i = i} {v = v} p h q b w =
     let more : printList (take (i + 1) s) ≡ printList (take i s) ++ decimal v =
     ap (λ (k : ℕ). printList (take k s)) (add-one i) ∙ ap printList (take-suc s i 0 h) ∙ printList-append (take i s) (getD s i 0 ∷ [])

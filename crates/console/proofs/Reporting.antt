@@ -1,5 +1,5 @@
 -- From a call's outcome to what a program prints.
-use Prim.Native.Nat.{ℕ, zero, suc, _/_, _+_, _≤_, _<_}
+use Prim.Native.Nat.{ℕ, zero, suc, _/_, _≤_, _<_}
 use mathlib.Core.Path.{_≡_, refl, sym, ap, _∙_}
 use mathlib.Core.List.{List}
 use native.Mathlib.Omega.{arith}

@@ -4,8 +4,8 @@ use mathlib.Core.Bool.{Bool, false}
 use mathlib.Core.List.{List, _++_, map}
 use Prim.Native.Nat.{ℕ, _+_, _≤_}
 use native.Mathlib.Omega.{arith}
-use lib.ListN.{length, getD, take, drop, length-map, List·getD-map}
-use lib.Seq.{sets, sets-eq, take-at, drop-at}
+use lib.ListN.{length, getD, drop, length-map, List·getD-map}
+use lib.Seq.{sets, sets-eq, drop-at}
 use Rattle.netlist.specs.Leak.{bit}
 use Rattle.clear.proofs.Laid.{Laid, laid-all}
 
@@ -17,9 +17,6 @@ front-eq s d h =
 -- what a loop has laid when it ends
 pub laid-front : {s d₀ d : List ℕ} {i : ℕ} → Laid 0 s d₀ d i → length s ≤ i → length s ≤ length d₀ → d ≡ sets d₀ 0 s
 laid-front {s} {d₀} f l h = laid-all f l ∙ sym (front-eq s d₀ h)
-
-pub take-front : (s d : List ℕ) → length s ≤ length d → take (length s) (sets d 0 s) ≡ s
-take-front s d h = ap (take (length s)) (front-eq s d h) ∙ take-at s (drop (length s) d) (length s) (omega arith)
 
 pub drop-front : (s d : List ℕ) → length s ≤ length d → drop (length s) (sets d 0 s) ≡ drop (length s) d
 drop-front s d h = ap (drop (length s)) (front-eq s d h) ∙ drop-at s (drop (length s) d) (length s) (omega arith)

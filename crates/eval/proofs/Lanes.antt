@@ -11,7 +11,7 @@ use Rattle.netlist.specs.Eval.{differs}
 use Rattle.netlist.specs.Leak.{bit}
 use Rattle.netlist.proofs.Tests.{both}
 use Rattle.eval.specs.Lane.{lane}
-use Rattle.eval.proofs.Below.{below, below-at, same, same-eq}
+use Rattle.netlist.proofs.Codes.{below, below-at, same, same-eq}
 
 -- an operation on words that works digit by digit, as f does on digits and g on bits
 module _ (op f : ℕ → ℕ → ℕ) (g : Bool → Bool → Bool)

@@ -1,5 +1,4 @@
 -- Laws that several proofs cite.
-pub mod Below
 pub mod Lanes
 pub mod Made
 pub mod Steps

@@ -8,7 +8,7 @@ use Rattle.netlist.specs.Leak.{bit}
 use Rattle.netlist.specs.Table.{madeOf}
 use Rattle.eval.specs.Lane.{lane}
 use Rattle.eval.specs.Form.{factorOf, termOf}
-use Rattle.eval.proofs.Below.{same-below}
+use Rattle.netlist.proofs.Codes.{same-below}
 use Rattle.eval.proofs.Lanes.{lane-and, lane-xor, lane-zero, bit-low}
 
 lane-spread : (j : ℕ) → j < 64 → (b : Bool) → lane j (bit b * (2 ^ 64 - 1)) ≡ b

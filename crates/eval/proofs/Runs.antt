@@ -12,10 +12,11 @@ use Rattle.netlist.specs.Eval.{runGates, wireBits, outputsOf}
 use Rattle.netlist.specs.Leak.{bit}
 use Rattle.netlist.specs.Services.{isOne, bools, outputList}
 use Rattle.netlist.specs.Table.{Tables, gatesOf, Holds}
+use Rattle.netlist.proofs.Answering.{take-sets}
 use Rattle.eval.specs.Lane.{lane, lanes, Runs}
 use Rattle.eval.specs.Bare.{bare}
 use Rattle.eval.proofs.Lanes.{lane-zero, lane-bit}
-use Rattle.eval.proofs.Fronts.{take-front, drop-front, bits-long}
+use Rattle.eval.proofs.Fronts.{drop-front, bits-long}
 
 lanes-zeros : (j : ℕ) (ws : List ℕ) (k : ℕ) → lanes j (ws ++ replicate k 0) ≡ lanes j ws ++ replicate k false
 lanes-zeros j [] zero = refl
@@ -71,7 +72,7 @@ module _ (ws list laid us : List ℕ) {t : Tables} {n m o : ℕ} {N : Netlist} (
       let whole : last o us ≡ drop (length us - o) us = take-all (length us - (length us - o)) (drop (length us - o) us) (omega arith) in
       let in-all : wireBits (bare t n (length laid)) (lanes j (take (length list) laid)) ≡ wireBits (bare t n (length ws)) (lanes j list) =
       ap₂ (λ (k : ℕ) (x : List ℕ). wireBits (bare t n k) (lanes j x)) (ap length front ∙ length-sets ws 0 list)
-      (ap (take (length list)) front ∙ take-front list ws fits) in
+      (ap (take (length list)) front ∙ take-sets list ws fits) in
       let out : drop (length ws - o) (wireBits N (lanes j list)) ≡ outputsOf N (lanes j list) = rw (h .wires, h .outs) in
       ap (lanes j) whole ∙ lanes-drop j (length us - o) us
       ∙ ap₂ (λ (k : ℕ) (v : List Bool). drop (k - o) v) long (ran ∙ in-all ∙ bare-wires h (lanes j list)) ∙ out
@@ -84,7 +85,7 @@ module _ (ws list laid us : List ℕ) {t : Tables} {n m o : ℕ} {N : Netlist} (
       let k : outputBits N ≡ length (last o us) = h .outs ∙ sym last-long in
       let le : length (last o us) ≤ length out₀ = omega (arith, last-long) in
       record {
-        each = λ j l. ap (lanes j) (ap₂ take k e ∙ take-front (last o us) out₀ le) ∙ outputs-law j (ran j l);
+        each = λ j l. ap (lanes j) (ap₂ take k e ∙ take-sets (last o us) out₀ le) ∙ outputs-law j (ran j l);
         rest = ap₂ drop k e ∙ drop-front (last o us) out₀ le ∙ ap (λ (i : ℕ). drop i out₀) (sym k);
       }
 

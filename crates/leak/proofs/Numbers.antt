@@ -11,7 +11,7 @@ use lib.Pow.{shr-shr}
 use Rattle.netlist.specs.Eval.{differs}
 use Rattle.eval.specs.Lane.{lane}
 use Rattle.eval.proofs.Lanes.{lane-shr}
-use Rattle.eval.proofs.Below.{below, below-at, same, same-below}
+use Rattle.netlist.proofs.Codes.{below, below-at, same, same-below}
 
 -- the bits of a shifted number
 pub lane-shift : (k j n : ℕ) → lane j (n / 2 ^ k) ≡ lane (j + k) n

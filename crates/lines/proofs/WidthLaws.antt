@@ -13,6 +13,7 @@ use Rattle.netlist.specs.Lists.{every, sum}
 use Rattle.netlist.specs.Number.{number}
 use Rattle.netlist.specs.Header.{numbers, consOption, values}
 use Rattle.netlist.proofs.Tests.{onBool}
+use Rattle.netlist.proofs.Shape.{sum-snoc}
 use Rattle.text.specs.declared.cursor.Cursor.{Cursor}
 use Rattle.text.specs.Line.{lineWords, nextWord, afterLine, isEmpty, EndAt}
 use Rattle.text.specs.Answers.{NumberAt}
@@ -52,10 +53,6 @@ joined-more ns v (some ms) = ap some (sym (append-assoc ns (v ∷ []) ms))
 every-append : (p : ℕ → Bool) (a b : List ℕ) → every p (a ++ b) ≡ (every p a && every p b)
 every-append p [] b = refl
 every-append p (x ∷ a) b = ap (_&&_ (p x)) (every-append p a b) ∙ sym (and-assoc (p x) (every p a) (every p b))
-
-sum-append : (a : List ℕ) (v : ℕ) → sum (a ++ (v ∷ [])) ≡ sum a + v
-sum-append [] v = omega arith
-sum-append (x ∷ a) v = let e : sum (a ++ (v ∷ [])) ≡ sum a + v = sum-append a v in omega arith
 
 kept-more : (table seen : List ℕ) (n v : ℕ) → length seen ≡ n → Kept table seen → Kept (set table n v) (seen ++ (v ∷ []))
 kept-more table seen n v size k i h′ l = onBool (ltb i n) before at
@@ -117,7 +114,7 @@ module _ (t : List ℕ) (from : ℕ) where
           line = w .line ∙ ap (joined (w .seen)) (numbers-on t i v j a) ∙ joined-more (w .seen) v (numbers (lineWords (drop j t)));
           ones = every-append (leb 1) (w .seen) (v ∷ []) ∙ rw (w .ones) (rw (le-leb 1 v one));
           size = length-append (w .seen) (v ∷ []) ∙ omega (arith, w .size);
-          all = sum-append (w .seen) v ∙ ap (λ (x : ℕ). x + v) (w .all);
+          all = sum-snoc (w .seen) v ∙ ap (λ (x : ℕ). x + v) (w .all);
           small = omega (arith, w .small);
           few = omega (arith, w .few, a .on);
           kept = kept-more table (w .seen) n v (w .size) (w .kept);

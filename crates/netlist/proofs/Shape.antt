@@ -52,7 +52,7 @@ every-snoc : (p : ℕ → Bool) (xs : List ℕ) (x : ℕ) → T (every p xs) →
 every-snoc p [] x s t = pair (p x) true t tt
 every-snoc p (y ∷ ys) x s t = let q = both (p y) (every p ys) s in pair (p y) (every p (ys ++ (x ∷ []))) (q .0) (every-snoc p ys x (q .1) t)
 
-sum-snoc : (xs : List ℕ) (x : ℕ) → sum (xs ++ (x ∷ [])) ≡ sum xs + x
+pub sum-snoc : (xs : List ℕ) (x : ℕ) → sum (xs ++ (x ∷ [])) ≡ sum xs + x
 sum-snoc [] x = omega arith
 sum-snoc (y ∷ ys) x = let h = sum-snoc ys x in omega arith
 

@@ -9,11 +9,11 @@ use lib.ListN.{length, take}
 use Rattle.netlist.specs.declared.Answer.{Answer}
 use Rattle.netlist.specs.declared.Answer.the-variants.{Done, Refused}
 use Rattle.netlist.specs.Netlist.{Netlist, large}
-use Rattle.netlist.specs.Outcome.{Outcome, refused, done, ask, andThen}
+use Rattle.netlist.specs.Outcome.{Outcome, done, ask, andThen}
 use Rattle.netlist.specs.Read.{readNetlist}
 use Rattle.netlist.specs.Write.{writeNetlist, gateText}
 use Rattle.netlist.specs.Services.{tablesLong, rewriteOutcome, rewriteCall, outcomeOf, Answers, Delivers}
-use Rattle.netlist.specs.Table.{Tables, gatesOf}
+use Rattle.netlist.specs.Table.{Tables}
 use Rattle.netlist.proofs.Answering.{answers-as, answers-refused, answers-one, answers-rest}
 use Rattle.netlist.proofs.Puts.{length-gates}
 use Rattle.netlist.proofs.Size.{rewritten-large}
@@ -30,7 +30,8 @@ form-same : {t ins outs : List ℕ} {tabs : Tables} {h : HeaderNumbers} (a : Rea
 form-same {t} {ins} {outs} {tabs} {h} a =
     let N = a .is in
     let g : length (N .gates) ≡ h .gates = ap length (a .holds .gates) ∙ length-gates tabs (h .gates) in
-    let p : headerText (h .gates) (h .wires) (take (h .inputs) ins) (take (h .outputs) outs) ≡ headerText (length (N .gates)) (N .wires) (N .inputs) (N .outputs)
+    let p : headerText (h .gates) (h .wires) (take (h .inputs) ins) (take (h .outputs) outs)
+    ≡ headerText (length (N .gates)) (N .wires) (N .inputs) (N .outputs)
     = rw (g, a .holds .wires, a .inputs, a .outputs) refl in
     ap₂ _++_ p (ap gateText (sym (a .holds .gates))) ∙ header-gates N
 
@@ -42,7 +43,8 @@ rewrite-read {t} {e = e} {x = x} {r = r} a d =
     let k : Delivers (writeNetlist (a .is)) e x r = subst (λ (bs : List ℕ). Delivers bs e x r) (form-same a) d in
     answers-as (sym (ap (λ (o : Outcome Netlist). andThen o (rewriteOutcome (length e))) (a .read))) (k .answers)
 
-pub rewrite-not : {t : List ℕ} (e : List ℕ) {q : ℕ} → ReadNot large t q → Answers (andThen (readNetlist large t) (rewriteOutcome (length e))) e e (Refused q)
+pub rewrite-not : {t : List ℕ} (e : List ℕ) {q : ℕ} → ReadNot large t q
+    → Answers (andThen (readNetlist large t) (rewriteOutcome (length e))) e e (Refused q)
 rewrite-not e n = answers-refused e (ap (λ (o : Outcome Netlist). andThen o (rewriteOutcome (length e))) (n .refuses))
 
 -- question 1
@@ -62,8 +64,10 @@ module _ (text out o r g : List ℕ) where
   unfolding rewriteCall
   call-same {x} {a} w n N p e =
       let s : done (take n x) ≡ ask 1 (tablesLong large (length o ∷ length r ∷ length g ∷ [])) (rewriteOutcome (length out) N) =
-      ap (outcomeOf x) (sym p) ∙ w .outcome ∙ ap (λ (u : Outcome Netlist). ask 1 (tablesLong large (length o ∷ length r ∷ length g ∷ [])) (andThen u (rewriteOutcome (length out)))) e in
-      ap (readNetlist large) (asked (tablesLong large (length o ∷ length r ∷ length g ∷ [])) (leb (length (writeNetlist N)) (length out)) s) ∙ rewritten-large text N e
+      ap (outcomeOf x) (sym p) ∙ w .outcome
+      ∙ ap (λ (u : Outcome Netlist). ask 1 (tablesLong large (length o ∷ length r ∷ length g ∷ [])) (andThen u (rewriteOutcome (length out)))) e in
+      ap (readNetlist large) (asked (tablesLong large (length o ∷ length r ∷ length g ∷ [])) (leb (length (writeNetlist N)) (length out)) s)
+      ∙ rewritten-large text N e
     where
       asked : (b c : Bool) → done (take n x) ≡ ask 1 b (ask 14 c (done (writeNetlist N))) → take n x ≡ writeNetlist N
       asked true true s = cc

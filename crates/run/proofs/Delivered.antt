@@ -1,18 +1,17 @@
 -- Questions 11 and 14 of a netlist that the tables hold.
-use Prim.Native.Nat.{ℕ, _-_, _≤_, _<_}
+use Prim.Native.Nat.{ℕ, _≤_, _<_}
 use mathlib.Core.Path.{_≡_, refl, sym, ap, _∙_, subst}
-use mathlib.Core.Bool.{Bool, true, false, _&&_}
-use mathlib.Core.List.{List, _++_, map}
+use mathlib.Core.Bool.{Bool, true, false}
+use mathlib.Core.List.{List}
 use native.Mathlib.Omega.{arith}
-use lib.Dec.{T, eqb, eqb→eq}
-use lib.ListN.{length, drop, replicate, length-append, length-replicate, length-drop, length-map}
+use lib.Dec.{eqb, eqb→eq}
+use lib.ListN.{length, length-append, length-replicate, length-drop, length-map}
 use lib.Seq.{sets}
 use Rattle.netlist.specs.declared.Answer.the-variants.{Done, Refused}
 use Rattle.netlist.specs.Lists.{every}
 use Rattle.netlist.specs.Netlist.{Netlist, inputBits}
 use Rattle.netlist.specs.Eval.{wireBits, outputsOf}
-use Rattle.netlist.specs.Leak.{bit}
-use Rattle.netlist.specs.Services.{listGood, isBit, bools, isOne, outputList, runOutcome, Answers}
+use Rattle.netlist.specs.Services.{listGood, isBit, outputList, runOutcome, Answers}
 use Rattle.netlist.specs.Table.{Tables, Holds}
 use Rattle.netlist.proofs.Tests.{both, true-T}
 use Rattle.netlist.proofs.Models.{length-runGates}
@@ -47,7 +46,8 @@ module _ {t : Tables} {count W n o : ℕ} {N : Netlist} (h : Holds t count W n o
         let k = length-outputs e i u in
         answers-as (sym (rw (good true e) refl)) (delivers-short (outputList N list) out (omega arith) .answers)
 
-    pub run-done : {out out′ : List ℕ} → o ≤ length out → out′ ≡ sets out 0 (outputList N list) → Answers (runOutcome list (length out) N) out out′ (Done o)
+    pub run-done : {out out′ : List ℕ} → o ≤ length out → out′ ≡ sets out 0 (outputList N list)
+        → Answers (runOutcome list (length out) N) out out′ (Done o)
     run-done {out} {out′} l p =
         let k = length-outputs e i u in
         let r = delivers-done (outputList N list) out out′ (omega arith) p .answers in

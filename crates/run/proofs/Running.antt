@@ -1,16 +1,15 @@
 -- From a text that was read to Run's promise.
-use Prim.Native.Nat.{ℕ, _≤_, _<_}
-use mathlib.Core.Path.{_≡_, refl, sym, ap, _∙_, subst}
+use Prim.Native.Nat.{ℕ}
+use mathlib.Core.Path.{_≡_, sym, ap, _∙_}
 use mathlib.Core.Bool.{Bool, true, false}
 use mathlib.Core.List.{List, [], _∷_}
 use native.Mathlib.Omega.{arith}
 use lib.Dec.{leb}
 use lib.ListN.{length, take}
-use Rattle.netlist.specs.declared.Limits.{Limits}
 use Rattle.netlist.specs.declared.Answer.{Answer}
 use Rattle.netlist.specs.declared.Answer.the-variants.{Done, Refused}
 use Rattle.netlist.specs.Netlist.{Netlist, inputBits, large}
-use Rattle.netlist.specs.Outcome.{Outcome, refused, done, ask, andThen}
+use Rattle.netlist.specs.Outcome.{Outcome, done, ask, andThen}
 use Rattle.netlist.specs.Read.{readNetlist}
 use Rattle.netlist.specs.Services.{tablesLong, listGood, isBit, outputList, runOutcome, runCall, outcomeOf, Answers}
 use Rattle.netlist.specs.Table.{Tables, Holds}
@@ -25,7 +24,8 @@ pub run-read : {t ins outs : List ℕ} {tabs : Tables} {h : HeaderNumbers} {e x 
     → Answers (andThen (readNetlist large t) (runOutcome list (length e))) e x r
 run-read {e = e} list a d = answers-as (sym (ap (λ (o : Outcome Netlist). andThen o (runOutcome list (length e))) (a .read))) (d (a .is) (a .holds))
 
-pub run-not : {t : List ℕ} (list e : List ℕ) {q : ℕ} → ReadNot large t q → Answers (andThen (readNetlist large t) (runOutcome list (length e))) e e (Refused q)
+pub run-not : {t : List ℕ} (list e : List ℕ) {q : ℕ} → ReadNot large t q
+    → Answers (andThen (readNetlist large t) (runOutcome list (length e))) e e (Refused q)
 run-not list e n = answers-refused e (ap (λ (o : Outcome Netlist). andThen o (runOutcome list (length e))) (n .refuses))
 
 module _ (text list out o r g w : List ℕ) where

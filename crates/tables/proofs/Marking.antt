@@ -13,7 +13,7 @@ use Rattle.netlist.specs.declared.Gate.the-variants.{Xor, And, Inv, Eqw, Eq}
 use Rattle.netlist.specs.Lists.{member}
 use Rattle.netlist.specs.Netlist.{result}
 use Rattle.netlist.specs.Read.{operandsGiven, isGiven, resultGood}
-use Rattle.netlist.proofs.Tests.{All, empty, each, onBool}
+use Rattle.netlist.proofs.Tests.{All, empty, each, onBool, both-true}
 use Rattle.tables.specs.Marks.{marked, Marks}
 use Rattle.tables.specs.Entry.{Names}
 
@@ -50,18 +50,14 @@ marked-below {table} {rs} {n} {W} m x e = onBool (ltb x n)
     (λ h. let l = ltb-true x n h in omega (arith, m .inputs))
     (λ h. let k : isGiven n rs x ≡ true = sym (m .each x) ∙ e in member-below x (m .below) (rw h at k))
 
-and-true : (a b : Bool) → (a && b) ≡ true → (a ≡ true) × (b ≡ true)
-and-true true b e = (refl, e)
-and-true false b e = let z : _≡_ {A = ℕ} 0 1 = cc in absurd (omega arith)
-
 -- a free result lies below W
 pub free-below : (n c W : ℕ) (x : Bool) → (leb n c && ltb c W && x) ≡ true → c < W
-free-below n c W x h = ltb-true c W (and-true (leb n c) (ltb c W) (and-true (leb n c && ltb c W) x h .0) .1)
+free-below n c W x h = ltb-true c W (both-true (leb n c) (ltb c W) (both-true (leb n c && ltb c W) x h .0) .1)
 
 -- a gate that questions 8 and 9 admit names wires below W
 pub marks-names : {table rs : List ℕ} {n W : ℕ} → Marks table n W rs → (g : Gate) → operandsGiven (marked table) g ≡ true → result g < W → Names W g
-marks-names {table} m (Xor a b c) o l = let p = and-true (marked table a) (marked table b) o in (marked-below m a (p .0), marked-below m b (p .1), l)
-marks-names {table} m (And a b c) o l = let p = and-true (marked table a) (marked table b) o in (marked-below m a (p .0), marked-below m b (p .1), l)
+marks-names {table} m (Xor a b c) o l = let p = both-true (marked table a) (marked table b) o in (marked-below m a (p .0), marked-below m b (p .1), l)
+marks-names {table} m (And a b c) o l = let p = both-true (marked table a) (marked table b) o in (marked-below m a (p .0), marked-below m b (p .1), l)
 marks-names m (Inv a c) o l = (marked-below m a o, l)
 marks-names m (Eqw a c) o l = (marked-below m a o, l)
 marks-names m (Eq v c) o l = (ltb-true v 2 o, l)

@@ -40,14 +40,19 @@ same-length-5 c = search needs
 
 returns : tie.Need-returns
 returns c =
-    let s = c .before .before .before .before .before .before .before .before .before .before .before .before .before .before .before .before .before .before .before .before .before .before .before .before .before .before .before .before .before .before .before .before .before .before .before .before .before .before .before .before .before .before .before .args in
-    let a = c .before .before .before .before .before .before .before .before .before .before .before .before .before .before .before .before .before .before .before .before .before .before .before .before .before .before .before .before .before .before .answer in
+    let at-bytes = c .before .before .before .before .before .before .before .before .before .before in
+    let at-words3 = at-bytes .before .before .before .before in
+    let at-words2 = at-words3 .before .before .before .before in
+    let at-answer = at-words2 .before .before .before .before .before .before .before .before .before .before .before .before in
+    let s = at-answer .before .before .before .before .before .before .before .before .before .before .before .before .before .args in
+    let a = at-answer .answer in
     record {
       outcome = a .ensures;
-      judged = call-judged (s .text .now) (s .codes .now) (s .operands .now) (s .results .now) (s .given .now) (s .words .now) (s .base .now) (a .result) (a .ensures);
-      operands = zeros-same (c .before .before .before .before .before .before .before .before .before .before .before .before .before .before .before .before .before .before .words2 .ensures) (a .kept .1 .1 .0);
-      results = zeros-same (c .before .before .before .before .before .before .before .before .before .before .before .before .before .before .words3 .ensures) (a .kept .1 .1 .1 .0);
-      given = zeros-same (c .before .before .before .before .before .before .before .before .before .before .bytes .ensures) (a .kept .1 .1 .1 .1 .0);
+      judged = call-judged (s .text .now) (s .codes .now) (s .operands .now) (s .results .now) (s .given .now) (s .words .now) (s .base .now)
+          (a .result) (a .ensures);
+      operands = zeros-same (at-words2 .words2 .ensures) (a .kept .1 .1 .0);
+      results = zeros-same (at-words3 .words3 .ensures) (a .kept .1 .1 .1 .0);
+      given = zeros-same (at-bytes .bytes .ensures) (a .kept .1 .1 .1 .1 .0);
       words = zeros-same (c .before .before .before .before .before .before .words4 .ensures) (a .kept .1 .1 .1 .1 .1 .0);
       base = zeros-same (c .before .before .words6 .ensures) (a .kept .1 .1 .1 .1 .1 .1 .0);
     }

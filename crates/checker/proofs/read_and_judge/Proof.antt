@@ -24,10 +24,22 @@ enum-known-h c = search needs
 
 judge-requires : tie.Need-judge-requires
 judge-requires c κs =
-    let s = c .before .before .before .before .before .before .before .before .before .before .before .before .before .before .before .before .before .before .before .before .before .before .before .before .before .before .before .before .before .before .before .before .before .before in
-    let r = c .before .before .before .before .before .before .before .before .before .before .before .before .before .before .before .before .before .before .read in
-    let a = read-is (s .args .text .now) (r .last .1 .1 .0) (r .last .1 .1 .1 .0) (tables (r .last .1 .1 .1 .1 .1 .0) (r .last .1 .1 .1 .1 .1 .1 .0)) (c .before .before .before .before .before .before .before .before .before .before .before .before .before .before .before .before .before .before .before .before .before .before .before .before .large .ensures) (c .before .before .before .before .before .before .h .given .1) (r .ensures) in
-    (a .wired, (omega (arith, a .manyIn, s .pre .1 .1, r .kept .1 .1 .0), read-bits a, a .inBits, omega (arith, a .wires, s .pre .0 .3), omega (arith, a .wires, s .pre .0 .4)))
+    let at-read = c .before .before .before .before .before .before .before .before .before .before .before .before .before .before
+    .before .before .before .before in
+    let at-large = at-read .before .before .before .before .before .before in
+    let s = at-large .before .before .before .before .before .before .before .before .before .before in
+    let r = at-read .read in
+    let a = read-is (s .args .text .now) (r .last .1 .1 .0) (r .last .1 .1 .1 .0) (tables (r .last .1 .1 .1 .1 .1 .0) (r .last .1 .1 .1 .1 .1 .1 .0))
+    (at-large .large .ensures) (c .before .before .before .before .before .before .h .given .1) (r .ensures) in (
+      a .wired,
+      (
+        omega (arith, a .manyIn, s .pre .1 .1, r .kept .1 .1 .0),
+        read-bits a,
+        a .inBits,
+        omega (arith, a .wires, s .pre .0 .3),
+        omega (arith, a .wires, s .pre .0 .4),
+      ),
+    )
 
 same-length : tie.Need-same-length
 same-length c = search needs
@@ -46,9 +58,13 @@ same-length-5 c = search needs
 
 returns : tie.Need-returns
 returns c =
-    let s = c .before .before .before .before .before .before .before .before .before .before .before .before .before .before .before .before .before .before .before .before .before .before .before .before .before .before .before .before .before in
-    let r = c .before .before .before .before .before .before .before .before .before .before .before .before .before .read in
-    judge-not (s .args .codes .now) (read-is (s .args .text .now) (r .last .1 .1 .0) (r .last .1 .1 .1 .0) (tables (r .last .1 .1 .1 .1 .1 .0) (r .last .1 .1 .1 .1 .1 .1 .0)) (c .before .before .before .before .before .before .before .before .before .before .before .before .before .before .before .before .before .before .before .large .ensures) (c .before .question .given .1) (r .ensures))
+    let at-read = c .before .before .before .before .before .before .before .before .before .before .before .before .before in
+    let at-large = at-read .before .before .before .before .before .before in
+    let s = at-large .before .before .before .before .before .before .before .before .before .before in
+    let r = at-read .read in
+    judge-not (s .args .codes .now)
+    (read-is (s .args .text .now) (r .last .1 .1 .0) (r .last .1 .1 .1 .0) (tables (r .last .1 .1 .1 .1 .1 .0) (r .last .1 .1 .1 .1 .1 .1 .0))
+    (at-large .large .ensures) (c .before .question .given .1) (r .ensures))
 
 same-length-6 : tie.Need-same-length-6
 same-length-6 c = search needs
@@ -73,9 +89,15 @@ same-length-12 c = search needs
 
 returns-2 : tie.Need-returns-2
 returns-2 c =
-    let s = c .before .before .before .before .before .before .before .before .before .before .before .before .before .before .before .before .before .before .before .before .before .before .before .before .before .before .before .before .before .before .before .before .before .before .before .before .before .before .before in
-    let r = c .before .before .before .before .before .before .before .before .before .before .before .before .before .before .before .before .before .before .before .before .before .before .before .read in
-    judge-read (s .args .codes .now) (read-is (s .args .text .now) (r .last .1 .1 .0) (r .last .1 .1 .1 .0) (tables (r .last .1 .1 .1 .1 .1 .0) (r .last .1 .1 .1 .1 .1 .1 .0)) (c .before .before .before .before .before .before .before .before .before .before .before .before .before .before .before .before .before .before .before .before .before .before .before .before .before .before .before .before .before .large .ensures) (c .before .before .before .before .before .before .before .before .before .before .before .h .given .1) (r .ensures)) (c .before .before .before .before .judge .ensures)
+    let at-h = c .before .before .before .before .before .before .before .before .before .before .before in
+    let at-read = at-h .before .before .before .before .before .before .before .before .before .before .before .before in
+    let at-large = at-read .before .before .before .before .before .before in
+    let s = at-large .before .before .before .before .before .before .before .before .before .before in
+    let r = at-read .read in
+    judge-read (s .args .codes .now)
+    (read-is (s .args .text .now) (r .last .1 .1 .0) (r .last .1 .1 .1 .0) (tables (r .last .1 .1 .1 .1 .1 .0) (r .last .1 .1 .1 .1 .1 .1 .0))
+    (at-large .large .ensures) (at-h .h .given .1) (r .ensures))
+    (c .before .before .before .before .judge .ensures)
 
 pub read-and-judge-spec : {M : Type 1} → statement M
 read-and-judge-spec =

@@ -1,22 +1,8 @@
 -- `tables_long`: question 1.
-use Prim.Native.Nat.{ℕ, _≤_, _<_}
-use mathlib.Core.Path.{_≡_, ap}
-use mathlib.Core.Bool.{true, false}
-use lib.Dec.{leb}
-use native.Mathlib.Omega.{arith}
 use borrow.Author.Needs.{needs}
-use borrow.Author.Tests.{le-leb, lt-leb}
-use Rattle.netlist.specs.declared.Limits.{Limits}
-use Rattle.netlist.specs.Netlist.{large}
+use Rattle.netlist.proofs.Answering.{table-short, table-long}
 use Rattle.checker.proofs.tables_long.Statement.{statement}
 use Rattle.checker.proofs.tables_long.Tie as tie
-
-module _ {l : Limits} (is : l ≡ large) (n : ℕ) where
-  short : n < l .table → leb 18430 n ≡ false
-  short h = lt-leb 18430 n (omega (arith, ap (λ (l : Limits). l .table) is))
-
-  long : l .table ≤ n → leb 18430 n ≡ true
-  long h = le-leb 18430 n (omega (arith, ap (λ (l : Limits). l .table) is))
 
 large-requires : tie.Need-large-requires
 large-requires c κs = search needs
@@ -25,37 +11,54 @@ returns : tie.Need-returns
 returns c =
     let a = c .before .before .args in
     let l = c .before .large .ensures in
-    rw (short l (a .operands) (c .if1 .taken))
+    rw (table-short l (a .operands) (c .if1 .taken))
 
 returns-2 : tie.Need-returns-2
 returns-2 c =
     let a = c .before .before .before .args in
     let l = c .before .before .large .ensures in
-    rw (long l (a .operands) (c .before .if1 .left), short l (a .results) (c .if2 .taken))
+    rw (table-long l (a .operands) (c .before .if1 .left), table-short l (a .results) (c .if2 .taken))
 
 returns-3 : tie.Need-returns-3
 returns-3 c =
     let a = c .before .before .before .before .args in
     let l = c .before .before .before .large .ensures in
-    rw (long l (a .operands) (c .before .before .if1 .left), long l (a .results) (c .before .if2 .left), short l (a .given) (c .if3 .taken))
+    rw (table-long l (a .operands) (c .before .before .if1 .left), table-long l (a .results) (c .before .if2 .left), table-short l (a .given) (c .if3 .taken))
 
 returns-4 : tie.Need-returns-4
 returns-4 c =
     let a = c .before .before .before .before .before .args in
     let l = c .before .before .before .before .large .ensures in
-    rw (long l (a .operands) (c .before .before .before .if1 .left), long l (a .results) (c .before .before .if2 .left), long l (a .given) (c .before .if3 .left), short l (a .words) (c .if4 .taken))
+    rw (
+      table-long l (a .operands) (c .before .before .before .if1 .left),
+      table-long l (a .results) (c .before .before .if2 .left),
+      table-long l (a .given) (c .before .if3 .left),
+      table-short l (a .words) (c .if4 .taken),
+    )
 
 returns-5 : tie.Need-returns-5
 returns-5 c =
     let a = c .before .before .before .before .before .before .args in
     let l = c .before .before .before .before .before .large .ensures in
-    rw (long l (a .operands) (c .before .before .before .before .if1 .left), long l (a .results) (c .before .before .before .if2 .left), long l (a .given) (c .before .before .if3 .left), long l (a .words) (c .before .if4 .left), short l (a .base) (c .if5 .taken))
+    rw (
+      table-long l (a .operands) (c .before .before .before .before .if1 .left),
+      table-long l (a .results) (c .before .before .before .if2 .left),
+      table-long l (a .given) (c .before .before .if3 .left),
+      table-long l (a .words) (c .before .if4 .left),
+      table-short l (a .base) (c .if5 .taken),
+    )
 
 returns-6 : tie.Need-returns-6
 returns-6 c =
     let a = c .before .before .before .before .before .before .args in
     let l = c .before .before .before .before .before .large .ensures in
-    rw (long l (a .operands) (c .before .before .before .before .if1 .left), long l (a .results) (c .before .before .before .if2 .left), long l (a .given) (c .before .before .if3 .left), long l (a .words) (c .before .if4 .left), long l (a .base) (c .if5 .left))
+    rw (
+      table-long l (a .operands) (c .before .before .before .before .if1 .left),
+      table-long l (a .results) (c .before .before .before .if2 .left),
+      table-long l (a .given) (c .before .before .if3 .left),
+      table-long l (a .words) (c .before .if4 .left),
+      table-long l (a .base) (c .if5 .left),
+    )
 
 pub tables-long-spec : {M : Type 1} → statement M
 tables-long-spec =

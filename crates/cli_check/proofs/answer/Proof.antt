@@ -8,7 +8,8 @@ use Rattle.cli_check.proofs.answer.Statement.{statement}
 use Rattle.cli_check.proofs.answer.Tie as tie
 
 returns : tie.Need-returns
-returns c = let s = c .before .before .before .before .before .before .before .before .args in asked-long (s .netlist .now) (s .inputs .now) (c .if1 .taken)
+returns c =
+    let s = c .before .before .before .before .before .before .before .before .args in asked-long (s .netlist .now) (s .inputs .now) (c .if1 .taken)
 
 list-requires : tie.Need-list-requires
 list-requires c κs = search needs
@@ -17,7 +18,10 @@ slice-reshare-prefix-check : tie.Need-slice-reshare-prefix-check
 slice-reshare-prefix-check c = search needs
 
 slice-aggregate-check : tie.Need-slice-aggregate-check
-slice-aggregate-check c = sym (length-take-le (c .before .before .before .list .result) (c .before .before .before .list .last .0) (c .before .before .before .list .ensures .within))
+slice-aggregate-check c =
+    sym
+    (length-take-le (c .before .before .before .list .result) (c .before .before .before .list .last .0)
+    (c .before .before .before .list .ensures .within))
 
 check-requires : tie.Need-check-requires
 check-requires c κs = search needs
@@ -41,9 +45,14 @@ same-length-6 : tie.Need-same-length-6
 same-length-6 c = search needs
 
 returns-2 : tie.Need-returns-2
-returns-2 c = let s = c .before .before .before .before .before .before .before .before .before .before .before .before .before .before .before .before .before .before .before .before .before .before .before .before .before .before .before .before .before in
-    let l = c .before .before .before .before .before .before .before .before .before .before .before .before .before .before .before .before .before .before .before .list in
-    asked-short (s .args .netlist .now) (s .args .inputs .now) (take (l .result) (l .last .0)) (s .pre) (c .before .before .before .before .before .before .before .before .before .before .before .before .before .before .before .before .before .before .before .before .before .if1 .left) (l .ensures .same) (c .before .before .before .before .before .before .before .before .before .before .check .ensures .outcome)
+returns-2 c =
+    let at-check = c .before .before .before .before .before .before .before .before .before .before in
+    let at-list = at-check .before .before .before .before .before .before .before .before .before in
+    let at-if1 = at-list .before .before in
+    let s = at-if1 .before .before .before .before .before .before .before .before in
+    let l = at-list .list in
+    asked-short (s .args .netlist .now) (s .args .inputs .now) (take (l .result) (l .last .0)) (s .pre) (at-if1 .if1 .left) (l .ensures .same)
+    (at-check .check .ensures .outcome)
 
 pub answer-spec : {M : Type 1} → statement M
 answer-spec =

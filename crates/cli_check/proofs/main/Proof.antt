@@ -60,7 +60,9 @@ array-share-prefix-out : tie.Need-array-share-prefix-out
 array-share-prefix-out c = search needs
 
 slice-aggregate-write-all : tie.Need-slice-aggregate-write-all
-slice-aggregate-write-all c = sym (length-take-le (c .before .before .before .before .before .before .before .before .report .result) (c .before .before .before .before .before .before .before .before .report .last .0) (c .before .before .before .before .before .before .before .before .report .ensures .0))
+slice-aggregate-write-all c =
+    let report = c .before .before .before .before .before .before .before .before .report in
+    sym (length-take-le (report .result) (report .last .0) (report .ensures .0))
 
 write-all-requires : tie.Need-write-all-requires
 write-all-requires c κs = search needs

@@ -32,8 +32,11 @@ same-length-7 : tie.Need-same-length-7
 same-length-7 c = search needs
 
 returns : tie.Need-returns
-returns c = let s = c .before .before .before .before .before .before .before .before .before .before .before .before .before .before .before .before .before .before .before .before .before .before .before .before .before .before .before .before .before .before .before in
-    reported (s .args .netlist .now) (s .args .inputs .now) (c .before .before .before .before .before .before .before .before .before .before .before .before .before .before .before .before .answer .ensures) (c .before .before .print .ensures) (s .pre .1)
+returns c =
+    let at-answer = c .before .before .before .before .before .before .before .before .before .before .before .before .before .before
+    .before .before in
+    let s = at-answer .before .before .before .before .before .before .before .before .before .before .before .before .before .before .before in
+    reported (s .args .netlist .now) (s .args .inputs .now) (at-answer .answer .ensures) (c .before .before .print .ensures) (s .pre .1)
 
 pub report-spec : {M : Type 1} → statement M
 report-spec =

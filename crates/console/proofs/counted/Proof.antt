@@ -1,12 +1,8 @@
 -- `counted`: without one LF at the end.
 use Rattle.console.proofs.Files.{counts-none, counts-end, counts-all}
-use native.Mathlib.Omega.{arith}
 use borrow.Author.Needs.{needs}
 use Rattle.console.proofs.counted.Statement.{statement}
 use Rattle.console.proofs.counted.Tie as tie
-use Rattle.console.proofs.counted.Reads as reads
-use Rattle.console.proofs.counted.Lts as lts
-use Rattle.console.proofs.front.Reads as front-reads
 
 front-requires : tie.Need-front-requires
 front-requires c κs = search needs

@@ -8,11 +8,6 @@ use borrow.Author.Needs.{needs}
 use native.Mathlib.Omega.{arith}
 use Rattle.console.proofs.digits.Statement.{statement}
 use Rattle.console.proofs.digits.Tie as tie
-use Rattle.console.proofs.digits.Reads as reads
-use Rattle.console.proofs.digits.Lts as lts
-use Rattle.console.proofs.wide.Reads as wide-reads
-use Rattle.writer.proofs.number.Reads as number-reads
-use Rattle.writer.proofs.put.Reads as put-reads
 
 abbrev Inv-loop : tie.InvT-loop
 Inv-loop out₀ list at₀ i₀ out at i = Printing out₀ at₀ list out at i
@@ -39,7 +34,11 @@ loop-less : tie.Need-loop-less Inv-loop μ-loop
 loop-less c = search needs
 
 loop-again : tie.Need-loop-again Inv-loop μ-loop
-loop-again c = printing-more (c .before .before .before .before .before .before .before .loop .inv) (c .before .before .before .before .before .before .loop-test .taken) (c .before .before .before .wide .ensures) (omega (arith, c .before .before .before .wide .ensures, c .before .before .before .before .shared-slice-known2 .given (c .before .before .before .before .before .before .before .loop .i))) (c .before .before .number .ensures)
+loop-again c =
+    let loop = c .before .before .before .before .before .before .before .loop in
+    printing-more (loop .inv) (c .before .before .before .before .before .before .loop-test .taken) (c .before .before .before .wide .ensures)
+    (omega (arith, c .before .before .before .wide .ensures, c .before .before .before .before .shared-slice-known2 .given (loop .i)))
+    (c .before .before .number .ensures)
 
 put-requires : tie.Need-put-requires Inv-loop μ-loop
 put-requires c κs = search needs
@@ -48,7 +47,9 @@ same-length : tie.Need-same-length Inv-loop μ-loop
 same-length c = wrote-length (c .before .before .put .ensures) ∙ wrote-length (c .before .before .before .before .before .loop .inv .wrote)
 
 returns : tie.Need-returns Inv-loop μ-loop
-returns c = few-then _ 1 (printing-all (c .before .before .before .before .before .loop .inv) (c .before .before .before .before .loop-test .left)) (exactly (c .before .before .put .ensures))
+returns c =
+    few-then _ 1 (printing-all (c .before .before .before .before .before .loop .inv) (c .before .before .before .before .loop-test .left))
+    (exactly (c .before .before .put .ensures))
 
 pub digits-spec : {M : Type 1} → statement M
 digits-spec =

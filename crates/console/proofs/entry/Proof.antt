@@ -1,11 +1,7 @@
 -- `entry`: a digit's value, or 9.
 use Rattle.console.proofs.Files.{entry-low, entry-high, entry-digit}
-use borrow.Author.Needs.{needs}
-use native.Mathlib.Omega.{arith}
 use Rattle.console.proofs.entry.Statement.{statement}
 use Rattle.console.proofs.entry.Tie as tie
-use Rattle.console.proofs.entry.Reads as reads
-use Rattle.console.proofs.entry.Lts as lts
 
 returns : tie.Need-returns
 returns c = entry-low _ (c .if1 .taken)

@@ -1,13 +1,11 @@
 -- `front`: all of the buffer where it is shorter.
-use mathlib.Core.Path.{refl, sym, _∙_}
+use mathlib.Core.Path.{sym, _∙_}
 use lib.ListN.{length}
 use lib.Seq.{take-all}
 use native.Mathlib.Omega.{arith}
 use borrow.Author.Needs.{needs}
 use Rattle.console.proofs.front.Statement.{statement}
 use Rattle.console.proofs.front.Tie as tie
-use Rattle.console.proofs.front.Reads as reads
-use Rattle.console.proofs.front.Lts as lts
 
 returns : tie.Need-returns
 returns c =

@@ -1,14 +1,8 @@
 -- `leak`: the word, the four numbers and LF.
 use Rattle.writer.proofs.Wrote.{wrote-then}
-use native.Mathlib.Omega.{arith}
 use borrow.Author.Needs.{needs}
 use Rattle.console.proofs.leak.Statement.{statement}
 use Rattle.console.proofs.leak.Tie as tie
-use Rattle.console.proofs.leak.Reads as reads
-use Rattle.console.proofs.leak.Lts as lts
-use Rattle.console.proofs.spaced.Reads as spaced-reads
-use Rattle.writer.proofs.bytes.Reads as bytes-reads
-use Rattle.writer.proofs.put.Reads as put-reads
 
 slice-aggregate-bytes : tie.Need-slice-aggregate-bytes
 slice-aggregate-bytes c = search needs
@@ -35,8 +29,14 @@ same-length : tie.Need-same-length
 same-length c = search needs
 
 returns : tie.Need-returns
-returns c = wrote-then (c .before .before .before .before .before .before .before .before .before .before .before .before .before .before .before .before .before .before .before .before .before .before .bytes .ensures) (wrote-then (c .before .before .before .before .before .before .before .before .before .before .before .before .before .before .before .before .before .before .spaced .ensures) (wrote-then (c .before .before .before .before .before .before .before .before .before .before .before .before .before .before .spaced2 .ensures)
-    (wrote-then (c .before .before .before .before .before .before .before .before .before .before .spaced3 .ensures) (wrote-then (c .before .before .before .before .before .before .spaced4 .ensures) (c .before .before .put .ensures)))))
+returns c =
+    let at-spaced3 = c .before .before .before .before .before .before .before .before .before .before in
+    let at-spaced2 = at-spaced3 .before .before .before .before in
+    let at-spaced = at-spaced2 .before .before .before .before in
+    wrote-then (at-spaced .before .before .before .before .bytes .ensures)
+    (wrote-then (at-spaced .spaced .ensures) (wrote-then (at-spaced2 .spaced2 .ensures)
+    (wrote-then (at-spaced3 .spaced3 .ensures)
+    (wrote-then (c .before .before .before .before .before .before .spaced4 .ensures) (c .before .before .put .ensures)))))
 
 pub leak-spec : {M : Type 1} → statement M
 leak-spec =

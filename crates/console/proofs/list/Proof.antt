@@ -5,10 +5,6 @@ use borrow.Author.Needs.{needs}
 use native.Mathlib.Omega.{arith}
 use Rattle.console.proofs.list.Statement.{statement}
 use Rattle.console.proofs.list.Tie as tie
-use Rattle.console.proofs.list.Reads as reads
-use Rattle.console.proofs.list.Lts as lts
-use Rattle.console.proofs.counted.Reads as counted-reads
-use Rattle.console.proofs.entry.Reads as entry-reads
 
 abbrev Inv-loop : tie.InvT-loop
 Inv-loop file₀ n i₀ file i = Listing file₀ file n i

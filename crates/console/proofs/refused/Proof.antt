@@ -1,14 +1,8 @@
 -- `refused`: the word, a space, the number and LF.
 use Rattle.writer.proofs.Wrote.{wrote-then}
-use native.Mathlib.Omega.{arith}
 use borrow.Author.Needs.{needs}
 use Rattle.console.proofs.refused.Statement.{statement}
 use Rattle.console.proofs.refused.Tie as tie
-use Rattle.console.proofs.refused.Reads as reads
-use Rattle.console.proofs.refused.Lts as lts
-use Rattle.writer.proofs.bytes.Reads as bytes-reads
-use Rattle.writer.proofs.number.Reads as number-reads
-use Rattle.writer.proofs.put.Reads as put-reads
 
 slice-aggregate-bytes : tie.Need-slice-aggregate-bytes
 slice-aggregate-bytes c = search needs
@@ -26,7 +20,9 @@ same-length : tie.Need-same-length
 same-length c = search needs
 
 returns : tie.Need-returns
-returns c = wrote-then (c .before .before .before .before .before .before .before .before .before .before .bytes .ensures) (wrote-then (c .before .before .before .before .before .before .number .ensures) (c .before .before .put .ensures))
+returns c =
+    wrote-then (c .before .before .before .before .before .before .before .before .before .before .bytes .ensures)
+    (wrote-then (c .before .before .before .before .before .before .number .ensures) (c .before .before .put .ensures))
 
 pub refused-spec : {M : Type 1} → statement M
 refused-spec =

@@ -1,13 +1,8 @@
 -- `spaced`: a space, and then the number.
 use Rattle.writer.proofs.Wrote.{wrote-then}
-use native.Mathlib.Omega.{arith}
 use borrow.Author.Needs.{needs}
 use Rattle.console.proofs.spaced.Statement.{statement}
 use Rattle.console.proofs.spaced.Tie as tie
-use Rattle.console.proofs.spaced.Reads as reads
-use Rattle.console.proofs.spaced.Lts as lts
-use Rattle.writer.proofs.number.Reads as number-reads
-use Rattle.writer.proofs.put.Reads as put-reads
 
 put-requires : tie.Need-put-requires
 put-requires c κs = search needs

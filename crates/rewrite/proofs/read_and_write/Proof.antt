@@ -1,7 +1,4 @@
 -- `read_and_write`: the netlist read, and its text.
-use mathlib.Core.Path.{_≡_, ap}
-use Prim.Native.Nat.{ℕ}
-use lib.ListN.{length}
 use lib.Dec.{lit<}
 use Rattle.netlist.specs.Table.{tables}
 use Rattle.rewrite.proofs.Rewriting.{rewrite-read, rewrite-not}
@@ -10,11 +7,6 @@ use native.Mathlib.Omega.{arith}
 use borrow.Author.Needs.{needs}
 use Rattle.rewrite.proofs.read_and_write.Statement.{statement}
 use Rattle.rewrite.proofs.read_and_write.Tie as tie
-use Rattle.rewrite.proofs.read_and_write.Reads as reads
-use Rattle.rewrite.proofs.read_and_write.Lts as lts
-use Rattle.netlist.proofs.large.Reads as large-reads
-use Rattle.rewrite.proofs.write.Reads as write-reads
-use Rattle.tables.proofs.read.read.Reads as read-reads
 
 large-requires : tie.Need-large-requires
 large-requires c κs = search needs
@@ -30,9 +22,16 @@ enum-known-h : tie.Need-enum-known-h
 enum-known-h c = search needs
 
 write-requires : tie.Need-write-requires
-write-requires c κs = let a = read-is (c .before .before .before .before .before .before .before .before .before .before .before .before .before .before .before .before .before .before .before .before .before .before .before .before .before .before .before .before .before .before .before .before .args .text .now) (c .before .before .before .before .before .before .before .before .before .before .before .before .before .before .before .before .before .before .read .last .1 .1 .0) (c .before .before .before .before .before .before .before .before .before .before .before .before .before .before .before .before .before .before .read .last .1 .1 .1 .0) (tables (c .before .before .before .before .before .before .before .before .before .before .before .before .before .before .before .before .before .before .read .last .1 .1 .1 .1 .1 .0) (c .before .before .before .before .before .before .before .before .before .before .before .before .before .before .before .before .before .before .read .last .1 .1 .1 .1 .1 .1 .0)) (c .before .before .before .before .before .before .before .before .before .before .before .before .before .before .before .before .before .before .before .before .before .before .before .before .large .ensures) (c .before .before .before .before .before .before .h .given .1) (c .before .before .before .before .before .before .before .before .before .before .before .before .before .before .before .before .before .before .read .ensures) in
-    let p = c .before .before .before .before .before .before .before .before .before .before .before .before .before .before .before .before .before .before .before .before .before .before .before .before .before .before .before .before .before .before .before .before .pre in
-    let k = c .before .before .before .before .before .before .before .before .before .before .before .before .before .before .before .before .before .before .read .kept in
+write-requires c κs =
+    let at-read = c .before .before .before .before .before .before .before .before .before .before .before .before .before .before
+    .before .before .before .before in
+    let at-large = at-read .before .before .before .before .before .before in
+    let at-args = at-large .before .before .before .before .before .before .before .before in
+    let a = read-is (at-args .args .text .now) (at-read .read .last .1 .1 .0) (at-read .read .last .1 .1 .1 .0)
+    (tables (at-read .read .last .1 .1 .1 .1 .1 .0) (at-read .read .last .1 .1 .1 .1 .1 .1 .0)) (at-large .large .ensures)
+    (c .before .before .before .before .before .before .h .given .1) (at-read .read .ensures) in
+    let p = at-args .pre in
+    let k = at-read .read .kept in
     (omega (arith, a .manyIn, p .4, k .1 .1 .0), omega (arith, a .manyOut, p .5, k .1 .1 .1 .0), a .wired .operands, a .wired .results)
 
 same-length : tie.Need-same-length
@@ -51,7 +50,13 @@ same-length-5 : tie.Need-same-length-5
 same-length-5 c = search needs
 
 returns : tie.Need-returns
-returns c = rewrite-not _ (read-is (c .before .before .before .before .before .before .before .before .before .before .before .before .before .before .before .before .before .before .before .before .before .before .before .before .before .before .before .args .text .now) (c .before .before .before .before .before .before .before .before .before .before .before .before .before .read .last .1 .1 .0) (c .before .before .before .before .before .before .before .before .before .before .before .before .before .read .last .1 .1 .1 .0) (tables (c .before .before .before .before .before .before .before .before .before .before .before .before .before .read .last .1 .1 .1 .1 .1 .0) (c .before .before .before .before .before .before .before .before .before .before .before .before .before .read .last .1 .1 .1 .1 .1 .1 .0)) (c .before .before .before .before .before .before .before .before .before .before .before .before .before .before .before .before .before .before .before .large .ensures) (c .before .question .given .1) (c .before .before .before .before .before .before .before .before .before .before .before .before .before .read .ensures))
+returns c =
+    let at-read = c .before .before .before .before .before .before .before .before .before .before .before .before .before in
+    let at-large = at-read .before .before .before .before .before .before in
+    rewrite-not _
+    (read-is (at-large .before .before .before .before .before .before .before .before .args .text .now) (at-read .read .last .1 .1 .0)
+    (at-read .read .last .1 .1 .1 .0) (tables (at-read .read .last .1 .1 .1 .1 .1 .0) (at-read .read .last .1 .1 .1 .1 .1 .1 .0))
+    (at-large .large .ensures) (c .before .question .given .1) (at-read .read .ensures))
 
 same-length-6 : tie.Need-same-length-6
 same-length-6 c = search needs
@@ -72,7 +77,15 @@ same-length-11 : tie.Need-same-length-11
 same-length-11 c = search needs
 
 returns-2 : tie.Need-returns-2
-returns-2 c = rewrite-read (read-is (c .before .before .before .before .before .before .before .before .before .before .before .before .before .before .before .before .before .before .before .before .before .before .before .before .before .before .before .before .before .before .before .before .before .before .before .args .text .now) (c .before .before .before .before .before .before .before .before .before .before .before .before .before .before .before .before .before .before .before .before .before .read .last .1 .1 .0) (c .before .before .before .before .before .before .before .before .before .before .before .before .before .before .before .before .before .before .before .before .before .read .last .1 .1 .1 .0) (tables (c .before .before .before .before .before .before .before .before .before .before .before .before .before .before .before .before .before .before .before .before .before .read .last .1 .1 .1 .1 .1 .0) (c .before .before .before .before .before .before .before .before .before .before .before .before .before .before .before .before .before .before .before .before .before .read .last .1 .1 .1 .1 .1 .1 .0)) (c .before .before .before .before .before .before .before .before .before .before .before .before .before .before .before .before .before .before .before .before .before .before .before .before .before .before .before .large .ensures) (c .before .before .before .before .before .before .before .before .before .h .given .1) (c .before .before .before .before .before .before .before .before .before .before .before .before .before .before .before .before .before .before .before .before .before .read .ensures)) (c .before .before .write .ensures)
+returns-2 c =
+    let at-h = c .before .before .before .before .before .before .before .before .before in
+    let at-read = at-h .before .before .before .before .before .before .before .before .before .before .before .before in
+    let at-large = at-read .before .before .before .before .before .before in
+    rewrite-read
+    (read-is (at-large .before .before .before .before .before .before .before .before .args .text .now) (at-read .read .last .1 .1 .0)
+    (at-read .read .last .1 .1 .1 .0) (tables (at-read .read .last .1 .1 .1 .1 .1 .0) (at-read .read .last .1 .1 .1 .1 .1 .1 .0))
+    (at-large .large .ensures) (at-h .h .given .1) (at-read .read .ensures))
+    (c .before .before .write .ensures)
 
 pub read-and-write-spec : {M : Type 1} → statement M
 read-and-write-spec =

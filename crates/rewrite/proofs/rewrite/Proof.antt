@@ -1,15 +1,9 @@
 -- `rewrite`: the answer, and then zero in every table.
 use Rattle.clear.proofs.Filled.{zeros-same}
 use Rattle.rewrite.proofs.Rewriting.{call-same}
-use native.Mathlib.Omega.{arith}
 use borrow.Author.Needs.{needs}
 use Rattle.rewrite.proofs.rewrite.Statement.{statement}
 use Rattle.rewrite.proofs.rewrite.Tie as tie
-use Rattle.rewrite.proofs.rewrite.Reads as reads
-use Rattle.rewrite.proofs.rewrite.Lts as lts
-use Rattle.clear.proofs.bytes.Reads as bytes-reads
-use Rattle.clear.proofs.words.Reads as words-reads
-use Rattle.rewrite.proofs.answer.Reads as answer-reads
 
 answer-requires : tie.Need-answer-requires
 answer-requires c κs = search needs
@@ -36,12 +30,16 @@ same-length-4 : tie.Need-same-length-4
 same-length-4 c = search needs
 
 returns : tie.Need-returns
-returns c = let a = c .before .before .before .before .before .before .before .before .before .before .before .before .before .before .before .before .before .before .before .before .answer in
+returns c =
+    let at-words = c .before .before .before .before .before .before .before .before .before .before in
+    let at-answer = at-words .before .before .before .before .before .before .before .before .before .before in
+    let s = at-answer .before .before .before .before .before .before .before .before .before .before .args in
+    let a = at-answer .answer in
     let k = a .kept in
     record {
       answers = a .ensures;
-      same = call-same (c .before .before .before .before .before .before .before .before .before .before .before .before .before .before .before .before .before .before .before .before .before .before .before .before .before .before .before .before .before .before .args .text .now) (c .before .before .before .before .before .before .before .before .before .before .before .before .before .before .before .before .before .before .before .before .before .before .before .before .before .before .before .before .before .before .args .out .now) (c .before .before .before .before .before .before .before .before .before .before .before .before .before .before .before .before .before .before .before .before .before .before .before .before .before .before .before .before .before .before .args .operands .now) (c .before .before .before .before .before .before .before .before .before .before .before .before .before .before .before .before .before .before .before .before .before .before .before .before .before .before .before .before .before .before .args .results .now) (c .before .before .before .before .before .before .before .before .before .before .before .before .before .before .before .before .before .before .before .before .before .before .before .before .before .before .before .before .before .before .args .given .now) (a .ensures);
-      operands = zeros-same (c .before .before .before .before .before .before .before .before .before .before .words .ensures) (k .1 .1 .0);
+      same = call-same (s .text .now) (s .out .now) (s .operands .now) (s .results .now) (s .given .now) (a .ensures);
+      operands = zeros-same (at-words .words .ensures) (k .1 .1 .0);
       results = zeros-same (c .before .before .before .before .before .before .words2 .ensures) (k .1 .1 .1 .0);
       given = zeros-same (c .before .before .bytes .ensures) (k .1 .1 .1 .1 .0);
     }

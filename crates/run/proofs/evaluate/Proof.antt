@@ -7,9 +7,6 @@ use native.Mathlib.Omega.{arith}
 use borrow.Author.Needs.{needs}
 use Rattle.run.proofs.evaluate.Statement.{statement}
 use Rattle.run.proofs.evaluate.Tie as tie
-use Rattle.run.proofs.evaluate.Reads as reads
-use Rattle.run.proofs.evaluate.Lts as lts
-use Rattle.run.proofs.deliver.deliver.Reads as deliver-reads
 
 cast-wires : tie.Need-cast-wires
 cast-wires c = search needs
@@ -24,8 +21,10 @@ slice-aggregate-deliver : tie.Need-slice-aggregate-deliver
 slice-aggregate-deliver c = sym (length-take-le _ _ (c .before .before .before .before .before .before .before .before .before .pre .3))
 
 deliver-requires : tie.Need-deliver-requires
-deliver-requires c κs = let p = c .before .before .before .before .before .before .before .before .before .pre in
-    let z = length-take-le (c .before .before .before .before .before .before .before .before .before .args .h .wires) (c .before .before .before .before .before .before .before .before .before .args .words .now) (p .3) in
+deliver-requires c κs =
+    let at-pre = c .before .before .before .before .before .before .before .before .before in
+    let p = at-pre .pre in
+    let z = length-take-le (at-pre .args .h .wires) (at-pre .args .words .now) (p .3) in
     (wired-same z (p .0), omega (arith, z, p .1), omega (arith, z, p .2))
 
 same-length : tie.Need-same-length
@@ -35,7 +34,10 @@ same-length-2 : tie.Need-same-length-2
 same-length-2 c = search needs
 
 returns : tie.Need-returns
-returns c = λ N h. c .before .before .before .before .deliver .ensures N (holds-wires (length-take-le (c .before .before .before .before .before .before .before .before .before .before .before .before .before .before .args .h .wires) (c .before .before .before .before .before .before .before .before .before .before .before .before .before .before .args .words .now) (c .before .before .before .before .before .before .before .before .before .before .before .before .before .before .pre .3)) h)
+returns c =
+    let at-args = c .before .before .before .before .before .before .before .before .before .before .before .before .before .before in
+    λ N h. c .before .before .before .before .deliver .ensures N
+    (holds-wires (length-take-le (at-args .args .h .wires) (at-args .args .words .now) (at-args .pre .3)) h)
 
 pub evaluate-spec : {M : Type 1} → statement M
 evaluate-spec =

@@ -7,17 +7,13 @@ use native.Mathlib.Omega.{arith}
 use borrow.Author.Needs.{needs}
 use Rattle.run.proofs.read_and_run.Statement.{statement}
 use Rattle.run.proofs.read_and_run.Tie as tie
-use Rattle.run.proofs.read_and_run.Reads as reads
-use Rattle.run.proofs.read_and_run.Lts as lts
-use Rattle.netlist.proofs.large.Reads as large-reads
-use Rattle.run.proofs.evaluate.Reads as evaluate-reads
-use Rattle.tables.proofs.read.read.Reads as read-reads
 
 large-requires : tie.Need-large-requires
 large-requires c κs = search needs
 
 read-requires : tie.Need-read-requires
-read-requires c κs = let p = c .before .before .before .before .before .before .before .before .before .before .before .before .before .before .before .pre in
+read-requires c κs =
+    let p = c .before .before .before .before .before .before .before .before .before .before .before .before .before .before .before .pre in
     rw (c .before .before .before .before .before .large .ensures) ((lit< tt, p .5, p .6), (p .2, p .0, p .1, p .4))
 
 enum-known-question : tie.Need-enum-known-question
@@ -27,8 +23,15 @@ enum-known-h : tie.Need-enum-known-h
 enum-known-h c = search needs
 
 evaluate-requires : tie.Need-evaluate-requires
-evaluate-requires c κs = let a = read-is (c .before .before .before .before .before .before .before .before .before .before .before .before .before .before .before .before .before .before .before .before .before .before .before .before .before .before .before .before .before .before .before .before .before .args .text .now) (c .before .before .before .before .before .before .before .before .before .before .before .before .before .before .before .before .before .read .last .1 .1 .0) (c .before .before .before .before .before .before .before .before .before .before .before .before .before .before .before .before .before .read .last .1 .1 .1 .0) (tables (c .before .before .before .before .before .before .before .before .before .before .before .before .before .before .before .before .before .read .last .1 .1 .1 .1 .1 .0) (c .before .before .before .before .before .before .before .before .before .before .before .before .before .before .before .before .before .read .last .1 .1 .1 .1 .1 .1 .0)) (c .before .before .before .before .before .before .before .before .before .before .before .before .before .before .before .before .before .before .before .before .before .before .before .large .ensures) (c .before .before .before .before .before .h .given .1) (c .before .before .before .before .before .before .before .before .before .before .before .before .before .before .before .before .before .read .ensures) in
-    (a .wired, a .inBits, a .outBits, omega (arith, a .wires, c .before .before .before .before .before .before .before .before .before .before .before .before .before .before .before .before .before .before .before .before .before .before .before .before .before .before .before .before .before .before .before .before .before .pre .3))
+evaluate-requires c κs =
+    let at-read = c .before .before .before .before .before .before .before .before .before .before .before .before .before .before
+    .before .before .before in
+    let at-large = at-read .before .before .before .before .before .before in
+    let at-args = at-large .before .before .before .before .before .before .before .before .before .before in
+    let a = read-is (at-args .args .text .now) (at-read .read .last .1 .1 .0) (at-read .read .last .1 .1 .1 .0)
+    (tables (at-read .read .last .1 .1 .1 .1 .1 .0) (at-read .read .last .1 .1 .1 .1 .1 .1 .0)) (at-large .large .ensures)
+    (c .before .before .before .before .before .h .given .1) (at-read .read .ensures) in
+    (a .wired, a .inBits, a .outBits, omega (arith, a .wires, at-args .pre .3))
 
 same-length : tie.Need-same-length
 same-length c = search needs
@@ -46,7 +49,14 @@ same-length-5 : tie.Need-same-length-5
 same-length-5 c = search needs
 
 returns : tie.Need-returns
-returns c = run-not (c .before .before .before .before .before .before .before .before .before .before .before .before .before .before .before .before .before .before .before .before .before .before .before .before .before .before .before .before .before .args .list .now) _ (read-is (c .before .before .before .before .before .before .before .before .before .before .before .before .before .before .before .before .before .before .before .before .before .before .before .before .before .before .before .before .before .args .text .now) (c .before .before .before .before .before .before .before .before .before .before .before .before .before .read .last .1 .1 .0) (c .before .before .before .before .before .before .before .before .before .before .before .before .before .read .last .1 .1 .1 .0) (tables (c .before .before .before .before .before .before .before .before .before .before .before .before .before .read .last .1 .1 .1 .1 .1 .0) (c .before .before .before .before .before .before .before .before .before .before .before .before .before .read .last .1 .1 .1 .1 .1 .1 .0)) (c .before .before .before .before .before .before .before .before .before .before .before .before .before .before .before .before .before .before .before .large .ensures) (c .before .question .given .1) (c .before .before .before .before .before .before .before .before .before .before .before .before .before .read .ensures))
+returns c =
+    let at-read = c .before .before .before .before .before .before .before .before .before .before .before .before .before in
+    let at-large = at-read .before .before .before .before .before .before in
+    let s = at-large .before .before .before .before .before .before .before .before .before .before .args in
+    run-not (s .list .now) _
+    (read-is (s .text .now) (at-read .read .last .1 .1 .0) (at-read .read .last .1 .1 .1 .0)
+    (tables (at-read .read .last .1 .1 .1 .1 .1 .0) (at-read .read .last .1 .1 .1 .1 .1 .1 .0)) (at-large .large .ensures)
+    (c .before .question .given .1) (at-read .read .ensures))
 
 same-length-6 : tie.Need-same-length-6
 same-length-6 c = search needs
@@ -70,7 +80,16 @@ same-length-12 : tie.Need-same-length-12
 same-length-12 c = search needs
 
 returns-2 : tie.Need-returns-2
-returns-2 c = run-read (c .before .before .before .before .before .before .before .before .before .before .before .before .before .before .before .before .before .before .before .before .before .before .before .before .before .before .before .before .before .before .before .before .before .before .before .before .before .before .args .list .now) (read-is (c .before .before .before .before .before .before .before .before .before .before .before .before .before .before .before .before .before .before .before .before .before .before .before .before .before .before .before .before .before .before .before .before .before .before .before .before .before .before .args .text .now) (c .before .before .before .before .before .before .before .before .before .before .before .before .before .before .before .before .before .before .before .before .before .before .read .last .1 .1 .0) (c .before .before .before .before .before .before .before .before .before .before .before .before .before .before .before .before .before .before .before .before .before .before .read .last .1 .1 .1 .0) (tables (c .before .before .before .before .before .before .before .before .before .before .before .before .before .before .before .before .before .before .before .before .before .before .read .last .1 .1 .1 .1 .1 .0) (c .before .before .before .before .before .before .before .before .before .before .before .before .before .before .before .before .before .before .before .before .before .before .read .last .1 .1 .1 .1 .1 .1 .0)) (c .before .before .before .before .before .before .before .before .before .before .before .before .before .before .before .before .before .before .before .before .before .before .before .before .before .before .before .before .large .ensures) (c .before .before .before .before .before .before .before .before .before .before .h .given .1) (c .before .before .before .before .before .before .before .before .before .before .before .before .before .before .before .before .before .before .before .before .before .before .read .ensures)) (c .before .before .before .before .evaluate .ensures)
+returns-2 c =
+    let at-h = c .before .before .before .before .before .before .before .before .before .before in
+    let at-read = at-h .before .before .before .before .before .before .before .before .before .before .before .before in
+    let at-large = at-read .before .before .before .before .before .before in
+    let s = at-large .before .before .before .before .before .before .before .before .before .before .args in
+    run-read (s .list .now)
+    (read-is (s .text .now) (at-read .read .last .1 .1 .0) (at-read .read .last .1 .1 .1 .0)
+    (tables (at-read .read .last .1 .1 .1 .1 .1 .0) (at-read .read .last .1 .1 .1 .1 .1 .1 .0)) (at-large .large .ensures) (at-h .h .given .1)
+    (at-read .read .ensures))
+    (c .before .before .before .before .evaluate .ensures)
 
 pub read-and-run-spec : {M : Type 1} → statement M
 read-and-run-spec =

@@ -1,15 +1,9 @@
 -- `run`: the answer, and then zero in every table.
 use Rattle.clear.proofs.Filled.{zeros-same}
 use Rattle.run.proofs.Running.{call-bits}
-use native.Mathlib.Omega.{arith}
 use borrow.Author.Needs.{needs}
 use Rattle.run.proofs.run.Statement.{statement}
 use Rattle.run.proofs.run.Tie as tie
-use Rattle.run.proofs.run.Reads as reads
-use Rattle.run.proofs.run.Lts as lts
-use Rattle.clear.proofs.bytes.Reads as bytes-reads
-use Rattle.clear.proofs.words.Reads as words-reads
-use Rattle.run.proofs.answer.Reads as answer-reads
 
 answer-requires : tie.Need-answer-requires
 answer-requires c κs = search needs
@@ -42,13 +36,18 @@ same-length-5 : tie.Need-same-length-5
 same-length-5 c = search needs
 
 returns : tie.Need-returns
-returns c = let a = c .before .before .before .before .before .before .before .before .before .before .before .before .before .before .before .before .before .before .before .before .before .before .before .before .before .before .answer in
+returns c =
+    let at-words3 = c .before .before .before .before .before .before .before .before .before .before in
+    let at-words2 = at-words3 .before .before .before .before in
+    let at-answer = at-words2 .before .before .before .before .before .before .before .before .before .before .before .before in
+    let s = at-answer .before .before .before .before .before .before .before .before .before .before .before .before .before .args in
+    let a = at-answer .answer in
     let k = a .kept in
     record {
       answers = a .ensures;
-      bits = call-bits (c .before .before .before .before .before .before .before .before .before .before .before .before .before .before .before .before .before .before .before .before .before .before .before .before .before .before .before .before .before .before .before .before .before .before .before .before .before .before .before .args .text .now) (c .before .before .before .before .before .before .before .before .before .before .before .before .before .before .before .before .before .before .before .before .before .before .before .before .before .before .before .before .before .before .before .before .before .before .before .before .before .before .before .args .list .now) (c .before .before .before .before .before .before .before .before .before .before .before .before .before .before .before .before .before .before .before .before .before .before .before .before .before .before .before .before .before .before .before .before .before .before .before .before .before .before .before .args .out .now) (c .before .before .before .before .before .before .before .before .before .before .before .before .before .before .before .before .before .before .before .before .before .before .before .before .before .before .before .before .before .before .before .before .before .before .before .before .before .before .before .args .operands .now) (c .before .before .before .before .before .before .before .before .before .before .before .before .before .before .before .before .before .before .before .before .before .before .before .before .before .before .before .before .before .before .before .before .before .before .before .before .before .before .before .args .results .now) (c .before .before .before .before .before .before .before .before .before .before .before .before .before .before .before .before .before .before .before .before .before .before .before .before .before .before .before .before .before .before .before .before .before .before .before .before .before .before .before .args .given .now) (c .before .before .before .before .before .before .before .before .before .before .before .before .before .before .before .before .before .before .before .before .before .before .before .before .before .before .before .before .before .before .before .before .before .before .before .before .before .before .before .args .words .now) (a .ensures);
-      operands = zeros-same (c .before .before .before .before .before .before .before .before .before .before .before .before .before .before .words2 .ensures) (k .1 .1 .1 .0);
-      results = zeros-same (c .before .before .before .before .before .before .before .before .before .before .words3 .ensures) (k .1 .1 .1 .1 .0);
+      bits = call-bits (s .text .now) (s .list .now) (s .out .now) (s .operands .now) (s .results .now) (s .given .now) (s .words .now) (a .ensures);
+      operands = zeros-same (at-words2 .words2 .ensures) (k .1 .1 .1 .0);
+      results = zeros-same (at-words3 .words3 .ensures) (k .1 .1 .1 .1 .0);
       given = zeros-same (c .before .before .before .before .before .before .bytes .ensures) (k .1 .1 .1 .1 .1 .0);
       words = zeros-same (c .before .before .words4 .ensures) (k .1 .1 .1 .1 .1 .1 .0);
     }

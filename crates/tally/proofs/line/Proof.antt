@@ -32,7 +32,15 @@ same-length : tie.Need-same-length
 same-length c = search needs
 
 returns : tie.Need-returns
-returns c = wrote-then (c .before .before .before .before .before .before .before .before .before .before .before .before .before .before .before .before .before .before .before .before .before .before .before .before .bytes .ensures) (wrote-then (c .before .before .before .before .before .before .before .before .before .before .before .before .before .before .before .before .before .before .before .bytes2 .ensures) (wrote-then (c .before .before .before .before .before .before .before .before .before .before .before .before .before .before .before .number .ensures) (wrote-then (c .before .before .before .before .before .before .before .before .before .before .bytes3 .ensures) (wrote-then (c .before .before .before .before .before .before .number2 .ensures) (c .before .before .put .ensures)))))
+returns c =
+    let at-bytes3 = c .before .before .before .before .before .before .before .before .before .before in
+    let at-number = at-bytes3 .before .before .before .before .before in
+    let at-bytes2 = at-number .before .before .before .before in
+    wrote-then (at-bytes2 .before .before .before .before .before .bytes .ensures)
+    (wrote-then (at-bytes2 .bytes2 .ensures)
+    (wrote-then (at-number .number .ensures)
+    (wrote-then (at-bytes3 .bytes3 .ensures)
+    (wrote-then (c .before .before .before .before .before .before .number2 .ensures) (c .before .before .put .ensures)))))
 
 pub line-spec : {M : Type 1} → statement M
 line-spec =

@@ -56,7 +56,8 @@ returns-2 : tie.Need-returns-2
 returns-2 c n o N h =
     let s = c .before .before .before .before .before .before .before .before .before .before .before .before .before .before .before in
     let r = c .before .before .before .before .before .before .before .leaks in
-    told (Leak _ _ _ _) (length-take-le (s .args .wires) (s .args .words .now) (s .pre .1 .3)) (c .before .wire .given .1) (s .pre .1 .0) (r .ensures) h
+    told (Leak _ _ _ _) (length-take-le (s .args .wires) (s .args .words .now) (s .pre .1 .3)) (c .before .wire .given .1) (s .pre .1 .0) (r .ensures)
+    h
 
 pub verdict-spec : {M : Type 1} → statement M
 verdict-spec =

@@ -4,10 +4,6 @@ use native.Mathlib.Omega.{arith}
 use borrow.Author.Needs.{needs}
 use Rattle.rewrite.proofs.form.deliver.Statement.{statement}
 use Rattle.rewrite.proofs.form.deliver.Tie as tie
-use Rattle.rewrite.proofs.form.deliver.Reads as reads
-use Rattle.rewrite.proofs.form.deliver.Lts as lts
-use Rattle.rewrite.proofs.form.measure.Reads as measure-reads
-use Rattle.rewrite.proofs.form.write.Reads as write-reads
 
 measure-requires : tie.Need-measure-requires
 measure-requires c κs = search needs
@@ -22,7 +18,9 @@ same-length : tie.Need-same-length
 same-length c = search needs
 
 returns-2 : tie.Need-returns-2
-returns-2 c = deliver-done (c .before .before .before .before .before .measure .ensures) (c .before .before .before .before .if1 .left) (omega arith) (c .before .before .write .ensures)
+returns-2 c =
+    deliver-done (c .before .before .before .before .before .measure .ensures) (c .before .before .before .before .if1 .left) (omega arith)
+    (c .before .before .write .ensures)
 
 pub deliver-spec : {M : Type 1} → statement M
 deliver-spec = tie.close (tie.spec measure-requires returns write-requires same-length returns-2)

@@ -1,13 +1,8 @@
 -- `write`: the header, and behind it the gate lines.
 use Rattle.writer.proofs.Wrote.{wrote-then}
-use native.Mathlib.Omega.{arith}
 use borrow.Author.Needs.{needs}
 use Rattle.rewrite.proofs.form.write.Statement.{statement}
 use Rattle.rewrite.proofs.form.write.Tie as tie
-use Rattle.rewrite.proofs.form.write.Reads as reads
-use Rattle.rewrite.proofs.form.write.Lts as lts
-use Rattle.rewrite.proofs.form.gates.Reads as gates-reads
-use Rattle.writer.proofs.header.header.Reads as header-reads
 
 header-requires : tie.Need-header-requires
 header-requires c κs = search needs
