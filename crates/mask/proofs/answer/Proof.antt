@@ -12,17 +12,16 @@ use native.Mathlib.Omega.{arith}
 use borrow.Author.Needs.{needs}
 use Rattle.mask.proofs.answer.Statement.{statement}
 use Rattle.mask.proofs.answer.Tie as tie
-use Rattle.mask.proofs.answer.Reads as reads
-use Rattle.mask.proofs.answer.Lts as lts
-use Rattle.clear.proofs.bytes.Reads as bytes-reads
-use Rattle.mask.proofs.read_and_mask.Reads as read-and-mask-reads
-use Rattle.mask.proofs.tables_long.Reads as tables-long-reads
 
 tables-long-requires : tie.Need-tables-long-requires
 tables-long-requires c κs = search needs
 
 returns : tie.Need-returns
-returns c = call-one (c .before .before .before .before .before .before .before .before .before .before .before .args .text .now) (c .before .before .before .before .before .before .before .before .before .before .before .args .codes .now) (c .before .before .before .before .before .before .before .before .before .before .before .args .wanted .now) (c .before .before .before .before .before .before .before .before .before .before .before .args .out .now) (c .before .before .before .before .before .before .before .before .before .before .before .args .ends .now) (c .before .before .before .before .before .before .before .before .before .before .before .args .operands .now) (c .before .before .before .before .before .before .before .before .before .before .before .args .results .now) (c .before .before .before .before .before .before .before .before .before .before .before .args .wires .now) (c .before .before .before .before .before .before .before .before .before .before .before .args .marks .now) (sym (c .before .tables-long .ensures) ∙ not-true _ (c .if1 .taken))
+returns c =
+    let s = c .before .before .before .before .before .before .before .before .before .before .before .args in
+    call-one (s .text .now) (s .codes .now) (s .wanted .now) (s .out .now) (s .ends .now)
+    (s .operands .now) (s .results .now) (s .wires .now) (s .marks .now)
+    (sym (c .before .tables-long .ensures) ∙ not-true _ (c .if1 .taken))
 
 bytes-requires : tie.Need-bytes-requires
 bytes-requires c κs = search needs
@@ -34,15 +33,21 @@ slice-aggregate-read-and-mask-2 : tie.Need-slice-aggregate-read-and-mask-2
 slice-aggregate-read-and-mask-2 c = search needs
 
 read-and-mask-requires : tie.Need-read-and-mask-requires
-read-and-mask-requires c κs = let o = length (c .before .before .before .before .before .before .before .before .before .before .before .before .before .before .before .before .before .before .before .before .before .before .before .args .operands .now) in
-    let r = length (c .before .before .before .before .before .before .before .before .before .before .before .before .before .before .before .before .before .before .before .before .before .before .before .args .results .now) in
-    let w = length (c .before .before .before .before .before .before .before .before .before .before .before .before .before .before .before .before .before .before .before .before .before .before .before .args .wires .now) in
-    let m = length (c .before .before .before .before .before .before .before .before .before .before .before .before .before .before .before .before .before .before .before .before .before .before .before .args .marks .now) in
-    let a = tables-long small o (r ∷ w ∷ m ∷ []) (sym (c .before .before .before .before .before .before .before .before .before .before .before .before .before .tables-long .ensures) ∙ not-false _ (c .before .before .before .before .before .before .before .before .before .before .before .before .if1 .left)) in
+read-and-mask-requires c κs =
+    let s = c .before .before .before .before .before .before .before .before .before .before .before .before .before .before .before
+    .before .before .before .before .before .before .before .before .args in
+    let o = length (s .operands .now) in
+    let r = length (s .results .now) in
+    let w = length (s .wires .now) in
+    let m = length (s .marks .now) in
+    let a = tables-long small o (r ∷ w ∷ m ∷ []) (sym (c .before .before .before .before .before .before .before .before .before .before
+    .before .before .before .tables-long .ensures) ∙ not-false _ (c .before .before .before .before .before .before .before .before
+    .before .before .before .before .if1 .left)) in
     let b = tables-long small r (w ∷ m ∷ []) (a .1) in
     let d = tables-long small w (m ∷ []) (b .1) in
     let e = tables-long small m [] (d .1) in
-    (a .0, b .0, d .0, omega (arith, e .0, c .before .before .before .before .before .before .before .before .before .before .bytes .kept .0), zeros-own m (c .before .before .before .before .before .before .before .before .before .before .bytes .ensures), lit≤ tt, lit≤ tt)
+    let z = c .before .before .before .before .before .before .before .before .before .before .bytes in
+    (a .0, b .0, d .0, omega (arith, e .0, z .kept .0), zeros-own m (z .ensures), lit≤ tt, lit≤ tt)
 
 same-length : tie.Need-same-length
 same-length c = search needs
@@ -63,7 +68,18 @@ same-length-6 : tie.Need-same-length-6
 same-length-6 c = search needs
 
 returns-2 : tie.Need-returns-2
-returns-2 c = call-rest (c .before .before .before .before .before .before .before .before .before .before .before .before .before .before .before .before .before .before .before .before .before .before .before .before .before .before .before .before .before .before .before .before .before .before .before .before .before .before .args .text .now) (c .before .before .before .before .before .before .before .before .before .before .before .before .before .before .before .before .before .before .before .before .before .before .before .before .before .before .before .before .before .before .before .before .before .before .before .before .before .before .args .codes .now) (c .before .before .before .before .before .before .before .before .before .before .before .before .before .before .before .before .before .before .before .before .before .before .before .before .before .before .before .before .before .before .before .before .before .before .before .before .before .before .args .wanted .now) (c .before .before .before .before .before .before .before .before .before .before .before .before .before .before .before .before .before .before .before .before .before .before .before .before .before .before .before .before .before .before .before .before .before .before .before .before .before .before .args .out .now) (c .before .before .before .before .before .before .before .before .before .before .before .before .before .before .before .before .before .before .before .before .before .before .before .before .before .before .before .before .before .before .before .before .before .before .before .before .before .before .args .ends .now) (c .before .before .before .before .before .before .before .before .before .before .before .before .before .before .before .before .before .before .before .before .before .before .before .before .before .before .before .before .before .before .before .before .before .before .before .before .before .before .args .operands .now) (c .before .before .before .before .before .before .before .before .before .before .before .before .before .before .before .before .before .before .before .before .before .before .before .before .before .before .before .before .before .before .before .before .before .before .before .before .before .before .args .results .now) (c .before .before .before .before .before .before .before .before .before .before .before .before .before .before .before .before .before .before .before .before .before .before .before .before .before .before .before .before .before .before .before .before .before .before .before .before .before .before .args .wires .now) (c .before .before .before .before .before .before .before .before .before .before .before .before .before .before .before .before .before .before .before .before .before .before .before .before .before .before .before .before .before .before .before .before .before .before .before .before .before .before .args .marks .now) (sym (c .before .before .before .before .before .before .before .before .before .before .before .before .before .before .before .before .before .before .before .before .before .before .before .before .before .before .before .before .tables-long .ensures) ∙ not-false _ (c .before .before .before .before .before .before .before .before .before .before .before .before .before .before .before .before .before .before .before .before .before .before .before .before .before .before .before .if1 .left)) (c .before .before .before .before .before .before .before .before .before .before .before .before .before .before .read-and-mask .ensures)
+returns-2 c =
+    let s = c .before .before .before .before .before .before .before .before .before .before .before .before .before .before .before
+    .before .before .before .before .before .before .before .before .before .before .before .before .before .before .before .before
+    .before .before .before .before .before .before .before .args in
+    call-rest (s .text .now) (s .codes .now) (s .wanted .now) (s .out .now) (s .ends .now)
+    (s .operands .now) (s .results .now) (s .wires .now) (s .marks .now)
+    (sym (c .before .before .before .before .before .before .before .before .before .before .before .before .before .before .before .before
+    .before .before .before .before .before .before .before .before .before .before .before .before .tables-long .ensures) ∙ not-false _
+    (c .before .before .before .before .before .before .before .before .before .before .before .before .before .before .before .before
+    .before .before .before .before .before .before .before .before .before .before .before .if1 .left))
+    (c .before .before .before .before .before .before .before .before .before .before .before .before .before .before .read-and-mask
+    .ensures)
 
 pub answer-spec : {M : Type 1} → statement M
 answer-spec =

@@ -1,16 +1,9 @@
 -- `mask`: the answer, and then zero in every table.
 use Rattle.clear.proofs.Filled.{zeros-same}
 use Rattle.mask.proofs.Promised.{call-masks}
-use native.Mathlib.Omega.{arith}
 use borrow.Author.Needs.{needs}
 use Rattle.mask.proofs.mask.Statement.{statement}
 use Rattle.mask.proofs.mask.Tie as tie
-use Rattle.mask.proofs.mask.Reads as reads
-use Rattle.mask.proofs.mask.Lts as lts
-use Rattle.clear.proofs.bytes.Reads as bytes-reads
-use Rattle.clear.proofs.wires.Reads as wires-reads
-use Rattle.clear.proofs.words.Reads as words-reads
-use Rattle.mask.proofs.answer.Reads as answer-reads
 
 answer-requires : tie.Need-answer-requires
 answer-requires c κs = search needs
@@ -46,12 +39,20 @@ same-length-6 : tie.Need-same-length-6
 same-length-6 c = search needs
 
 returns : tie.Need-returns
-returns c = let a = c .before .before .before .before .before .before .before .before .before .before .before .before .before .before .before .before .before .before .before .before .before .before .before .before .before .before .before .before .answer in
+returns c =
+    let s = c .before .before .before .before .before .before .before .before .before .before .before .before .before .before .before
+    .before .before .before .before .before .before .before .before .before .before .before .before .before .before .before .before
+    .before .before .before .before .before .before .before .before .before .before .before .before .before .args in
+    let a = c .before .before .before .before .before .before .before .before .before .before .before .before .before .before .before
+    .before .before .before .before .before .before .before .before .before .before .before .before .before .answer in
     let k = a .kept .1 .1 .1 .1 .1 in
     record {
       answers = a .ensures;
-      masks = call-masks (c .before .before .before .before .before .before .before .before .before .before .before .before .before .before .before .before .before .before .before .before .before .before .before .before .before .before .before .before .before .before .before .before .before .before .before .before .before .before .before .before .before .before .before .before .args .text .now) (c .before .before .before .before .before .before .before .before .before .before .before .before .before .before .before .before .before .before .before .before .before .before .before .before .before .before .before .before .before .before .before .before .before .before .before .before .before .before .before .before .before .before .before .before .args .codes .now) (c .before .before .before .before .before .before .before .before .before .before .before .before .before .before .before .before .before .before .before .before .before .before .before .before .before .before .before .before .before .before .before .before .before .before .before .before .before .before .before .before .before .before .before .before .args .wanted .now) (c .before .before .before .before .before .before .before .before .before .before .before .before .before .before .before .before .before .before .before .before .before .before .before .before .before .before .before .before .before .before .before .before .before .before .before .before .before .before .before .before .before .before .before .before .args .out .now) (c .before .before .before .before .before .before .before .before .before .before .before .before .before .before .before .before .before .before .before .before .before .before .before .before .before .before .before .before .before .before .before .before .before .before .before .before .before .before .before .before .before .before .before .before .args .ends .now) (c .before .before .before .before .before .before .before .before .before .before .before .before .before .before .before .before .before .before .before .before .before .before .before .before .before .before .before .before .before .before .before .before .before .before .before .before .before .before .before .before .before .before .before .before .args .operands .now) (c .before .before .before .before .before .before .before .before .before .before .before .before .before .before .before .before .before .before .before .before .before .before .before .before .before .before .before .before .before .before .before .before .before .before .before .before .before .before .before .before .before .before .before .before .args .results .now) (c .before .before .before .before .before .before .before .before .before .before .before .before .before .before .before .before .before .before .before .before .before .before .before .before .before .before .before .before .before .before .before .before .before .before .before .before .before .before .before .before .before .before .before .before .args .wires .now) (c .before .before .before .before .before .before .before .before .before .before .before .before .before .before .before .before .before .before .before .before .before .before .before .before .before .before .before .before .before .before .before .before .before .before .before .before .before .before .before .before .before .before .before .before .args .marks .now) (a .ensures);
-      operands = zeros-same (c .before .before .before .before .before .before .before .before .before .before .before .before .before .before .words .ensures) (k .0);
+      masks =
+          call-masks (s .text .now) (s .codes .now) (s .wanted .now) (s .out .now) (s .ends .now)
+          (s .operands .now) (s .results .now) (s .wires .now) (s .marks .now) (a .ensures);
+      operands = zeros-same (c .before .before .before .before .before .before .before .before .before .before .before .before .before
+          .before .words .ensures) (k .0);
       results = zeros-same (c .before .before .before .before .before .before .before .before .before .before .words2 .ensures) (k .1 .0);
       wires = zeros-same (c .before .before .before .before .before .before .wires2 .ensures) (k .1 .1 .0);
       marks = zeros-same (c .before .before .bytes .ensures) (k .1 .1 .1 .0);

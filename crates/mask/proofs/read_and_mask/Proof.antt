@@ -7,17 +7,14 @@ use native.Mathlib.Omega.{arith}
 use borrow.Author.Needs.{needs}
 use Rattle.mask.proofs.read_and_mask.Statement.{statement}
 use Rattle.mask.proofs.read_and_mask.Tie as tie
-use Rattle.mask.proofs.read_and_mask.Reads as reads
-use Rattle.mask.proofs.read_and_mask.Lts as lts
-use Rattle.mask.proofs.deliver.Reads as deliver-reads
-use Rattle.netlist.proofs.small.Reads as small-reads
-use Rattle.tables.proofs.read.read.Reads as read-reads
 
 small-requires : tie.Need-small-requires
 small-requires c κs = search needs
 
 read-requires : tie.Need-read-requires
-read-requires c κs = let p = c .before .before .before .before .before .before .before .before .before .before .before .before .before .before .before .before .before .pre in
+read-requires c κs =
+    let p = c .before .before .before .before .before .before .before .before .before .before .before .before .before .before .before
+    .before .before .pre in
     rw (c .before .before .before .before .before .small .ensures) ((lit< tt, omega (arith, p .5), p .6), (p .3, p .0, p .1, p .4))
 
 enum-known-question : tie.Need-enum-known-question
@@ -27,19 +24,30 @@ enum-known-h : tie.Need-enum-known-h
 enum-known-h c = search needs
 
 deliver-requires : tie.Need-deliver-requires
-deliver-requires c κs = let a = read-is (c .before .before .before .before .before .before .before .before .before .before .before .before .before .before .before .before .before .before .before .before .before .before .before .before .before .before .before .before .before .before .before .before .before .before .before .before .before .before .before .args .text .now) (c .before .before .before .before .before .before .before .before .before .before .before .before .before .before .before .before .before .before .before .before .before .read .last .1 .1 .0) (c .before .before .before .before .before .before .before .before .before .before .before .before .before .before .before .before .before .before .before .before .before .read .last .1 .1 .1 .0) (tables (c .before .before .before .before .before .before .before .before .before .before .before .before .before .before .before .before .before .before .before .before .before .read .last .1 .1 .1 .1 .1 .0) (c .before .before .before .before .before .before .before .before .before .before .before .before .before .before .before .before .before .before .before .before .before .read .last .1 .1 .1 .1 .1 .1 .0)) (c .before .before .before .before .before .before .before .before .before .before .before .before .before .before .before .before .before .before .before .before .before .before .before .before .before .before .before .small .ensures) (c .before .before .before .before .before .before .before .before .before .h .given .1) (c .before .before .before .before .before .before .before .before .before .before .before .before .before .before .before .before .before .before .before .before .before .read .ensures) in
-    let p = c .before .before .before .before .before .before .before .before .before .before .before .before .before .before .before .before .before .before .before .before .before .before .before .before .before .before .before .before .before .before .before .before .before .before .before .before .before .before .before .pre in
-    let k = c .before .before .before .before .before .before .before .before .before .before .before .before .before .before .before .before .before .before .before .before .before .read .kept in
+deliver-requires c κs =
+    let s = c .before .before .before .before .before .before .before .before .before .before .before .before .before .before .before
+    .before .before .before .before .before .before .before .before .before .before .before .before .before .before .before .before
+    .before .before .before .before .before .before .before .before in
+    let r = c .before .before .before .before .before .before .before .before .before .before .before .before .before .before .before
+    .before .before .before .before .before .before .read in
+    let t = r .last .1 .1 in
+    let a =
+    read-is (s .args .text .now) (t .0) (t .1 .0) (tables (t .1 .1 .1 .0) (t .1 .1 .1 .1 .0))
+    (c .before .before .before .before .before .before .before .before .before .before .before .before .before .before .before .before
+    .before .before .before .before .before .before .before .before .before .before .before .small .ensures) (c .before .before .before
+    .before .before .before .before .before .before .h .given .1) (r .ensures) in
+    let p = s .pre in
+    let k = r .kept .1 .1 in
     record {
       wired = a .wired;
       few = a .wires;
       gates = omega (arith, a .gates);
       ins = a .inBits;
       outs = a .outBits;
-      inputs = omega (arith, a .manyIn, p .5, k .1 .1 .0);
-      outputs = omega (arith, a .manyOut, p .6, k .1 .1 .1 .0);
+      inputs = omega (arith, a .manyIn, p .5, k .0);
+      outputs = omega (arith, a .manyOut, p .6, k .1 .0);
       wires = omega (arith, a .wires, p .2);
-      marks = omega (arith, a .wires, p .3, k .1 .1 .1 .1 .0);
+      marks = omega (arith, a .wires, p .3, k .1 .1 .0);
     }
 
 same-length : tie.Need-same-length
@@ -58,7 +66,16 @@ same-length-5 : tie.Need-same-length-5
 same-length-5 c = search needs
 
 returns : tie.Need-returns
-returns c = mask-not (c .before .before .before .before .before .before .before .before .before .before .before .before .before .before .before .before .before .before .before .before .before .before .before .before .before .before .before .before .before .before .before .args .codes .now) (c .before .before .before .before .before .before .before .before .before .before .before .before .before .before .before .before .before .before .before .before .before .before .before .before .before .before .before .before .before .before .before .args .wanted .now) _ _ (read-is (c .before .before .before .before .before .before .before .before .before .before .before .before .before .before .before .before .before .before .before .before .before .before .before .before .before .before .before .before .before .before .before .args .text .now) (c .before .before .before .before .before .before .before .before .before .before .before .before .before .read .last .1 .1 .0) (c .before .before .before .before .before .before .before .before .before .before .before .before .before .read .last .1 .1 .1 .0) (tables (c .before .before .before .before .before .before .before .before .before .before .before .before .before .read .last .1 .1 .1 .1 .1 .0) (c .before .before .before .before .before .before .before .before .before .before .before .before .before .read .last .1 .1 .1 .1 .1 .1 .0)) (c .before .before .before .before .before .before .before .before .before .before .before .before .before .before .before .before .before .before .before .small .ensures) (c .before .question .given .1) (c .before .before .before .before .before .before .before .before .before .before .before .before .before .read .ensures))
+returns c =
+    let s = c .before .before .before .before .before .before .before .before .before .before .before .before .before .before .before
+    .before .before .before .before .before .before .before .before .before .before .before .before .before .before .before .before
+    .args in
+    let r = c .before .before .before .before .before .before .before .before .before .before .before .before .before .read in
+    let t = r .last .1 .1 in
+    mask-not (s .codes .now) (s .wanted .now) _ _
+    (read-is (s .text .now) (t .0) (t .1 .0) (tables (t .1 .1 .1 .0) (t .1 .1 .1 .1 .0))
+    (c .before .before .before .before .before .before .before .before .before .before .before .before .before .before .before .before
+    .before .before .before .small .ensures) (c .before .question .given .1) (r .ensures))
 
 same-length-6 : tie.Need-same-length-6
 same-length-6 c = search needs
@@ -85,8 +102,23 @@ same-length-13 : tie.Need-same-length-13
 same-length-13 c = search needs
 
 returns-2 : tie.Need-returns-2
-returns-2 c = let a = read-is (c .before .before .before .before .before .before .before .before .before .before .before .before .before .before .before .before .before .before .before .before .before .before .before .before .before .before .before .before .before .before .before .before .before .before .before .before .before .before .before .before .before .before .before .before .before .before .before .before .before .before .args .text .now) (c .before .before .before .before .before .before .before .before .before .before .before .before .before .before .before .before .before .before .before .before .before .before .before .before .before .before .before .before .before .before .before .before .read .last .1 .1 .0) (c .before .before .before .before .before .before .before .before .before .before .before .before .before .before .before .before .before .before .before .before .before .before .before .before .before .before .before .before .before .before .before .before .read .last .1 .1 .1 .0) (tables (c .before .before .before .before .before .before .before .before .before .before .before .before .before .before .before .before .before .before .before .before .before .before .before .before .before .before .before .before .before .before .before .before .read .last .1 .1 .1 .1 .1 .0) (c .before .before .before .before .before .before .before .before .before .before .before .before .before .before .before .before .before .before .before .before .before .before .before .before .before .before .before .before .before .before .before .before .read .last .1 .1 .1 .1 .1 .1 .0)) (c .before .before .before .before .before .before .before .before .before .before .before .before .before .before .before .before .before .before .before .before .before .before .before .before .before .before .before .before .before .before .before .before .before .before .before .before .before .before .small .ensures) (c .before .before .before .before .before .before .before .before .before .before .before .before .before .before .before .before .before .before .before .before .h .given .1) (c .before .before .before .before .before .before .before .before .before .before .before .before .before .before .before .before .before .before .before .before .before .before .before .before .before .before .before .before .before .before .before .before .read .ensures) in
-    mask-read (c .before .before .before .before .before .before .before .before .before .before .before .before .before .before .before .before .before .before .before .before .before .before .before .before .before .before .before .before .before .before .before .before .before .before .before .before .before .before .before .before .before .before .before .before .before .before .before .before .before .before .args .codes .now) (c .before .before .before .before .before .before .before .before .before .before .before .before .before .before .before .before .before .before .before .before .before .before .before .before .before .before .before .before .before .before .before .before .before .before .before .before .before .before .before .before .before .before .before .before .before .before .before .before .before .before .args .wanted .now) a (c .before .before .before .before .before .before .before .before .before .before .deliver .ensures (a .is) (read-of a))
+returns-2 c =
+    let s = c .before .before .before .before .before .before .before .before .before .before .before .before .before .before .before
+    .before .before .before .before .before .before .before .before .before .before .before .before .before .before .before .before
+    .before .before .before .before .before .before .before .before .before .before .before .before .before .before .before .before
+    .before .before .before .args in
+    let r = c .before .before .before .before .before .before .before .before .before .before .before .before .before .before .before
+    .before .before .before .before .before .before .before .before .before .before .before .before .before .before .before .before
+    .before .read in
+    let t = r .last .1 .1 in
+    let a =
+    read-is (s .text .now) (t .0) (t .1 .0) (tables (t .1 .1 .1 .0) (t .1 .1 .1 .1 .0))
+    (c .before .before .before .before .before .before .before .before .before .before .before .before .before .before .before .before
+    .before .before .before .before .before .before .before .before .before .before .before .before .before .before .before .before
+    .before .before .before .before .before .before .small .ensures) (c .before .before .before .before .before .before .before .before
+    .before .before .before .before .before .before .before .before .before .before .before .before .h .given .1) (r .ensures) in
+    mask-read (s .codes .now) (s .wanted .now) a (c .before .before .before .before .before .before .before .before .before .before .deliver
+    .ensures (a .is) (read-of a))
 
 pub read-and-mask-spec : {M : Type 1} → statement M
 read-and-mask-spec =

@@ -26,7 +26,8 @@ same-length-4 : tie.Need-same-length-4
 same-length-4 c = search needs
 
 returns : tie.Need-returns
-returns c = λ N h p q. fill-made (c .before .before .before .before .before .before .before .before .before .before .before .write .ensures N h p q) (c .before .before .codes .ensures)
+returns c = λ N h p q. fill-made (c .before .before .before .before .before .before .before .before .before .before .before .write .ensures
+    N h p q) (c .before .before .codes .ensures)
 
 pub fill-spec : {M : Type 1} → statement M
 fill-spec =

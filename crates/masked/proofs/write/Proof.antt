@@ -20,7 +20,11 @@ same-length-3 : tie.Need-same-length-3
 same-length-3 c = search needs
 
 returns : tie.Need-returns
-returns c = let a = c .before .before .before .before .before .before .before .before .before .before .before .before .before .before .before .before .before .before .before .before .before .before .before .args in λ N h p q. write-made h (a .codes .now) (a .wanted .now) p q (c .before .before .before .before .before .before .before .before .before .before .before .before .header .ensures) (c .before .before .before .before .before .before .pass .ensures N (h .holds))
+returns c =
+    let s = c .before .before .before .before .before .before .before .before .before .before .before .before .before .before .before
+    .before .before .before .before .before .before .before .before .args in
+    λ N h p q. write-made h (s .codes .now) (s .wanted .now) p q (c .before .before .before .before .before .before .before .before .before
+    .before .before .before .header .ensures) (c .before .before .before .before .before .before .pass .ensures N (h .holds))
 
 pub write-spec : {M : Type 1} → statement M
 write-spec =
