@@ -1,14 +1,13 @@
 -- How many entries a result has is below 2^63, since its buffer has as many.
-use Prim.Native.Nat.{ℕ, _^_, _≤_, _<_}
+use Prim.Native.Nat.{ℕ, _^_, _<_}
 use mathlib.Core.Path.{_≡_, sym, ap, subst}
 use mathlib.Core.List.{List}
 use native.Mathlib.Omega.{arith}
 use lib.ListN.{length, take, length-take}
-use lib.Seq.{sets, length-sets}
+use lib.Seq.{length-sets}
 use Rattle.netlist.specs.declared.Answer.{Answer}
-use Rattle.netlist.specs.declared.Answer.the-variants.{Done, Refused}
 use Rattle.netlist.specs.Outcome.{Outcome, refused, done}
-use Rattle.netlist.specs.Services.{outcomeOf, answerOf, Answers}
+use Rattle.netlist.specs.Services.{answerOf, Answers}
 use Rattle.capi.specs.Number.{Countable}
 
 pub countable : {call : Outcome (List ℕ)} {e x : List ℕ} {a : Answer} → Answers call e x a → length e < 2 ^ 63 → Countable a

@@ -28,7 +28,9 @@ same-length-6 : tie.Need-same-length-6
 same-length-6 c = search needs
 
 returns : tie.Need-returns
-returns c = record { answer = c .before .before .before .before .before .before .before .before .before .before .before .before .before .check .result; promise = c .before .before .before .before .before .before .before .before .before .before .before .before .before .check .ensures; shows = record { told = search needs; leak = c .before .before .tell .ensures .leak } }
+returns c =
+    let check = c .before .before .before .before .before .before .before .before .before .before .before .before .before .check in
+    record { answer = check .result; promise = check .ensures; shows = record { told = search needs; leak = c .before .before .tell .ensures .leak } }
 
 pub fidrovelj-check-spec : {M : Type 1} → statement M
 fidrovelj-check-spec =

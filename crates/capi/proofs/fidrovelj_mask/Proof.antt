@@ -9,7 +9,13 @@ mask-requires : tie.Need-mask-requires
 mask-requires c κs = search needs
 
 number-requires : tie.Need-number-requires
-number-requires c κs = countable (c .before .before .before .before .before .before .before .before .before .before .before .before .mask .ensures .answers .text) (omega (arith, c .before .before .before .before .before .before .before .before .before .before .before .before .before .before .before .before .before .before .before .before .before .before .before .before .before .before .before .before .good))
+number-requires c κs =
+    let at-mask = c .before .before .before .before .before .before .before .before .before .before .before .before in
+    countable (at-mask .mask .ensures .answers .text)
+    (omega (
+      arith,
+      at-mask .before .before .before .before .before .before .before .before .before .before .before .before .before .before .before .before .good,
+    ))
 
 same-length : tie.Need-same-length
 same-length c = search needs

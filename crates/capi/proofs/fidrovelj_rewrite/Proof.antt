@@ -9,7 +9,10 @@ rewrite-requires : tie.Need-rewrite-requires
 rewrite-requires c κs = search needs
 
 number-requires : tie.Need-number-requires
-number-requires c κs = countable (c .before .before .before .before .before .before .before .before .rewrite .ensures .answers) (omega (arith, c .before .before .before .before .before .before .before .before .before .before .before .before .before .before .before .before .before .before .good))
+number-requires c κs =
+    let at-rewrite = c .before .before .before .before .before .before .before .before in
+    countable (at-rewrite .rewrite .ensures .answers)
+    (omega (arith, at-rewrite .before .before .before .before .before .before .before .before .before .before .good))
 
 same-length : tie.Need-same-length
 same-length c = search needs

@@ -9,7 +9,10 @@ run-requires : tie.Need-run-requires
 run-requires c κs = search needs
 
 number-requires : tie.Need-number-requires
-number-requires c κs = countable (c .before .before .before .before .before .before .before .before .before .before .run .ensures .answers) (omega (arith, c .before .before .before .before .before .before .before .before .before .before .before .before .before .before .before .before .before .before .before .before .before .before .before .good))
+number-requires c κs =
+    let at-run = c .before .before .before .before .before .before .before .before .before .before in
+    countable (at-run .run .ensures .answers)
+    (omega (arith, at-run .before .before .before .before .before .before .before .before .before .before .before .before .before .good))
 
 same-length : tie.Need-same-length
 same-length c = search needs

@@ -25,7 +25,8 @@ returns : tie.Need-returns
 returns c = rw (c .before .a .given .1) (toZ-pos w64 (subst Countable (c .before .a .given .1) (c .before .before .before .pre)))
 
 returns-2 : tie.Need-returns-2
-returns-2 c = let f : Fits w8 (c .before .before .a2 .given .0 .0) = search needs in rw (c .before .before .a2 .given .1) (minus-back f (c .minus .ensures))
+returns-2 c =
+    let f : Fits w8 (c .before .before .a2 .given .0 .0) = search needs in rw (c .before .before .a2 .given .1) (minus-back f (c .minus .ensures))
 
 pub number-spec : {M : Type 1} → statement M
 number-spec =

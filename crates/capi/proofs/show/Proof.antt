@@ -20,7 +20,15 @@ same-length : tie.Need-same-length
 same-length c = search needs
 
 returns : tie.Need-returns
-returns c = rw (c .before .before .put4 .ensures, c .before .before .before .before .before .before .put3 .ensures, c .before .before .before .before .before .before .before .before .before .before .put2 .ensures, c .before .before .before .before .before .before .before .before .before .before .before .before .before .before .put .ensures) refl
+returns c =
+    let at-put2 = c .before .before .before .before .before .before .before .before .before .before in
+    rw (
+      c .before .before .put4 .ensures,
+      c .before .before .before .before .before .before .put3 .ensures,
+      at-put2 .put2 .ensures,
+      at-put2 .before .before .before .before .put .ensures,
+    )
+    refl
 
 pub show-spec : {M : Type 1} → statement M
 show-spec =

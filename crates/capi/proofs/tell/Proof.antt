@@ -32,7 +32,9 @@ returns-2 : tie.Need-returns-2
 returns-2 c = rw (c .before .before .before .before .before .a .given .1) (record { told = refl; leak = c .before .before .show .ensures })
 
 returns-3 : tie.Need-returns-3
-returns-3 c = let f : Fits w8 (c .before .before .a2 .given .0 .0) = search needs in rw (c .before .before .a2 .given .1) (record { told = minus-back f (c .minus .ensures); leak = refl })
+returns-3 c =
+    let f : Fits w8 (c .before .before .a2 .given .0 .0) = search needs in
+    rw (c .before .before .a2 .given .1) (record { told = minus-back f (c .minus .ensures); leak = refl })
 
 pub tell-spec : {M : Type 1} → statement M
 tell-spec =
