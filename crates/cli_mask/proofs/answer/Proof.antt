@@ -32,12 +32,10 @@ same-length-6 c = search needs
 
 returns-2 : tie.Need-returns-2
 returns-2 c =
-    let s = c .before .before .before .before .before .before .before .before .before .before .before .before .before .before .before
-    .before .before .before .before .before .before .before .before .before .before .before .before .before .before in
-    answer-short (s .args .netlist .now) (s .args .codes .now) (s .args .wanted .now) (s .pre)
-    (c .before .before .before .before .before .before .before .before .before .before .before .before .before .before .before .before
-    .before .before .before .if1 .left) (c .before .before .before .before .before .before .before .before .before .before .before
-    .before .mask .ensures .answers)
+    let m = c .before .before .before .before .before .before .before .before .before .before .before .before in
+    let t = m .before .before .before .before .before .before .before in
+    let s = t .before .before .before .before .before .before .before .before .before .before in
+    answer-short (s .args .netlist .now) (s .args .codes .now) (s .args .wanted .now) (s .pre) (t .if1 .left) (m .mask .ensures .answers)
 
 pub answer-spec : {M : Type 1} → statement M
 answer-spec =

@@ -34,14 +34,12 @@ answer-requires c κs = search needs
 
 print-requires : tie.Need-print-requires
 print-requires c κs =
-    let l = c .before .before .before .before .before .before .before .before .before .before .before .before .before .before .before
-    .before .before .before .before .before .before .before .before .before .before .before .list2 in
-    let a = c .before .before .before .before .before .before .before .before .before .before .before .before .before .before .before
-    .answer in
-    let s = c .before .before .before .before .before .before .before .before .before .before .before .before .before .before .before
-    .before .before .before .before .before .before .before .before .before .before .before .before .before .before .before .before
-    .before .before .before .before .before .before .before .before .before .before .before in
-    (rw (length-take-le (l .result) (l .last .0) (l .ensures .within)) at (a .ensures .counted), omega (arith, s .pre .1, a .kept))
+    let a = c .before .before .before .before .before .before .before .before .before .before .before .before .before .before .before in
+    let l = a .before .before .before .before .before .before .before .before .before .before .before in
+    let s = l .before .before .before .before .before .before .before .before .before .before .before .before .before .before .before
+    .before in
+    let n = length-take-le (l .list2 .result) (l .list2 .last .0) (l .list2 .ensures .within) in
+    (rw n at (a .answer .ensures .counted), omega (arith, s .pre .1, a .answer .kept))
 
 same-length : tie.Need-same-length
 same-length c = search needs
@@ -72,18 +70,14 @@ same-length-9 c = search needs
 
 returns : tie.Need-returns
 returns c =
-    let s = c .before .before .before .before .before .before .before .before .before .before .before .before .before .before .before
-    .before .before .before .before .before .before .before .before .before .before .before .before .before .before .before .before
-    .before .before .before .before .before .before .before .before .before .before .before .before .before .before .args in
-    let k = c .before .before .before .before .before .before .before .before .before .before .before .before .before .before .before
-    .before .before .before .before .before .before .before .before .before .before .before .before .before .before .before .before
-    .before .before .list in
-    let l = c .before .before .before .before .before .before .before .before .before .before .before .before .before .before .before
-    .before .before .before .before .before .before .before .before .before .before .before .before .before .before .list2 in
-    reports (s .netlist .now) (s .inputs .now) (s .outputs .now) (k .ensures .same) (l .ensures .same)
-    (rw (length-take-le (l .result) (l .last .0) (l .ensures .within)) at (c .before .before .before .before .before .before .before .before
-    .before .before .before .before .before .before .before .before .before .before .answer .ensures .outcome))
-    (c .before .before .print .ensures)
+    let a = c .before .before .before .before .before .before .before .before .before .before .before .before .before .before .before
+    .before .before .before in
+    let l = a .before .before .before .before .before .before .before .before .before .before .before in
+    let k = l .before .before .before .before in
+    let s = k .before .before .before .before .before .before .before .before .before .before .before .before .args in
+    let n = length-take-le (l .list2 .result) (l .list2 .last .0) (l .list2 .ensures .within) in
+    reports (s .netlist .now) (s .inputs .now) (s .outputs .now) (k .list .ensures .same) (l .list2 .ensures .same)
+    (rw n at (a .answer .ensures .outcome)) (c .before .before .print .ensures)
 
 pub report-spec : {M : Type 1} → statement M
 report-spec =

@@ -24,10 +24,10 @@ same-length-4 c = search needs
 
 returns-2 : tie.Need-returns-2
 returns-2 c =
-    let s = c .before .before .before .before .before .before .before .before .before .before .before .before .before .before .before
-    .before .before .before .before in
-    answer-short (s .args .netlist .now) (s .pre) (c .before .before .before .before .before .before .before .before .before .before .before
-    .before .before .if1 .left) (c .before .before .before .before .before .before .before .before .rewrite .ensures .answers)
+    let w = c .before .before .before .before .before .before .before .before in
+    let t = w .before .before .before .before .before in
+    let s = t .before .before .before .before .before .before in
+    answer-short (s .args .netlist .now) (s .pre) (t .if1 .left) (w .rewrite .ensures .answers)
 
 pub answer-spec : {M : Type 1} → statement M
 answer-spec =

@@ -10,10 +10,9 @@ answer-requires c κs = search needs
 
 print-requires : tie.Need-print-requires
 print-requires c κs =
-    let a = c .before .before .before .before .before .before .before .before .before .answer in
-    let s = c .before .before .before .before .before .before .before .before .before .before .before .before .before .before .before
-    .before .before .before .before in
-    (a .ensures .counted, omega (arith, s .pre .text, a .kept))
+    let a = c .before .before .before .before .before .before .before .before .before in
+    let s = a .before .before .before .before .before .before .before .before .before .before in
+    (a .answer .ensures .counted, omega (arith, s .pre .text, a .answer .kept))
 
 same-length : tie.Need-same-length
 same-length c = search needs
@@ -29,10 +28,9 @@ same-length-4 c = search needs
 
 returns : tie.Need-returns
 returns c =
-    let s = c .before .before .before .before .before .before .before .before .before .before .before .before .before .before .before
-    .before .before .before .before .before .before .before .args in
-    reports (s .netlist .now) (c .before .before .before .before .before .before .before .before .before .before .before .before .answer
-    .ensures .outcome) (c .before .before .print .ensures)
+    let a = c .before .before .before .before .before .before .before .before .before .before .before .before in
+    let s = a .before .before .before .before .before .before .before .before .before .before .args in
+    reports (s .netlist .now) (a .answer .ensures .outcome) (c .before .before .print .ensures)
 
 pub report-spec : {M : Type 1} → statement M
 report-spec =

@@ -43,13 +43,12 @@ same-length-6 c = search needs
 
 returns-2 : tie.Need-returns-2
 returns-2 c =
-    let s = c .before .before .before .before .before .before .before .before .before .before .before .before .before .before .before
-    .before .before .before .before .before .before .before .before .before .before .before .before .before .before in
-    answer-short (s .args .netlist .now) (s .args .inputs .now) _ (s .pre) (c .before .before .before .before .before .before .before
-    .before .before .before .before .before .before .before .before .before .before .before .before .before .before .if1 .left)
-    (c .before .before .before .before .before .before .before .before .before .before .before .before .before .before .before .before
-    .before .before .before .list .ensures .same) (c .before .before .before .before .before .before .before .before .before .before
-    .run .ensures .answers)
+    let r = c .before .before .before .before .before .before .before .before .before .before in
+    let l = r .before .before .before .before .before .before .before .before .before in
+    let t = l .before .before in
+    let s = t .before .before .before .before .before .before .before .before in
+    answer-short (s .args .netlist .now) (s .args .inputs .now) _ (s .pre) (t .if1 .left)
+    (l .list .ensures .same) (r .run .ensures .answers)
 
 pub answer-spec : {M : Type 1} → statement M
 answer-spec =

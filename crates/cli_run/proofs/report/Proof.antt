@@ -33,11 +33,11 @@ same-length-7 c = search needs
 
 returns : tie.Need-returns
 returns c =
-    let s = c .before .before .before .before .before .before .before .before .before .before .before .before .before .before .before
-    .before .before .before .before .before .before .before .before .before .before .before .before .before .before .before .before
-    .before .args in
-    reports (s .netlist .now) (s .inputs .now) (c .before .before .before .before .before .before .before .before .before .before .before
-    .before .before .before .before .before .before .answer .ensures .outcome) (c .before .before .print .ensures)
+    let a = c .before .before .before .before .before .before .before .before .before .before .before .before .before .before .before
+    .before .before in
+    let s = a .before .before .before .before .before .before .before .before .before .before .before .before .before .before .before .args
+    in
+    reports (s .netlist .now) (s .inputs .now) (a .answer .ensures .outcome) (c .before .before .print .ensures)
 
 pub report-spec : {M : Type 1} → statement M
 report-spec =

@@ -34,13 +34,12 @@ slice-write-inputs c = search needs
 
 write-requires : tie.Need-write-requires
 write-requires c κs =
-    let s = c .before .before .before .before .before .before .before .before .before .before .before .before .before .before .before
-    .before .before .before .before in
+    let t = c .before .before .before .before .before in
+    let s = t .before .before .before .before .before .before .before .before .before .before .before .before .before .before in
     let p = s .pre in
-    let k = codes-length isCode _ (s .args .codes .now) (sym (c .before .before .before .before .before .before .before .before .codes
-    .ensures) ∙ not-false _ (c .before .before .before .before .before .before .before .if1 .left)) in
-    let v = codes-length isWanted _ (s .args .wanted .now) (sym (c .before .before .before .before .before .before .wanted .ensures) ∙
-    not-false _ (c .before .before .before .before .before .if2 .left)) in (
+    let k = codes-length isCode _ (s .args .codes .now) (sym (t .before .before .before .codes .ensures) ∙ not-false _ (t .before .before
+    .if1 .left)) in
+    let v = codes-length isWanted _ (s .args .wanted .now) (sym (t .before .wanted .ensures) ∙ not-false _ (t .if2 .left)) in (
       record {
         wired = p .wired;
         few = p .few;
@@ -73,18 +72,14 @@ same-length-5 c = search needs
 
 returns-3 : tie.Need-returns-3
 returns-3 c =
-    let s = c .before .before .before .before .before .before .before .before .before .before .before .before .before .before .before
-    .before .before .before .before .before .before .before .before .before .before .before .before .before in
+    let w = c .before .before .before .before .before .before .before .before in
+    let t = w .before .before .before .before .before .before in
+    let s = t .before .before .before .before .before .before .before .before .before .before .before .before .before .before in
     let codes = s .args .codes .now in
     let wanted = s .args .wanted .now in
-    let p = sym (c .before .before .before .before .before .before .before .before .before .before .before .before .before .before .before
-    .before .before .codes .ensures) ∙ not-false _ (c .before .before .before .before .before .before .before .before .before .before
-    .before .before .before .before .before .before .if1 .left) in
-    let q = sym (c .before .before .before .before .before .before .before .before .before .before .before .before .before .before .before
-    .wanted .ensures) ∙ not-false _ (c .before .before .before .before .before .before .before .before .before .before .before .before
-    .before .before .if2 .left) in
-    λ N a. mask-14 a codes wanted p q (c .before .before .before .before .before .before .before .before .write .ensures N (source-of a
-    codes wanted p q _ refl (s .pre .inputs)))
+    let p = sym (t .before .before .before .codes .ensures) ∙ not-false _ (t .before .before .if1 .left) in
+    let q = sym (t .before .wanted .ensures) ∙ not-false _ (t .if2 .left) in
+    λ N a. mask-14 a codes wanted p q (w .write .ensures N (source-of a codes wanted p q _ refl (s .pre .inputs)))
 
 pub deliver-spec : {M : Type 1} → statement M
 deliver-spec =

@@ -51,18 +51,16 @@ same-length-8 c = search needs
 
 returns-3 : tie.Need-returns-3
 returns-3 c =
-    let m = c .before .before .before .before .before .before .before .before .before .before .before .before .before .before .before
-    .before .before .before .before .measure in
-    let s = c .before .before .before .before .before .before .before .before .before .before .before .before .before .before .before
-    .before .before .before .before .before .before .before .before .before .before .before .before .before .before .before .before
-    .before in
+    let f = c .before .before .before .before .before .before .before .before in
+    let t = f .before .before .before .before .before in
+    let m = t .before .before .before .before .before .before .measure in
+    let s = t .before .before .before .before .before .before .before .before .before .before .before .before .before .before .before
+    .before .before .before .before in
     let k = m .kept .1 .1 .1 .1 .1 .1 .1 .0 in
     λ N h.
     let d = m .ensures N h in
     delivered {M = maskNetlist N (s .args .codes .now) (s .args .wanted .now)} d (omega (arith, s .good .0))
-    (c .before .before .before .before .before .before .before .before .before .before .before .before .before .before .if1 .left) (c
-    .before .before .before .before .before .before .before .before .before .before .before .before .before .if2 .left)
-    (c .before .before .before .before .before .before .before .before .fill .ensures N (source-same k h) (d .gates) (d .wires))
+    (t .before .if1 .left) (t .if2 .left) (f .fill .ensures N (source-same k h) (d .gates) (d .wires))
 
 pub deliver-spec : {M : Type 1} → statement M
 deliver-spec =

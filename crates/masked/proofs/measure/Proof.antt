@@ -19,9 +19,12 @@ add-gates c = search needs
 
 sub-gates : tie.Need-sub-gates
 sub-gates c =
-    let s = c .before .before .before .before .before .before .before .before .before .before .before .before .before .before .before
-    .before .before .before .args in
-    omega (arith, least (s .codes .now) (c .before .before .before .before .before .before .pass .ensures))
+    let p = c .before .before .before .before .before .before in
+    omega (
+      arith,
+      least (p .before .before .before .before .before .before .before .before .before .before .before .before .args .codes
+          .now) (p .pass .ensures),
+    )
 
 slice-aggregate-header : tie.Need-slice-aggregate-header
 slice-aggregate-header c = search needs
