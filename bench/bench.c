@@ -250,12 +250,22 @@ static struct line bench(struct call c, double seconds)
 }
 
 /* What a call takes beyond reading its text. */
-static void beyond(struct line whole, struct line reading)
+static struct line beyond(struct line whole, struct line reading)
 {
-    double rest[4];
+    struct line rest;
     for (int i = 0; i < 4; i++)
-        rest[i] = whole.at[i] - reading.at[i];
-    print_line("  less reading", rest[0], rest[1], rest[2], rest[3]);
+        rest.at[i] = whole.at[i] - reading.at[i];
+    print_line("  less reading", rest.at[0], rest.at[1], rest.at[2], rest.at[3]);
+    printf("\n");
+    return rest;
+}
+
+/* The share of one lane: a pass over the gates evaluates sixty-four, of which a run uses the first. */
+static void lane(struct line pass)
+{
+    for (int i = 0; i < 4; i++)
+        pass.at[i] *= 1000.0 / 64;
+    print_line("  a lane, in nanoseconds", pass.at[0], pass.at[1], pass.at[2], pass.at[3]);
     printf("\n");
 }
 
@@ -311,9 +321,9 @@ int main(int argc, char **argv)
     beyond(bench(circuit(MASK, folder, "aes_column"), s), column);
 
     title("Running");
-    beyond(bench(circuit(RUN, folder, "mult64"), s), mult64);
-    beyond(bench(circuit(RUN, folder, "adder64"), s), adder64);
-    beyond(bench(masked(RUN, circuit(MASK, folder, "and_ladder_2048")), s), ladder);
+    lane(beyond(bench(circuit(RUN, folder, "mult64"), s), mult64));
+    lane(beyond(bench(circuit(RUN, folder, "adder64"), s), adder64));
+    lane(beyond(bench(masked(RUN, circuit(MASK, folder, "and_ladder_2048")), s), ladder));
 
     title("Checking");
     bench(masked(CHECK, circuit(MASK, folder, "present_sbox")), s);

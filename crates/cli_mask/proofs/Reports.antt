@@ -8,7 +8,7 @@ use lib.ListN.{length, take}
 use lib.Seq.{length-sets}
 use borrow.Author.Tests.{le-leb}
 use Rattle.netlist.specs.declared.Answer.{Answer}
-use Rattle.netlist.specs.declared.Answer.the-variants.{Done, Refused}
+use Rattle.netlist.specs.declared.Answer.the-variants.{Refused}
 use Rattle.netlist.specs.Text.{lf}
 use Rattle.netlist.specs.Netlist.{small}
 use Rattle.netlist.specs.Outcome.{Outcome, refused, done, ask, andThen}
@@ -38,7 +38,8 @@ answered-refused x y k q p = record {
 }
 
 -- question 2
-pub answer-long : (netlist codes wanted text ends : List ℕ) → 60000 < length netlist → Answered (outcome netlist codes wanted) text ends (length wanted) (Refused 2)
+pub answer-long : (netlist codes wanted text ends : List ℕ) → 60000 < length netlist
+    → Answered (outcome netlist codes wanted) text ends (length wanted) (Refused 2)
 answer-long netlist codes wanted text ends h = answered-as (sym (readable-long netlist _ h)) (answered-refused text ends (length wanted) 2 refl)
 
 module _ (netlist codes wanted : List ℕ) {t e o r w m : List ℕ} (room : Roomy t e o r w m) where
@@ -47,7 +48,12 @@ module _ (netlist codes wanted : List ℕ) {t e o r w m : List ℕ} (room : Room
   unfolding maskCall
   call-roomy h =
       let long : tablesLong small (length o ∷ length r ∷ length w ∷ length m ∷ []) ≡ true
-      = rw (le-leb 2048 (length o) (room .operands), le-leb 2048 (length r) (room .results), le-leb 2048 (length w) (room .wires), le-leb 2048 (length m) (room .marks)) in
+      = rw (
+        le-leb 2048 (length o) (room .operands),
+        le-leb 2048 (length r) (room .results),
+        le-leb 2048 (length w) (room .wires),
+        le-leb 2048 (length m) (room .marks),
+      ) in
       ap (λ (b : Bool). ask 1 b (andThen (readNetlist small netlist) (maskOutcome codes wanted (length t) (length e)))) long
       ∙ ap₂ (λ (j k : ℕ). andThen (readNetlist small netlist) (maskOutcome codes wanted j k)) (room .text) (room .ends)
       ∙ sym (readable-short netlist _ h)
@@ -64,7 +70,8 @@ module _ (netlist codes wanted : List ℕ) {t e o r w m : List ℕ} (room : Room
       let text : take (length (R .text)) x ≡ R .text = done-same _ _ (ap (textOf x) (sym (h .text .answer)) ∙ h .text .outcome) in
       let ends : take (length wanted) y ≡ R .codes = ap₂ take (sym many) (h .codes) ∙ take-sets (R .codes) e fits in
       record {
-        outcome = ap (outcomeOf x (take (length wanted) y)) (h .text .answer) ∙ ap₂ (λ (u v : List ℕ). done (record { text = u; codes = v })) text ends;
+        outcome = ap (outcomeOf x (take (length wanted) y)) (h .text .answer)
+            ∙ ap₂ (λ (u v : List ℕ). done (record { text = u; codes = v })) text ends;
         counted = λ n d. (answered (h .text) .counted n d, omega (arith, ap length (h .codes) ∙ length-sets e 0 (R .codes)));
       }
 
@@ -74,7 +81,8 @@ module _ (netlist codes wanted : List ℕ) {t e o r w m : List ℕ} (room : Room
 
 -- ---- what it prints
 
-pub prints-as : {a : Answer} {l x : List ℕ} {p : Printed} (text codes : List ℕ) (b : Answer) → a ≡ b → Prints l x p (printMask (outcomeOf text codes b))
+pub prints-as : {a : Answer} {l x : List ℕ} {p : Printed} (text codes : List ℕ) (b : Answer) → a ≡ b
+    → Prints l x p (printMask (outcomeOf text codes b))
     → Prints l x p (printMask (outcomeOf text codes a))
 prints-as text codes b e f = rw e f
 
@@ -92,7 +100,8 @@ pub prints-line : {l u : List ℕ} {r : ℕ} (text : List ℕ) → Front l r u �
 prints-line {u = u} text f = record { line = f .within; text = omega arith; same = append-nil _ ∙ f .same }
 
 -- the outcome printed
-pub reports : (netlist inputs outputs : List ℕ) {codes wanted l x : List ℕ} {o : Outcome MaskedText} {p : Printed} → codes ≡ listFile inputs → wanted ≡ listFile outputs
+pub reports : (netlist inputs outputs : List ℕ) {codes wanted l x : List ℕ} {o : Outcome MaskedText} {p : Printed}
+    → codes ≡ listFile inputs → wanted ≡ listFile outputs
     → o ≡ outcome netlist codes wanted → Prints l x p (printMask o) → Prints l x p (maskProgram netlist inputs outputs)
 unfolding maskProgram
 reports netlist inputs outputs {l = l} {x = x} {p = p} c w e f =

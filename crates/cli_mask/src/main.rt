@@ -26,7 +26,8 @@ fn answer(
     marks: &mut [u8],
 ) -> Answer
     requires { ⌜ Roomy (now text) (now ends) (now operands) (now results) (now wires) (now marks) ⌝ }
-    ensures { λ r. ⌜ Answered (outcome (now (netlist .entry)) (now (codes .entry)) (now (wanted .entry))) (now (text .exit)) (now (ends .exit)) (length (now (wanted .entry))) r ⌝ }
+    ensures { λ r. ⌜ Answered (outcome (now (netlist .entry)) (now (codes .entry)) (now (wanted .entry))) (now (text .exit))
+        (now (ends .exit)) (length (now (wanted .entry))) r ⌝ }
 {
     if 60000 < netlist.len() {
         return Answer::Refused(2);
@@ -47,7 +48,8 @@ fn answer(
 // What an answer prints, where there are so many output codes.
 fn print(line: &mut [u8], text: &[u8], ends: &[u8], codes: usize, a: Answer) -> Printed
     requires { ⌜ Counted (now text) (now ends) codes a × (3 * length (now ends) + 64 ≤ length (now line)) ⌝ }
-    ensures { λ r. ⌜ Prints (now (line .exit)) (now (text .entry)) r (printMask (outcomeOf (now (text .entry)) (take codes (now (ends .entry))) a)) ⌝ }
+    ensures { λ r. ⌜ Prints (now (line .exit)) (now (text .entry)) r
+        (printMask (outcomeOf (now (text .entry)) (take codes (now (ends .entry))) a)) ⌝ }
 {
     match a {
         Answer::Done(n) => Printed {
@@ -74,8 +76,10 @@ fn report(
     wires: &mut [u32],
     marks: &mut [u8],
 ) -> Printed
-    requires { ⌜ Roomy (now text) (now ends) (now operands) (now results) (now wires) (now marks) × (3 * length (now ends) + 64 ≤ length (now line)) ⌝ }
-    ensures { λ r. ⌜ Prints (now (line .exit)) (now (text .exit)) r (maskProgram (now (netlist .entry)) (now (inputs .entry)) (now (outputs .entry))) ⌝ }
+    requires { ⌜ Roomy (now text) (now ends) (now operands) (now results) (now wires) (now marks)
+        × (3 * length (now ends) + 64 ≤ length (now line)) ⌝ }
+    ensures { λ r. ⌜ Prints (now (line .exit)) (now (text .exit)) r
+        (maskProgram (now (netlist .entry)) (now (inputs .entry)) (now (outputs .entry))) ⌝ }
 {
     let n = console::list(inputs);
     let m = console::list(outputs);

@@ -36,10 +36,12 @@ pub answer-short : (netlist : List ℕ) {b o r g x : List ℕ} {a : Answer} → 
 answer-short netlist m h w = answered-as (call-roomy netlist m h) (answered w)
 
 -- an answer printed
-pub prints-as : {a : Answer} {x : List ℕ} {r : ℕ} (e : List ℕ) (b : Answer) → a ≡ b → Front x r (printRewrite (outcomeOf e b)) → Front x r (printRewrite (outcomeOf e a))
+pub prints-as : {a : Answer} {x : List ℕ} {r : ℕ} (e : List ℕ) (b : Answer) → a ≡ b → Front x r (printRewrite (outcomeOf e b))
+    → Front x r (printRewrite (outcomeOf e a))
 prints-as e b p f = rw p f
 
 -- the outcome printed
-pub reports : (netlist : List ℕ) {o : Outcome (List ℕ)} {x : List ℕ} {r : ℕ} → o ≡ outcome netlist → Front x r (printRewrite o) → Front x r (rewriteProgram netlist)
+pub reports : (netlist : List ℕ) {o : Outcome (List ℕ)} {x : List ℕ} {r : ℕ} → o ≡ outcome netlist → Front x r (printRewrite o)
+    → Front x r (rewriteProgram netlist)
 unfolding rewriteProgram
 reports netlist p f = rw p at f

@@ -1,9 +1,8 @@
 -- From the bytes of the two files to what *run* prints.
-use Prim.Native.Nat.{ℕ, _+_, _*_, _≤_, _<_}
+use Prim.Native.Nat.{ℕ, _≤_, _<_}
 use mathlib.Core.Path.{_≡_, sym, ap, _∙_}
 use mathlib.Core.Bool.{Bool, true}
-use mathlib.Core.List.{List, [], _∷_, _++_}
-use native.Mathlib.Omega.{arith}
+use mathlib.Core.List.{List, [], _∷_}
 use lib.ListN.{length}
 use borrow.Author.Tests.{le-leb}
 use Rattle.netlist.specs.declared.Answer.{Answer}
@@ -28,21 +27,29 @@ call-roomy : (netlist inputs : List ℕ) {list b o r g w : List ℕ} → Roomy b
 unfolding runCall
 call-roomy netlist inputs {list} {b} {o} {r} {g} {w} m h e =
     let long : tablesLong large (length o ∷ length r ∷ length g ∷ length w ∷ []) ≡ true
-    = rw (le-leb 18430 (length o) (m .operands), le-leb 18430 (length r) (m .results), le-leb 18430 (length g) (m .given), le-leb 18430 (length w) (m .words)) in
+    = rw (
+      le-leb 18430 (length o) (m .operands),
+      le-leb 18430 (length r) (m .results),
+      le-leb 18430 (length g) (m .given),
+      le-leb 18430 (length w) (m .words),
+    ) in
     ap (λ (t : Bool). ask 1 t (andThen (readNetlist large netlist) (runOutcome list (length b)))) long
     ∙ ap (λ (room : ℕ). andThen (readNetlist large netlist) (runOutcome list room)) (m .bits)
     ∙ ap (λ (l : List ℕ). runCall large [] netlist l (large .wires)) e
     ∙ sym (readable-short netlist _ h)
 
-pub answer-short : (netlist inputs list : List ℕ) {b o r g w x : List ℕ} {a : Answer} → Roomy b o r g w → length netlist ≤ 60000 → list ≡ listFile inputs
+pub answer-short : (netlist inputs list : List ℕ) {b o r g w x : List ℕ} {a : Answer} → Roomy b o r g w → length netlist ≤ 60000
+    → list ≡ listFile inputs
     → Answers (call netlist list b o r g w) b x a → Answered (outcome netlist inputs) x a
 answer-short netlist inputs list m h e s = answered-as (call-roomy netlist inputs m h e) (answered s)
 
 -- an answer printed
-pub prints-as : {a : Answer} {x : List ℕ} {r : ℕ} (e : List ℕ) (b : Answer) → a ≡ b → Front x r (printRun (outcomeOf e b)) → Front x r (printRun (outcomeOf e a))
+pub prints-as : {a : Answer} {x : List ℕ} {r : ℕ} (e : List ℕ) (b : Answer) → a ≡ b → Front x r (printRun (outcomeOf e b))
+    → Front x r (printRun (outcomeOf e a))
 prints-as e b p f = rw p f
 
 -- the outcome printed
-pub reports : (netlist inputs : List ℕ) {o : Outcome (List ℕ)} {x : List ℕ} {r : ℕ} → o ≡ outcome netlist inputs → Front x r (printRun o) → Front x r (runProgram netlist inputs)
+pub reports : (netlist inputs : List ℕ) {o : Outcome (List ℕ)} {x : List ℕ} {r : ℕ} → o ≡ outcome netlist inputs → Front x r (printRun o)
+    → Front x r (runProgram netlist inputs)
 unfolding runProgram
 reports netlist inputs p f = rw p at f

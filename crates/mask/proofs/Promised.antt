@@ -1,6 +1,6 @@
 -- From a source that was read to Mask's promise.
 use Prim.Native.Nat.{ℕ, _+_, _*_, _^_, _≤_, _<_}
-use mathlib.Core.Path.{_≡_, refl, sym, ap, ap₂, _∙_, subst}
+use mathlib.Core.Path.{_≡_, refl, sym, ap, ap₂, _∙_}
 use mathlib.Core.Bool.{Bool, true, false, _&&_}
 use mathlib.Core.List.{List, [], _∷_, _++_}
 use native.Mathlib.Omega.{arith}
@@ -8,20 +8,19 @@ use lib.Dec.{eqb, leb, eqb→eq, leb→le}
 use lib.ListN.{length, take, set}
 use lib.Seq.{sets, take-suc-set}
 use native.Mathlib.Numerals.{add-one}
-use Rattle.netlist.specs.declared.Limits.{Limits}
 use Rattle.netlist.specs.declared.Answer.{Answer}
 use Rattle.netlist.specs.declared.Answer.the-variants.{Done, Refused}
 use Rattle.netlist.specs.Lists.{every}
 use Rattle.netlist.specs.Netlist.{Netlist, inputBits, outputBits, small, large}
-use Rattle.netlist.specs.Outcome.{Outcome, refused, done, ask, andThen}
+use Rattle.netlist.specs.Outcome.{Outcome, refused, done, andThen}
 use Rattle.netlist.specs.Read.{readNetlist}
 use Rattle.netlist.specs.Write.{writeNetlist}
 use Rattle.netlist.specs.Mask.{isCode, isWanted, maskNetlist}
-use Rattle.netlist.specs.Services.{MaskedText, maskedText, tablesLong, listGood, deliverOutcome, maskOutcome, maskCall, outcomeOf, written, Answers}
-use Rattle.netlist.specs.Table.{Tables, Holds}
+use Rattle.netlist.specs.Services.{MaskedText, maskedText, tablesLong, listGood, deliverOutcome, maskOutcome, maskCall, outcomeOf, written}
+use Rattle.netlist.specs.Table.{Tables}
 use Rattle.netlist.proofs.Tests.{both, true-T}
 use Rattle.netlist.proofs.Questions.{done-same, ask-done, andThen-done}
-use Rattle.netlist.proofs.Answering.{answers-refused, answers-as, take-sets}
+use Rattle.netlist.proofs.Answering.{answers-refused, take-sets}
 use Rattle.netlist.proofs.Accepted.{accepted}
 use Rattle.netlist.proofs.MaskInputs.{MaskInputs, mask-inputs}
 use Rattle.netlist.proofs.Masking.{outputs-unmask, counts-equal, output-codes-length}
@@ -29,7 +28,7 @@ use Rattle.netlist.proofs.MaskedText.{masked-reads}
 use Rattle.lines.specs.declared.header.HeaderNumbers.{HeaderNumbers}
 use Rattle.tables.specs.Whole.{ReadAt, ReadNot}
 use Rattle.masked.specs.Whole.{Source, textIn, codesIn, MaskAnswers}
-use Rattle.mask.specs.Fronts.{Fronts, Read}
+use Rattle.mask.specs.Fronts.{Read}
 use Rattle.mask.specs.Promise.{call, Masks}
 
 -- ---- answers
@@ -58,11 +57,13 @@ module _ {h : HeaderNumbers} {t : Tables} {is os : List ℕ} {N : Netlist} (a : 
   wanted-good : (b : Bool) → listGood isWanted (h .outs) wanted ≡ b → listGood isWanted (outputBits N) wanted ≡ b
   wanted-good b e = ap (λ (n : ℕ). listGood isWanted n wanted) (a .holds .outs) ∙ e
 
-  pub mask-11 : (e f : List ℕ) → listGood isCode (h .ins) codes ≡ false → MaskAnswers (maskOutcome codes wanted (length e) (length f) N) e e f f (Refused 11)
+  pub mask-11 : (e f : List ℕ) → listGood isCode (h .ins) codes ≡ false
+      → MaskAnswers (maskOutcome codes wanted (length e) (length f) N) e e f f (Refused 11)
   mask-11 e f p = mask-refused e f (rw (codes-good false p))
 
   module _ (p : listGood isCode (h .ins) codes ≡ true) where
-    pub mask-13 : (e f : List ℕ) → listGood isWanted (h .outs) wanted ≡ false → MaskAnswers (maskOutcome codes wanted (length e) (length f) N) e e f f (Refused 13)
+    pub mask-13 : (e f : List ℕ) → listGood isWanted (h .outs) wanted ≡ false
+        → MaskAnswers (maskOutcome codes wanted (length e) (length f) N) e e f f (Refused 13)
     mask-13 e f q = mask-refused e f (rw (codes-good true p, wanted-good false q))
 
     module _ (q : listGood isWanted (h .outs) wanted ≡ true) where
@@ -70,12 +71,18 @@ module _ {h : HeaderNumbers} {t : Tables} {is os : List ℕ} {N : Netlist} (a : 
       pub source-of : (is′ : List ℕ) → is′ ≡ set is (h .inputs) 2 → h .inputs < length is
           → Source t (h .gates) (h .wires) (length codes) (length wanted) (take (h .inputs + 1) is′) (take (h .outputs) os) N
       source-of is′ w l = record {
-        holds = record { gates = a .holds .gates; wires = a .holds .wires; ins = a .holds .ins ∙ sym (codes-length isCode (h .ins) codes p); outs = a .holds .outs ∙ sym (codes-length isWanted (h .outs) wanted q) };
+        holds = record {
+          gates = a .holds .gates;
+          wires = a .holds .wires;
+          ins = a .holds .ins ∙ sym (codes-length isCode (h .ins) codes p);
+          outs = a .holds .outs ∙ sym (codes-length isWanted (h .outs) wanted q);
+        };
         inputs = ap (take (h .inputs + 1)) w ∙ rw add-one (take-suc-set is (h .inputs) 2 l) ∙ ap (λ (x : List ℕ). x ++ (2 ∷ [])) (a .inputs);
         outputs = a .outputs;
       }
 
-      pub mask-14 : {e x f y : List ℕ} {r : Answer} → MaskAnswers (deliverOutcome (length e) (length f) (maskedText (maskNetlist N codes wanted))) e x f y r
+      pub mask-14 : {e x f y : List ℕ} {r : Answer}
+          → MaskAnswers (deliverOutcome (length e) (length f) (maskedText (maskNetlist N codes wanted))) e x f y r
           → MaskAnswers (maskOutcome codes wanted (length e) (length f) N) e x f y r
       mask-14 m = mask-as (sym (rw (codes-good true p, wanted-good true q) refl)) m
 
@@ -84,10 +91,12 @@ module _ {h : HeaderNumbers} {t : Tables} {is os : List ℕ} {N : Netlist} (a : 
 pub read-of : {text is os : List ℕ} {t : Tables} {h : HeaderNumbers} (a : ReadAt small text is os t h) → Read h t is os (a .is)
 read-of a = record { holds = a .holds; inputs = a .inputs; outputs = a .outputs }
 
-pub mask-read : {text is os : List ℕ} {t : Tables} {h : HeaderNumbers} (codes wanted : List ℕ) {e x f y : List ℕ} {r : Answer} (a : ReadAt small text is os t h)
+pub mask-read : {text is os : List ℕ} {t : Tables} {h : HeaderNumbers} (codes wanted : List ℕ) {e x f y : List ℕ} {r : Answer}
+    (a : ReadAt small text is os t h)
     → MaskAnswers (maskOutcome codes wanted (length e) (length f) (a .is)) e x f y r
     → MaskAnswers (andThen (readNetlist small text) (maskOutcome codes wanted (length e) (length f))) e x f y r
-mask-read codes wanted {e = e} {f = f} a m = mask-as (sym (ap (λ (o : Outcome Netlist). andThen o (maskOutcome codes wanted (length e) (length f))) (a .read))) m
+mask-read codes wanted {e = e} {f = f} a m =
+    mask-as (sym (ap (λ (o : Outcome Netlist). andThen o (maskOutcome codes wanted (length e) (length f))) (a .read))) m
 
 pub mask-not : {text : List ℕ} (codes wanted e f : List ℕ) {q : ℕ} → ReadNot small text q
     → MaskAnswers (andThen (readNetlist small text) (maskOutcome codes wanted (length e) (length f))) e e f f (Refused q)
@@ -129,7 +138,9 @@ module _ (text codes wanted out ends o r w m : List ℕ) where
         source = N;
         read = two .1;
         inputs = mask-inputs (accepted small text N (two .1) .formed) (c11 .0) (c13 .0);
-        room = leb→le (length (M .codes)) (length ends) (both (leb (length (writeNetlist (M .netlist))) (length out)) (leb (length (M .codes)) (length ends)) (c14 .0) .1);
+        room =
+            let text = leb (length (writeNetlist (M .netlist))) (length out) in
+            leb→le (length (M .codes)) (length ends) (both text (leb (length (M .codes)) (length ends)) (c14 .0) .1);
         same = done-same _ _ (c14 .1);
       }
 
@@ -145,7 +156,8 @@ module _ (text codes wanted out ends o r w m : List ℕ) where
       let M = maskNetlist N codes wanted in
       let C = k .inputs in
       let words : writeNetlist (M .netlist) ≡ take n x = ap (λ (Q : MaskedText). Q .text) (k .same) ∙ done-same (R .text) (take n x) (d .2) in
-      let given : written (codesIn c) ≡ M .codes = ap (λ (u : Outcome MaskedText). written (codesIn u)) (d .1) ∙ ap (λ (Q : MaskedText). Q .codes) (sym (k .same)) in
+      let given : written (codesIn c) ≡ M .codes =
+      ap (λ (u : Outcome MaskedText). written (codesIn u)) (d .1) ∙ ap (λ (Q : MaskedText). Q .codes) (sym (k .same)) in
       let ends-are : take (outputBits N) y ≡ M .codes =
       ap₂ take (sym (output-codes-length C)) (h .codes ∙ ap (sets ends 0) given) ∙ take-sets (M .codes) ends (k .room) in
       record {

@@ -53,8 +53,15 @@ fn write(
     wires: &mut [u32],
     marks: &mut [u8],
 ) -> Answer
-    requires { ⌜ Fronts h (tables (now operands) (now results)) (now inputs) (now outputs) (now wires) (now marks) × (length (now codes) ≤ h .wires) × (length (now wanted) ≤ h .wires) ⌝ }
-    ensures { λ r. ⌜ ((N : Netlist) → Source (tables (now (operands .entry)) (now (results .entry))) (h .gates) (h .wires) (length (now (codes .entry))) (length (now (wanted .entry))) (take (h .inputs + 1) (now (inputs .entry))) (take (h .outputs) (now (outputs .entry))) N → MaskAnswers (deliverOutcome (length (now (out .entry))) (length (now (ends .entry))) (maskedText (maskNetlist N (now (codes .entry)) (now (wanted .entry))))) (now (out .entry)) (now (out .exit)) (now (ends .entry)) (now (ends .exit)) r) ⌝ }
+    requires { ⌜ Fronts h (tables (now operands) (now results)) (now inputs) (now outputs) (now wires) (now marks)
+        × (length (now codes) ≤ h .wires)
+        × (length (now wanted) ≤ h .wires) ⌝ }
+    ensures { λ r. ⌜ ((N : Netlist)
+        → Source (tables (now (operands .entry)) (now (results .entry))) (h .gates) (h .wires) (length (now (codes .entry)))
+        (length (now (wanted .entry))) (take (h .inputs + 1) (now (inputs .entry))) (take (h .outputs) (now (outputs .entry))) N
+        → MaskAnswers (deliverOutcome (length (now (out .entry))) (length (now (ends .entry)))
+        (maskedText (maskNetlist N (now (codes .entry)) (now (wanted .entry))))) (now (out .entry)) (now (out .exit)) (now (ends .entry))
+        (now (ends .exit)) r) ⌝ }
 {
     let all = h.wires as usize;
     let ins = h.inputs + 1;
@@ -89,7 +96,10 @@ fn deliver(
     marks: &mut [u8],
 ) -> Answer
     requires { ⌜ Fronts h (tables (now operands) (now results)) (now inputs) (now outputs) (now wires) (now marks) ⌝ }
-    ensures { λ r. ⌜ ((N : Netlist) → Read h (tables (now (operands .entry)) (now (results .entry))) (now (inputs .entry)) (now (outputs .entry)) N → MaskAnswers (maskOutcome (now (codes .entry)) (now (wanted .entry)) (length (now (out .entry))) (length (now (ends .entry))) N) (now (out .entry)) (now (out .exit)) (now (ends .entry)) (now (ends .exit)) r) ⌝ }
+    ensures { λ r. ⌜ ((N : Netlist)
+        → Read h (tables (now (operands .entry)) (now (results .entry))) (now (inputs .entry)) (now (outputs .entry)) N
+        → MaskAnswers (maskOutcome (now (codes .entry)) (now (wanted .entry)) (length (now (out .entry))) (length (now (ends .entry))) N)
+        (now (out .entry)) (now (out .exit)) (now (ends .entry)) (now (ends .exit)) r) ⌝ }
 {
     if !lists::codes(codes, h.ins as usize) {
         return Answer::Refused(11);
@@ -128,8 +138,16 @@ fn read_and_mask(
     inputs: &mut [u32],
     outputs: &mut [u32],
 ) -> Answer
-    requires { ⌜ (smallLimits .table ≤ length (now operands)) × (smallLimits .table ≤ length (now results)) × (smallLimits .table ≤ length (now wires)) × (smallLimits .table ≤ length (now marks)) × (now marks ≡ replicate (length (now marks)) 0) × (smallLimits .inputs + 1 ≤ length (now inputs)) × (smallLimits .outputs ≤ length (now outputs)) ⌝ }
-    ensures { λ r. ⌜ MaskAnswers (andThen (readNetlist smallLimits (now (text .entry))) (maskOutcome (now (codes .entry)) (now (wanted .entry)) (length (now (out .entry))) (length (now (ends .entry))))) (now (out .entry)) (now (out .exit)) (now (ends .entry)) (now (ends .exit)) r ⌝ }
+    requires { ⌜ (smallLimits .table ≤ length (now operands))
+        × (smallLimits .table ≤ length (now results))
+        × (smallLimits .table ≤ length (now wires))
+        × (smallLimits .table ≤ length (now marks))
+        × (now marks ≡ replicate (length (now marks)) 0)
+        × (smallLimits .inputs + 1 ≤ length (now inputs))
+        × (smallLimits .outputs ≤ length (now outputs)) ⌝ }
+    ensures { λ r. ⌜ MaskAnswers (andThen (readNetlist smallLimits (now (text .entry)))
+        (maskOutcome (now (codes .entry)) (now (wanted .entry)) (length (now (out .entry))) (length (now (ends .entry)))))
+        (now (out .entry)) (now (out .exit)) (now (ends .entry)) (now (ends .exit)) r ⌝ }
 {
     let l = netlist::small();
     match tables::read::read(text, l, inputs, outputs, marks, operands, results) {
@@ -162,7 +180,9 @@ fn answer(
     wires: &mut [u32],
     marks: &mut [u8],
 ) -> Answer
-    ensures { λ r. ⌜ MaskAnswers (call (now (text .entry)) (now (codes .entry)) (now (wanted .entry)) (now (out .entry)) (now (ends .entry)) (now (operands .entry)) (now (results .entry)) (now (wires .entry)) (now (marks .entry))) (now (out .entry)) (now (out .exit)) (now (ends .entry)) (now (ends .exit)) r ⌝ }
+    ensures { λ r. ⌜ MaskAnswers (call (now (text .entry)) (now (codes .entry)) (now (wanted .entry)) (now (out .entry))
+        (now (ends .entry)) (now (operands .entry)) (now (results .entry)) (now (wires .entry)) (now (marks .entry))) (now (out .entry))
+        (now (out .exit)) (now (ends .entry)) (now (ends .exit)) r ⌝ }
 {
     if !tables_long(operands.len(), results.len(), wires.len(), marks.len()) {
         return Answer::Refused(1);
@@ -198,7 +218,9 @@ pub fn mask(
     wires: &mut [u32],
     marks: &mut [u8],
 ) -> Answer
-    ensures { λ r. ⌜ Promise (now (text .entry)) (now (codes .entry)) (now (wanted .entry)) (now (out .entry)) (now (out .exit)) (now (ends .entry)) (now (ends .exit)) (now (operands .entry)) (now (operands .exit)) (now (results .entry)) (now (results .exit)) (now (wires .entry)) (now (wires .exit)) (now (marks .entry)) (now (marks .exit)) r ⌝ }
+    ensures { λ r. ⌜ Promise (now (text .entry)) (now (codes .entry)) (now (wanted .entry)) (now (out .entry)) (now (out .exit))
+        (now (ends .entry)) (now (ends .exit)) (now (operands .entry)) (now (operands .exit)) (now (results .entry)) (now (results .exit))
+        (now (wires .entry)) (now (wires .exit)) (now (marks .entry)) (now (marks .exit)) r ⌝ }
 {
     let r = answer(
         text,

@@ -41,9 +41,11 @@ masked-outputs N cs vs = refl
 module _ {t : Tables} {count W n m : ℕ} {ins outs : List ℕ} {N : Netlist} (h : Source t count W n m ins outs N) (cs vs : List ℕ) where
   masked-text : (g w : ℕ) → g ≡ length (maskNetlist N cs vs .netlist .gates) → w ≡ maskNetlist N cs vs .netlist .wires
       → headerText g w ins outs ++ gateText (maskNetlist N cs vs .netlist .gates) ≡ writeNetlist (maskNetlist N cs vs .netlist)
-  masked-text g w a b = text-made (maskNetlist N cs vs .netlist) g w ins outs a b (h .inputs ∙ masked-inputs N cs vs) (h .outputs ∙ masked-outputs N cs vs)
+  masked-text g w a b =
+      text-made (maskNetlist N cs vs .netlist) g w ins outs a b (h .inputs ∙ masked-inputs N cs vs) (h .outputs ∙ masked-outputs N cs vs)
 
-  pub write-made : {e y x es : List ℕ} {g w a : ℕ} {R : Next} → g ≡ length (maskNetlist N cs vs .netlist .gates) → w ≡ maskNetlist N cs vs .netlist .wires
+  pub write-made : {e y x es : List ℕ} {g w a : ℕ} {R : Next} → g ≡ length (maskNetlist N cs vs .netlist .gates)
+      → w ≡ maskNetlist N cs vs .netlist .wires
       → Wrote e 0 (headerText g w ins outs) y a → WrotePass y a (maskNetlist N cs vs) n vs x R es → WroteText e (maskNetlist N cs vs) vs x es
   write-made {g = g} {w = w} p q a b = record { text = wrote-as (masked-text g w p q) (wrote-then a (b .wrote .wrote)) .list; codes = b .codes }
 
@@ -54,7 +56,8 @@ module _ {t : Tables} {count W n m : ℕ} {ins outs : List ℕ} {N : Netlist} (h
       let M : Netlist = maskNetlist N cs vs .netlist in
       let g : R .next - (n + 2) ≡ length (M .gates) = omega (arith, b .count, b .wires) in
       let H : List ℕ = headerText (R .next - (n + 2)) (R .next) ins outs in
-      let long : length (writeNetlist M) ≡ length H + length (gateText (M .gates)) = ap length (sym (masked-text _ _ g (b .wires))) ∙ length-append H (gateText (M .gates)) in
+      let long : length (writeNetlist M) ≡ length H + length (gateText (M .gates)) =
+      ap length (sym (masked-text _ _ g (b .wires))) ∙ length-append H (gateText (M .gates)) in
       let first : R .at ≡ cap (0 + length (gateText (M .gates))) = b .wrote .wrote .next in
       let second : s ≡ cap (R .at + length H) = a .next in
       record { size = omega arith; gates = g; wires = b .wires; codes = b .many }
@@ -64,13 +67,15 @@ bare : Tables → ℕ → ℕ → ℕ → ℕ → Netlist
 bare t count W n m = record { wires = W; inputs = n ∷ []; outputs = m ∷ []; gates = gatesOf t count }
 
 -- the tables hold some netlist, so a pass gives no fewer wires than the inputs and the masks have
-pub least : (cs : List ℕ) {e y es vs : List ℕ} {t : Tables} {count W n m at : ℕ} {R : Next} → ((N : Netlist) → Holds t count W n m N → WrotePass e at (maskNetlist N cs vs) n vs y R es) → n + 2 ≤ R .next
+pub least : (cs : List ℕ) {e y es vs : List ℕ} {t : Tables} {count W n m at : ℕ} {R : Next}
+    → ((N : Netlist) → Holds t count W n m N → WrotePass e at (maskNetlist N cs vs) n vs y R es) → n + 2 ≤ R .next
 unfolding bare
 least cs {t = t} {count = count} {W = W} {n = n} {m = m} h =
     let p = h (bare t count W n m) (record { gates = refl; wires = refl; ins = omega arith; outs = omega arith }) in
     omega (arith, p .count, p .wires)
 
-pub fill-made : {M : Masked} {e x f y vs es : List ℕ} {r : ℕ} → WroteText e M vs x es → Wrote f 0 (codesOf (drop (length es - length vs) es) vs) y r → Filled M e x f y
+pub fill-made : {M : Masked} {e x f y vs es : List ℕ} {r : ℕ} → WroteText e M vs x es
+    → Wrote f 0 (codesOf (drop (length es - length vs) es) vs) y r → Filled M e x f y
 fill-made {f = f} w c = record { text = w .text; codes = c .list ∙ ap (sets f 0) (w .codes) }
 
 -- question 14: the size as measured is the text's length where it fits, since no buffer is as long as the largest place
@@ -90,19 +95,25 @@ module _ {M : Masked} {m : ℕ} {e f : List ℕ} {z : Size} (h : Measured M m z)
         let u = lt-leb (length (M .codes)) (length f) (omega (arith, h .codes)) in
         record { text = answers-refused e (rw (t, u)); codes = rw (t, u) }
 
-    pub delivered : {x y : List ℕ} → m ≤ length f → Filled M e x f y → MaskAnswers (deliverOutcome (length e) (length f) (maskedText M)) e x f y (Done (z .size))
+    pub delivered : {x y : List ℕ} → m ≤ length f → Filled M e x f y
+        → MaskAnswers (deliverOutcome (length e) (length f) (maskedText M)) e x f y (Done (z .size))
     delivered k d =
         let s = measured (length e) h small l in
         let fits = rw s at l in
         let t = le-leb (length (writeNetlist (M .netlist))) (length e) fits in
         let u = le-leb (length (M .codes)) (length f) (omega (arith, h .codes)) in
         record {
-          text = rw (t, u, s) (record { answer = refl; outcome = ap done (ap (take (length (writeNetlist (M .netlist)))) (d .text) ∙ take-sets (writeNetlist (M .netlist)) e fits); buffer = d .text });
+          text = rw (t, u, s) (record {
+            answer = refl;
+            outcome = ap done (ap (take (length (writeNetlist (M .netlist)))) (d .text) ∙ take-sets (writeNetlist (M .netlist)) e fits);
+            buffer = d .text;
+          });
           codes = rw (t, u) (d .codes);
         }
 
 -- a call that keeps the tables' lengths leaves the next one what it relies on
-pub ready-same : {t : Tables} {count : ℕ} {cs vs ws es ws′ es′ : List ℕ} → length ws′ ≡ length ws → length es′ ≡ length es → Ready t count cs vs ws es → Ready t count cs vs ws′ es′
+pub ready-same : {t : Tables} {count : ℕ} {cs vs ws es ws′ es′ : List ℕ} → length ws′ ≡ length ws → length es′ ≡ length es
+    → Ready t count cs vs ws es → Ready t count cs vs ws′ es′
 ready-same a b r = record {
   wired = wired-same a (r .wired);
   codes = b ∙ r .codes ∙ sym a;
@@ -111,5 +122,6 @@ ready-same a b r = record {
   small = rw a (r .small);
 }
 
-pub source-same : {t : Tables} {count W W′ n m : ℕ} {ins outs : List ℕ} {N : Netlist} → W′ ≡ W → Source t count W n m ins outs N → Source t count W′ n m ins outs N
+pub source-same : {t : Tables} {count W W′ n m : ℕ} {ins outs : List ℕ} {N : Netlist} → W′ ≡ W → Source t count W n m ins outs N
+    → Source t count W′ n m ins outs N
 source-same e h = rw e h

@@ -30,7 +30,10 @@ fn measure(
     code: &mut [u8],
 ) -> Size
     requires { ⌜ Ready (tables (now operands) (now results)) count (now codes) (now wanted) (now wire) (now code) ⌝ }
-    ensures { λ r. ⌜ ((N : Netlist) → Source (tables (now (operands .entry)) (now (results .entry))) count (length (now (wire .entry))) (length (now (codes .entry))) (length (now (wanted .entry))) (now (ins .entry)) (now (outs .entry)) N → Measured (maskNetlist N (now (codes .entry)) (now (wanted .entry))) (length (now (wanted .entry))) r) ⌝ }
+    ensures { λ r. ⌜ ((N : Netlist)
+        → Source (tables (now (operands .entry)) (now (results .entry))) count (length (now (wire .entry))) (length (now (codes .entry)))
+        (length (now (wanted .entry))) (now (ins .entry)) (now (outs .entry)) N
+        → Measured (maskNetlist N (now (codes .entry)) (now (wanted .entry))) (length (now (wanted .entry))) r) ⌝ }
 {
     let mut sink = [0u8; 1];
     let t = pass::pass(
@@ -66,7 +69,13 @@ fn write(
     code: &mut [u8],
 )
     requires { ⌜ Ready (tables (now operands) (now results)) count (now codes) (now wanted) (now wire) (now code) ⌝ }
-    ensures { λ _. ⌜ ((N : Netlist) → Source (tables (now (operands .entry)) (now (results .entry))) count (length (now (wire .entry))) (length (now (codes .entry))) (length (now (wanted .entry))) (now (ins .entry)) (now (outs .entry)) N → gates ≡ length (maskNetlist N (now (codes .entry)) (now (wanted .entry)) .netlist .gates) → wires ≡ maskNetlist N (now (codes .entry)) (now (wanted .entry)) .netlist .wires → WroteText (now (out .entry)) (maskNetlist N (now (codes .entry)) (now (wanted .entry))) (now (wanted .entry)) (now (out .exit)) (now (code .exit))) ⌝ }
+    ensures { λ _. ⌜ ((N : Netlist)
+        → Source (tables (now (operands .entry)) (now (results .entry))) count (length (now (wire .entry))) (length (now (codes .entry)))
+        (length (now (wanted .entry))) (now (ins .entry)) (now (outs .entry)) N
+        → gates ≡ length (maskNetlist N (now (codes .entry)) (now (wanted .entry)) .netlist .gates)
+        → wires ≡ maskNetlist N (now (codes .entry)) (now (wanted .entry)) .netlist .wires
+        → WroteText (now (out .entry)) (maskNetlist N (now (codes .entry)) (now (wanted .entry))) (now (wanted .entry)) (now (out .exit))
+        (now (code .exit))) ⌝ }
 {
     let at = writer::header::header(out, 0, gates, wires, ins, outs);
     pass::pass(out, at, operands, results, count, codes, wanted, wire, code);
@@ -89,7 +98,13 @@ fn fill(
     code: &mut [u8],
 )
     requires { ⌜ Ready (tables (now operands) (now results)) count (now codes) (now wanted) (now wire) (now code) ⌝ }
-    ensures { λ _. ⌜ ((N : Netlist) → Source (tables (now (operands .entry)) (now (results .entry))) count (length (now (wire .entry))) (length (now (codes .entry))) (length (now (wanted .entry))) (now (ins .entry)) (now (outs .entry)) N → gates ≡ length (maskNetlist N (now (codes .entry)) (now (wanted .entry)) .netlist .gates) → wires ≡ maskNetlist N (now (codes .entry)) (now (wanted .entry)) .netlist .wires → Filled (maskNetlist N (now (codes .entry)) (now (wanted .entry))) (now (out .entry)) (now (out .exit)) (now (ends .entry)) (now (ends .exit))) ⌝ }
+    ensures { λ _. ⌜ ((N : Netlist)
+        → Source (tables (now (operands .entry)) (now (results .entry))) count (length (now (wire .entry))) (length (now (codes .entry)))
+        (length (now (wanted .entry))) (now (ins .entry)) (now (outs .entry)) N
+        → gates ≡ length (maskNetlist N (now (codes .entry)) (now (wanted .entry)) .netlist .gates)
+        → wires ≡ maskNetlist N (now (codes .entry)) (now (wanted .entry)) .netlist .wires
+        → Filled (maskNetlist N (now (codes .entry)) (now (wanted .entry))) (now (out .entry)) (now (out .exit)) (now (ends .entry))
+        (now (ends .exit))) ⌝ }
 {
     write(
         out,
@@ -125,7 +140,12 @@ pub fn deliver(
     code: &mut [u8],
 ) -> Answer
     requires { ⌜ Ready (tables (now operands) (now results)) count (now codes) (now wanted) (now wire) (now code) ⌝ }
-    ensures { λ r. ⌜ ((N : Netlist) → Source (tables (now (operands .entry)) (now (results .entry))) count (length (now (wire .entry))) (length (now (codes .entry))) (length (now (wanted .entry))) (now (ins .entry)) (now (outs .entry)) N → MaskAnswers (deliverOutcome (length (now (out .entry))) (length (now (ends .entry))) (maskedText (maskNetlist N (now (codes .entry)) (now (wanted .entry))))) (now (out .entry)) (now (out .exit)) (now (ends .entry)) (now (ends .exit)) r) ⌝ }
+    ensures { λ r. ⌜ ((N : Netlist)
+        → Source (tables (now (operands .entry)) (now (results .entry))) count (length (now (wire .entry))) (length (now (codes .entry)))
+        (length (now (wanted .entry))) (now (ins .entry)) (now (outs .entry)) N
+        → MaskAnswers (deliverOutcome (length (now (out .entry))) (length (now (ends .entry)))
+        (maskedText (maskNetlist N (now (codes .entry)) (now (wanted .entry))))) (now (out .entry)) (now (out .exit)) (now (ends .entry))
+        (now (ends .exit)) r) ⌝ }
 {
     let m = measure(
         operands,

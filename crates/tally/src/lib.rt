@@ -1,5 +1,4 @@
 // The line that a test program prints for a group of cases.
-use libc::STDOUT_FILENO;
 ghost use mathlib.Core.Path.{_≡_};
 ghost use Prim.Native.Nat.{min};
 ghost use lib.ListN.{length};
@@ -28,12 +27,4 @@ pub fn front(buffer: &[u8], n: usize) -> usize
         return buffer.len();
     }
     n
-}
-
-// Prints the line, as far as 256 bytes hold it.
-pub fn print(name: &[u8], agreed: usize, cases: usize) {
-    let mut out = [0u8; 256];
-    let n = line(&mut out, name, agreed, cases);
-    let m = front(&out, n);
-    io::write_all(STDOUT_FILENO, &out[..m]);
 }

@@ -17,10 +17,14 @@ use crate::masked::Masked;
 use crate::score::Score;
 use libc::STDOUT_FILENO;
 
+// Prints a group's line, as far as 256 bytes hold it behind the circuit's name.
 fn print(circuit: &[u8], group: &[u8], s: Score) {
+    let mut out = [0u8; 256];
+    let n = tally::line(&mut out, group, s.agreed, s.cases);
+    let m = tally::front(&out, n);
     io::write_all(STDOUT_FILENO, circuit);
     io::write_all(STDOUT_FILENO, b", ");
-    tally::print(group, s.agreed, s.cases);
+    io::write_all(STDOUT_FILENO, &out[..m]);
 }
 
 // A circuit on all of its vectors, and its masked netlists under three lists of codes on some eight of them each.

@@ -1,15 +1,13 @@
 -- `answer`: question 2 of the netlist file, and then the service.
 use Rattle.cli_mask.proofs.Reports.{answer-long, answer-short}
-use native.Mathlib.Omega.{arith}
 use borrow.Author.Needs.{needs}
 use Rattle.cli_mask.proofs.answer.Statement.{statement}
 use Rattle.cli_mask.proofs.answer.Tie as tie
-use Rattle.cli_mask.proofs.answer.Reads as reads
-use Rattle.cli_mask.proofs.answer.Lts as lts
-use Rattle.mask.proofs.mask.Reads as mask-reads
 
 returns : tie.Need-returns
-returns c = let s = c .before .before .before .before .before .before .before .before .before .before .args in answer-long (s .netlist .now) (s .codes .now) (s .wanted .now) _ _ (c .if1 .taken)
+returns c =
+    let s = c .before .before .before .before .before .before .before .before .before .before .args in
+    answer-long (s .netlist .now) (s .codes .now) (s .wanted .now) _ _ (c .if1 .taken)
 
 mask-requires : tie.Need-mask-requires
 mask-requires c κs = search needs
@@ -33,7 +31,11 @@ same-length-6 : tie.Need-same-length-6
 same-length-6 c = search needs
 
 returns-2 : tie.Need-returns-2
-returns-2 c = let s = c .before .before .before .before .before .before .before .before .before .before .before .before .before .before .before .before .before .before .before .before .before .before .before .before .before .before .before .before .before in answer-short (s .args .netlist .now) (s .args .codes .now) (s .args .wanted .now) (s .pre) (c .before .before .before .before .before .before .before .before .before .before .before .before .before .before .before .before .before .before .before .if1 .left) (c .before .before .before .before .before .before .before .before .before .before .before .before .mask .ensures .answers)
+returns-2 c =
+    let m = c .before .before .before .before .before .before .before .before .before .before .before .before in
+    let t = m .before .before .before .before .before .before .before in
+    let s = t .before .before .before .before .before .before .before .before .before .before in
+    answer-short (s .args .netlist .now) (s .args .codes .now) (s .args .wanted .now) (s .pre) (t .if1 .left) (m .mask .ensures .answers)
 
 pub answer-spec : {M : Type 1} → statement M
 answer-spec =

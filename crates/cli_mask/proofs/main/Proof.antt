@@ -1,15 +1,9 @@
 -- `main`: the line and the text are in their buffers.
 use mathlib.Core.Path.{sym}
 use lib.Seq.{length-take-le}
-use native.Mathlib.Omega.{arith}
 use borrow.Author.Needs.{needs}
 use Rattle.cli_mask.proofs.main.Statement.{statement}
 use Rattle.cli_mask.proofs.main.Tie as tie
-use Rattle.cli_mask.proofs.main.Reads as reads
-use Rattle.cli_mask.proofs.main.Lts as lts
-use Rattle.cli_mask.proofs.report.Reads as report-reads
-use Rattle.files.proofs.read.Reads as read-reads
-use Rattle.io.proofs.write_all.Reads as write-all-reads
 
 slice-aggregate-read : tie.Need-slice-aggregate-read
 slice-aggregate-read c = search needs
@@ -84,7 +78,9 @@ array-share-prefix-line : tie.Need-array-share-prefix-line
 array-share-prefix-line c = search needs
 
 slice-aggregate-write-all : tie.Need-slice-aggregate-write-all
-slice-aggregate-write-all c = let r = c .before .before .before .before .before .before .before .before .before .before .report in sym (length-take-le (r .result .line) (r .last .0) (r .ensures .line))
+slice-aggregate-write-all c =
+    let r = c .before .before .before .before .before .before .before .before .before .before .report in
+    sym (length-take-le (r .result .line) (r .last .0) (r .ensures .line))
 
 write-all-requires : tie.Need-write-all-requires
 write-all-requires c κs = search needs
@@ -93,7 +89,9 @@ array-share-prefix-text : tie.Need-array-share-prefix-text
 array-share-prefix-text c = search needs
 
 slice-aggregate-write-all-2 : tie.Need-slice-aggregate-write-all-2
-slice-aggregate-write-all-2 c = let r = c .before .before .before .before .before .before .before .before .before .before .before .before .report in sym (length-take-le (r .result .text) (r .last .1 .0) (r .ensures .text))
+slice-aggregate-write-all-2 c =
+    let r = c .before .before .before .before .before .before .before .before .before .before .before .before .report in
+    sym (length-take-le (r .result .text) (r .last .1 .0) (r .ensures .text))
 
 write-all-requires-2 : tie.Need-write-all-requires-2
 write-all-requires-2 c κs = search needs

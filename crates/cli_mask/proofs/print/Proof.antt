@@ -9,16 +9,14 @@ use native.Mathlib.Omega.{arith}
 use borrow.Author.Needs.{needs}
 use Rattle.cli_mask.proofs.print.Statement.{statement}
 use Rattle.cli_mask.proofs.print.Tie as tie
-use Rattle.cli_mask.proofs.print.Reads as reads
-use Rattle.cli_mask.proofs.print.Lts as lts
-use Rattle.console.proofs.digits.Reads as digits-reads
-use Rattle.console.proofs.refused.Reads as refused-reads
 
 enum-known-a : tie.Need-enum-known-a
 enum-known-a c = search needs
 
 slice-aggregate-digits : tie.Need-slice-aggregate-digits
-slice-aggregate-digits c = let s = c .before .before .before .before .before .before .before .before in sym (length-take-le (s .args .codes) (s .args .ends .now) (s .pre .0 _ (c .before .before .before .a .given .1) .1))
+slice-aggregate-digits c =
+    let s = c .before .before .before .before .before .before .before .before in
+    sym (length-take-le (s .args .codes) (s .args .ends .now) (s .pre .0 _ (c .before .before .before .a .given .1) .1))
 
 digits-requires : tie.Need-digits-requires
 digits-requires c κs = search needs
@@ -33,15 +31,22 @@ same-length : tie.Need-same-length
 same-length c = search needs
 
 returns : tie.Need-returns
-returns c = let s = c .before .before .before .before .before .before .before .before .before .before .before in
-    prints-as _ _ (Done _) (c .before .before .before .before .before .before .a .given .1)
-    (prints-text (take (s .args .codes) (s .args .ends .now)) _ _ (few-first (c .before .before .digits .ensures) (omega (arith, length-take (s .args .codes) (s .args .ends .now), s .pre .1))) (s .pre .0 _ (c .before .before .before .before .before .before .a .given .1) .0))
+returns c =
+    let s = c .before .before .before .before .before .before .before .before .before .before .before in
+    let a = c .before .before .before .before .before .before .a .given in
+    let codes = take (s .args .codes) (s .args .ends .now) in
+    let few = length-take (s .args .codes) (s .args .ends .now) in
+    prints-as _ _ (Done _) (a .1)
+    (prints-text codes _ _ (few-first (c .before .before .digits .ensures) (omega (arith, few, s .pre .1))) (s .pre .0 _ (a .1) .0))
 
 same-length-2 : tie.Need-same-length-2
 same-length-2 c = search needs
 
 returns-2 : tie.Need-returns-2
-returns-2 c = let s = c .before .before .before .before .before .before .before .before .before .before in prints-as _ _ (Refused _) (c .before .before .before .before .before .a2 .given .1) (prints-line _ (refused-first _ (c .before .before .refused .ensures) (omega (arith, s .pre .1))))
+returns-2 c =
+    let s = c .before .before .before .before .before .before .before .before .before .before in
+    prints-as _ _ (Refused _) (c .before .before .before .before .before .a2 .given .1)
+    (prints-line _ (refused-first _ (c .before .before .refused .ensures) (omega (arith, s .pre .1))))
 
 pub print-spec : {M : Type 1} → statement M
 print-spec =

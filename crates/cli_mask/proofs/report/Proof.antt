@@ -6,11 +6,6 @@ use native.Mathlib.Omega.{arith}
 use borrow.Author.Needs.{needs}
 use Rattle.cli_mask.proofs.report.Statement.{statement}
 use Rattle.cli_mask.proofs.report.Tie as tie
-use Rattle.cli_mask.proofs.report.Reads as reads
-use Rattle.cli_mask.proofs.report.Lts as lts
-use Rattle.cli_mask.proofs.answer.Reads as answer-reads
-use Rattle.cli_mask.proofs.print.Reads as print-reads
-use Rattle.console.proofs.list.Reads as list-reads
 
 list-requires : tie.Need-list-requires
 list-requires c κs = search needs
@@ -22,20 +17,29 @@ slice-reshare-prefix-answer : tie.Need-slice-reshare-prefix-answer
 slice-reshare-prefix-answer c = search needs
 
 slice-aggregate-answer : tie.Need-slice-aggregate-answer
-slice-aggregate-answer c = let l = c .before .before .before .before .before .before .before .list in sym (length-take-le (l .result) (l .last .0) (l .ensures .within))
+slice-aggregate-answer c =
+    let l = c .before .before .before .before .before .before .before .list in
+    sym (length-take-le (l .result) (l .last .0) (l .ensures .within))
 
 slice-reshare-prefix-answer-2 : tie.Need-slice-reshare-prefix-answer-2
 slice-reshare-prefix-answer-2 c = search needs
 
 slice-aggregate-answer-2 : tie.Need-slice-aggregate-answer-2
-slice-aggregate-answer-2 c = let l = c .before .before .before .before .list2 in sym (length-take-le (l .result) (l .last .0) (l .ensures .within))
+slice-aggregate-answer-2 c =
+    let l = c .before .before .before .before .list2 in
+    sym (length-take-le (l .result) (l .last .0) (l .ensures .within))
 
 answer-requires : tie.Need-answer-requires
 answer-requires c κs = search needs
 
 print-requires : tie.Need-print-requires
-print-requires c κs = let l = c .before .before .before .before .before .before .before .before .before .before .before .before .before .before .before .before .before .before .before .before .before .before .before .before .before .before .list2 in let a = c .before .before .before .before .before .before .before .before .before .before .before .before .before .before .before .answer in
-    (rw (length-take-le (l .result) (l .last .0) (l .ensures .within)) at (a .ensures .counted), omega (arith, c .before .before .before .before .before .before .before .before .before .before .before .before .before .before .before .before .before .before .before .before .before .before .before .before .before .before .before .before .before .before .before .before .before .before .before .before .before .before .before .before .before .before .pre .1, a .kept))
+print-requires c κs =
+    let a = c .before .before .before .before .before .before .before .before .before .before .before .before .before .before .before in
+    let l = a .before .before .before .before .before .before .before .before .before .before .before in
+    let s = l .before .before .before .before .before .before .before .before .before .before .before .before .before .before .before
+    .before in
+    let n = length-take-le (l .list2 .result) (l .list2 .last .0) (l .list2 .ensures .within) in
+    (rw n at (a .answer .ensures .counted), omega (arith, s .pre .1, a .answer .kept))
 
 same-length : tie.Need-same-length
 same-length c = search needs
@@ -65,11 +69,15 @@ same-length-9 : tie.Need-same-length-9
 same-length-9 c = search needs
 
 returns : tie.Need-returns
-returns c = let s = c .before .before .before .before .before .before .before .before .before .before .before .before .before .before .before .before .before .before .before .before .before .before .before .before .before .before .before .before .before .before .before .before .before .before .before .before .before .before .before .before .before .before .before .before .before .args in
-    let l = c .before .before .before .before .before .before .before .before .before .before .before .before .before .before .before .before .before .before .before .before .before .before .before .before .before .before .before .before .before .list2 in
-    reports (s .netlist .now) (s .inputs .now) (s .outputs .now) (c .before .before .before .before .before .before .before .before .before .before .before .before .before .before .before .before .before .before .before .before .before .before .before .before .before .before .before .before .before .before .before .before .before .list .ensures .same) (l .ensures .same)
-    (rw (length-take-le (l .result) (l .last .0) (l .ensures .within)) at (c .before .before .before .before .before .before .before .before .before .before .before .before .before .before .before .before .before .before .answer .ensures .outcome))
-    (c .before .before .print .ensures)
+returns c =
+    let a = c .before .before .before .before .before .before .before .before .before .before .before .before .before .before .before
+    .before .before .before in
+    let l = a .before .before .before .before .before .before .before .before .before .before .before in
+    let k = l .before .before .before .before in
+    let s = k .before .before .before .before .before .before .before .before .before .before .before .before .args in
+    let n = length-take-le (l .list2 .result) (l .list2 .last .0) (l .list2 .ensures .within) in
+    reports (s .netlist .now) (s .inputs .now) (s .outputs .now) (k .list .ensures .same) (l .list2 .ensures .same)
+    (rw n at (a .answer .ensures .outcome)) (c .before .before .print .ensures)
 
 pub report-spec : {M : Type 1} → statement M
 report-spec =

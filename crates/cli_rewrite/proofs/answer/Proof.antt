@@ -1,12 +1,8 @@
 -- `answer`: question 2 of the file, and then the service.
 use Rattle.cli_rewrite.proofs.Reports.{answer-long, answer-short}
-use native.Mathlib.Omega.{arith}
 use borrow.Author.Needs.{needs}
 use Rattle.cli_rewrite.proofs.answer.Statement.{statement}
 use Rattle.cli_rewrite.proofs.answer.Tie as tie
-use Rattle.cli_rewrite.proofs.answer.Reads as reads
-use Rattle.cli_rewrite.proofs.answer.Lts as lts
-use Rattle.rewrite.proofs.rewrite.Reads as rewrite-reads
 
 returns : tie.Need-returns
 returns c = answer-long (c .before .before .before .before .before .before .args .netlist .now) _ (c .if1 .taken)
@@ -27,7 +23,11 @@ same-length-4 : tie.Need-same-length-4
 same-length-4 c = search needs
 
 returns-2 : tie.Need-returns-2
-returns-2 c = answer-short (c .before .before .before .before .before .before .before .before .before .before .before .before .before .before .before .before .before .before .before .args .netlist .now) (c .before .before .before .before .before .before .before .before .before .before .before .before .before .before .before .before .before .before .before .pre) (c .before .before .before .before .before .before .before .before .before .before .before .before .before .if1 .left) (c .before .before .before .before .before .before .before .before .rewrite .ensures .answers)
+returns-2 c =
+    let w = c .before .before .before .before .before .before .before .before in
+    let t = w .before .before .before .before .before in
+    let s = t .before .before .before .before .before .before in
+    answer-short (s .args .netlist .now) (s .pre) (t .if1 .left) (w .rewrite .ensures .answers)
 
 pub answer-spec : {M : Type 1} → statement M
 answer-spec =

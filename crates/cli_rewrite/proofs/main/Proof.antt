@@ -3,15 +3,9 @@ use mathlib.Core.Path.{sym}
 use Prim.Native.Nat.{ℕ}
 use lib.ListN.{length-replicate}
 use lib.Seq.{length-take-le}
-use native.Mathlib.Omega.{arith}
 use borrow.Author.Needs.{needs}
 use Rattle.cli_rewrite.proofs.main.Statement.{statement}
 use Rattle.cli_rewrite.proofs.main.Tie as tie
-use Rattle.cli_rewrite.proofs.main.Reads as reads
-use Rattle.cli_rewrite.proofs.main.Lts as lts
-use Rattle.cli_rewrite.proofs.report.Reads as report-reads
-use Rattle.files.proofs.read.Reads as read-reads
-use Rattle.io.proofs.write_all.Reads as write-all-reads
 
 slice-aggregate-read : tie.Need-slice-aggregate-read
 slice-aggregate-read c = search needs
@@ -47,7 +41,9 @@ array-share-prefix-out : tie.Need-array-share-prefix-out
 array-share-prefix-out c = search needs
 
 slice-aggregate-write-all : tie.Need-slice-aggregate-write-all
-slice-aggregate-write-all c = let r = c .before .before .before .before .before .report in sym (length-take-le (r .result) (r .last .0) (r .ensures .within))
+slice-aggregate-write-all c =
+    let r = c .before .before .before .before .before .report in
+    sym (length-take-le (r .result) (r .last .0) (r .ensures .within))
 
 write-all-requires : tie.Need-write-all-requires
 write-all-requires c κs = search needs

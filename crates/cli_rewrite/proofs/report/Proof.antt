@@ -4,16 +4,15 @@ use native.Mathlib.Omega.{arith}
 use borrow.Author.Needs.{needs}
 use Rattle.cli_rewrite.proofs.report.Statement.{statement}
 use Rattle.cli_rewrite.proofs.report.Tie as tie
-use Rattle.cli_rewrite.proofs.report.Reads as reads
-use Rattle.cli_rewrite.proofs.report.Lts as lts
-use Rattle.cli_rewrite.proofs.answer.Reads as answer-reads
-use Rattle.cli_rewrite.proofs.print.Reads as print-reads
 
 answer-requires : tie.Need-answer-requires
 answer-requires c κs = search needs
 
 print-requires : tie.Need-print-requires
-print-requires c κs = (c .before .before .before .before .before .before .before .before .before .answer .ensures .counted, omega (arith, c .before .before .before .before .before .before .before .before .before .before .before .before .before .before .before .before .before .before .before .pre .text, c .before .before .before .before .before .before .before .before .before .answer .kept))
+print-requires c κs =
+    let a = c .before .before .before .before .before .before .before .before .before in
+    let s = a .before .before .before .before .before .before .before .before .before .before in
+    (a .answer .ensures .counted, omega (arith, s .pre .text, a .answer .kept))
 
 same-length : tie.Need-same-length
 same-length c = search needs
@@ -28,7 +27,10 @@ same-length-4 : tie.Need-same-length-4
 same-length-4 c = search needs
 
 returns : tie.Need-returns
-returns c = reports (c .before .before .before .before .before .before .before .before .before .before .before .before .before .before .before .before .before .before .before .before .before .before .args .netlist .now) (c .before .before .before .before .before .before .before .before .before .before .before .before .answer .ensures .outcome) (c .before .before .print .ensures)
+returns c =
+    let a = c .before .before .before .before .before .before .before .before .before .before .before .before in
+    let s = a .before .before .before .before .before .before .before .before .before .before .args in
+    reports (s .netlist .now) (a .answer .ensures .outcome) (c .before .before .print .ensures)
 
 pub report-spec : {M : Type 1} → statement M
 report-spec =

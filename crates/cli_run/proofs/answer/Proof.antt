@@ -2,17 +2,14 @@
 use mathlib.Core.Path.{sym}
 use lib.Seq.{length-take-le}
 use Rattle.cli_run.proofs.Reports.{answer-long, answer-short}
-use native.Mathlib.Omega.{arith}
 use borrow.Author.Needs.{needs}
 use Rattle.cli_run.proofs.answer.Statement.{statement}
 use Rattle.cli_run.proofs.answer.Tie as tie
-use Rattle.cli_run.proofs.answer.Reads as reads
-use Rattle.cli_run.proofs.answer.Lts as lts
-use Rattle.console.proofs.list.Reads as list-reads
-use Rattle.run.proofs.run.Reads as run-reads
 
 returns : tie.Need-returns
-returns c = answer-long (c .before .before .before .before .before .before .before .before .args .netlist .now) (c .before .before .before .before .before .before .before .before .args .inputs .now) _ (c .if1 .taken)
+returns c =
+    let s = c .before .before .before .before .before .before .before .before .args in
+    answer-long (s .netlist .now) (s .inputs .now) _ (c .if1 .taken)
 
 list-requires : tie.Need-list-requires
 list-requires c κs = search needs
@@ -45,7 +42,13 @@ same-length-6 : tie.Need-same-length-6
 same-length-6 c = search needs
 
 returns-2 : tie.Need-returns-2
-returns-2 c = let s = c .before .before .before .before .before .before .before .before .before .before .before .before .before .before .before .before .before .before .before .before .before .before .before .before .before .before .before .before .before in answer-short (s .args .netlist .now) (s .args .inputs .now) _ (s .pre) (c .before .before .before .before .before .before .before .before .before .before .before .before .before .before .before .before .before .before .before .before .before .if1 .left) (c .before .before .before .before .before .before .before .before .before .before .before .before .before .before .before .before .before .before .before .list .ensures .same) (c .before .before .before .before .before .before .before .before .before .before .run .ensures .answers)
+returns-2 c =
+    let r = c .before .before .before .before .before .before .before .before .before .before in
+    let l = r .before .before .before .before .before .before .before .before .before in
+    let t = l .before .before in
+    let s = t .before .before .before .before .before .before .before .before in
+    answer-short (s .args .netlist .now) (s .args .inputs .now) _ (s .pre) (t .if1 .left)
+    (l .list .ensures .same) (r .run .ensures .answers)
 
 pub answer-spec : {M : Type 1} → statement M
 answer-spec =

@@ -1,13 +1,8 @@
 -- `report`: the answer, and its line.
 use Rattle.cli_run.proofs.Reports.{reports}
-use native.Mathlib.Omega.{arith}
 use borrow.Author.Needs.{needs}
 use Rattle.cli_run.proofs.report.Statement.{statement}
 use Rattle.cli_run.proofs.report.Tie as tie
-use Rattle.cli_run.proofs.report.Reads as reads
-use Rattle.cli_run.proofs.report.Lts as lts
-use Rattle.cli_run.proofs.answer.Reads as answer-reads
-use Rattle.cli_run.proofs.print.Reads as print-reads
 
 answer-requires : tie.Need-answer-requires
 answer-requires c κs = search needs
@@ -37,7 +32,12 @@ same-length-7 : tie.Need-same-length-7
 same-length-7 c = search needs
 
 returns : tie.Need-returns
-returns c = let s = c .before .before .before .before .before .before .before .before .before .before .before .before .before .before .before .before .before .before .before .before .before .before .before .before .before .before .before .before .before .before .before .before in reports (s .args .netlist .now) (s .args .inputs .now) (c .before .before .before .before .before .before .before .before .before .before .before .before .before .before .before .before .before .answer .ensures .outcome) (c .before .before .print .ensures)
+returns c =
+    let a = c .before .before .before .before .before .before .before .before .before .before .before .before .before .before .before
+    .before .before in
+    let s = a .before .before .before .before .before .before .before .before .before .before .before .before .before .before .before .args
+    in
+    reports (s .netlist .now) (s .inputs .now) (a .answer .ensures .outcome) (c .before .before .print .ensures)
 
 pub report-spec : {M : Type 1} → statement M
 report-spec =

@@ -8,23 +8,23 @@ use native.Mathlib.Omega.{arith}
 use borrow.Author.Needs.{needs}
 use Rattle.mask.proofs.deliver.Statement.{statement}
 use Rattle.mask.proofs.deliver.Tie as tie
-use Rattle.mask.proofs.deliver.Reads as reads
-use Rattle.mask.proofs.deliver.Lts as lts
-use Rattle.lists.proofs.codes.Reads as codes-reads
-use Rattle.lists.proofs.wanted.Reads as wanted-reads
-use Rattle.mask.proofs.write.Reads as write-reads
 
 codes-requires : tie.Need-codes-requires
 codes-requires c κs = search needs
 
 returns : tie.Need-returns
-returns c = λ N a. mask-11 a (c .before .before .before .before .before .before .before .before .before .before .before .before .args .codes .now) (c .before .before .before .before .before .before .before .before .before .before .before .before .args .wanted .now) _ _ (sym (c .before .codes .ensures) ∙ not-true _ (c .if1 .taken))
+returns c =
+    let s = c .before .before .before .before .before .before .before .before .before .before .before .before .args in
+    λ N a. mask-11 a (s .codes .now) (s .wanted .now) _ _ (sym (c .before .codes .ensures) ∙ not-true _ (c .if1 .taken))
 
 wanted-requires : tie.Need-wanted-requires
 wanted-requires c κs = search needs
 
 returns-2 : tie.Need-returns-2
-returns-2 c = λ N a. mask-13 a (c .before .before .before .before .before .before .before .before .before .before .before .before .before .before .args .codes .now) (c .before .before .before .before .before .before .before .before .before .before .before .before .before .before .args .wanted .now) (sym (c .before .before .before .codes .ensures) ∙ not-false _ (c .before .before .if1 .left)) _ _ (sym (c .before .wanted .ensures) ∙ not-true _ (c .if2 .taken))
+returns-2 c =
+    let s = c .before .before .before .before .before .before .before .before .before .before .before .before .before .before .args in
+    let p = sym (c .before .before .before .codes .ensures) ∙ not-false _ (c .before .before .if1 .left) in
+    λ N a. mask-13 a (s .codes .now) (s .wanted .now) p _ _ (sym (c .before .wanted .ensures) ∙ not-true _ (c .if2 .taken))
 
 mul-inputs : tie.Need-mul-inputs
 mul-inputs c = search needs
@@ -33,9 +33,13 @@ slice-write-inputs : tie.Need-slice-write-inputs
 slice-write-inputs c = search needs
 
 write-requires : tie.Need-write-requires
-write-requires c κs = let p = c .before .before .before .before .before .before .before .before .before .before .before .before .before .before .before .before .before .before .before .pre in
-    let k = codes-length isCode _ (c .before .before .before .before .before .before .before .before .before .before .before .before .before .before .before .before .before .before .before .args .codes .now) (sym (c .before .before .before .before .before .before .before .before .codes .ensures) ∙ not-false _ (c .before .before .before .before .before .before .before .if1 .left)) in
-    let v = codes-length isWanted _ (c .before .before .before .before .before .before .before .before .before .before .before .before .before .before .before .before .before .before .before .args .wanted .now) (sym (c .before .before .before .before .before .before .wanted .ensures) ∙ not-false _ (c .before .before .before .before .before .if2 .left)) in (
+write-requires c κs =
+    let t = c .before .before .before .before .before in
+    let s = t .before .before .before .before .before .before .before .before .before .before .before .before .before .before in
+    let p = s .pre in
+    let k = codes-length isCode _ (s .args .codes .now) (sym (t .before .before .before .codes .ensures) ∙ not-false _ (t .before .before
+    .if1 .left)) in
+    let v = codes-length isWanted _ (s .args .wanted .now) (sym (t .before .wanted .ensures) ∙ not-false _ (t .if2 .left)) in (
       record {
         wired = p .wired;
         few = p .few;
@@ -67,8 +71,15 @@ same-length-5 : tie.Need-same-length-5
 same-length-5 c = search needs
 
 returns-3 : tie.Need-returns-3
-returns-3 c = λ N a. let p = c .before .before .before .before .before .before .before .before .before .before .before .before .before .before .before .before .before .before .before .before .before .before .before .before .before .before .before .before .pre in
-    mask-14 a (c .before .before .before .before .before .before .before .before .before .before .before .before .before .before .before .before .before .before .before .before .before .before .before .before .before .before .before .before .args .codes .now) (c .before .before .before .before .before .before .before .before .before .before .before .before .before .before .before .before .before .before .before .before .before .before .before .before .before .before .before .before .args .wanted .now) (sym (c .before .before .before .before .before .before .before .before .before .before .before .before .before .before .before .before .before .codes .ensures) ∙ not-false _ (c .before .before .before .before .before .before .before .before .before .before .before .before .before .before .before .before .if1 .left)) (sym (c .before .before .before .before .before .before .before .before .before .before .before .before .before .before .before .wanted .ensures) ∙ not-false _ (c .before .before .before .before .before .before .before .before .before .before .before .before .before .before .if2 .left)) (c .before .before .before .before .before .before .before .before .write .ensures N (source-of a (c .before .before .before .before .before .before .before .before .before .before .before .before .before .before .before .before .before .before .before .before .before .before .before .before .before .before .before .before .args .codes .now) (c .before .before .before .before .before .before .before .before .before .before .before .before .before .before .before .before .before .before .before .before .before .before .before .before .before .before .before .before .args .wanted .now) (sym (c .before .before .before .before .before .before .before .before .before .before .before .before .before .before .before .before .before .codes .ensures) ∙ not-false _ (c .before .before .before .before .before .before .before .before .before .before .before .before .before .before .before .before .if1 .left)) (sym (c .before .before .before .before .before .before .before .before .before .before .before .before .before .before .before .wanted .ensures) ∙ not-false _ (c .before .before .before .before .before .before .before .before .before .before .before .before .before .before .if2 .left)) _ refl (p .inputs)))
+returns-3 c =
+    let w = c .before .before .before .before .before .before .before .before in
+    let t = w .before .before .before .before .before .before in
+    let s = t .before .before .before .before .before .before .before .before .before .before .before .before .before .before in
+    let codes = s .args .codes .now in
+    let wanted = s .args .wanted .now in
+    let p = sym (t .before .before .before .codes .ensures) ∙ not-false _ (t .before .before .if1 .left) in
+    let q = sym (t .before .wanted .ensures) ∙ not-false _ (t .if2 .left) in
+    λ N a. mask-14 a codes wanted p q (w .write .ensures N (source-of a codes wanted p q _ refl (s .pre .inputs)))
 
 pub deliver-spec : {M : Type 1} → statement M
 deliver-spec =

@@ -1,5 +1,5 @@
 -- `write`: on the fronts of the tables.
-use mathlib.Core.Path.{_≡_, sym, _∙_}
+use mathlib.Core.Path.{sym, _∙_}
 use Prim.Native.Nat.{_+_, _≤_}
 use lib.ListN.{length}
 use lib.Seq.{length-take-le}
@@ -10,8 +10,6 @@ use native.Mathlib.Omega.{arith}
 use borrow.Author.Needs.{needs}
 use Rattle.mask.proofs.write.Statement.{statement}
 use Rattle.mask.proofs.write.Tie as tie
-use Rattle.mask.proofs.write.Reads as reads
-use Rattle.mask.proofs.write.Lts as lts
 
 cast-all : tie.Need-cast-all
 cast-all c = search needs
@@ -23,27 +21,37 @@ cast-deliver : tie.Need-cast-deliver
 cast-deliver c = search needs
 
 slice-aggregate-deliver : tie.Need-slice-aggregate-deliver
-slice-aggregate-deliver c = let l : c .before .before .before .before .before .before .before .before .before .before .before .before .before .before .before .before .args .h .inputs + 1 ≤ length (c .before .before .before .before .before .before .before .before .before .before .before .before .before .before .before .before .args .inputs .now) = omega (arith, c .before .before .before .before .before .before .before .before .before .before .before .before .before .before .before .before .pre .0 .inputs) in sym (length-take-le _ _ l)
+slice-aggregate-deliver c =
+    let s = c .before .before .before .before .before .before .before .before .before .before .before .before .before .before .before
+    .before in
+    let l : s .args .h .inputs + 1 ≤ length (s .args .inputs .now) = omega (arith, s .pre .0 .inputs) in
+    sym (length-take-le _ _ l)
 
 slice-aggregate-deliver-2 : tie.Need-slice-aggregate-deliver-2
-slice-aggregate-deliver-2 c = sym (length-take-le _ _ (c .before .before .before .before .before .before .before .before .before .before .before .before .before .before .before .before .before .pre .0 .outputs))
+slice-aggregate-deliver-2 c = sym (length-take-le _ _ (c .before .before .before .before .before .before .before .before .before .before
+    .before .before .before .before .before .before .before .pre .0 .outputs))
 
 slice-relend-prefix-deliver : tie.Need-slice-relend-prefix-deliver
 slice-relend-prefix-deliver c = search needs
 
 slice-aggregate-deliver-3 : tie.Need-slice-aggregate-deliver-3
-slice-aggregate-deliver-3 c = sym (length-take-le _ _ (c .before .before .before .before .before .before .before .before .before .before .before .before .before .before .before .before .before .before .pre .0 .wires))
+slice-aggregate-deliver-3 c = sym (length-take-le _ _ (c .before .before .before .before .before .before .before .before .before .before
+    .before .before .before .before .before .before .before .before .pre .0 .wires))
 
 slice-relend-prefix-deliver-2 : tie.Need-slice-relend-prefix-deliver-2
 slice-relend-prefix-deliver-2 c = search needs
 
 slice-aggregate-deliver-4 : tie.Need-slice-aggregate-deliver-4
-slice-aggregate-deliver-4 c = sym (length-take-le _ _ (c .before .before .before .before .before .before .before .before .before .before .before .before .before .before .before .before .before .before .before .pre .0 .marks))
+slice-aggregate-deliver-4 c = sym (length-take-le _ _ (c .before .before .before .before .before .before .before .before .before .before
+    .before .before .before .before .before .before .before .before .before .pre .0 .marks))
 
 deliver-requires : tie.Need-deliver-requires
-deliver-requires c κs = let p = c .before .before .before .before .before .before .before .before .before .before .before .before .before .before .before .before .before .before .before .pre in
-    let w = length-take-le (c .before .before .before .before .before .before .before .before .before .before .before .before .before .before .before .before .before .before .before .args .h .wires) (c .before .before .before .before .before .before .before .before .before .before .before .before .before .before .before .before .before .before .before .args .wires .now) (c .before .before .before .before .before .before .before .before .before .before .before .before .before .before .before .before .before .before .before .pre .0 .wires) in
-    let m = length-take-le (c .before .before .before .before .before .before .before .before .before .before .before .before .before .before .before .before .before .before .before .args .h .wires) (c .before .before .before .before .before .before .before .before .before .before .before .before .before .before .before .before .before .before .before .args .marks .now) (c .before .before .before .before .before .before .before .before .before .before .before .before .before .before .before .before .before .before .before .pre .0 .marks) in
+deliver-requires c κs =
+    let s = c .before .before .before .before .before .before .before .before .before .before .before .before .before .before .before
+    .before .before .before .before in
+    let p = s .pre in
+    let w = length-take-le (s .args .h .wires) (s .args .wires .now) (p .0 .wires) in
+    let m = length-take-le (s .args .h .wires) (s .args .marks .now) (p .0 .marks) in
     record {
       wired = wired-same w (p .0 .wired);
       codes = m ∙ sym w;
@@ -65,7 +73,11 @@ same-length-4 : tie.Need-same-length-4
 same-length-4 c = search needs
 
 returns : tie.Need-returns
-returns c = λ N s. c .before .before .before .before .before .before .before .before .deliver .ensures N (source-same (length-take-le (c .before .before .before .before .before .before .before .before .before .before .before .before .before .before .before .before .before .before .before .before .before .before .before .before .before .before .before .before .args .h .wires) (c .before .before .before .before .before .before .before .before .before .before .before .before .before .before .before .before .before .before .before .before .before .before .before .before .before .before .before .before .args .wires .now) (c .before .before .before .before .before .before .before .before .before .before .before .before .before .before .before .before .before .before .before .before .before .before .before .before .before .before .before .before .pre .0 .wires)) s)
+returns c =
+    let s = c .before .before .before .before .before .before .before .before .before .before .before .before .before .before .before
+    .before .before .before .before .before .before .before .before .before .before .before .before .before in
+    let w = length-take-le (s .args .h .wires) (s .args .wires .now) (s .pre .0 .wires) in
+    λ N a. c .before .before .before .before .before .before .before .before .deliver .ensures N (source-same w a)
 
 pub write-spec : {M : Type 1} → statement M
 write-spec =

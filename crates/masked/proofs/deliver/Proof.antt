@@ -25,10 +25,17 @@ same-length-4 : tie.Need-same-length-4
 same-length-4 c = search needs
 
 returns-2 : tie.Need-returns-2
-returns-2 c = λ N h. short-codes (c .before .before .before .before .before .before .measure .ensures N h) (omega arith) (c .before .if1 .left) (c .if2 .taken)
+returns-2 c =
+    λ N h. short-codes (c .before .before .before .before .before .before .measure .ensures N h) (omega arith)
+    (c .before .if1 .left) (c .if2 .taken)
 
 fill-requires : tie.Need-fill-requires
-fill-requires c κs = let m = c .before .before .before .before .before .before .before .before .before .before .measure in ready-same {ws′ = m .last .1 .1 .1 .1 .1 .1 .1 .0} {es′ = m .last .1 .1 .1 .1 .1 .1 .1 .1 .0} (m .kept .1 .1 .1 .1 .1 .1 .1 .0) (m .kept .1 .1 .1 .1 .1 .1 .1 .1 .0) (c .before .before .before .before .before .before .before .before .before .before .before .before .before .before .before .before .before .before .before .before .before .before .before .pre)
+fill-requires c κs =
+    let m = c .before .before .before .before .before .before .before .before .before .before .measure in
+    let l = m .last .1 .1 .1 .1 .1 .1 .1 in
+    let k = m .kept .1 .1 .1 .1 .1 .1 .1 in
+    ready-same {ws′ = l .0} {es′ = l .1 .0} (k .0) (k .1 .0) (c .before .before .before .before .before .before .before .before .before
+    .before .before .before .before .before .before .before .before .before .before .before .before .before .before .pre)
 
 same-length-5 : tie.Need-same-length-5
 same-length-5 c = search needs
@@ -43,11 +50,17 @@ same-length-8 : tie.Need-same-length-8
 same-length-8 c = search needs
 
 returns-3 : tie.Need-returns-3
-returns-3 c = let m = c .before .before .before .before .before .before .before .before .before .before .before .before .before .before .before .before .before .before .before .measure in
-    let a = c .before .before .before .before .before .before .before .before .before .before .before .before .before .before .before .before .before .before .before .before .before .before .before .before .before .before .before .before .before .before .before .before .args in
+returns-3 c =
+    let f = c .before .before .before .before .before .before .before .before in
+    let t = f .before .before .before .before .before in
+    let m = t .before .before .before .before .before .before .measure in
+    let s = t .before .before .before .before .before .before .before .before .before .before .before .before .before .before .before
+    .before .before .before .before in
+    let k = m .kept .1 .1 .1 .1 .1 .1 .1 .0 in
     λ N h.
     let d = m .ensures N h in
-    delivered {M = maskNetlist N (a .codes .now) (a .wanted .now)} d (omega (arith, c .before .before .before .before .before .before .before .before .before .before .before .before .before .before .before .before .before .before .before .before .before .before .before .before .before .before .before .before .before .before .before .before .good .0)) (c .before .before .before .before .before .before .before .before .before .before .before .before .before .before .if1 .left) (c .before .before .before .before .before .before .before .before .before .before .before .before .before .if2 .left) (c .before .before .before .before .before .before .before .before .fill .ensures N (source-same (m .kept .1 .1 .1 .1 .1 .1 .1 .0) h) (d .gates) (d .wires))
+    delivered {M = maskNetlist N (s .args .codes .now) (s .args .wanted .now)} d (omega (arith, s .good .0))
+    (t .before .if1 .left) (t .if2 .left) (f .fill .ensures N (source-same k h) (d .gates) (d .wires))
 
 pub deliver-spec : {M : Type 1} → statement M
 deliver-spec =

@@ -18,7 +18,13 @@ add-gates : tie.Need-add-gates
 add-gates c = search needs
 
 sub-gates : tie.Need-sub-gates
-sub-gates c = omega (arith, least (c .before .before .before .before .before .before .before .before .before .before .before .before .before .before .before .before .before .before .args .codes .now) (c .before .before .before .before .before .before .pass .ensures))
+sub-gates c =
+    let p = c .before .before .before .before .before .before in
+    omega (
+      arith,
+      least (p .before .before .before .before .before .before .before .before .before .before .before .before .args .codes
+          .now) (p .pass .ensures),
+    )
 
 slice-aggregate-header : tie.Need-slice-aggregate-header
 slice-aggregate-header c = search needs
@@ -33,9 +39,11 @@ same-length-2 : tie.Need-same-length-2
 same-length-2 c = search needs
 
 returns : tie.Need-returns
-returns c = let s = c .before .before .before .before .before .before .before .before .before .before .before .before .before .before .before .before .before .before .before .before .before in
+returns c =
+    let s = c .before .before .before .before .before .before .before .before .before .before .before .before .before .before .before
+    .before .before .before .before .before .before .args in
     let p = c .before .before .before .before .before .before .before .before .before .pass in
-    λ N h. measure-made h (s .args .codes .now) (s .args .wanted .now) (p .ensures N (h .holds)) (c .before .header .ensures)
+    λ N h. measure-made h (s .codes .now) (s .wanted .now) (p .ensures N (h .holds)) (c .before .header .ensures)
 
 pub measure-spec : {M : Type 1} → statement M
 measure-spec =

@@ -20,7 +20,11 @@ same-length-3 : tie.Need-same-length-3
 same-length-3 c = search needs
 
 returns : tie.Need-returns
-returns c = let a = c .before .before .before .before .before .before .before .before .before .before .before .before .before .before .before .before .before .before .before .before .before .before .before .args in λ N h p q. write-made h (a .codes .now) (a .wanted .now) p q (c .before .before .before .before .before .before .before .before .before .before .before .before .header .ensures) (c .before .before .before .before .before .before .pass .ensures N (h .holds))
+returns c =
+    let p = c .before .before .before .before .before .before in
+    let h = p .before .before .before .before .before .before in
+    let s = h .before .before .before .before .before .before .before .before .before .before .before .args in
+    λ N a g w. write-made a (s .codes .now) (s .wanted .now) g w (h .header .ensures) (p .pass .ensures N (a .holds))
 
 pub write-spec : {M : Type 1} → statement M
 write-spec =

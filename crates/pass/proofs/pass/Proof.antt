@@ -34,9 +34,18 @@ outs-requires c κs =
     let p = c .before .before .before .before .before .before .before .before .before .before .before .before .before .before .before .before .before .before .before .before .before .before .before .before .before .before .before .before .before .before .before .pre in
     let s = c .before .before .before .before .before .before .before .before .before .before .before .before .before .before .before .before .before .before .before .before .before .start in
     let g = c .before .before .before .before .before .before .before .before .before .gates in
-    omega
-    (arith, p .small, p .ins, p .outs, p .codes, s .kept .1 .0, s .kept .1 .1 .0, g .kept .1 .1 .1 .1 .1 .1 .1 .0, g .kept .1 .1 .1 .1 .1 .1 .1 .1 .0,
-    g .ensures .grown)
+    omega (
+      arith,
+      p .small,
+      p .ins,
+      p .outs,
+      p .codes,
+      s .kept .1 .0,
+      s .kept .1 .1 .0,
+      g .kept .1 .1 .1 .1 .1 .1 .1 .0,
+      g .kept .1 .1 .1 .1 .1 .1 .1 .1 .0,
+      g .ensures .grown,
+    )
 
 cast-t25 : tie.Need-cast-t25
 cast-t25 c = let p = c .before .before .before .before .before .before .before .before .before .before .before .before .before .before .before .before .before .before .before .before .before .before .before .before .before .before .before .before .before .before .before .before .before .before .pre in
@@ -44,9 +53,13 @@ cast-t25 c = let p = c .before .before .before .before .before .before .before .
 
 add-t37 : tie.Need-add-t37
 add-t37 c = let p = c .before .before .before .before .before .before .before .before .before .before .before .before .before .before .before .before .before .before .before .before .before .before .before .before .before .before .before .before .before .before .before .before .before .before .before .pre in
-    omega
-    (arith, p .small, p .ins, p .outs,
-    c .before .before .before .before .before .before .before .before .before .before .before .before .before .gates .ensures .grown)
+    omega (
+      arith,
+      p .small,
+      p .ins,
+      p .outs,
+      c .before .before .before .before .before .before .before .before .before .before .before .before .before .gates .ensures .grown,
+    )
 
 same-length : tie.Need-same-length
 same-length c = search needs

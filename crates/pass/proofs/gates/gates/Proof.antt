@@ -34,9 +34,10 @@ shared-slice-read-step-2 c = search needs
 step-requires : tie.Need-step-requires Inv-loop μ-loop
 step-requires c κs =
     let p = c .before .before .before .before .before .before .before .before .before .before .before .before .pre in
-    let inv = c .before .before .before .before .before .before .loop .inv in
-    (omega (arith, p .0, inv .made .grown),
-    (rw (inv .wires) (p .1 .0 .each _ (c .before .before .before .before .before .loop-test .taken)), omega (arith, inv .wires, inv .codes)))
+    let inv = c .before .before .before .before .before .before .loop .inv in (
+      omega (arith, p .0, inv .made .grown),
+      (rw (inv .wires) (p .1 .0 .each _ (c .before .before .before .before .before .loop-test .taken)), omega (arith, inv .wires, inv .codes)),
+    )
 
 add-i : tie.Need-add-i Inv-loop μ-loop
 add-i c = search needs
