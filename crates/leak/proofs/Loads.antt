@@ -47,9 +47,7 @@ module _ (codes : List ℕ) (whole : Bool) (block : ℕ) where
     }
 
     pub loaded-input : (i w : ℕ) → Loaded ws₀ ws i → i < length codes
-        →
-        ((j : ℕ) → j < 64
-        → lane j w ≡ differs (kept whole (getD codes i 0) (lane i ((block * 64 + j) / 4)))
+        → ((j : ℕ) → j < 64 → lane j w ≡ differs (kept whole (getD codes i 0) (lane i ((block * 64 + j) / 4)))
         (maskOf (lane 0 (block * 64 + j)) (lane 1 (block * 64 + j)) (getD codes i 0)))
         → Loaded ws₀ (set ws i w) (i + 1)
     loaded-input i w s l h = put i w s (omega arith) (λ j b. h j b ∙ sym (inputs-at whole codes (block * 64 + j) i l))

@@ -43,48 +43,48 @@ spot-same {p = p} ef eg h = record {
 }
 
 -- T settings more, from S on, searched for wires below the best
-module _ {f g : ℕ → ℕ → ℕ} {W S T : ℕ} {best spot : Spot} (past : Spotted f g W S best) (next : Spotted (from S f) (from S g) (best .wire) T spot)
-  where
-    -- a setting is one of those before, or one of the T
-    split : {P : Type 0} (s : ℕ) → (s < S → P) → (S ≤ s → P) → P
-    split s old new = onBool (ltb s S) (λ t. old (ltb-true s S t)) (λ t. new (ltb-false s S t))
+module _ {f g : ℕ → ℕ → ℕ} {W S T : ℕ} {best spot : Spot}
+    (past : Spotted f g W S best) (next : Spotted (from S f) (from S g) (best .wire) T spot) where
+  -- a setting is one of those before, or one of the T
+  split : {P : Type 0} (s : ℕ) → (s < S → P) → (S ≤ s → P) → P
+  split s old new = onBool (ltb s S) (λ t. old (ltb-true s S t)) (λ t. new (ltb-false s S t))
 
-    shifted : (w s : ℕ) → S ≤ s → from S f w (s - S) ≡ from S g w (s - S) → f w s ≡ g w s
-    shifted w s k e = let q : S + (s - S) ≡ s = omega arith in subst (λ (n : ℕ). f w n ≡ g w n) q e
+  shifted : (w s : ℕ) → S ≤ s → from S f w (s - S) ≡ from S g w (s - S) → f w s ≡ g w s
+  shifted w s k e = let q : S + (s - S) ≡ s = omega arith in subst (λ (n : ℕ). f w n ≡ g w n) q e
 
-    lower-both : Agree f g (spot .wire) (S + T)
-    lower-both w l s m =
-        let k = next .within in
-        split s (λ h. past .lower w (omega arith) s h) (λ h. shifted w s h (next .lower w l (s - S) (omega arith)))
+  lower-both : Agree f g (spot .wire) (S + T)
+  lower-both w l s m =
+      let k = next .within in
+      split s (λ h. past .lower w (omega arith) s h) (λ h. shifted w s h (next .lower w l (s - S) (omega arith)))
 
-    -- a lower wire
-    pub spot-hit : spot .wire < best .wire → Spotted f g W (S + T) (record { wire = spot .wire; at = S + spot .at; base = spot .base; own = spot .own })
-    spot-hit h =
-        let i = past .within in
-        let d = next .differs h in
+  -- a lower wire
+  pub spot-hit : spot .wire < best .wire → Spotted f g W (S + T) (record { wire = spot .wire; at = S + spot .at; base = spot .base; own = spot .own })
+  spot-hit h =
+      let i = past .within in
+      let d = next .differs h in
+      let n = d .inside in
+      record {
+        within = omega arith;
+        lower = lower-both;
+        differs = λ _. record {
+          inside = omega arith;
+          smaller = λ s m. split s (λ q. past .lower (spot .wire) h s q) (λ q. shifted (spot .wire) s q (d .smaller (s - S) (omega arith)));
+          other = d .other;
+          base = d .base;
+          own = d .own;
+        };
+      }
+
+  -- none
+  pub spot-miss : best .wire ≤ spot .wire → Spotted f g W (S + T) best
+  spot-miss h = record {
+    within = past .within;
+    lower = λ w l. lower-both w (omega arith);
+    differs = λ l.
+        let d = past .differs l in
         let n = d .inside in
-        record {
-          within = omega arith;
-          lower = lower-both;
-          differs = λ _. record {
-            inside = omega arith;
-            smaller = λ s m. split s (λ q. past .lower (spot .wire) h s q) (λ q. shifted (spot .wire) s q (d .smaller (s - S) (omega arith)));
-            other = d .other;
-            base = d .base;
-            own = d .own;
-          };
-        }
-
-    -- none
-    pub spot-miss : best .wire ≤ spot .wire → Spotted f g W (S + T) best
-    spot-miss h = record {
-      within = past .within;
-      lower = λ w l. lower-both w (omega arith);
-      differs = λ l.
-          let d = past .differs l in
-          let n = d .inside in
-          record { inside = omega arith; smaller = d .smaller; other = d .other; base = d .base; own = d .own };
-    }
+        record { inside = omega arith; smaller = d .smaller; other = d .other; base = d .base; own = d .own };
+  }
 
 -- ---- the loop over the blocks
 
@@ -120,19 +120,16 @@ pub find-more : {t : Tables} {n W : ℕ} {codes : List ℕ} {mixed : Bool} {bloc
     → Spotted (from (block * 16) (countIn (bare t n (length words)) false codes)) (from (block * 16) (countIn (bare t n (length words)) true codes))
     (best .wire) 16 spot
     → Ready mixed (bare t n (length words)) codes vs (block + 1)
-    →
-    ((f g : ℕ → ℕ → ℕ) (W : ℕ) → Spotted f g W (block * 16) best → Spotted (from (block * 16) f) (from (block * 16) g) (best .wire) 16 spot
+    → ((f g : ℕ → ℕ → ℕ) (W : ℕ) → Spotted f g W (block * 16) best → Spotted (from (block * 16) f) (from (block * 16) g) (best .wire) 16 spot
     → Spotted f g W (block * 16 + 16) next)
     → Finding t n W codes mixed blocks us vs next (block + 1)
 find-more {t} {n} {W} {codes} {mixed} {best = best} {block} r l us vs spot next e d turned ready better =
     let f = countIn (bare t n W) false codes in
     let g = countIn (bare t n W) true codes in
     let q : block * 16 + 16 ≡ (block + 1) * 16 = omega arith in
+    let counts : Bool → ℕ → ℕ → ℕ → ℕ = λ whole k. from (block * 16) (countIn (bare t n k) whole codes) in
     let turned′ : Spotted (from (block * 16) f) (from (block * 16) g) (best .wire) 16 spot =
-    subst
-    (λ (k : ℕ). Spotted (from (block * 16) (countIn (bare t n k) false codes)) (from (block * 16) (countIn (bare t n k) true codes)) (best .wire) 16
-    spot)
-    (r .long-words) turned in
+    subst (λ (k : ℕ). Spotted (counts false k) (counts true k) (best .wire) 16 spot) (r .long-words) turned in
     record {
       passed = omega arith;
       long-words = e ∙ r .long-words;

@@ -71,8 +71,7 @@ verdict-requires c κs =
     let ten = masks-bits (take (s .args .h .inputs) (s .args .widths .now))
     (sym (at-ends-in-masks .ends-in-masks .ensures) ∙ not-false _ (c .before .before .before .before .before .before .before .if1 .left)) in
     let eleven : listGood isCode (s .args .h .ins - 2) cs ≡ true
-    =
-    (sym (c .before .before .before .before .before .before .codes .ensures) ∙ not-false _ (c .before .before .before .before .before .if2 .left)) in
+    = sym (c .before .before .before .before .before .before .codes .ensures) ∙ not-false _ (c .before .before .before .before .before .if2 .left) in
     let l = codes-length (s .args .h .ins - 2) cs eleven in
     (p .0, (codes-masked (s .args .h .ins - 2) cs eleven, c .before .before .before .before .if3 .left, omega arith, p .1 .3, p .1 .4))
 

@@ -48,8 +48,7 @@ returns c =
     let refresh = c .before .before .before .before .before .refresh in
     let base = refresh .last .1 .1 .1 .1 .1 .1 .1 .0 in
     let t = tables (s .args .operands .now) (s .args .results .now) in
-    let based =
-    subst
+    let based = subst
     (λ (W : ℕ). Counted (bare t (s .args .count) W) false (s .args .codes .now) (nibblesOf base) (s .args .block)
     × Ready (s .args .mixed) (bare t (s .args .count) W) (s .args .codes .now) base (s .args .block + 1))
     (side .kept .1 .1 .1 .1 .1 .1 .0) (refresh .ensures) in

@@ -39,10 +39,10 @@ same-length c = search needs
 
 returns-2 : tie.Need-returns-2
 returns-2 c =
-    let at-before = c .before .before .before .before .before .before in
-    let k = at-before .before in
+    let at-skip-blanks2 = c .before .before .before .before .before .before in
+    let k = at-skip-blanks2 .before in
     let n = counts-is _ _ _ _ _ _ (k .before .gates .given .1) (k .before .before .before .counts-line .ensures) in
-    no-header-2 _ _ (k .before .before .before .before .skip-blanks .ensures) _ _ _ n _ (at-before .skip-blanks2 .ensures)
+    no-header-2 _ _ (k .before .before .before .before .skip-blanks .ensures) _ _ _ n _ (at-skip-blanks2 .skip-blanks2 .ensures)
     (widths-not _ _ _ _ _ (c .enum-told2 .given .1) (c .before .before .before .before .values-line .ensures))
 
 skip-blanks-requires-3 : tie.Need-skip-blanks-requires-3
@@ -66,13 +66,13 @@ same-length-3 c = search needs
 
 returns-3 : tie.Need-returns-3
 returns-3 c =
-    let at-before = c .before .before .before .before .before .before in
-    let l = at-before .before in
+    let at-skip-blanks3 = c .before .before .before .before .before .before in
+    let l = at-skip-blanks3 .before in
     let x = widths-is _ _ _ _ _ _ _ _ (l .before .ni .given .1) (l .before .before .before .before .before .values-line .ensures) in
     let k = l .before .before .before .before .before .before .before .before in
     let n = counts-is _ _ _ _ _ _ (k .before .gates .given .1) (k .before .before .before .counts-line .ensures) in
     no-header-3 _ _ (k .before .before .before .before .skip-blanks .ensures) _ _ _ n _
-    (l .before .before .before .before .before .before .before .skip-blanks2 .ensures) _ _ _ _ x _ (at-before .skip-blanks3 .ensures)
+    (l .before .before .before .before .before .before .before .skip-blanks2 .ensures) _ _ _ _ x _ (at-skip-blanks3 .skip-blanks3 .ensures)
     (widths-not _ _ _ _ _ (c .enum-told3 .given .1) (c .before .before .before .before .values-line2 .ensures))
 
 same-length-4 : tie.Need-same-length-4
@@ -83,14 +83,14 @@ same-length-5 c = search needs
 
 returns-4 : tie.Need-returns-4
 returns-4 c =
-    let at-before = c .before .before .before .before .before .before .before in
+    let at-skip-blanks3 = c .before .before .before .before .before .before .before in
     let y = widths-is _ _ _ _ _ _ _ _ (c .before .no .given .1) (c .before .before .before .before .before .values-line2 .ensures) in
-    let l = at-before .before in
+    let l = at-skip-blanks3 .before in
     let x = widths-is _ _ _ _ _ _ _ _ (l .before .ni .given .1) (l .before .before .before .before .before .values-line .ensures) in
     let k = l .before .before .before .before .before .before .before .before in
     let n = counts-is _ _ _ _ _ _ (k .before .gates .given .1) (k .before .before .before .counts-line .ensures) in
     a-header _ _ (k .before .before .before .before .skip-blanks .ensures) _ _ _ n _
-    (l .before .before .before .before .before .before .before .skip-blanks2 .ensures) _ _ _ _ x _ (at-before .skip-blanks3 .ensures) _ _ _ _ y
+    (l .before .before .before .before .before .before .before .skip-blanks2 .ensures) _ _ _ _ x _ (at-skip-blanks3 .skip-blanks3 .ensures) _ _ _ _ y
 
 pub read-header-spec : {M : Type 1} → statement M
 read-header-spec =

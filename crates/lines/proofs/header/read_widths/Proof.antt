@@ -83,11 +83,11 @@ loop-less c =
 
 loop-again : tie.Need-loop-again Inv-loop μ-loop
 loop-again c =
-    let at-before = c .before .before .before .before in
-    let k = at-before .before in
+    let at-if1 = c .before .before .before .before in
+    let k = at-if1 .before in
     let a = number-is _ _ _ _ _ (k .before .width .given .1) (k .before .before .before .next-number .ensures) in
     let h = k .before .before .before .before .before .before .before .loop in (
-      rw (c .before .before .keep .ensures) (widen-on _ _ _ _ _ _ (h .inv .0) _ _ (at-before .if1 .left) (omega arith) a),
+      rw (c .before .before .keep .ensures) (widen-on _ _ _ _ _ _ (h .inv .0) _ _ (at-if1 .if1 .left) (omega arith) a),
       ap length (c .before .before .keep .ensures) ∙ simp length-set (h .inv .1),
     )
 

@@ -43,8 +43,7 @@ enum-known-g-5 c = search needs
 returns : tie.Need-returns
 returns c =
     and-second (c .before .before .is-marked .ensures) (c .before .if1 .taken) (c .is-marked2 .ensures)
-    ∙ sym
-    (ap (operandsGiven (marked (c .before .before .before .before .before .before .before .args .table .now)))
+    ∙ sym (ap (operandsGiven (marked (c .before .before .before .before .before .before .before .args .table .now)))
     (c .before .before .before .before .g .given .1))
 
 returns-2 : tie.Need-returns-2
@@ -55,15 +54,13 @@ returns-2 c =
 returns-3 : tie.Need-returns-3
 returns-3 c =
     and-second (c .before .before .is-marked3 .ensures) (c .before .if2 .taken) (c .is-marked4 .ensures)
-    ∙ sym
-    (ap (operandsGiven (marked (c .before .before .before .before .before .before .before .args .table .now)))
+    ∙ sym (ap (operandsGiven (marked (c .before .before .before .before .before .before .before .args .table .now)))
     (c .before .before .before .before .g2 .given .1))
 
 returns-4 : tie.Need-returns-4
 returns-4 c =
     and-first _ (c .before .is-marked3 .ensures) (c .if2 .left)
-    ∙ sym
-    (ap (operandsGiven (marked (c .before .before .before .before .before .before .args .table .now))) (c .before .before .before .g2 .given .1))
+    ∙ sym (ap (operandsGiven (marked (c .before .before .before .before .before .before .args .table .now))) (c .before .before .before .g2 .given .1))
 
 returns-5 : tie.Need-returns-5
 returns-5 c =
