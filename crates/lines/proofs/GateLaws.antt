@@ -14,7 +14,8 @@ use Rattle.text.specs.Answers.{NumberAt}
 use Rattle.text.proofs.SplitLaws.{addWord}
 use Rattle.text.proofs.AnswerLaws.{number-word, number-line, no-number, word-words, word-none, word-stays}
 use Rattle.lines.specs.GateForm.{onNumber, alone, named}
-use Rattle.lines.specs.GateAnswers.{gateNamed, LineNext, LineIs}
+use Rattle.lines.specs.GateAnswers.{gateSaid, gateNamed, LineNext, LineIs}
+use Rattle.lines.specs.declared.gate.GateNumbers.{GateNumbers}
 use Rattle.lines.specs.declared.gate.NamedGate.{NamedGate}
 use Rattle.lines.specs.declared.gate.NamedGate.the-variants as N
 use Rattle.lines.specs.declared.gate.GateLine.{GateLine}
@@ -23,7 +24,7 @@ use Rattle.lines.specs.declared.gate.GateLine.the-variants as L
 -- ---- a line known by its answer
 
 module _ (t : List ℕ) (at : ℕ) (e : Option Gate) (r : GateLine) (l : LineIs t at e r) where
-  pub line-is : (g : Gate) (c : Cursor) → r ≡ L.Is g c → (some g ≡ e) × LineTaken t at (c .at)
+  pub line-is : (g : GateNumbers) (c : Cursor) → r ≡ L.Is g c → (some (gateSaid g) ≡ e) × LineTaken t at (c .at)
   line-is g c p = let k : LineIs t at e (L.Is g c) = subst (LineIs t at e) p l in (k .gate, k .next)
 
   pub line-is-not : r ≡ L.Not → none ≡ e
@@ -96,7 +97,7 @@ module _ (t : List ℕ) (at : ℕ) where
       go (w ∷ ws) e = refl
 
   -- the line ends
-  pub last-gate : (n : NamedGate) (g : Gate) (c : Cursor) → n ≡ N.Is g → EndAt t at (c .at)
+  pub last-gate : (n : NamedGate) (g : GateNumbers) (c : Cursor) → n ≡ N.Is g → EndAt t at (c .at)
       → LineIs t at (alone (gateNamed n) (lineWords (drop at t))) (L.Is g c)
   unfolding alone
   last-gate n g c p e = record {

@@ -1,21 +1,33 @@
 -- What the answers of the gate line's readers mean.
 use Prim.Native.Nat.{ℕ}
 use mathlib.Core.Path.{_≡_}
+use mathlib.Core.Bool.{cond}
 use mathlib.Core.List.{List}
 use mathlib.Core.Option.{Option, none, some}
+use lib.Dec.{eqb}
 use Rattle.netlist.specs.declared.Gate.{Gate}
+use Rattle.netlist.specs.declared.Gate.the-variants.{Xor, And, Inv, Eqw, Eq}
 use Rattle.text.specs.Line.{LineTaken}
+use Rattle.lines.specs.declared.gate.GateNumbers.{GateNumbers}
 use Rattle.lines.specs.declared.gate.NamedGate.{NamedGate}
 use Rattle.lines.specs.declared.gate.NamedGate.the-variants as N
 use Rattle.lines.specs.declared.gate.GateLine.{GateLine}
 use Rattle.lines.specs.declared.gate.GateLine.the-variants as L
 
+-- the gate of a kind
+abbrev pub gateFor : ℕ → ℕ → ℕ → ℕ → Gate
+gateFor kind a b c = cond (eqb kind 1) (Xor a b c) (cond (eqb kind 2) (And a b c) (cond (eqb kind 3) (Inv a c) (cond (eqb kind 4) (Eqw a c) (Eq a c))))
+
+-- the gate that numbers are
+abbrev pub gateSaid : GateNumbers → Gate
+gateSaid g = gateFor (g .kind) (g .left) (g .right) (g .result)
+
 abbrev pub gateNamed : NamedGate → Option Gate
-gateNamed (N.Is g) = some g
+gateNamed (N.Is g) = some (gateSaid g)
 gateNamed N.Not = none
 
 abbrev pub lineGate : GateLine → Option Gate
-lineGate (L.Is g c) = some g
+lineGate (L.Is g c) = some (gateSaid g)
 lineGate L.Not = none
 
 -- behind a gate the next line starts

@@ -1,28 +1,62 @@
 // One gate line: question 7. A line is read from the left: how many operands and results, the wires
 // or the constant, the gate's name, and nothing behind it.
 ghost use mathlib.Core.Path.{_≡_};
+ghost use mathlib.Core.Option.{some};
 ghost use Prim.Native.Nat.{_≤_};
 ghost use lib.ListN.{length, drop};
 ghost use Rattle.netlist.specs.GateLine.{gateLine, gate1 as theGate1, gate2 as theGate2};
 ghost use Rattle.text.specs.Line.{lineWords};
 ghost use Rattle.lines.specs.GateForm.{alone, one, resultForm, two};
-ghost use Rattle.lines.specs.GateAnswers.{gateNamed, LineIs};
+ghost use Rattle.lines.specs.GateAnswers.{gateFor, gateSaid, gateNamed, LineIs};
 use netlist::Gate;
 use text::bytes::same;
 use text::cursor::Cursor;
 use text::cursor::LineEnd;
 use text::number::Number;
 
+// A gate as plain numbers, so that no jump on its kind is needed where kinds are handled alike. Kinds 1 to 5 are XOR, AND,
+// INV, EQW and EQ; EQ has its constant on the left, and a gate of one operand 0 on the right.
+pub struct GateNumbers {
+    pub kind: u64,
+    pub left: u32,
+    pub right: u32,
+    pub result: u32,
+}
+
 // The gate that a name stands for, if there is one.
 enum NamedGate {
-    Is(Gate),
+    Is(GateNumbers),
     Not,
 }
 
 // The gate of a line, with the start of the next line; or no gate.
 pub enum GateLine {
-    Is(Gate, Cursor),
+    Is(GateNumbers, Cursor),
     Not,
+}
+
+// A gate of one operand, or of a constant.
+fn unary(kind: u64, left: u32, result: u32) -> NamedGate
+    ensures { λ r. ⌜ gateNamed r ≡ some (gateFor kind left 0 result) ⌝ }
+{
+    NamedGate::Is(GateNumbers {
+        kind,
+        left,
+        right: 0,
+        result,
+    })
+}
+
+// A gate of two operands.
+fn binary(kind: u64, left: u32, right: u32, result: u32) -> NamedGate
+    ensures { λ r. ⌜ gateNamed r ≡ some (gateFor kind left right result) ⌝ }
+{
+    NamedGate::Is(GateNumbers {
+        kind,
+        left,
+        right,
+        result,
+    })
 }
 
 // The gate of one operand that a name stands for; EQ has a constant for it.
@@ -30,13 +64,13 @@ fn gate1(name: &[u8], a: u32, c: u32) -> NamedGate
     ensures { λ r. ⌜ gateNamed r ≡ theGate1 (now (name .entry)) a c ⌝ }
 {
     if same(name, b"INV") {
-        return NamedGate::Is(Gate::Inv(a, c));
+        return unary(3, a, c);
     }
     if same(name, b"EQW") {
-        return NamedGate::Is(Gate::Eqw(a, c));
+        return unary(4, a, c);
     }
     if same(name, b"EQ") {
-        return NamedGate::Is(Gate::Eq(a, c));
+        return unary(5, a, c);
     }
     NamedGate::Not
 }
@@ -46,10 +80,10 @@ fn gate2(name: &[u8], a: u32, b: u32, c: u32) -> NamedGate
     ensures { λ r. ⌜ gateNamed r ≡ theGate2 (now (name .entry)) a b c ⌝ }
 {
     if same(name, b"XOR") {
-        return NamedGate::Is(Gate::Xor(a, b, c));
+        return binary(1, a, b, c);
     }
     if same(name, b"AND") {
-        return NamedGate::Is(Gate::And(a, b, c));
+        return binary(2, a, b, c);
     }
     NamedGate::Not
 }
@@ -134,4 +168,18 @@ pub fn gate_line(text: &[u8], at: Cursor) -> GateLine
         return two_operands(text, at2);
     }
     GateLine::Not
+}
+
+// The gate that the numbers are.
+pub fn gate_of(g: GateNumbers) -> Gate
+    ensures { λ r. ⌜ r ≡ gateSaid g ⌝ }
+{
+    let kind = g.kind;
+    match kind {
+        1 => Gate::Xor(g.left, g.right, g.result),
+        2 => Gate::And(g.left, g.right, g.result),
+        3 => Gate::Inv(g.left, g.result),
+        4 => Gate::Eqw(g.left, g.result),
+        _ => Gate::Eq(g.left, g.result),
+    }
 }

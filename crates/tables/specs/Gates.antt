@@ -11,6 +11,7 @@ use Rattle.netlist.specs.Text.{wordLines}
 use Rattle.netlist.specs.Read.{gateLines}
 use Rattle.netlist.specs.Table.{Tables, gatesOf, Wired}
 use Rattle.text.specs.Line.{lineWords, LineTaken}
+use Rattle.lines.specs.GateAnswers.{gateSaid}
 use Rattle.tables.specs.Marks.{Marks}
 use Rattle.tables.specs.Entry.{Names}
 use Rattle.tables.specs.declared.gates.GateStep.{GateStep}
@@ -32,7 +33,7 @@ pub record RefusedAt (t : List ℕ) (at n W : ℕ) (results : List ℕ) (q : ℕ
 
 -- questions 7 to 9 of one line, behind lines with these results
 abbrev pub GateStepIs : List ℕ → ℕ → ℕ → ℕ → List ℕ → List ℕ → GateStep → Type 0
-GateStepIs t at n W results given (S.On g c) = Admitted t at n W results given g (c .at)
+GateStepIs t at n W results given (S.On g c) = Admitted t at n W results given (gateSaid g) (c .at)
 GateStepIs t at n W results given (S.Refused q) = RefusedAt t at n W results q
 
 -- a gate was stored behind the first n

@@ -1,10 +1,11 @@
 // A gate as two table entries.
-use netlist::Gate;
+use lines::gate::GateNumbers;
 ghost use mathlib.Core.Path.{_≡_};
 ghost use Prim.Native.Nat.{ℕ, _+_, _*_, _<_};
 ghost use lib.ListN.{length};
 ghost use Rattle.netlist.specs.Table.{tables, half, putEntry};
-ghost use Rattle.tables.specs.Entry.{Names, Entered};
+ghost use Rattle.lines.specs.GateAnswers.{gateSaid};
+ghost use Rattle.tables.specs.Entry.{hasConstant, secondOf, Names, Entered};
 
 // 2^32: the right operand and the kind stand in the upper halves of their entries.
 const HALF: u64 = 4294967296;
@@ -14,7 +15,7 @@ pub struct Entry {
     pub results: u64,
 }
 
-// A kind, its operands (0 where it reads none) and its result.
+// A kind, its operands and its result.
 fn pack(kind: u64, a: u32, b: u32, c: u32) -> Entry
     requires { ⌜ kind < 8 ⌝ }
     ensures { λ r. ⌜ (r .operands ≡ a + b * half) × (r .results ≡ c + kind * half) ⌝ }
@@ -25,23 +26,31 @@ fn pack(kind: u64, a: u32, b: u32, c: u32) -> Entry
     }
 }
 
-// The entries of a gate.
-pub fn entry_of(g: Gate) -> Entry
-    ensures { λ r. ⌜ ((W : ℕ) → Names W g → Entered W g (r .operands) (r .results)) ⌝ }
+// Whether a constant stands in place of operands.
+pub fn has_constant(g: GateNumbers) -> bool
+    ensures { λ r. ⌜ r ≡ hasConstant g ⌝ }
 {
-    match g {
-        Gate::Xor(a, b, c) => pack(1, a, b, c),
-        Gate::And(a, b, c) => pack(2, a, b, c),
-        Gate::Inv(a, c) => pack(3, a, 0, c),
-        Gate::Eqw(a, c) => pack(4, a, 0, c),
-        Gate::Eq(v, c) => {
-            if v == 0 {
-                pack(5, 0, 0, c)
-            } else {
-                pack(6, 0, 0, c)
-            }
+    g.kind == 0 || 4 < g.kind
+}
+
+// The second operand; for a gate of one operand, that one again.
+pub fn second(g: GateNumbers) -> u32
+    ensures { λ r. ⌜ r ≡ secondOf g ⌝ }
+{
+    if 2 < g.kind { g.left } else { g.right }
+}
+
+// The entries of a gate. Only a constant is a case of its own.
+pub fn entry_of(g: GateNumbers) -> Entry
+    ensures { λ r. ⌜ ((W : ℕ) → Names W (gateSaid g) → Entered W (gateSaid g) (r .operands) (r .results)) ⌝ }
+{
+    if has_constant(g) {
+        if g.left == 0 {
+            return pack(5, 0, 0, g.result);
         }
+        return pack(6, 0, 0, g.result);
     }
+    pack(g.kind, g.left, second(g), g.result)
 }
 
 // Stores entries at a place of the tables.

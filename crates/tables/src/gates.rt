@@ -5,10 +5,9 @@ use crate::entry::put;
 use crate::marks::mark;
 use crate::marks::operands_given;
 use crate::marks::result_free;
-use crate::marks::result_of;
 use lines::gate::GateLine;
+use lines::gate::GateNumbers;
 use lines::gate::gate_line;
-use netlist::Gate;
 use text::cursor::Cursor;
 use text::lines::count_lines;
 ghost use mathlib.Core.Path.{_≡_};
@@ -19,13 +18,14 @@ ghost use lib.Dec.{eqb};
 ghost use lib.ListN.{length, drop};
 ghost use Rattle.netlist.specs.Text.{wordLines};
 ghost use Rattle.netlist.specs.Table.{tables};
+ghost use Rattle.lines.specs.GateAnswers.{gateSaid};
 ghost use Rattle.tables.specs.Marks.{Marks};
 ghost use Rattle.tables.specs.Entry.{Names};
 ghost use Rattle.tables.specs.Gates.{GateStepIs, GatesIs, Stored};
 
 // A gate that questions 7 to 9 admit, with the start of the next line; or the first question with a no.
 pub enum GateStep {
-    On(Gate, Cursor),
+    On(GateNumbers, Cursor),
     Refused(u8),
 }
 
@@ -46,7 +46,7 @@ fn one_gate(text: &[u8], at: Cursor, n: u32, w: u32, given: &mut [u8]) -> GateSt
     if !operands_given(given, g) {
         return GateStep::Refused(8);
     }
-    let c = result_of(g);
+    let c = g.result;
     if !result_free(given, c, n, w) {
         return GateStep::Refused(9);
     }
@@ -55,9 +55,9 @@ fn one_gate(text: &[u8], at: Cursor, n: u32, w: u32, given: &mut [u8]) -> GateSt
 }
 
 // Stores a gate at a place of the tables.
-fn store(operands: &mut [u64], results: &mut [u64], at: usize, g: Gate)
+fn store(operands: &mut [u64], results: &mut [u64], at: usize, g: GateNumbers)
     requires { ⌜ (at < length (now operands)) × (at < length (now results)) ⌝ }
-    ensures { λ _. ⌜ ((W : ℕ) → Names W g → Stored W (tables (now (operands .entry)) (now (results .entry))) at g (tables (now (operands .exit)) (now (results .exit)))) ⌝ }
+    ensures { λ _. ⌜ ((W : ℕ) → Names W (gateSaid g) → Stored W (tables (now (operands .entry)) (now (results .entry))) at (gateSaid g) (tables (now (operands .exit)) (now (results .exit)))) ⌝ }
 {
     put(operands, results, at, entry_of(g));
 }

@@ -1,13 +1,15 @@
 // Which wires are given: the inputs, and the results of earlier lines. Entry x of the table is 1 where wire x is.
-use netlist::Gate;
+use crate::entry::has_constant;
+use crate::entry::second;
+use lines::gate::GateNumbers;
 ghost use mathlib.Core.Path.{_≡_};
 ghost use mathlib.Core.Bool.{_&&_, not};
 ghost use mathlib.Core.List.{[]};
 ghost use Prim.Native.Nat.{_≤_, _<_};
 ghost use lib.Dec.{leb, ltb};
 ghost use lib.ListN.{length, set, replicate};
-ghost use Rattle.netlist.specs.Netlist.{result};
 ghost use Rattle.netlist.specs.Read.{operandsGiven};
+ghost use Rattle.lines.specs.GateAnswers.{gateSaid};
 ghost use Rattle.tables.specs.Marks.{marked, Marks};
 
 // Whether a wire is marked. Past the table's end none is.
@@ -22,29 +24,13 @@ fn is_marked(table: &[u8], x: u32) -> bool
 }
 
 // Question 8: each operand is marked, or the constant is a bit.
-pub fn operands_given(table: &[u8], g: Gate) -> bool
-    ensures { λ r. ⌜ r ≡ operandsGiven (marked (now (table .entry))) g ⌝ }
+pub fn operands_given(table: &[u8], g: GateNumbers) -> bool
+    ensures { λ r. ⌜ r ≡ operandsGiven (marked (now (table .entry))) (gateSaid g) ⌝ }
 {
-    match g {
-        Gate::Xor(a, b, _) => is_marked(table, a) && is_marked(table, b),
-        Gate::And(a, b, _) => is_marked(table, a) && is_marked(table, b),
-        Gate::Inv(a, _) => is_marked(table, a),
-        Gate::Eqw(a, _) => is_marked(table, a),
-        Gate::Eq(v, _) => v < 2,
+    if has_constant(g) {
+        return g.left < 2;
     }
-}
-
-// The wire that a gate gives.
-pub fn result_of(g: Gate) -> u32
-    ensures { λ r. ⌜ r ≡ result g ⌝ }
-{
-    match g {
-        Gate::Xor(_, _, c) => c,
-        Gate::And(_, _, c) => c,
-        Gate::Inv(_, c) => c,
-        Gate::Eqw(_, c) => c,
-        Gate::Eq(_, c) => c,
-    }
+    is_marked(table, g.left) && is_marked(table, second(g))
 }
 
 // Question 9: at least n, below w and not marked.

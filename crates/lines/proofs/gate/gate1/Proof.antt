@@ -10,8 +10,11 @@ slice-aggregate-same c = search needs
 same-requires : tie.Need-same-requires
 same-requires c κs = search needs
 
+unary-requires : tie.Need-unary-requires
+unary-requires c κs = search needs
+
 returns : tie.Need-returns
-returns c = rw (sym (c .before .same .ensures) ∙ c .if1 .taken)
+returns c = rw (sym (c .before .before .same .ensures) ∙ c .before .if1 .taken) (c .unary .ensures)
 
 slice-aggregate-same-2 : tie.Need-slice-aggregate-same-2
 slice-aggregate-same-2 c = search needs
@@ -19,10 +22,14 @@ slice-aggregate-same-2 c = search needs
 same-requires-2 : tie.Need-same-requires-2
 same-requires-2 c κs = search needs
 
+unary-requires-2 : tie.Need-unary-requires-2
+unary-requires-2 c κs = search needs
+
 returns-2 : tie.Need-returns-2
 returns-2 c =
-    rw (sym (c .before .before .before .before .same .ensures) ∙ c .before .before .before .if1 .left)
-    (rw (sym (c .before .same2 .ensures) ∙ c .if2 .taken))
+    let d = c .before in
+    rw (sym (d .before .before .before .before .same .ensures) ∙ d .before .before .before .if1 .left)
+    (rw (sym (d .before .same2 .ensures) ∙ d .if2 .taken) (c .unary2 .ensures))
 
 slice-aggregate-same-3 : tie.Need-slice-aggregate-same-3
 slice-aggregate-same-3 c = search needs
@@ -30,11 +37,14 @@ slice-aggregate-same-3 c = search needs
 same-requires-3 : tie.Need-same-requires-3
 same-requires-3 c κs = search needs
 
+unary-requires-3 : tie.Need-unary-requires-3
+unary-requires-3 c κs = search needs
+
 returns-3 : tie.Need-returns-3
 returns-3 c =
-    let d = c .before .before .before in
+    let d = c .before .before .before .before in
     rw (sym (d .before .before .before .before .same .ensures) ∙ d .before .before .before .if1 .left)
-    (rw (sym (d .before .same2 .ensures) ∙ d .if2 .left) (rw (sym (c .before .same3 .ensures) ∙ c .if3 .taken)))
+    (rw (sym (d .before .same2 .ensures) ∙ d .if2 .left) (rw (sym (c .before .before .same3 .ensures) ∙ c .before .if3 .taken) (c .unary3 .ensures)))
 
 returns-4 : tie.Need-returns-4
 returns-4 c =
@@ -48,11 +58,14 @@ gate1-spec =
     (tie.spec
     slice-aggregate-same
     same-requires
+    unary-requires
     returns
     slice-aggregate-same-2
     same-requires-2
+    unary-requires-2
     returns-2
     slice-aggregate-same-3
     same-requires-3
+    unary-requires-3
     returns-3
     returns-4)

@@ -10,8 +10,11 @@ slice-aggregate-same c = search needs
 same-requires : tie.Need-same-requires
 same-requires c κs = search needs
 
+binary-requires : tie.Need-binary-requires
+binary-requires c κs = search needs
+
 returns : tie.Need-returns
-returns c = rw (sym (c .before .same .ensures) ∙ c .if1 .taken)
+returns c = rw (sym (c .before .before .same .ensures) ∙ c .before .if1 .taken) (c .binary .ensures)
 
 slice-aggregate-same-2 : tie.Need-slice-aggregate-same-2
 slice-aggregate-same-2 c = search needs
@@ -19,10 +22,14 @@ slice-aggregate-same-2 c = search needs
 same-requires-2 : tie.Need-same-requires-2
 same-requires-2 c κs = search needs
 
+binary-requires-2 : tie.Need-binary-requires-2
+binary-requires-2 c κs = search needs
+
 returns-2 : tie.Need-returns-2
 returns-2 c =
-    rw (sym (c .before .before .before .before .same .ensures) ∙ c .before .before .before .if1 .left)
-    (rw (sym (c .before .same2 .ensures) ∙ c .if2 .taken))
+    let d = c .before in
+    rw (sym (d .before .before .before .before .same .ensures) ∙ d .before .before .before .if1 .left)
+    (rw (sym (d .before .same2 .ensures) ∙ d .if2 .taken) (c .binary2 .ensures))
 
 returns-3 : tie.Need-returns-3
 returns-3 c =
@@ -35,8 +42,10 @@ gate2-spec =
     (tie.spec
     slice-aggregate-same
     same-requires
+    binary-requires
     returns
     slice-aggregate-same-2
     same-requires-2
+    binary-requires-2
     returns-2
     returns-3)

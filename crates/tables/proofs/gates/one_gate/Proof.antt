@@ -2,6 +2,7 @@
 use mathlib.Core.Path.{sym, _∙_}
 use borrow.Author.Tests.{not-true, not-false}
 use Rattle.lines.proofs.GateLaws.{line-is, line-is-not}
+use Rattle.tables.proofs.Entries.{said-result}
 use Rattle.tables.proofs.Reading.{one-7, one-8, one-9, one-on, one-room}
 use borrow.Author.Needs.{needs}
 use Rattle.tables.proofs.gates.one_gate.Statement.{statement}
@@ -31,9 +32,6 @@ returns-2 c =
     (c .before .before .before .before .g .given .1) in
     one-8 _ _ _ _ _ _ (l .0) (sym (c .before .operands-given .ensures) ∙ not-true _ (c .if1 .taken))
 
-result-of-requires : tie.Need-result-of-requires
-result-of-requires c κs = search needs
-
 result-free-requires : tie.Need-result-free-requires
 result-free-requires c κs = search needs
 
@@ -42,15 +40,15 @@ same-length-2 c = search needs
 
 returns-3 : tie.Need-returns-3
 returns-3 c =
-    let at-g = c .before .before .before .before .before .before .before .before in
+    let at-g = c .before .before .before .before .before .before .before in
     let l = line-is _ _ _ _ (at-g .before .before .gate-line .ensures) _ _ (at-g .g .given .1) in
     one-9 _ _ _ _ _ _ (l .0)
-    (sym (c .before .before .before .before .before .operands-given .ensures) ∙ not-false _ (c .before .before .before .before .if1 .left)) _
-    (c .before .before .before .result-of .ensures) (sym (c .before .result-free .ensures) ∙ not-true _ (c .if2 .taken))
+    (sym (c .before .before .before .before .operands-given .ensures) ∙ not-false _ (c .before .before .before .if1 .left)) _
+    (said-result (at-g .g .given .0 .0)) (sym (c .before .result-free .ensures) ∙ not-true _ (c .if2 .taken))
 
 mark-requires : tie.Need-mark-requires
 mark-requires c κs =
-    one-room _ _ _ _ (c .before .before .before .before .before .before .before .before .before .before .before .before .before .before .pre .1)
+    one-room _ _ _ _ (c .before .before .before .before .before .before .before .before .before .before .before .before .before .pre .1)
     (sym (c .before .before .result-free .ensures) ∙ not-false _ (c .before .if2 .left))
 
 same-length-3 : tie.Need-same-length-3
@@ -58,12 +56,12 @@ same-length-3 c = search needs
 
 returns-4 : tie.Need-returns-4
 returns-4 c =
-    let at-if1 = c .before .before .before .before .before .before .before .before in
+    let at-if1 = c .before .before .before .before .before .before .before in
     let at-operands-given = at-if1 .before in
     let at-g = at-operands-given .before .before .before in
     let l = line-is _ _ _ _ (at-g .before .before .gate-line .ensures) _ _ (at-g .g .given .1) in
     one-on _ _ _ _ _ _ (l .0) (sym (at-operands-given .operands-given .ensures) ∙ not-false _ (at-if1 .if1 .left)) _
-    (c .before .before .before .before .before .before .before .result-of .ensures) _ _
+    (said-result (at-g .g .given .0 .0)) _ _
     (sym (c .before .before .before .before .before .result-free .ensures) ∙ not-false _ (c .before .before .before .before .if2 .left)) (l .1)
     (c .before .before .mark .ensures)
 
@@ -78,7 +76,6 @@ one-gate-spec =
     operands-given-requires
     same-length
     returns-2
-    result-of-requires
     result-free-requires
     same-length-2
     returns-3

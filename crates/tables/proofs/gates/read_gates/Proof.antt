@@ -84,7 +84,9 @@ store-requires c κs =
     (omega (arith, v .operands, p .1, at-loop-test .loop-test .taken), omega (arith, v .results, p .2, at-loop-test .loop-test .taken))
 
 add-i : tie.Need-add-i Inv-loop μ-loop
-add-i c = search needs
+add-i c =
+    let at-loop-test = c .before .before .before .before .before .before .before .before .before .before .before .before .before .before .before .before .before in
+    omega (arith, at-loop-test .loop-test .taken, at-loop-test .before .before .before .before .before .before .pre .1)
 
 loop-less : tie.Need-loop-less Inv-loop μ-loop
 loop-less c = search needs
