@@ -7,6 +7,8 @@ ghost use Rattle.netlist.specs.GateLine.{gateLine, gate1 as theGate1, gate2 as 
 ghost use Rattle.text.specs.Line.{lineWords};
 ghost use Rattle.lines.specs.GateForm.{alone, one, resultForm, two};
 ghost use Rattle.lines.specs.GateAnswers.{gateNamed, LineIs};
+use crate::operands::Operands;
+use crate::operands::read_operands;
 use netlist::Gate;
 use text::bytes::same;
 use text::cursor::Cursor;
@@ -118,19 +120,13 @@ pub fn gate_line(text: &[u8], at: Cursor) -> GateLine
     requires { ⌜ at .at ≤ length (now text) ⌝ }
     ensures { λ r. ⌜ LineIs (now (text .entry)) (at .at) (gateLine (lineWords (drop (at .at) (now (text .entry))))) r ⌝ }
 {
-    let Number::Is(operands, at1) = at.next_number(text) else {
+    let Operands::Are(n, at2) = read_operands(text, at) else {
         return GateLine::Not;
     };
-    let Number::Is(results, at2) = at1.next_number(text) else {
-        return GateLine::Not;
-    };
-    if results != 1 {
-        return GateLine::Not;
-    }
-    if operands == 1 {
+    if n == 1 {
         return one_operand(text, at2);
     }
-    if operands == 2 {
+    if n == 2 {
         return two_operands(text, at2);
     }
     GateLine::Not
