@@ -11,8 +11,9 @@ use borrow.Author.Tests.{eqb-true, le-leb, ne-eqb}
 use Rattle.netlist.specs.Number.{number, isDigit}
 use Rattle.text.specs.declared.cursor.Cursor.{Cursor}
 use Rattle.text.specs.declared.number.Number.the-variants as N
-use Rattle.text.specs.Line.{isSpace, lineWords, nextWord, Scanned}
+use Rattle.text.specs.Line.{isSpace, lineWords, nextWord, afterLine, Scanned}
 use Rattle.text.specs.Answers.{NumberAt}
+use Rattle.text.proofs.SplitLaws.{skip-words, skip-after}
 use Rattle.text.proofs.ScanLaws.{Scanning, scan-start, scan-on, scan-stop}
 use Rattle.text.proofs.ReadingLaws.{Reading, reading-start, reading-stop, whole-next}
 use Rattle.text.proofs.AnswerLaws.{number-word, number-line, no-number}
@@ -73,6 +74,22 @@ module _ (t : List ℕ) (at : ℕ) where
         within = b .within;
       }
 
+-- spaces behind the counts
+operands-on : (t : List ℕ) (at k m to : ℕ) → OperandsAt t at k m → Scanning isSpace t m to → OperandsAt t at k to
+operands-on t at k m to o s =
+    let words : lineWords (drop m t) ≡ lineWords (drop to t) = sym (skip-words (drop m t)) ∙ ap lineWords (sym (s .same)) ∙ skip-words (drop to t) in
+    let after : afterLine (drop to t) ≡ afterLine (drop m t) = sym (skip-after (drop to t)) ∙ ap afterLine (s .same) ∙ skip-after (drop m t) in
+    record {
+      operands = o .operands;
+      results = o .results;
+      line = o .line ∙ ap (λ (ws : List (List ℕ)). o .operands ∷ o .results ∷ ws) words;
+      count = o .count;
+      one = o .one;
+      after = after ∙ o .after;
+      on = omega (arith, o .on, s .on);
+      within = s .within;
+    }
+
 -- ---- two digits
 
 pub not-usual : (t : List ℕ) (at : ℕ) → false ≡ true → OneResult t at
@@ -100,18 +117,21 @@ module _ (t : List ℕ) (at k : ℕ) (o : OneResult t at) where
       digit-number t at at (at + 1) k f refl h (scan-stop isSpace t at at (omega arith) s (scan-start isSpace t at (omega arith))) e
       (ap isSpace (o .before))
 
+  -- a space was passed over
+  past : (i j : ℕ) → i < length t → i + 1 ≡ j → getD t i 0 ≡ 32 → Scanning isSpace t i j
+  past i j h p e = subst (Scanning isSpace t i) p (scan-on isSpace t i i h (ap isSpace e) (scan-start isSpace t i (omega arith)))
+
   second : NumberAt t (at + 1) 1 (at + 3)
   second =
       let h : at + 3 < length t = o .within in
-      let start : Scanning isSpace t (at + 1) (at + 1) = scan-start isSpace t (at + 1) (omega arith) in
-      let p : at + 1 + 1 ≡ at + 2 = omega arith in
-      let on : Scanning isSpace t (at + 1) (at + 2)
-      = subst (Scanning isSpace t (at + 1)) p (scan-on isSpace t (at + 1) (at + 1) (omega arith) (ap isSpace (o .before)) start) in
       digit-number t (at + 1) (at + 2) (at + 3) 1 (omega arith) (omega arith) h
-      (scan-stop isSpace t (at + 1) (at + 2) (omega arith) (ap isSpace (o .one)) on) (o .one) (ap isSpace (o .behind))
+      (scan-stop isSpace t (at + 1) (at + 2) (omega arith) (ap isSpace (o .one)) (past (at + 1) (at + 2) (omega arith) (omega arith) (o .before)))
+      (o .one) (ap isSpace (o .behind))
 
-  pub usual-operands : k ≤ 9 → getD t at 0 ≡ 48 + k → OperandsAt t at k (at + 3)
-  usual-operands f e = one-result t at k (at + 1) (first f e) 1 (at + 3) second refl
+  pub usual-operands : k ≤ 9 → getD t at 0 ≡ 48 + k → OperandsAt t at k (at + 4)
+  usual-operands f e =
+      operands-on t at k (at + 3) (at + 4) (one-result t at k (at + 1) (first f e) 1 (at + 3) second refl)
+      (past (at + 3) (at + 4) (o .within) (omega arith) (o .behind))
 
 -- ---- the line behind the counts
 

@@ -57,10 +57,10 @@ pub fn read_operands(text: &[u8], at: Cursor) -> Operands
     let start = at.at;
     if one_result(text, start) {
         if text[start] == b'2' {
-            return Operands::Are(2, Cursor { at: start + 3 });
+            return Operands::Are(2, Cursor { at: start + 4 });
         }
         if text[start] == b'1' {
-            return Operands::Are(1, Cursor { at: start + 3 });
+            return Operands::Are(1, Cursor { at: start + 4 });
         }
     }
     any_operands(text, at)
