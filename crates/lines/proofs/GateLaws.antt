@@ -38,7 +38,7 @@ line-same t at e f r h l = record { gate = l .gate ∙ sym h; next = l .next }
 pub line-not : (t : List ℕ) (at : ℕ) (e : Option Gate) → e ≡ none → LineIs t at e L.Not
 line-not t at e h = record { gate = sym h; next = tt }
 
-next-behind : (t : List ℕ) (at to : ℕ) → afterLine (drop to t) ≡ afterLine (drop at t) → at ≤ to → (r : GateLine) → LineNext t to r → LineNext t at r
+pub next-behind : (t : List ℕ) (at to : ℕ) → afterLine (drop to t) ≡ afterLine (drop at t) → at ≤ to → (r : GateLine) → LineNext t to r → LineNext t at r
 next-behind t at to e h (L.Is g c) n = record { left = n .left ∙ e; on = omega (arith, n .on); within = n .within }
 next-behind t at to e h L.Not n = tt
 

@@ -8,14 +8,16 @@ ghost use Rattle.netlist.specs.GateLine.{gateLine, gate1 as theGate1, gate2 as 
 ghost use Rattle.text.specs.Line.{lineWords};
 ghost use Rattle.lines.specs.GateForm.{alone, one, resultForm, two};
 ghost use Rattle.lines.specs.GateAnswers.{gateFor, gateSaid, gateNamed, LineIs};
+use crate::operands::Operands;
+use crate::operands::read_operands;
 use netlist::Gate;
 use text::bytes::same;
 use text::cursor::Cursor;
 use text::cursor::LineEnd;
 use text::number::Number;
 
-// A gate as plain numbers, so that no jump on its kind is needed where kinds are handled alike. Kinds 1 to 5 are XOR, AND,
-// INV, EQW and EQ; EQ has its constant on the left, and a gate of one operand 0 on the right.
+// A gate as plain numbers: its way into the tables needs no jump on its kind. Kinds 1 to 4 are XOR, AND, INV and EQW, any other
+// is EQ, whose constant stands on the left; a gate of one operand has 0 on the right.
 pub struct GateNumbers {
     pub kind: u64,
     pub left: u32,
@@ -152,19 +154,13 @@ pub fn gate_line(text: &[u8], at: Cursor) -> GateLine
     requires { ⌜ at .at ≤ length (now text) ⌝ }
     ensures { λ r. ⌜ LineIs (now (text .entry)) (at .at) (gateLine (lineWords (drop (at .at) (now (text .entry))))) r ⌝ }
 {
-    let Number::Is(operands, at1) = at.next_number(text) else {
+    let Operands::Are(n, at2) = read_operands(text, at) else {
         return GateLine::Not;
     };
-    let Number::Is(results, at2) = at1.next_number(text) else {
-        return GateLine::Not;
-    };
-    if results != 1 {
-        return GateLine::Not;
-    }
-    if operands == 1 {
+    if n == 1 {
         return one_operand(text, at2);
     }
-    if operands == 2 {
+    if n == 2 {
         return two_operands(text, at2);
     }
     GateLine::Not

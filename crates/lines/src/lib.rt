@@ -2,3 +2,4 @@
 pub mod gate;
 pub mod head;
 pub mod header;
+mod operands;
