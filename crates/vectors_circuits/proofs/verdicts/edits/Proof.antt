@@ -1,10 +1,10 @@
--- `judge::edits` ends. The measure is what is left of the range.
+-- `verdicts::edits` ends. The measure is what is left of the range.
 use mathlib.Core.Path.{_≡_}
 use Prim.Native.Nat.{_-_}
 use lib.ListN.{length}
 use borrow.Author.Needs.{needs}
-use Rattle.vectors_circuits.proofs.judge.edits.Statement.{statement}
-use Rattle.vectors_circuits.proofs.judge.edits.Tie as tie
+use Rattle.vectors_circuits.proofs.verdicts.edits.Statement.{statement}
+use Rattle.vectors_circuits.proofs.verdicts.edits.Tie as tie
 
 abbrev Inv-loop : tie.InvT-loop
 Inv-loop text₀ n codes e₀ place₀ counter₀ end text e place counter = length text ≡ length text₀

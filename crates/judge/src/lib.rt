@@ -1,5 +1,4 @@
 // Questions 10 to 12 of a netlist that was read, and the verdict on it.
-use crate::Checked;
 use leak::search::Verdict;
 use lines::header::HeaderNumbers;
 ghost use mathlib.Core.Path.{_≡_};
@@ -12,7 +11,14 @@ ghost use Rattle.netlist.specs.Outcome.{done};
 ghost use Rattle.netlist.specs.Services.{endsInMasks, checkOutcome, maxChecked};
 ghost use Rattle.netlist.specs.Table.{tables, Wired, Holds};
 ghost use Rattle.leak.specs.Base.{Secret};
-ghost use Rattle.checker.specs.Judge.{outcomeOf};
+ghost use Rattle.judge.specs.Judge.{outcomeOf};
+
+// Clean; or a leak: its wire, its setting, setting 0's count and that setting's; or the first question that gets a no.
+pub enum Checked {
+    Clean,
+    Leak(usize, u64, u8, u8),
+    Refused(u8),
+}
 
 // Question 12: the most input bits besides the mask pair.
 const MOST_BITS: usize = 12;

@@ -3,8 +3,8 @@ use mathlib.Core.Path.{sym}
 use lib.ListN.{length}
 use borrow.Author.Tests.{le-leb, lt-leb}
 use borrow.Author.Needs.{needs}
-use Rattle.checker.proofs.judge.ends_in_masks.Statement.{statement}
-use Rattle.checker.proofs.judge.ends_in_masks.Tie as tie
+use Rattle.judge.proofs.ends_in_masks.Statement.{statement}
+use Rattle.judge.proofs.ends_in_masks.Tie as tie
 
 returns : tie.Need-returns
 returns c = sym (rw (lt-leb 2 (length (c .before .args .widths .now)) (c .if1 .taken)))

@@ -6,8 +6,8 @@ use Rattle.netlist.specs.Netlist.{Netlist}
 use Rattle.netlist.specs.Outcome.{Outcome, refused, done}
 use Rattle.netlist.specs.Leak.{Found, LowestLeak}
 use Rattle.netlist.specs.Leak as L
-use Rattle.checker.specs.declared.Checked.{Checked}
-use Rattle.checker.specs.declared.Checked.the-variants.{Clean, Leak, Refused}
+use Rattle.judge.specs.declared.Checked.{Checked}
+use Rattle.judge.specs.declared.Checked.the-variants.{Clean, Leak, Refused}
 
 -- the numbers of a leak
 abbrev pub found : ℕ → ℕ → ℕ → ℕ → Found

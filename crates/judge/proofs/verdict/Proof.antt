@@ -2,11 +2,11 @@
 use mathlib.Core.Path.{sym, _∙_}
 use lib.Seq.{length-take-le}
 use Rattle.leak.specs.declared.search.Verdict.the-variants.{Clean, Leak}
-use Rattle.checker.proofs.Judging.{told}
+use Rattle.judge.proofs.Judging.{told}
 use native.Mathlib.Omega.{arith}
 use borrow.Author.Needs.{needs}
-use Rattle.checker.proofs.judge.verdict.Statement.{statement}
-use Rattle.checker.proofs.judge.verdict.Tie as tie
+use Rattle.judge.proofs.verdict.Statement.{statement}
+use Rattle.judge.proofs.verdict.Tie as tie
 
 slice-relend-prefix-leaks : tie.Need-slice-relend-prefix-leaks
 slice-relend-prefix-leaks c = search needs

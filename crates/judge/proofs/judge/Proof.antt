@@ -7,11 +7,11 @@ use lib.Seq.{length-take-le}
 use borrow.Author.Tests.{not-true, not-false}
 use Rattle.netlist.specs.Mask.{isCode}
 use Rattle.netlist.specs.Services.{listGood}
-use Rattle.checker.proofs.Judging.{masks-bits, codes-length, codes-masked, outcome-ten, outcome-eleven, outcome-twelve, outcome-told}
+use Rattle.judge.proofs.Judging.{masks-bits, codes-length, codes-masked, outcome-ten, outcome-eleven, outcome-twelve, outcome-told}
 use native.Mathlib.Omega.{arith}
 use borrow.Author.Needs.{needs}
-use Rattle.checker.proofs.judge.judge.Statement.{statement}
-use Rattle.checker.proofs.judge.judge.Tie as tie
+use Rattle.judge.proofs.judge.Statement.{statement}
+use Rattle.judge.proofs.judge.Tie as tie
 
 slice-aggregate-ends-in-masks : tie.Need-slice-aggregate-ends-in-masks
 slice-aggregate-ends-in-masks c = sym (length-take-le _ _ (c .before .before .before .before .before .before .before .pre .1 .0))
