@@ -17,9 +17,9 @@ use Rattle.netlist.specs.Services.{listGood, endsInMasks, maxChecked, checkOutc
 use Rattle.netlist.specs.Table.{Tables, Holds}
 use Rattle.netlist.proofs.Tests.{both, true-T}
 use Rattle.leak.specs.declared.search.Verdict.{Verdict}
-use Rattle.leak.specs.Base.{Secret}
+use Rattle.counts.specs.Base.{Secret}
 use Rattle.leak.specs.Search.{foundOf, Tells}
-use Rattle.leak.proofs.Bases.{codes-secret}
+use Rattle.counts.proofs.Bases.{codes-secret}
 
 -- ---- question 10
 

@@ -10,7 +10,7 @@ ghost use Rattle.netlist.specs.Netlist.{Netlist};
 ghost use Rattle.netlist.specs.Outcome.{done};
 ghost use Rattle.netlist.specs.Services.{endsInMasks, checkOutcome, maxChecked};
 ghost use Rattle.netlist.specs.Table.{tables, Wired, Holds};
-ghost use Rattle.leak.specs.Base.{Secret};
+ghost use Rattle.counts.specs.Base.{Secret};
 ghost use Rattle.judge.specs.Judge.{outcomeOf};
 
 // Clean; or a leak: its wire, its setting, setting 0's count and that setting's; or the first question that gets a no.
