@@ -6,8 +6,8 @@ use lib.IntN.{ℤ, pos, negℤ}
 use lib.Seq.{sets}
 use Rattle.netlist.specs.declared.Answer.{Answer}
 use Rattle.netlist.specs.declared.Answer.the-variants as answer
-use Rattle.checker.specs.declared.Checked.{Checked}
-use Rattle.checker.specs.declared.Checked.the-variants as checked
+use Rattle.judge.specs.declared.Checked.{Checked}
+use Rattle.judge.specs.declared.Checked.the-variants as checked
 
 -- how many entries the result has, or minus the number of the question
 abbrev pub number : Answer → ℤ

@@ -19,9 +19,9 @@ use Rattle.netlist.proofs.Questions.{done-same, ask-done}
 use Rattle.netlist.proofs.LeakSearch.{none-clean, found-lowest}
 use Rattle.lines.specs.declared.header.HeaderNumbers.{HeaderNumbers}
 use Rattle.tables.specs.Whole.{ReadAt, ReadNot}
-use Rattle.checker.specs.declared.Checked.{Checked}
-use Rattle.checker.specs.declared.Checked.the-variants.{Clean, Leak, Refused}
-use Rattle.checker.specs.Judge.{found, outcomeOf, Judged}
+use Rattle.judge.specs.declared.Checked.{Checked}
+use Rattle.judge.specs.declared.Checked.the-variants.{Clean, Leak, Refused}
+use Rattle.judge.specs.Judge.{found, outcomeOf, Judged}
 use Rattle.checker.specs.Promise.{call}
 
 -- ---- questions 2 to 12

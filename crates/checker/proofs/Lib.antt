@@ -1,2 +1,2 @@
-pub mod Judging
+-- Laws that belong to no one function.
 pub mod Calling

@@ -1,3 +1,2 @@
 -- What Check's contracts cite.
-pub mod Judge
 pub mod Promise

@@ -1,6 +1,5 @@
 // Check: whether a netlist whose last input value is the mask pair leaks on one wire. Questions 1 to 12 with the large limits.
-mod judge;
-
+use judge::Checked;
 use tables::read::Reading;
 ghost use mathlib.Core.Path.{_≡_};
 ghost use mathlib.Core.List.{[], _∷_};
@@ -10,15 +9,8 @@ ghost use Rattle.netlist.specs.Netlist.{large as largeLimits};
 ghost use Rattle.netlist.specs.Outcome.{andThen};
 ghost use Rattle.netlist.specs.Read.{readNetlist};
 ghost use Rattle.netlist.specs.Services.{tablesLong, checkOutcome};
-ghost use Rattle.checker.specs.Judge.{outcomeOf};
+ghost use Rattle.judge.specs.Judge.{outcomeOf};
 ghost use Rattle.checker.specs.Promise.{call, Promise};
-
-// Clean; or a leak: its wire, its setting, setting 0's count and that setting's; or the first question that gets a no.
-pub enum Checked {
-    Clean,
-    Leak(usize, u64, u8, u8),
-    Refused(u8),
-}
 
 // Questions 2 to 12 and the verdict, with tables that question 1 admits.
 fn read_and_judge(

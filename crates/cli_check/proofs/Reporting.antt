@@ -18,8 +18,8 @@ use Rattle.netlist.specs.Programs.{readable, listFile, printCheck, checkProgram
 use Rattle.netlist.proofs.Tests.{onBool}
 use Rattle.writer.specs.Wrote.{Wrote}
 use Rattle.writer.proofs.Wrote.{wrote-front, front-within}
-use Rattle.checker.specs.declared.Checked.{Checked}
-use Rattle.checker.specs.Judge.{outcomeOf}
+use Rattle.judge.specs.declared.Checked.{Checked}
+use Rattle.judge.specs.Judge.{outcomeOf}
 use Rattle.checker.specs.Promise.{call}
 use Rattle.cli_check.specs.Report.{Roomy}
 

@@ -1,6 +1,6 @@
 // *check*: reads netlist.txt and inputs.txt, and prints whether the netlist is clean under those codes, or its leak, or the question
 // that refuses it.
-use checker::Checked;
+use judge::Checked;
 use libc::STDOUT_FILENO;
 ghost use mathlib.Core.Path.{_≡_};
 ghost use mathlib.Core.List.{[]};
@@ -10,7 +10,7 @@ ghost use Rattle.netlist.specs.Netlist.{large as largeLimits};
 ghost use Rattle.netlist.specs.Programs.{readable, listFile, printCheck, checkProgram};
 ghost use Rattle.netlist.specs.Services.{checkCall};
 ghost use Rattle.writer.specs.Wrote.{Wrote};
-ghost use Rattle.checker.specs.Judge.{outcomeOf};
+ghost use Rattle.judge.specs.Judge.{outcomeOf};
 ghost use Rattle.cli_check.specs.Report.{Roomy};
 
 // The answer, from the bytes of the two files; the list takes the place of its file's bytes.

@@ -18,12 +18,12 @@ use Rattle.netlist.proofs.Settings.{setting-mod}
 use Rattle.eval.specs.Bare.{bare}
 use Rattle.eval.proofs.Runs.{bare-wires}
 use Rattle.leak.specs.declared.spot.Spot.{Spot}
-use Rattle.leak.specs.Base.{part, countIn, publicLeak}
+use Rattle.counts.specs.Base.{part, countIn, publicLeak}
 use Rattle.leak.specs.Spot.{Spotted}
 use Rattle.leak.specs.Search.{foundOf, Tells}
 use Rattle.leak.specs.declared.search.Verdict.{Verdict}
 use Rattle.leak.specs.declared.search.Verdict.the-variants.{Clean, Leak}
-use Rattle.leak.proofs.Bases.{secret-leak}
+use Rattle.counts.proofs.Bases.{secret-leak}
 use Rattle.leak.proofs.Spots.{spot-same}
 
 -- a count is that of the netlist that the tables hold

@@ -1,11 +1,3 @@
 -- Laws that several proofs cite.
-pub mod Folds
-pub mod Nibbles
-pub mod Tallies
-pub mod Numbers
-pub mod Inputs
-pub mod Loads
-pub mod Sides
-pub mod Bases
 pub mod Spots
 pub mod Answers

@@ -12,9 +12,9 @@ use Rattle.netlist.specs.Table.{Tables}
 use Rattle.netlist.proofs.Tests.{onBool}
 use Rattle.eval.specs.Bare.{bare}
 use Rattle.leak.specs.declared.spot.Spot.{Spot}
-use Rattle.leak.specs.Base.{countIn}
-use Rattle.leak.specs.Block.{Counted, Ready}
-use Rattle.leak.specs.Spot.{Agree, Spotted, from}
+use Rattle.counts.specs.Base.{countIn}
+use Rattle.counts.specs.Block.{Counted, Ready, Agree}
+use Rattle.leak.specs.Spot.{Spotted, from}
 
 -- no wire differs
 pub spot-none : {f g : ℕ → ℕ → ℕ} {W S : ℕ} {p : Spot} → p .wire ≡ W → Agree f g W S → Spotted f g W S p

@@ -7,7 +7,7 @@ use Rattle.netlist.specs.Netlist.{Netlist}
 use Rattle.netlist.specs.Leak.{Found, leak}
 use Rattle.leak.specs.declared.search.Verdict.{Verdict}
 use Rattle.leak.specs.declared.search.Verdict.the-variants.{Clean, Leak}
-use Rattle.leak.specs.Base.{publicLeak, Secret}
+use Rattle.counts.specs.Base.{publicLeak, Secret}
 
 -- what a verdict stands for: no leak, or its wire and setting, the base's count and its own
 abbrev pub foundOf : Verdict → Option Found

@@ -2,11 +2,8 @@
 use Prim.Native.Nat.{ℕ, _+_, _≤_, _<_}
 use mathlib.Core.Logic.{_≢_}
 use mathlib.Core.Path.{_≡_}
+use Rattle.counts.specs.Block.{Agree}
 use Rattle.leak.specs.declared.spot.Spot.{Spot}
-
--- the counts of wires below W in settings below S are the same
-abbrev pub Agree : (ℕ → ℕ → ℕ) → (ℕ → ℕ → ℕ) → ℕ → ℕ → Type 0
-Agree f g W S = (w : ℕ) → w < W → (s : ℕ) → s < S → f w s ≡ g w s
 
 -- of settings below S, a spot's is the first whose count g on its wire differs from its base's count f, and it holds both
 pub record Differing (f g : ℕ → ℕ → ℕ) (S : ℕ) (p : Spot) : Type 0 where

@@ -1,7 +1,7 @@
 // The search for a leak, block by block.
-use crate::block;
 use crate::spot;
 use crate::spot::Spot;
+use counts::block;
 ghost use mathlib.Core.Path.{_≡_};
 ghost use mathlib.Core.Bool.{true, false};
 ghost use Prim.Native.Nat.{ℕ, _+_, _*_, _^_, _<_, _≤_};
@@ -10,8 +10,8 @@ ghost use Rattle.netlist.specs.Netlist.{Netlist};
 ghost use Rattle.netlist.specs.Services.{maxChecked};
 ghost use Rattle.netlist.specs.Table.{tables, Wired, Holds};
 ghost use Rattle.eval.specs.Bare.{bare};
-ghost use Rattle.leak.specs.Base.{countIn};
-ghost use Rattle.leak.specs.Block.{Ready};
+ghost use Rattle.counts.specs.Base.{countIn};
+ghost use Rattle.counts.specs.Block.{Ready};
 ghost use Rattle.leak.specs.Spot.{Spotted, from};
 ghost use Rattle.leak.specs.Search.{Tells};
 

@@ -1,12 +1,12 @@
 // The first wire, and its first setting, with another count than its base: in one block, and over
 // several.
-use crate::nibble;
+use counts::nibble;
 ghost use mathlib.Core.Path.{_≡_};
 ghost use mathlib.Core.Bool.{true, false};
 ghost use Prim.Native.Nat.{ℕ, _+_, _*_, _<_, _≤_};
 ghost use lib.ListN.{length};
-ghost use Rattle.leak.specs.Block.{onesOf, nibblesOf};
-ghost use Rattle.leak.specs.Spot.{Agree, Spotted, from};
+ghost use Rattle.counts.specs.Block.{onesOf, nibblesOf, Agree};
+ghost use Rattle.leak.specs.Spot.{Spotted, from};
 
 // A wire and a setting, with its base's count and its own; or, with the first wire that was not
 // looked at, none.

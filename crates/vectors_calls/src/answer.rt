@@ -1,8 +1,8 @@
 // The calls of a case, with what it lends.
 use crate::case::Case;
 use crate::scan;
-use checker::Checked;
 use gates::step::Step;
+use judge::Checked;
 use netlist::Answer;
 use netlist::Gate;
 use tally::front;

@@ -5,12 +5,12 @@ mod buffers;
 mod codes;
 mod counts;
 mod forms;
-mod judge;
 mod masked;
 mod score;
 mod second;
 mod services;
 mod vectors;
+mod verdicts;
 mod words;
 
 use crate::masked::Masked;

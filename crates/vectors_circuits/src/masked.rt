@@ -2,13 +2,13 @@
 use crate::buffers;
 use crate::codes;
 use crate::forms;
-use crate::judge;
 use crate::score;
 use crate::score::Score;
 use crate::second;
 use crate::second::Shape;
 use crate::services;
 use crate::vectors;
+use crate::verdicts;
 use crate::words;
 use netlist::Answer;
 
@@ -34,12 +34,12 @@ pub(crate) fn join(a: Masked, b: Masked) -> Masked {
 // agree on it, and on it under other codes.
 fn judged(text: &[u8], ins: &[u8]) -> Score {
     if 12 < ins.len() {
-        return score::case(score::none(), judge::verdict(text, ins) == 12);
+        return score::case(score::none(), verdicts::verdict(text, ins) == 12);
     }
     let others = b"\x02\x03\x02\x03\x02\x03\x02\x03\x02\x03\x02\x03";
-    let a = score::case(score::none(), judge::verdict(text, ins) == 0);
-    let b = score::case(a, judge::alike(text, ins));
-    score::case(b, judge::alike(text, words::part(others, 0, ins.len())))
+    let a = score::case(score::none(), verdicts::verdict(text, ins) == 0);
+    let b = score::case(a, verdicts::alike(text, ins));
+    score::case(b, verdicts::alike(text, words::part(others, 0, ins.len())))
 }
 
 // The masked netlist in the first n bytes of a buffer, with its output codes, on each `step`-th vector.
@@ -53,7 +53,7 @@ fn scores(
     ends: &[u8],
 ) -> Masked {
     let mut m = unedited(words::part(text, 0, n), file, step, ins, wanted, ends);
-    let e = judge::edits(text, n, ins);
+    let e = verdicts::edits(text, n, ins);
     m.check = score::join(m.check, e.alike);
     let leaks = e.leaks;
     m.leaks = leaks;

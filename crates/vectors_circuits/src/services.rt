@@ -1,6 +1,6 @@
 // The four services, each with tables of its own, as long as question 1 asks.
 use crate::buffers;
-use checker::Checked;
+use judge::Checked;
 use netlist::Answer;
 
 pub(crate) fn rewrite(text: &[u8], out: &mut [u8]) -> Answer {

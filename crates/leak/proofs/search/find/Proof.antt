@@ -7,7 +7,7 @@ use borrow.Author.Needs.{needs}
 use Rattle.netlist.specs.Table.{tables}
 use Rattle.netlist.proofs.Puts.{wired-same}
 use Rattle.eval.specs.Bare.{bare}
-use Rattle.leak.specs.Block.{Ready}
+use Rattle.counts.specs.Block.{Ready}
 use Rattle.leak.proofs.Spots.{Finding, find-none, find-more, find-all}
 use Rattle.leak.proofs.search.find.Statement.{statement}
 use Rattle.leak.proofs.search.find.Tie as tie

@@ -7,7 +7,7 @@ use borrow.Author.Needs.{needs}
 use Rattle.netlist.specs.Table.{tables}
 use Rattle.netlist.proofs.Puts.{wired-same}
 use Rattle.eval.specs.Bare.{bare}
-use Rattle.leak.specs.Block.{onesOf, nibblesOf, Counted, Ready}
+use Rattle.counts.specs.Block.{onesOf, nibblesOf, Counted, Ready}
 use Rattle.leak.proofs.Spots.{turn-law}
 use Rattle.leak.proofs.search.turn.Statement.{statement}
 use Rattle.leak.proofs.search.turn.Tie as tie

@@ -4,9 +4,8 @@ use Prim.Native.Nat.{_-_, _≤_}
 use lib.Dec.{T}
 use borrow.Author.Count.{below-none, below-more}
 use borrow.Author.Tests.{eqb-true, eq-eqb}
-use Rattle.leak.specs.Block.{onesOf, nibblesOf}
-use Rattle.leak.specs.Spot.{Agree}
-use Rattle.leak.proofs.Nibbles.{same-counts, no-nibble, or-none, or-both, all-same}
+use Rattle.counts.specs.Block.{onesOf, nibblesOf, Agree}
+use Rattle.counts.proofs.Nibbles.{same-counts, no-nibble, or-none, or-both, all-same}
 use borrow.Author.Needs.{needs}
 use native.Mathlib.Omega.{arith}
 use Rattle.leak.proofs.spot.quiet.Statement.{statement}

@@ -1,9 +1,8 @@
 -- `leak::spot::walk` meets its contract.
 use Prim.Native.Nat.{_-_, _≤_}
 use borrow.Author.Count.{below-none, below-more}
-use Rattle.leak.specs.Block.{onesOf, nibblesOf}
-use Rattle.leak.specs.Spot.{Agree}
-use Rattle.leak.proofs.Nibbles.{same-counts, other-counts, no-nibble}
+use Rattle.counts.specs.Block.{onesOf, nibblesOf, Agree}
+use Rattle.counts.proofs.Nibbles.{same-counts, other-counts, no-nibble}
 use Rattle.leak.proofs.Spots.{spot-none}
 use borrow.Author.Needs.{needs}
 use native.Mathlib.Omega.{arith}

@@ -1,0 +1,3 @@
+-- What the contracts of the counts cite.
+pub mod Base
+pub mod Block

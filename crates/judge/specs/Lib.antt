@@ -1,0 +1,2 @@
+-- What the contracts of Check's verdict cite.
+pub mod Judge
