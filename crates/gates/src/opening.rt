@@ -4,7 +4,7 @@ use lines::head::read_head;
 use lines::header::HeaderNumbers;
 use lines::header::keep;
 use netlist::large;
-use text::lines::count_lines;
+use text::count::count_lines;
 ghost use mathlib.Core.Path.{_≡_};
 ghost use Prim.Native.Nat.{_≤_};
 ghost use lib.ListN.{length, take};
