@@ -12,7 +12,7 @@ use lib.Seq.{getD-take, take-suc-set, drop-cons}
 use Rattle.netlist.specs.declared.Gate.{Gate}
 use Rattle.netlist.specs.Mask.{Row, row, rows, rowGate, rowGates}
 use Rattle.netlist.proofs.Tests.{both}
-use Rattle.writer.specs.Wrote.{top}
+use Rattle.buffer.specs.Wrote.{top}
 use Rattle.writer.specs.Gates.{WroteGates}
 use Rattle.writer.proofs.Gates.{gates-none, gates-then, gates-as}
 use Rattle.emit.specs.Emitted.{rowOf}

@@ -2,7 +2,7 @@
 use Prim.Native.Nat.{_-_}
 use mathlib.Core.Path.{refl}
 use mathlib.Core.List.{[], _∷_}
-use Rattle.writer.proofs.Wrote.{wrote-length}
+use Rattle.buffer.proofs.Wrote.{wrote-length}
 use Rattle.emit.proofs.Rows.{Walked, walked-none, walked-more, walked-all, row-at}
 use borrow.Author.Needs.{needs}
 use native.Mathlib.Omega.{arith}
