@@ -1,6 +1,6 @@
 // The gates of the output bits, and their codes. The output bits are the last source wires.
-use emit::code::mask_wire;
-use emit::code::third_code;
+use codes::mask_wire;
+use codes::third_code;
 use netlist::Twin;
 ghost use mathlib.Core.Path.{_≡_};
 ghost use Prim.Native.Nat.{_+_, _<_, _^_};

@@ -1,13 +1,13 @@
--- `emit::steps::steps` meets its contract.
+-- `steps::steps` meets its contract.
 use Prim.Native.Nat.{_-_}
 use mathlib.Core.Path.{refl}
 use mathlib.Core.List.{[], _∷_}
 use Rattle.buffer.proofs.Wrote.{wrote-length}
-use Rattle.emit.proofs.Rows.{Walked, walked-none, walked-more, walked-all, row-at}
+use Rattle.steps.proofs.Rows.{Walked, walked-none, walked-more, walked-all, row-at}
 use borrow.Author.Needs.{needs}
 use native.Mathlib.Omega.{arith}
-use Rattle.emit.proofs.steps.steps.Statement.{statement}
-use Rattle.emit.proofs.steps.steps.Tie as tie
+use Rattle.steps.proofs.steps.Statement.{statement}
+use Rattle.steps.proofs.steps.Tie as tie
 
 abbrev Inv-loop : tie.InvT-loop
 Inv-loop out₀ at a b p q o c rows₀ places₀ next₀ wire₀ i₀ out places next wire i = Walked rows₀ out₀ at (a ∷ b ∷ p ∷ q ∷ o ∷ []) c out places next wire i

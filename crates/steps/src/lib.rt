@@ -3,7 +3,7 @@ ghost use Prim.Native.Nat.{_≤_, _^_};
 ghost use mathlib.Core.List.{[], _∷_};
 ghost use Rattle.netlist.specs.Mask.{rows, rowGates};
 ghost use Rattle.writer.specs.Gates.{WroteGates};
-ghost use Rattle.emit.specs.Emitted.{rowOf};
+ghost use Rattle.steps.specs.Row.{rowOf};
 
 // A row for each step: its operation, 1 for AND and 0 for XOR, and the places of its operands.
 // Places: 0 A, 1 B, 2 P, 3 Q, 4 the OR of the masks, 5 to 11 the steps themselves.

@@ -1,8 +1,8 @@
--- `emit::code::third_code` meets its contract.
-use Rattle.emit.proofs.Codes.{third-past, third-past-2}
+-- `codes::third_code` meets its contract.
+use Rattle.codes.proofs.Codes.{third-past, third-past-2}
 use borrow.Author.Needs.{needs}
-use Rattle.emit.proofs.code.third_code.Statement.{statement}
-use Rattle.emit.proofs.code.third_code.Tie as tie
+use Rattle.codes.proofs.third_code.Statement.{statement}
+use Rattle.codes.proofs.third_code.Tie as tie
 
 returns : tie.Need-returns
 returns c = third-past _ _ (c .if1 .taken)

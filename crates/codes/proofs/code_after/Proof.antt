@@ -1,8 +1,8 @@
--- `emit::code::code_after` meets its contract.
-use Rattle.emit.proofs.Codes.{after-past}
+-- `codes::code_after` meets its contract.
+use Rattle.codes.proofs.Codes.{after-past}
 use borrow.Author.Needs.{needs}
-use Rattle.emit.proofs.code.code_after.Statement.{statement}
-use Rattle.emit.proofs.code.code_after.Tie as tie
+use Rattle.codes.proofs.code_after.Statement.{statement}
+use Rattle.codes.proofs.code_after.Tie as tie
 
 returns : tie.Need-returns
 returns c = after-past _ (c .if1 .taken)
