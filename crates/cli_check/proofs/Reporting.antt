@@ -16,8 +16,8 @@ use Rattle.netlist.specs.Leak.{Found}
 use Rattle.netlist.specs.Services.{tablesLong, checkOutcome, checkCall}
 use Rattle.netlist.specs.Programs.{readable, listFile, printCheck, checkProgram}
 use Rattle.netlist.proofs.Tests.{onBool}
-use Rattle.writer.specs.Wrote.{Wrote}
-use Rattle.writer.proofs.Wrote.{wrote-front, front-within}
+use Rattle.buffer.specs.Wrote.{Wrote}
+use Rattle.buffer.proofs.Wrote.{wrote-front, front-within}
 use Rattle.judge.specs.declared.Checked.{Checked}
 use Rattle.judge.specs.Judge.{outcomeOf}
 use Rattle.checker.specs.Promise.{call}

@@ -9,7 +9,7 @@ ghost use lib.ListN.{length, take};
 ghost use Rattle.netlist.specs.Netlist.{large as largeLimits};
 ghost use Rattle.netlist.specs.Programs.{readable, listFile, printCheck, checkProgram};
 ghost use Rattle.netlist.specs.Services.{checkCall};
-ghost use Rattle.writer.specs.Wrote.{Wrote};
+ghost use Rattle.buffer.specs.Wrote.{Wrote};
 ghost use Rattle.judge.specs.Judge.{outcomeOf};
 ghost use Rattle.cli_check.specs.Report.{Roomy};
 

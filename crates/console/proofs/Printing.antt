@@ -8,9 +8,9 @@ use lib.ListN.{length, take, getD, length-append}
 use lib.Seq.{take-suc, take-all}
 use Rattle.netlist.specs.Number.{decimal}
 use Rattle.netlist.specs.Programs.{printList}
-use Rattle.writer.specs.Wrote.{top, Wrote, WroteFew}
-use Rattle.writer.proofs.Decimals.{digits-most}
-use Rattle.writer.proofs.Wrote.{wrote-none, wrote-then, wrote-as}
+use Rattle.buffer.specs.Wrote.{top, Wrote, WroteFew}
+use Rattle.buffer.proofs.Decimals.{digits-most}
+use Rattle.buffer.proofs.Wrote.{wrote-none, wrote-then, wrote-as}
 
 printList-append : (xs ys : List ℕ) → printList (xs ++ ys) ≡ printList xs ++ printList ys
 printList-append [] ys = refl

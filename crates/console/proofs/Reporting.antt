@@ -14,8 +14,8 @@ use Rattle.netlist.specs.Services.{outcomeOf, answerOf, Answers}
 use Rattle.netlist.specs.Programs.{readable, printRefused}
 use Rattle.netlist.proofs.Tests.{onBool}
 use Rattle.netlist.proofs.Questions.{done-same}
-use Rattle.writer.specs.Wrote.{Wrote, WroteFew}
-use Rattle.writer.proofs.Wrote.{wrote-front, front-within}
+use Rattle.buffer.specs.Wrote.{Wrote, WroteFew}
+use Rattle.buffer.proofs.Wrote.{wrote-front, front-within}
 use Rattle.console.specs.Front.{Front, Answered}
 
 -- ---- question 2, put to a netlist file

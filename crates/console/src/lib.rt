@@ -6,7 +6,7 @@ ghost use lib.ListN.{length, take};
 ghost use Rattle.netlist.specs.Text.{space, lf};
 ghost use Rattle.netlist.specs.Number.{decimal};
 ghost use Rattle.netlist.specs.Programs.{listBytes, entry as entryOf, listFile, printList, printRefused, printClean, printLeak};
-ghost use Rattle.writer.specs.Wrote.{Wrote, WroteFew};
+ghost use Rattle.buffer.specs.Wrote.{Wrote, WroteFew};
 ghost use Rattle.console.specs.Front.{Front};
 
 // A list byte that is no digit counts as 9.
@@ -63,36 +63,36 @@ pub fn list(file: &mut [u8]) -> usize
 pub fn refused(out: &mut [u8], question: u8) -> usize
     ensures { λ r. ⌜ Wrote (now (out .entry)) 0 (printRefused question) (now (out .exit)) r ⌝ }
 {
-    let at = writer::bytes(out, 0, b"refused ");
-    let end = writer::number(out, at, question as usize);
-    writer::put(out, end, 10)
+    let at = buffer::bytes(out, 0, b"refused ");
+    let end = buffer::number(out, at, question as usize);
+    buffer::put(out, end, 10)
 }
 
 // Check's line for a clean netlist.
 pub fn clean(out: &mut [u8]) -> usize
     ensures { λ r. ⌜ Wrote (now (out .entry)) 0 printClean (now (out .exit)) r ⌝ }
 {
-    writer::bytes(out, 0, b"clean\n")
+    buffer::bytes(out, 0, b"clean\n")
 }
 
 // A number with a space in front.
 fn spaced(out: &mut [u8], at: usize, n: usize) -> usize
     ensures { λ r. ⌜ Wrote (now (out .entry)) at (space ∷ decimal n) (now (out .exit)) r ⌝ }
 {
-    let next = writer::put(out, at, 32);
-    writer::number(out, next, n)
+    let next = buffer::put(out, at, 32);
+    buffer::number(out, next, n)
 }
 
 // Check's line for a leak.
 pub fn leak(out: &mut [u8], wire: usize, setting: usize, base: usize, own: usize) -> usize
     ensures { λ r. ⌜ Wrote (now (out .entry)) 0 (printLeak wire setting base own) (now (out .exit)) r ⌝ }
 {
-    let a = writer::bytes(out, 0, b"leak");
+    let a = buffer::bytes(out, 0, b"leak");
     let b = spaced(out, a, wire);
     let c = spaced(out, b, setting);
     let d = spaced(out, c, base);
     let e = spaced(out, d, own);
-    writer::put(out, e, 10)
+    buffer::put(out, e, 10)
 }
 
 fn wide(b: u8) -> usize
@@ -108,8 +108,8 @@ pub fn digits(out: &mut [u8], list: &[u8]) -> usize
     let mut at = 0;
     let mut i = 0;
     while i < list.len() {
-        at = writer::number(out, at, wide(list[i]));
+        at = buffer::number(out, at, wide(list[i]));
         i += 1;
     }
-    writer::put(out, at, 10)
+    buffer::put(out, at, 10)
 }

@@ -1,10 +1,7 @@
 // The masked gates of one source gate.
-pub mod code;
-pub mod steps;
-
-use crate::code::code_after;
-use crate::code::mask_wire;
-use crate::code::third_code;
+use codes::code_after;
+use codes::mask_wire;
+use codes::third_code;
 use netlist::Twin;
 ghost use Prim.Native.Nat.{_<_, _^_};
 ghost use mathlib.Core.List.{[], _∷_};
@@ -77,7 +74,7 @@ fn and(out: &mut [u8], at: usize, n: u32, c: u32, a: Twin, b: Twin) -> Emitted
     let second = m.twin;
     let p = mask_wire(n, a.code);
     let q = mask_wire(n, second.code);
-    let end = crate::steps::steps(out, m.at, a.wire, second.wire, p, q, n + 4, m.next);
+    let end = steps::steps(out, m.at, a.wire, second.wire, p, q, n + 4, m.next);
     let twin = Twin {
         wire: m.next + 6,
         code: a.code,

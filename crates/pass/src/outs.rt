@@ -1,13 +1,13 @@
 // The gates of the output bits, and their codes. The output bits are the last source wires.
-use emit::code::mask_wire;
-use emit::code::third_code;
+use codes::mask_wire;
+use codes::third_code;
 use netlist::Twin;
 ghost use mathlib.Core.Path.{_≡_};
 ghost use Prim.Native.Nat.{_+_, _<_, _^_};
 ghost use mathlib.Core.List.{[], _∷_};
 ghost use lib.ListN.{length, drop};
 ghost use Rattle.netlist.specs.Mask.{outGate, outGates, outCode};
-ghost use Rattle.writer.specs.Wrote.{Wrote};
+ghost use Rattle.buffer.specs.Wrote.{Wrote};
 ghost use Rattle.writer.specs.Gates.{WroteGates};
 ghost use Rattle.pass.specs.State.{twinsOf, codesOf};
 
@@ -71,6 +71,6 @@ pub fn codes(code: &[u8], from: usize, wanted: &[u8], result: &mut [u8])
 {
     let mut i = 0;
     while i < wanted.len() {
-        i = writer::put(result, i, pick(code[from + i], wanted[i]));
+        i = buffer::put(result, i, pick(code[from + i], wanted[i]));
     }
 }

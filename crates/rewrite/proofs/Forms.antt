@@ -6,7 +6,7 @@ use native.Mathlib.Omega.{arith}
 use lib.ListN.{length}
 use Rattle.netlist.specs.Table.{Tables, gateAt, gatesOf}
 use Rattle.netlist.proofs.Puts.{gates-more}
-use Rattle.writer.specs.Wrote.{top}
+use Rattle.buffer.specs.Wrote.{top}
 use Rattle.writer.specs.Gates.{WroteGates}
 use Rattle.writer.proofs.Gates.{gates-none, gates-then, gates-as}
 

@@ -5,7 +5,7 @@ ghost use mathlib.Core.Path.{_≡_};
 ghost use lib.ListN.{length};
 ghost use Rattle.netlist.specs.Services.{Delivers};
 ghost use Rattle.netlist.specs.Table.{tables, gatesOf};
-ghost use Rattle.writer.specs.Wrote.{Wrote, cap};
+ghost use Rattle.buffer.specs.Wrote.{Wrote, cap};
 ghost use Rattle.writer.specs.Gates.{WroteGates};
 ghost use Rattle.rewrite.specs.Form.{formText};
 

@@ -3,19 +3,19 @@ ghost use mathlib.Core.Path.{_≡_};
 ghost use Prim.Native.Nat.{min};
 ghost use lib.ListN.{length};
 ghost use Rattle.io.specs.Counts.{Counts};
-ghost use Rattle.writer.specs.Wrote.{Wrote};
+ghost use Rattle.buffer.specs.Wrote.{Wrote};
 ghost use Rattle.tally.specs.Line.{tallyLine};
 
 // A group's name, how many of its cases agreed, and how many it has.
 pub fn line(out: &mut [u8], name: &[u8], agreed: usize, cases: usize) -> usize
     ensures { λ r. ⌜ Wrote (now (out .entry)) 0 (tallyLine (now (name .entry)) agreed cases) (now (out .exit)) r ⌝ }
 {
-    let a = writer::bytes(out, 0, name);
-    let b = writer::bytes(out, a, b": ");
-    let c = writer::number(out, b, agreed);
-    let d = writer::bytes(out, c, b" of ");
-    let e = writer::number(out, d, cases);
-    writer::put(out, e, 10)
+    let a = buffer::bytes(out, 0, name);
+    let b = buffer::bytes(out, a, b": ");
+    let c = buffer::number(out, b, agreed);
+    let d = buffer::bytes(out, c, b" of ");
+    let e = buffer::number(out, d, cases);
+    buffer::put(out, e, 10)
 }
 
 // How many bytes of a buffer its first n are.

@@ -237,5 +237,5 @@ pub(crate) fn gate(k: usize, text: &[u8], out: &mut [u8]) -> Outcome {
 pub(crate) fn list(n: usize, text: &mut [u8], out: &mut [u8]) -> Outcome {
     let m = front(text, n);
     let entries = console::list(&mut text[..m]);
-    one(DONE, writer::bytes(out, 0, first(text, entries)))
+    one(DONE, buffer::bytes(out, 0, first(text, entries)))
 }

@@ -1,5 +1,5 @@
 -- `leak`: the word, the four numbers and LF.
-use Rattle.writer.proofs.Wrote.{wrote-then}
+use Rattle.buffer.proofs.Wrote.{wrote-then}
 use borrow.Author.Needs.{needs}
 use Rattle.console.proofs.leak.Statement.{statement}
 use Rattle.console.proofs.leak.Tie as tie

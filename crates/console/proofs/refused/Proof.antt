@@ -1,5 +1,5 @@
 -- `refused`: the word, a space, the number and LF.
-use Rattle.writer.proofs.Wrote.{wrote-then}
+use Rattle.buffer.proofs.Wrote.{wrote-then}
 use borrow.Author.Needs.{needs}
 use Rattle.console.proofs.refused.Statement.{statement}
 use Rattle.console.proofs.refused.Tie as tie

@@ -1,5 +1,5 @@
 -- `spaced`: a space, and then the number.
-use Rattle.writer.proofs.Wrote.{wrote-then}
+use Rattle.buffer.proofs.Wrote.{wrote-then}
 use borrow.Author.Needs.{needs}
 use Rattle.console.proofs.spaced.Statement.{statement}
 use Rattle.console.proofs.spaced.Tie as tie

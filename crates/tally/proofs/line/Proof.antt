@@ -1,5 +1,5 @@
 -- `line`: the name, the two numbers with their words, and LF.
-use Rattle.writer.proofs.Wrote.{wrote-then}
+use Rattle.buffer.proofs.Wrote.{wrote-then}
 use borrow.Author.Needs.{needs}
 use Rattle.tally.proofs.line.Statement.{statement}
 use Rattle.tally.proofs.line.Tie as tie

@@ -2,7 +2,7 @@
 use Prim.Native.Nat.{_-_}
 use lib.ListN.{length}
 use Rattle.netlist.specs.Table.{tables}
-use Rattle.writer.proofs.Wrote.{wrote-length}
+use Rattle.buffer.proofs.Wrote.{wrote-length}
 use Rattle.pass.specs.State.{stateOf}
 use Rattle.pass.proofs.States.{Emitting, emitting-none, emitting-more, emitting-all}
 use borrow.Author.Needs.{needs}

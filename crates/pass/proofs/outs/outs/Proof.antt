@@ -1,7 +1,7 @@
 -- `pass::outs::outs` meets its contract.
 use Prim.Native.Nat.{_-_}
 use lib.ListN.{length}
-use Rattle.writer.proofs.Wrote.{wrote-length}
+use Rattle.buffer.proofs.Wrote.{wrote-length}
 use Rattle.pass.proofs.Outputs.{Outed, outed-none, outed-more, outed-all}
 use borrow.Author.Needs.{needs}
 use native.Mathlib.Omega.{arith}

@@ -2,7 +2,7 @@
 use Prim.Native.Nat.{_-_}
 use Rattle.netlist.specs.Table.{tables}
 use Rattle.rewrite.proofs.Forms.{Forming, forming-none, forming-more, forming-all}
-use Rattle.writer.proofs.Wrote.{wrote-length}
+use Rattle.buffer.proofs.Wrote.{wrote-length}
 use borrow.Author.Needs.{needs}
 use native.Mathlib.Omega.{arith}
 use Rattle.rewrite.proofs.form.gates.Statement.{statement}

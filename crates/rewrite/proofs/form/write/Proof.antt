@@ -1,5 +1,5 @@
 -- `write`: the header, and behind it the gate lines.
-use Rattle.writer.proofs.Wrote.{wrote-then}
+use Rattle.buffer.proofs.Wrote.{wrote-then}
 use borrow.Author.Needs.{needs}
 use Rattle.rewrite.proofs.form.write.Statement.{statement}
 use Rattle.rewrite.proofs.form.write.Tie as tie
