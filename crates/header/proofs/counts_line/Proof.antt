@@ -1,9 +1,9 @@
 -- Two numbers and the line's end.
 use borrow.Author.Needs.{needs}
 use Rattle.text.proofs.AnswerLaws.{number-is, number-not, end-is, end-more}
-use Rattle.lines.proofs.HeaderLaws.{pair-first, pair-second, pair-more, pair-good}
-use Rattle.lines.proofs.header.counts_line.Statement.{statement}
-use Rattle.lines.proofs.header.counts_line.Tie as tie
+use Rattle.header.proofs.HeaderLaws.{pair-first, pair-second, pair-more, pair-good}
+use Rattle.header.proofs.counts_line.Statement.{statement}
+use Rattle.header.proofs.counts_line.Tie as tie
 
 next-number-requires : tie.Need-next-number-requires
 next-number-requires c κs = search needs

@@ -1,11 +1,11 @@
 -- `read_head`: questions 2 to 6 in order.
 use mathlib.Core.Path.{sym, _∙_}
 use borrow.Author.Tests.{not-true, not-false}
-use Rattle.lines.proofs.HeaderLaws.{header-is, header-not}
-use Rattle.lines.proofs.HeadLaws.{bits-fit, head-2, head-3, head-4, head-5, head-6, head-at}
+use Rattle.header.proofs.HeaderLaws.{header-is, header-not}
+use Rattle.header.proofs.HeadLaws.{bits-fit, head-2, head-3, head-4, head-5, head-6, head-at}
 use borrow.Author.Needs.{needs}
-use Rattle.lines.proofs.head.read_head.Statement.{statement}
-use Rattle.lines.proofs.head.read_head.Tie as tie
+use Rattle.header.proofs.head.read_head.Statement.{statement}
+use Rattle.header.proofs.head.read_head.Tie as tie
 
 returns : tie.Need-returns
 returns c = head-2 _ _ (c .if1 .taken)

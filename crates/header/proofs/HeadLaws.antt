@@ -16,11 +16,11 @@ use Rattle.netlist.specs.Header.{header}
 use Rattle.netlist.specs.Read.{byteAllowed, opening}
 use Rattle.netlist.proofs.Tests.{both, true-T}
 use Rattle.text.specs.declared.cursor.Cursor.{Cursor}
-use Rattle.lines.specs.HeaderAnswers.{Kept, HeaderAt}
-use Rattle.lines.specs.HeadAnswers.{withinNumbers, gatesCounted, Inside, HeadAt, HeadNot, HeadIs}
-use Rattle.lines.specs.declared.header.HeaderNumbers.{HeaderNumbers}
-use Rattle.lines.specs.declared.head.Head.{Head}
-use Rattle.lines.specs.declared.head.Head.the-variants as H
+use Rattle.header.specs.HeaderAnswers.{Kept, HeaderAt}
+use Rattle.header.specs.HeadAnswers.{withinNumbers, gatesCounted, Inside, HeadAt, HeadNot, HeadIs}
+use Rattle.header.specs.declared.HeaderNumbers.{HeaderNumbers}
+use Rattle.header.specs.declared.head.Head.{Head}
+use Rattle.header.specs.declared.head.Head.the-variants as H
 
 -- ---- a header's numbers
 

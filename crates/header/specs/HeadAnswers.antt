@@ -9,10 +9,10 @@ use Rattle.netlist.specs.declared.Limits.{Limits}
 use Rattle.netlist.specs.Outcome.{refused, done, ask}
 use Rattle.netlist.specs.Text.{wordLines}
 use Rattle.netlist.specs.Read.{opening}
-use Rattle.lines.specs.HeaderAnswers.{HeaderAt}
-use Rattle.lines.specs.declared.header.HeaderNumbers.{HeaderNumbers}
-use Rattle.lines.specs.declared.head.Head.{Head}
-use Rattle.lines.specs.declared.head.Head.the-variants as H
+use Rattle.header.specs.HeaderAnswers.{HeaderAt}
+use Rattle.header.specs.declared.HeaderNumbers.{HeaderNumbers}
+use Rattle.header.specs.declared.head.Head.{Head}
+use Rattle.header.specs.declared.head.Head.the-variants as H
 
 -- question 5 of a header's numbers
 unfoldable pub withinNumbers : Limits → HeaderNumbers → Bool

@@ -1,9 +1,9 @@
 -- How many, and the widths.
 use borrow.Author.Needs.{needs}
 use Rattle.text.proofs.AnswerLaws.{number-is, number-not}
-use Rattle.lines.proofs.WidthLaws.{widths-is, widths-not, values-off, values-bad, values-zero, values-count, values-good}
-use Rattle.lines.proofs.header.values_line.Statement.{statement}
-use Rattle.lines.proofs.header.values_line.Tie as tie
+use Rattle.header.proofs.WidthLaws.{widths-is, widths-not, values-off, values-bad, values-zero, values-count, values-good}
+use Rattle.header.proofs.values_line.Statement.{statement}
+use Rattle.header.proofs.values_line.Tie as tie
 
 next-number-requires : tie.Need-next-number-requires
 next-number-requires c κs = search needs

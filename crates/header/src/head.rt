@@ -1,14 +1,14 @@
 // The head of a text: what is asked of its bytes and of its header before any gate line. Questions 2 to 5, and the half of
 // question 6 that needs the header alone.
-use crate::header::HeaderNumbers;
-use crate::header::HeaderRead;
-use crate::header::read_header;
+use crate::HeaderNumbers;
+use crate::HeaderRead;
+use crate::read_header;
 use netlist::Limits;
 use text::allowed::all_allowed;
 use text::cursor::Cursor;
 ghost use mathlib.Core.Path.{_≡_};
 ghost use Prim.Native.Nat.{_≤_, _<_, _^_};
-ghost use Rattle.lines.specs.HeadAnswers.{withinNumbers, gatesCounted, HeadIs};
+ghost use Rattle.header.specs.HeadAnswers.{withinNumbers, gatesCounted, HeadIs};
 
 // What the header says, with the place behind its third line; or the first question with a no.
 pub enum Head {

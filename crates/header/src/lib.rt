@@ -1,10 +1,12 @@
-// The three header lines: question 4.
+// The three header lines: question 4; and the head of a text.
+pub mod head;
+
 ghost use mathlib.Core.Path.{_≡_};
 ghost use Prim.Native.Nat.{_≤_, _<_, _^_};
 ghost use lib.ListN.{length, drop, set};
 ghost use Rattle.netlist.specs.Header.{numbers, values};
 ghost use Rattle.text.specs.Line.{lineWords};
-ghost use Rattle.lines.specs.HeaderAnswers.{positives, CountsIs, WidthsIs, HeaderIs};
+ghost use Rattle.header.specs.HeaderAnswers.{positives, CountsIs, WidthsIs, HeaderIs};
 use text::cursor::Cursor;
 use text::cursor::LineEnd;
 use text::number::Number;

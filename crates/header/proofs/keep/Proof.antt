@@ -2,8 +2,8 @@
 use mathlib.Core.Path.{sym}
 use lib.Seq.{set-out}
 use borrow.Author.Needs.{needs}
-use Rattle.lines.proofs.header.keep.Statement.{statement}
-use Rattle.lines.proofs.header.keep.Tie as tie
+use Rattle.header.proofs.keep.Statement.{statement}
+use Rattle.header.proofs.keep.Tie as tie
 
 mul-table : tie.Need-mul-table
 mul-table c = search needs

@@ -1,9 +1,9 @@
 -- `within`: the five tests in order.
-use Rattle.lines.specs.HeadAnswers.{withinNumbers}
+use Rattle.header.specs.HeadAnswers.{withinNumbers}
 use borrow.Author.Tests.{lt-leb, le-leb}
 use borrow.Author.Needs.{needs}
-use Rattle.lines.proofs.head.within.Statement.{statement}
-use Rattle.lines.proofs.head.within.Tie as tie
+use Rattle.header.proofs.head.within.Statement.{statement}
+use Rattle.header.proofs.head.within.Tie as tie
 
 returns : tie.Need-returns
 unfolding withinNumbers

@@ -5,9 +5,9 @@ use native.Mathlib.Omega.{arith}
 use lib.ListN.{length, length-set}
 use borrow.Author.Needs.{needs}
 use Rattle.text.proofs.AnswerLaws.{number-is, number-not, end-is, end-more}
-use Rattle.lines.proofs.WidthLaws.{Widening, widen-start, widen-on, widen-end, widen-not, widen-zero}
-use Rattle.lines.proofs.header.read_widths.Statement.{statement}
-use Rattle.lines.proofs.header.read_widths.Tie as tie
+use Rattle.header.proofs.WidthLaws.{Widening, widen-start, widen-on, widen-end, widen-not, widen-zero}
+use Rattle.header.proofs.read_widths.Statement.{statement}
+use Rattle.header.proofs.read_widths.Tie as tie
 
 abbrev Inv-loop : tie.InvT-loop
 Inv-loop text table₀ i₀ n₀ sum₀ table i n sum = Widening text i₀ table i n sum × (length table ≡ length table₀)

@@ -18,9 +18,9 @@ use Rattle.text.specs.declared.cursor.Cursor.{Cursor}
 use Rattle.text.specs.Line.{lineWords, nextWord, afterLine, isEmpty, EndAt}
 use Rattle.text.specs.Answers.{NumberAt}
 use Rattle.text.proofs.AnswerLaws.{number-word, number-line, no-number}
-use Rattle.lines.specs.HeaderAnswers.{Kept, positives, WidthsAt, WidthsIs}
-use Rattle.lines.specs.declared.header.Widths.{Widths}
-use Rattle.lines.specs.declared.header.Widths.the-variants as W
+use Rattle.header.specs.HeaderAnswers.{Kept, positives, WidthsAt, WidthsIs}
+use Rattle.header.specs.declared.Widths.{Widths}
+use Rattle.header.specs.declared.Widths.the-variants as W
 
 -- ---- the answer
 

@@ -1,9 +1,9 @@
 -- Three lines, with blank lines between them.
 use borrow.Author.Needs.{needs}
-use Rattle.lines.proofs.WidthLaws.{widths-is, widths-not}
-use Rattle.lines.proofs.HeaderLaws.{counts-is, counts-not, no-header-1, no-header-2, no-header-3, a-header}
-use Rattle.lines.proofs.header.read_header.Statement.{statement}
-use Rattle.lines.proofs.header.read_header.Tie as tie
+use Rattle.header.proofs.WidthLaws.{widths-is, widths-not}
+use Rattle.header.proofs.HeaderLaws.{counts-is, counts-not, no-header-1, no-header-2, no-header-3, a-header}
+use Rattle.header.proofs.read_header.Statement.{statement}
+use Rattle.header.proofs.read_header.Tie as tie
 
 skip-blanks-requires : tie.Need-skip-blanks-requires
 skip-blanks-requires c κs = search needs

@@ -10,13 +10,13 @@ use Rattle.netlist.specs.Lists.{every, sum}
 use Rattle.netlist.specs.Text.{wordLines}
 use Rattle.netlist.specs.Header.{Header, header, numbers}
 use Rattle.text.specs.Line.{lineWords, LineTaken}
-use Rattle.lines.specs.declared.header.Counts.{Counts}
-use Rattle.lines.specs.declared.header.Counts.the-variants as C
-use Rattle.lines.specs.declared.header.Widths.{Widths}
-use Rattle.lines.specs.declared.header.Widths.the-variants as W
-use Rattle.lines.specs.declared.header.HeaderNumbers.{HeaderNumbers}
-use Rattle.lines.specs.declared.header.HeaderRead.{HeaderRead}
-use Rattle.lines.specs.declared.header.HeaderRead.the-variants as R
+use Rattle.header.specs.declared.Counts.{Counts}
+use Rattle.header.specs.declared.Counts.the-variants as C
+use Rattle.header.specs.declared.Widths.{Widths}
+use Rattle.header.specs.declared.Widths.the-variants as W
+use Rattle.header.specs.declared.HeaderNumbers.{HeaderNumbers}
+use Rattle.header.specs.declared.HeaderRead.{HeaderRead}
+use Rattle.header.specs.declared.HeaderRead.the-variants as R
 
 -- ---- line one
 

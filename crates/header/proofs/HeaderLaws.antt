@@ -18,13 +18,13 @@ use Rattle.text.specs.Answers.{NumberAt}
 use Rattle.text.proofs.SplitLaws.{addLine, lines-step}
 use Rattle.text.proofs.AnswerLaws.{number-line, no-number}
 use Rattle.text.proofs.LineLaws.{AtWord, at-word, word-line, no-line, blanks-lines}
-use Rattle.lines.specs.HeaderAnswers.{pairOnly, CountsAt, CountsIs, WidthsAt, HeaderAt, HeaderIs}
-use Rattle.lines.specs.declared.header.Counts.{Counts}
-use Rattle.lines.specs.declared.header.Counts.the-variants as C
-use Rattle.lines.specs.declared.header.HeaderNumbers.{HeaderNumbers}
-use Rattle.lines.specs.declared.header.HeaderRead.{HeaderRead}
-use Rattle.lines.specs.declared.header.HeaderRead.the-variants as R
-use Rattle.lines.proofs.WidthLaws.{numbers-on}
+use Rattle.header.specs.HeaderAnswers.{pairOnly, CountsAt, CountsIs, WidthsAt, HeaderAt, HeaderIs}
+use Rattle.header.specs.declared.Counts.{Counts}
+use Rattle.header.specs.declared.Counts.the-variants as C
+use Rattle.header.specs.declared.HeaderNumbers.{HeaderNumbers}
+use Rattle.header.specs.declared.HeaderRead.{HeaderRead}
+use Rattle.header.specs.declared.HeaderRead.the-variants as R
+use Rattle.header.proofs.WidthLaws.{numbers-on}
 
 -- ---- the answers
 

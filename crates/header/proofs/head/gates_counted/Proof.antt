@@ -1,8 +1,8 @@
 -- `gates_counted`: one comparison.
-use Rattle.lines.specs.HeadAnswers.{gatesCounted}
+use Rattle.header.specs.HeadAnswers.{gatesCounted}
 use borrow.Author.Needs.{needs}
-use Rattle.lines.proofs.head.gates_counted.Statement.{statement}
-use Rattle.lines.proofs.head.gates_counted.Tie as tie
+use Rattle.header.proofs.head.gates_counted.Statement.{statement}
+use Rattle.header.proofs.head.gates_counted.Tie as tie
 
 cast-result : tie.Need-cast-result
 cast-result c = search needs
