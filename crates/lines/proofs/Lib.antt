@@ -2,3 +2,4 @@
 pub mod GateFormLaws
 pub mod GateLaws
 pub mod OperandLaws
+pub mod EndLaws
