@@ -17,7 +17,7 @@ use Rattle.netlist.specs.Table.{Tables, Holds}
 use Rattle.netlist.proofs.Answering.{tables-long}
 use Rattle.netlist.proofs.Questions.{done-same, ask-done}
 use Rattle.netlist.proofs.LeakSearch.{none-clean, found-lowest}
-use Rattle.lines.specs.declared.header.HeaderNumbers.{HeaderNumbers}
+use Rattle.header.specs.declared.HeaderNumbers.{HeaderNumbers}
 use Rattle.tables.specs.Whole.{ReadAt, ReadNot}
 use Rattle.judge.specs.declared.Checked.{Checked}
 use Rattle.judge.specs.declared.Checked.the-variants.{Clean, Leak, Refused}

@@ -15,7 +15,7 @@ use Rattle.netlist.specs.GateLine.{gateLine}
 use Rattle.netlist.specs.Read.{opening}
 use Rattle.netlist.specs.GateReader.{gate, no, lineSays, says, lineOn, onward, callSays, afterOpening, readerSays}
 use Rattle.netlist.proofs.ReaderCalls.{says-again, end-again, no-again, reader-in-order}
-use Rattle.lines.specs.declared.header.HeaderNumbers.{HeaderNumbers}
+use Rattle.header.specs.declared.HeaderNumbers.{HeaderNumbers}
 use Rattle.gates.specs.Steps.{stepSaid, placeAfter, StepIs}
 use Rattle.gates.specs.Opens.{numbersOf, OpeningIs}
 use Rattle.gates.specs.Calls.{Behind, CallIs, ReaderIs}

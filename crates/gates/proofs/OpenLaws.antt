@@ -12,11 +12,11 @@ use Rattle.netlist.specs.Netlist.{large}
 use Rattle.netlist.specs.Outcome.{refused, done}
 use Rattle.netlist.specs.Text.{wordLines}
 use Rattle.netlist.specs.Read.{opening}
-use Rattle.lines.specs.HeaderAnswers.{HeaderAt}
-use Rattle.lines.specs.HeadAnswers.{HeadAt, HeadNot, HeadIs}
-use Rattle.lines.specs.declared.head.Head.{Head}
-use Rattle.lines.specs.declared.header.HeaderNumbers.{HeaderNumbers}
-use Rattle.lines.proofs.HeadLaws.{inputs-front, outputs-front}
+use Rattle.header.specs.HeaderAnswers.{HeaderAt}
+use Rattle.header.specs.HeadAnswers.{HeadAt, HeadNot, HeadIs}
+use Rattle.header.specs.declared.head.Head.{Head}
+use Rattle.header.specs.declared.HeaderNumbers.{HeaderNumbers}
+use Rattle.header.proofs.HeadLaws.{inputs-front, outputs-front}
 use Rattle.gates.specs.Opens.{numbersOf, OpeningIs}
 use Rattle.gates.specs.declared.opening.Opening.{Opening}
 use Rattle.gates.specs.declared.opening.Opening.the-variants as O

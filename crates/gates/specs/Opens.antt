@@ -10,7 +10,7 @@ use Rattle.netlist.specs.Text.{wordLines}
 use Rattle.netlist.specs.Outcome.{Outcome, refused, done, andThen}
 use Rattle.netlist.specs.Header.{Header}
 use Rattle.netlist.specs.Read.{opening}
-use Rattle.lines.specs.declared.header.HeaderNumbers.{HeaderNumbers}
+use Rattle.header.specs.declared.HeaderNumbers.{HeaderNumbers}
 use Rattle.gates.specs.declared.opening.Opening.{Opening}
 use Rattle.gates.specs.declared.opening.Opening.the-variants as O
 

@@ -1,8 +1,8 @@
 // Opening a gate reader: questions 2 to 6 with the large limits.
-use lines::head::Head;
-use lines::head::read_head;
-use lines::header::HeaderNumbers;
-use lines::header::keep;
+use header::HeaderNumbers;
+use header::head::Head;
+use header::head::read_head;
+use header::keep;
 use netlist::large;
 use text::count::count_lines;
 ghost use mathlib.Core.Path.{_≡_};

@@ -1,6 +1,6 @@
 // Questions 10 to 12 of a netlist that was read, and the verdict on it.
+use header::HeaderNumbers;
 use leak::search::Verdict;
-use lines::header::HeaderNumbers;
 ghost use mathlib.Core.Path.{_≡_};
 ghost use Prim.Native.Nat.{ℕ, _+_, _≤_};
 ghost use lib.ListN.{length, take};

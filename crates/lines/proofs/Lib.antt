@@ -1,7 +1,5 @@
--- The laws of gate lines and of the header.
+-- The laws of gate lines.
 pub mod GateFormLaws
 pub mod GateLaws
 pub mod OperandLaws
-pub mod HeaderLaws
-pub mod HeadLaws
-pub mod WidthLaws
+pub mod EndLaws

@@ -1,10 +1,11 @@
 -- What the answers of the gate line's readers mean.
-use Prim.Native.Nat.{ℕ}
+use Prim.Native.Nat.{ℕ, _+_, _<_}
 use mathlib.Core.Path.{_≡_}
 use mathlib.Core.Bool.{cond}
 use mathlib.Core.List.{List}
 use mathlib.Core.Option.{Option, none, some}
 use lib.Dec.{eqb}
+use lib.ListN.{length, getD}
 use Rattle.netlist.specs.declared.Gate.{Gate}
 use Rattle.netlist.specs.declared.Gate.the-variants.{Xor, And, Inv, Eqw, Eq}
 use Rattle.text.specs.Line.{LineTaken}
@@ -39,3 +40,9 @@ LineNext t at L.Not = Unit {0}
 pub record LineIs (t : List ℕ) (at : ℕ) (expected : Option Gate) (r : GateLine) : Type 0 where
   pub gate : lineGate r ≡ expected
   pub next : LineNext t at r
+
+-- a space, three bytes and LF
+pub record UsualEnd (t : List ℕ) (at : ℕ) : Type 0 where
+  pub space : getD t at 0 ≡ 32
+  pub lf : getD t (at + 4) 0 ≡ 10
+  pub within : at + 4 < length t

@@ -27,13 +27,20 @@ unfoldable pub named : (List ℕ → Option Gate) → List (List ℕ) → Option
 named f [] = none
 named f (name ∷ ws) = alone (f name) ws
 
+-- what stands behind the wires of a gate of one operand, and of two
+abbrev pub end1 : ℕ → ℕ → List (List ℕ) → Option Gate
+end1 a c ws = named (λ name. gate1 name a c) ws
+
+abbrev pub end2 : ℕ → ℕ → ℕ → List (List ℕ) → Option Gate
+end2 a b c ws = named (λ name. gate2 name a b c) ws
+
 -- what stands behind the counts of a gate of one operand
 abbrev pub one : List (List ℕ) → Option Gate
-one ws = onNumber ws λ a ws. onNumber ws λ c ws. named (λ name. gate1 name a c) ws
+one ws = onNumber ws λ a ws. onNumber ws λ c ws. end1 a c ws
 
 -- what stands behind the operands a and b
 abbrev pub resultForm : ℕ → ℕ → List (List ℕ) → Option Gate
-resultForm a b ws = onNumber ws λ c ws. named (λ name. gate2 name a b c) ws
+resultForm a b ws = onNumber ws λ c ws. end2 a b c ws
 
 -- what stands behind the counts of a gate of two operands
 abbrev pub two : List (List ℕ) → Option Gate

@@ -1,6 +1,4 @@
--- What the answers of the line readers mean.
+-- What the answers of the gate line's readers mean.
 pub mod GateForm
 pub mod GateAnswers
 pub mod OperandAnswers
-pub mod HeaderAnswers
-pub mod HeadAnswers

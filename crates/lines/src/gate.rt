@@ -1,13 +1,14 @@
 // One gate line: question 7. A line is read from the left: how many operands and results, the wires
 // or the constant, the gate's name, and nothing behind it.
 ghost use mathlib.Core.Path.{_≡_};
+ghost use mathlib.Core.Bool.{true};
 ghost use mathlib.Core.Option.{some};
 ghost use Prim.Native.Nat.{_≤_};
 ghost use lib.ListN.{length, drop};
 ghost use Rattle.netlist.specs.GateLine.{gateLine, gate1 as theGate1, gate2 as theGate2};
 ghost use Rattle.text.specs.Line.{lineWords};
-ghost use Rattle.lines.specs.GateForm.{alone, one, resultForm, two};
-ghost use Rattle.lines.specs.GateAnswers.{gateFor, gateSaid, gateNamed, LineIs};
+ghost use Rattle.lines.specs.GateForm.{alone, end1, end2, one, resultForm, two};
+ghost use Rattle.lines.specs.GateAnswers.{gateFor, gateSaid, gateNamed, UsualEnd, LineIs};
 use crate::operands::Operands;
 use crate::operands::read_operands;
 use netlist::Gate;
@@ -104,6 +105,76 @@ fn last_word(text: &[u8], at: Cursor, named: NamedGate) -> GateLine
     GateLine::Is(g, next)
 }
 
+// Whether a line ends as most do: a space, a name of three letters, and LF.
+fn usual_end(text: &[u8], at: usize) -> bool
+    ensures { λ r. ⌜ (r ≡ true → UsualEnd (now (text .entry)) at) ⌝ }
+{
+    if text.len() < 5 {
+        return false;
+    }
+    if text.len() - 5 < at {
+        return false;
+    }
+    if text[at] != b' ' {
+        return false;
+    }
+    text[at + 4] == b'\n'
+}
+
+// The name of a gate of one operand and the line's end, however they are written.
+fn any_end1(text: &[u8], at: Cursor, a: u32, c: u32) -> GateLine
+    requires { ⌜ at .at ≤ length (now text) ⌝ }
+    ensures { λ r. ⌜ LineIs (now (text .entry)) (at .at) (end1 a c (lineWords (drop (at .at) (now (text .entry))))) r ⌝ }
+{
+    let word = at.next_word(text);
+    let from = word.from;
+    let to = word.to;
+    last_word(text, Cursor { at: to }, gate1(&text[from..to], a, c))
+}
+
+// The same, first as most lines have it.
+fn read_end1(text: &[u8], at: Cursor, a: u32, c: u32) -> GateLine
+    requires { ⌜ at .at ≤ length (now text) ⌝ }
+    ensures { λ r. ⌜ LineIs (now (text .entry)) (at .at) (end1 a c (lineWords (drop (at .at) (now (text .entry))))) r ⌝ }
+{
+    let start = at.at;
+    if usual_end(text, start) {
+        let from = start + 1;
+        let to = start + 4;
+        if let NamedGate::Is(g) = gate1(&text[from..to], a, c) {
+            return GateLine::Is(g, Cursor { at: start + 5 });
+        }
+    }
+    any_end1(text, at, a, c)
+}
+
+// The name of a gate of two operands and the line's end, however they are written.
+fn any_end2(text: &[u8], at: Cursor, a: u32, b: u32, c: u32) -> GateLine
+    requires { ⌜ at .at ≤ length (now text) ⌝ }
+    ensures { λ r. ⌜ LineIs (now (text .entry)) (at .at) (end2 a b c (lineWords (drop (at .at) (now (text .entry))))) r ⌝ }
+{
+    let word = at.next_word(text);
+    let from = word.from;
+    let to = word.to;
+    last_word(text, Cursor { at: to }, gate2(&text[from..to], a, b, c))
+}
+
+// The same, first as most lines have it.
+fn read_end2(text: &[u8], at: Cursor, a: u32, b: u32, c: u32) -> GateLine
+    requires { ⌜ at .at ≤ length (now text) ⌝ }
+    ensures { λ r. ⌜ LineIs (now (text .entry)) (at .at) (end2 a b c (lineWords (drop (at .at) (now (text .entry))))) r ⌝ }
+{
+    let start = at.at;
+    if usual_end(text, start) {
+        let from = start + 1;
+        let to = start + 4;
+        if let NamedGate::Is(g) = gate2(&text[from..to], a, b, c) {
+            return GateLine::Is(g, Cursor { at: start + 5 });
+        }
+    }
+    any_end2(text, at, a, b, c)
+}
+
 // The operand, the result and the name of a gate of one operand.
 fn one_operand(text: &[u8], at: Cursor) -> GateLine
     requires { ⌜ at .at ≤ length (now text) ⌝ }
@@ -115,10 +186,7 @@ fn one_operand(text: &[u8], at: Cursor) -> GateLine
     let Number::Is(c, at2) = at1.next_number(text) else {
         return GateLine::Not;
     };
-    let word = at2.next_word(text);
-    let from = word.from;
-    let to = word.to;
-    last_word(text, Cursor { at: to }, gate1(&text[from..to], a, c))
+    read_end1(text, at2, a, c)
 }
 
 // The result and the name of a gate of two operands.
@@ -129,10 +197,7 @@ fn result_and_name(text: &[u8], at: Cursor, a: u32, b: u32) -> GateLine
     let Number::Is(c, at1) = at.next_number(text) else {
         return GateLine::Not;
     };
-    let word = at1.next_word(text);
-    let from = word.from;
-    let to = word.to;
-    last_word(text, Cursor { at: to }, gate2(&text[from..to], a, b, c))
+    read_end2(text, at1, a, b, c)
 }
 
 // The operands, the result and the name of a gate of two operands.

@@ -1,5 +1,3 @@
-// The lines of a netlist's text: the header's three, with the questions put to them, and one gate line.
+// The gate lines of a netlist's text, read one by one.
 pub mod gate;
-pub mod head;
-pub mod header;
 mod operands;

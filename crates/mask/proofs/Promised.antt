@@ -25,7 +25,7 @@ use Rattle.netlist.proofs.Accepted.{accepted}
 use Rattle.netlist.proofs.MaskInputs.{MaskInputs, mask-inputs}
 use Rattle.netlist.proofs.Masking.{outputs-unmask, counts-equal, output-codes-length}
 use Rattle.netlist.proofs.MaskedText.{masked-reads}
-use Rattle.lines.specs.declared.header.HeaderNumbers.{HeaderNumbers}
+use Rattle.header.specs.declared.HeaderNumbers.{HeaderNumbers}
 use Rattle.tables.specs.Whole.{ReadAt, ReadNot}
 use Rattle.masked.specs.Whole.{Source, textIn, codesIn, MaskAnswers}
 use Rattle.mask.specs.Fronts.{Read}

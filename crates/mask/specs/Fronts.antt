@@ -5,7 +5,7 @@ use mathlib.Core.List.{List}
 use lib.ListN.{length, take}
 use Rattle.netlist.specs.Netlist.{Netlist}
 use Rattle.netlist.specs.Table.{Tables, Wired, Holds}
-use Rattle.lines.specs.declared.header.HeaderNumbers.{HeaderNumbers}
+use Rattle.header.specs.declared.HeaderNumbers.{HeaderNumbers}
 
 -- the tables are long enough for a header's numbers: the gate tables t, those of the input and the output widths, where the
 -- input widths have room for one more, and those of the wires and the marks

@@ -1,6 +1,6 @@
 // Mask: a source netlist, the codes of its input bits and the wanted codes of its output bits become the masked netlist's text
 // and the code of each output bit. Questions 1 to 9 with the small limits, 11, 13 and 14.
-use lines::header::HeaderNumbers;
+use header::HeaderNumbers;
 use netlist::Answer;
 use tables::read::Reading;
 ghost use mathlib.Core.Path.{_≡_};

@@ -19,7 +19,7 @@ use Rattle.netlist.proofs.Puts.{length-gates}
 use Rattle.netlist.proofs.Size.{rewritten-large}
 use Rattle.writer.specs.Header.{headerText}
 use Rattle.writer.proofs.Headers.{header-gates}
-use Rattle.lines.specs.declared.header.HeaderNumbers.{HeaderNumbers}
+use Rattle.header.specs.declared.HeaderNumbers.{HeaderNumbers}
 use Rattle.tables.specs.Whole.{ReadAt, ReadNot}
 use Rattle.rewrite.specs.Form.{formText}
 use Rattle.rewrite.specs.Promise.{call}

@@ -1,7 +1,7 @@
 // Rewrite: the same netlist in the written form. Questions 1 to 9 with the large limits, and 14.
 mod form;
 
-use lines::header::HeaderNumbers;
+use header::HeaderNumbers;
 use netlist::Answer;
 use tables::read::Reading;
 ghost use mathlib.Core.Path.{_≡_};

@@ -14,7 +14,7 @@ use Rattle.netlist.specs.Read.{readNetlist}
 use Rattle.netlist.specs.Services.{tablesLong, listGood, isBit, outputList, runOutcome, runCall, outcomeOf, Answers}
 use Rattle.netlist.specs.Table.{Tables, Holds}
 use Rattle.netlist.proofs.Answering.{answers-as, answers-refused, answers-one, answers-rest}
-use Rattle.lines.specs.declared.header.HeaderNumbers.{HeaderNumbers}
+use Rattle.header.specs.declared.HeaderNumbers.{HeaderNumbers}
 use Rattle.tables.specs.Whole.{ReadAt, ReadNot}
 use Rattle.run.specs.Promise.{call}
 

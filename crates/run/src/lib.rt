@@ -1,7 +1,7 @@
 // Run: the output bits of a netlist on a list of input bits. Questions 1 to 9 with the large limits, 11 and 14.
 mod deliver;
 
-use lines::header::HeaderNumbers;
+use header::HeaderNumbers;
 use netlist::Answer;
 use tables::read::Reading;
 ghost use mathlib.Core.Path.{_≡_};

@@ -13,9 +13,9 @@ use Rattle.netlist.specs.Text.{wordLines}
 use Rattle.netlist.specs.Read.{gateLines, netlistOf, readGates, readNetlist}
 use Rattle.netlist.specs.Table.{Tables, gatesOf}
 use Rattle.netlist.proofs.HeaderFacts.{header-good}
-use Rattle.lines.specs.HeadAnswers.{Inside, HeadAt, HeadNot}
-use Rattle.lines.proofs.HeadLaws.{inputs-front, outputs-front}
-use Rattle.lines.specs.declared.header.HeaderNumbers.{HeaderNumbers}
+use Rattle.header.specs.HeadAnswers.{Inside, HeadAt, HeadNot}
+use Rattle.header.proofs.HeadLaws.{inputs-front, outputs-front}
+use Rattle.header.specs.declared.HeaderNumbers.{HeaderNumbers}
 use Rattle.tables.specs.declared.gates.Gates.{Gates}
 use Rattle.tables.specs.declared.gates.Gates.the-variants as G
 use Rattle.tables.specs.declared.read.Reading.{Reading}

@@ -8,7 +8,7 @@ use Rattle.netlist.specs.Netlist.{Netlist}
 use Rattle.netlist.specs.Outcome.{refused, done}
 use Rattle.netlist.specs.Read.{readNetlist}
 use Rattle.netlist.specs.Table.{Tables, Wired, Holds}
-use Rattle.lines.specs.declared.header.HeaderNumbers.{HeaderNumbers}
+use Rattle.header.specs.declared.HeaderNumbers.{HeaderNumbers}
 use Rattle.tables.specs.declared.read.Reading.{Reading}
 use Rattle.tables.specs.declared.read.Reading.the-variants as R
 

@@ -2,9 +2,9 @@
 use crate::gates::Gates;
 use crate::gates::read_gates;
 use crate::marks::mark_inputs;
-use lines::head::Head;
-use lines::head::read_head;
-use lines::header::HeaderNumbers;
+use header::HeaderNumbers;
+use header::head::Head;
+use header::head::read_head;
 use netlist::Limits;
 use text::cursor::Cursor;
 ghost use mathlib.Core.Path.{_≡_};

@@ -1,8 +1,7 @@
--- Two numbers and the name.
-use mathlib.Core.Path.{refl}
-use borrow.Author.Needs.{needs}
+-- Two numbers and the end.
 use Rattle.text.proofs.AnswerLaws.{number-is, number-not}
-use Rattle.lines.proofs.GateLaws.{line-behind, line-no-number, line-named}
+use Rattle.lines.proofs.GateLaws.{line-behind, line-no-number}
+use borrow.Author.Needs.{needs}
 use Rattle.lines.proofs.gate.one_operand.Statement.{statement}
 use Rattle.lines.proofs.gate.one_operand.Tie as tie
 
@@ -33,33 +32,16 @@ returns-2 c =
     let a = number-is _ _ _ _ _ (n .before .a .given .1) (n .before .before .before .next-number .ensures) in
     line-behind _ _ _ _ _ _ a (line-no-number _ _ _ (number-not _ _ _ (c .enum-told2 .given .1) (c .before .before .next-number2 .ensures)))
 
-next-word-requires : tie.Need-next-word-requires
-next-word-requires c κs = number-is _ _ _ _ _ (c .before .c .given .1) (c .before .before .before .next-number2 .ensures) .within
-
-sub-gate1 : tie.Need-sub-gate1
-sub-gate1 c = search needs
-
-part-gate1-start : tie.Need-part-gate1-start
-part-gate1-start c = search needs
-
-part-gate1-end : tie.Need-part-gate1-end
-part-gate1-end c = search needs
-
-gate1-requires : tie.Need-gate1-requires
-gate1-requires c κs = search needs
-
-last-word-requires : tie.Need-last-word-requires
-last-word-requires c κs = search needs
+read-end1-requires : tie.Need-read-end1-requires
+read-end1-requires c κs = number-is _ _ _ _ _ (c .before .c .given .1) (c .before .before .before .next-number2 .ensures) .within
 
 returns-3 : tie.Need-returns-3
 returns-3 c =
-    let n = c .before .before .before .before in
+    let n = c .before in
     let r = number-is _ _ _ _ _ (n .before .c .given .1) (n .before .before .before .next-number2 .ensures) in
     let m = n .before .before .before .before in
     let a = number-is _ _ _ _ _ (m .before .a .given .1) (m .before .before .before .next-number .ensures) in
-    line-behind _ _ _ _ _ _ a
-    (line-behind _ _ _ _ _ _ r
-    (line-named _ refl _ _ _ _ _ _ (c .before .before .before .next-word .ensures) (c .before .gate1 .ensures) (c .last-word .ensures)))
+    line-behind _ _ _ _ _ _ a (line-behind _ _ _ _ _ _ r (c .read-end1 .ensures))
 
 pub one-operand-spec : {M : Type 1} → statement M
 one-operand-spec =
@@ -73,10 +55,5 @@ one-operand-spec =
     enum-known-c
     enum-told-2
     returns-2
-    next-word-requires
-    sub-gate1
-    part-gate1-start
-    part-gate1-end
-    gate1-requires
-    last-word-requires
+    read-end1-requires
     returns-3)

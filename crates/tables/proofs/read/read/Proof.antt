@@ -1,6 +1,6 @@
 -- `read`: the head, and then the gate lines.
 use Rattle.netlist.specs.Table.{tables}
-use Rattle.lines.proofs.HeadLaws.{head-is, head-refused}
+use Rattle.header.proofs.HeadLaws.{head-is, head-refused}
 use Rattle.tables.proofs.Wholes.{few-gates, read-no-head, read-not, read-done, gates-done, gates-refused}
 use native.Mathlib.Omega.{arith}
 use borrow.Author.Needs.{needs}

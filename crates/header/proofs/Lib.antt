@@ -1,0 +1,4 @@
+-- The laws of the header.
+pub mod HeaderLaws
+pub mod HeadLaws
+pub mod WidthLaws

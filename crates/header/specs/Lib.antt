@@ -1,0 +1,3 @@
+-- What the answers of the header's readers mean.
+pub mod HeaderAnswers
+pub mod HeadAnswers

@@ -1,0 +1,126 @@
+-- The usual end of a gate line: a space, a name of three letters, LF.
+use Prim.Native.Nat.{ℕ, _+_, _-_, _<_}
+use mathlib.Core.Path.{_≡_, refl, sym, ap, _∙_, subst}
+use mathlib.Core.Bool.{Bool, true, false}
+use mathlib.Core.List.{List, [], _∷_}
+use mathlib.Core.Option.{Option, none, some}
+use native.Mathlib.Omega.{arith}
+use lib.Dec.{eqb}
+use lib.ListN.{length, take, drop, getD}
+use lib.Seq.{getD-take, getD-drop}
+use borrow.Author.Tests.{eqb-true}
+use Rattle.netlist.specs.declared.Gate.{Gate}
+use Rattle.netlist.specs.Lists.{sameBytes}
+use Rattle.netlist.specs.GateLine.{gate1, gate2, XOR, AND, INV, EQW, EQ}
+use Rattle.netlist.proofs.Tests.{onBool, both-true}
+use Rattle.text.specs.declared.cursor.Cursor.{Cursor}
+use Rattle.text.specs.Line.{isSpace, isLineEnd, inWord, lineWords, WordAt, EndAt}
+use Rattle.text.proofs.ScanLaws.{Scanning, scan-start, scan-on, scan-stop, word-at}
+use Rattle.text.proofs.LineLaws.{end-line}
+use Rattle.lines.specs.GateForm.{named, end1, end2}
+use Rattle.lines.specs.GateAnswers.{gateSaid, gateNamed, UsualEnd, LineIs}
+use Rattle.lines.specs.declared.gate.GateNumbers.{GateNumbers}
+use Rattle.lines.specs.declared.gate.NamedGate.{NamedGate}
+use Rattle.lines.specs.declared.gate.NamedGate.the-variants as N
+use Rattle.lines.specs.declared.gate.GateLine.the-variants as L
+use Rattle.lines.proofs.GateLaws.{line-named, last-gate}
+
+-- ---- the bytes
+
+pub not-usual-end : (t : List ℕ) (at : ℕ) → false ≡ true → UsualEnd t at
+not-usual-end t at e = let z : _≡_ {A = ℕ} 0 1 = cc in absurd (omega arith)
+
+pub usual-end : (t : List ℕ) (at : ℕ) → at + 4 < length t → getD t at 0 ≡ 32 → eqb (getD t (at + 4) 0) 10 ≡ true → UsualEnd t at
+usual-end t at h a e = record { space = a; lf = eqb-true (getD t (at + 4) 0) 10 e; within = h }
+
+-- ---- the name
+
+-- the first three bytes are part of a word
+abbrev Wordy : List ℕ → Type 0
+Wordy v = (inWord (getD v 0 0) ≡ true) × (inWord (getD v 1 0) ≡ true) × (inWord (getD v 2 0) ≡ true)
+
+same-equal : (u v : List ℕ) → sameBytes u v ≡ true → u ≡ v
+same-equal [] [] e = refl
+same-equal [] (y ∷ v) e = let z : _≡_ {A = ℕ} 0 1 = cc in absurd (omega arith)
+same-equal (x ∷ u) [] e = let z : _≡_ {A = ℕ} 0 1 = cc in absurd (omega arith)
+same-equal (x ∷ u) (y ∷ v) e =
+    let p = both-true (eqb x y) (sameBytes u v) e in
+    (λ i. eqb-true x y (p .0) i ∷ same-equal u v (p .1) i)
+
+-- a name that stands for a gate is a word
+wordy2 : (u : List ℕ) (a b c : ℕ) (g : Gate) → some g ≡ gate2 u a b c → Wordy u
+wordy2 u a b c g e = onBool (sameBytes u XOR)
+    (λ p. subst Wordy (sym (same-equal u XOR p)) (refl, refl, refl))
+    (λ p. onBool (sameBytes u AND)
+    (λ q. subst Wordy (sym (same-equal u AND q)) (refl, refl, refl))
+    (λ q. let n : some g ≡ none = rw (p, q) at e in let z : _≡_ {A = ℕ} 0 1 = cc in absurd (omega arith)))
+
+wordy1 : (u : List ℕ) (a c : ℕ) (g : Gate) → some g ≡ gate1 u a c → Wordy u
+wordy1 u a c g e = onBool (sameBytes u INV)
+    (λ p. subst Wordy (sym (same-equal u INV p)) (refl, refl, refl))
+    (λ p. onBool (sameBytes u EQW)
+    (λ q. subst Wordy (sym (same-equal u EQW q)) (refl, refl, refl))
+    (λ q. onBool (sameBytes u EQ)
+    (λ r. subst Wordy (sym (same-equal u EQ r)) (refl, refl, refl))
+    (λ r. let n : some g ≡ none = rw (p, q, r) at e in let z : _≡_ {A = ℕ} 0 1 = cc in absurd (omega arith))))
+
+-- ---- the line
+
+-- a byte of a word is no space
+no-space : (x : ℕ) → inWord x ≡ true → isSpace x ≡ false
+no-space x e = onBool (isSpace x)
+    (λ p. let f : false ≡ true = rw p at e in let z : _≡_ {A = ℕ} 0 1 = cc in absurd (omega arith))
+    (λ p. p)
+
+module _ (t : List ℕ) (at : ℕ) (o : UsualEnd t at) where
+  -- one byte more
+  on : (p : ℕ → Bool) (from i j : ℕ) → i + 1 ≡ j → i < length t → p (getD t i 0) ≡ true → Scanning p t from i → Scanning p t from j
+  on p from i j e h b s = subst (Scanning p t from) e (scan-on p t from i h b s)
+
+  module _ (w : Wordy (take (at + 4 - (at + 1)) (drop (at + 1) t))) where
+    letter : (i j : ℕ) → i < 3 → at + 1 + i ≡ j → inWord (getD (take (at + 4 - (at + 1)) (drop (at + 1) t)) i 0) ≡ true → inWord (getD t j 0) ≡ true
+    letter i j h e b =
+        let p : getD (take (at + 4 - (at + 1)) (drop (at + 1) t)) i 0 ≡ getD t (at + 1 + i) 0
+        = getD-take (at + 4 - (at + 1)) (drop (at + 1) t) i 0 (omega arith) ∙ getD-drop (at + 1) t i 0 in
+        ap inWord (sym (p ∙ ap (λ (k : ℕ). getD t k 0) e)) ∙ b
+
+    word : WordAt t at (at + 1) (at + 4)
+    word =
+        let l : at + 4 < length t = o .within in
+        let x = letter 0 (at + 1) (omega arith) (omega arith) (w .0) in
+        let y = letter 1 (at + 2) (omega arith) (omega arith) (w .1) in
+        let z = letter 2 (at + 3) (omega arith) (omega arith) (w .2) in
+        word-at t at (at + 1) (at + 4)
+        (scan-stop isSpace t at (at + 1) (omega arith) (no-space (getD t (at + 1) 0) x)
+        (on isSpace at at (at + 1) refl (omega arith) (ap isSpace (o .space)) (scan-start isSpace t at (omega arith))))
+        (scan-stop inWord t (at + 1) (at + 4) l (ap inWord (o .lf))
+        (on inWord (at + 1) (at + 3) (at + 4) (omega arith) (omega arith) z
+        (on inWord (at + 1) (at + 2) (at + 3) (omega arith) (omega arith) y
+        (on inWord (at + 1) (at + 1) (at + 2) (omega arith) (omega arith) x (scan-start inWord t (at + 1) (omega arith))))))
+
+  last : EndAt t (at + 4) (at + 5)
+  last =
+      let l : at + 4 < length t = o .within in
+      let e : at + 4 + 1 ≡ at + 5 = omega arith in
+      subst (EndAt t (at + 4)) e
+      (end-line t (at + 4) (at + 4) (scan-stop isSpace t (at + 4) (at + 4) l (ap isSpace (o .lf)) (scan-start isSpace t (at + 4) (omega arith))) l
+      (ap isLineEnd (o .lf)))
+
+  line-usual : (f : List ℕ → Option Gate) → f [] ≡ none → (n : NamedGate) (g : GateNumbers) (c : Cursor) → n ≡ N.Is g → c .at ≡ at + 5
+      → gateNamed n ≡ f (take (at + 4 - (at + 1)) (drop (at + 1) t)) → Wordy (take (at + 4 - (at + 1)) (drop (at + 1) t))
+      → LineIs t at (named f (lineWords (drop at t))) (L.Is g c)
+  line-usual f empty n g c p q e w =
+      line-named f empty t at (at + 1) (at + 4) (gateNamed n) (L.Is g c) (word w) e
+      (last-gate t (at + 4) n g c p (rw q last))
+
+  pub line-usual1 : (a r : ℕ) (n : NamedGate) (g : GateNumbers) (c : Cursor) → n ≡ N.Is g → c .at ≡ at + 5
+      → gateNamed n ≡ gate1 (take (at + 4 - (at + 1)) (drop (at + 1) t)) a r → LineIs t at (end1 a r (lineWords (drop at t))) (L.Is g c)
+  line-usual1 a r n g c p q e =
+      line-usual (λ name. gate1 name a r) refl n g c p q e
+      (wordy1 (take (at + 4 - (at + 1)) (drop (at + 1) t)) a r (gateSaid g) (sym (ap gateNamed p) ∙ e))
+
+  pub line-usual2 : (a b r : ℕ) (n : NamedGate) (g : GateNumbers) (c : Cursor) → n ≡ N.Is g → c .at ≡ at + 5
+      → gateNamed n ≡ gate2 (take (at + 4 - (at + 1)) (drop (at + 1) t)) a b r → LineIs t at (end2 a b r (lineWords (drop at t))) (L.Is g c)
+  line-usual2 a b r n g c p q e =
+      line-usual (λ name. gate2 name a b r) refl n g c p q e
+      (wordy2 (take (at + 4 - (at + 1)) (drop (at + 1) t)) a b r (gateSaid g) (sym (ap gateNamed p) ∙ e))
