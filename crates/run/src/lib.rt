@@ -1,18 +1,14 @@
 // Run: the output bits of a netlist on a list of input bits. Questions 1 to 9 with the large limits, 11 and 14.
-mod deliver;
-
-use header::HeaderNumbers;
 use netlist::Answer;
 use tables::read::Reading;
 ghost use mathlib.Core.Path.{_≡_};
 ghost use mathlib.Core.List.{[], _∷_};
 ghost use Prim.Native.Nat.{_≤_};
 ghost use lib.ListN.{length, replicate};
-ghost use Rattle.netlist.specs.Netlist.{Netlist, large as largeLimits};
+ghost use Rattle.netlist.specs.Netlist.{large as largeLimits};
 ghost use Rattle.netlist.specs.Outcome.{andThen};
 ghost use Rattle.netlist.specs.Read.{readNetlist};
 ghost use Rattle.netlist.specs.Services.{tablesLong, runOutcome, Answers};
-ghost use Rattle.netlist.specs.Table.{tables, Wired, Holds};
 ghost use Rattle.run.specs.Promise.{call, Promise};
 
 // Question 1 of the lengths of four tables.
@@ -36,31 +32,6 @@ fn tables_long(a: usize, b: usize, c: usize, d: usize) -> bool
     true
 }
 
-// Questions 11 and 14 and the bits, from a header's numbers and tables that hold its netlist.
-fn evaluate(
-    out: &mut [u8],
-    list: &[u8],
-    h: HeaderNumbers,
-    operands: &[u64],
-    results: &[u64],
-    words: &mut [u64],
-) -> Answer
-    requires { ⌜ Wired (tables (now operands) (now results)) (h .wires) (h .gates) × (h .ins ≤ h .wires) × (h .outs ≤ h .wires) × (h .wires ≤ length (now words)) ⌝ }
-    ensures { λ r. ⌜ ((N : Netlist) → Holds (tables (now (operands .entry)) (now (results .entry))) (h .gates) (h .wires) (h .ins) (h .outs) N → Answers (runOutcome (now (list .entry)) (length (now (out .entry))) N) (now (out .entry)) (now (out .exit)) r) ⌝ }
-{
-    let wires = h.wires as usize;
-    deliver::deliver(
-        out,
-        list,
-        h.gates as usize,
-        h.ins as usize,
-        h.outs as usize,
-        operands,
-        results,
-        &mut words[..wires],
-    )
-}
-
 // Questions 2 to 9, 11 and 14, with tables that question 1 admits.
 fn read_and_run(
     text: &[u8],
@@ -79,7 +50,7 @@ fn read_and_run(
     let l = netlist::large();
     match tables::read::read(text, l, inputs, outputs, given, operands, results) {
         Reading::Refused(question) => Answer::Refused(question),
-        Reading::Done(h) => evaluate(out, list, h, operands, results, words),
+        Reading::Done(h) => outputs::evaluate(out, list, h, operands, results, words),
     }
 }
 

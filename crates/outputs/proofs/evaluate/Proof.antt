@@ -2,11 +2,11 @@
 use mathlib.Core.Path.{sym}
 use lib.Seq.{length-take-le}
 use Rattle.netlist.proofs.Puts.{wired-same}
-use Rattle.run.proofs.Delivered.{holds-wires}
+use Rattle.outputs.proofs.Delivered.{holds-wires}
 use native.Mathlib.Omega.{arith}
 use borrow.Author.Needs.{needs}
-use Rattle.run.proofs.evaluate.Statement.{statement}
-use Rattle.run.proofs.evaluate.Tie as tie
+use Rattle.outputs.proofs.evaluate.Statement.{statement}
+use Rattle.outputs.proofs.evaluate.Tie as tie
 
 cast-wires : tie.Need-cast-wires
 cast-wires c = search needs

@@ -1,11 +1,11 @@
 -- `deliver`: questions 11 and 14 in order.
 use mathlib.Core.Path.{sym, _∙_}
 use borrow.Author.Tests.{not-true, not-false}
-use Rattle.run.proofs.Delivered.{list-length, holds-ins, run-11, run-14, run-done}
+use Rattle.outputs.proofs.Delivered.{list-length, holds-ins, run-11, run-14, run-done}
 use native.Mathlib.Omega.{arith}
 use borrow.Author.Needs.{needs}
-use Rattle.run.proofs.deliver.deliver.Statement.{statement}
-use Rattle.run.proofs.deliver.deliver.Tie as tie
+use Rattle.outputs.proofs.deliver.Statement.{statement}
+use Rattle.outputs.proofs.deliver.Tie as tie
 
 bits-requires : tie.Need-bits-requires
 bits-requires c κs = search needs
