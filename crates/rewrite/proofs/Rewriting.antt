@@ -21,7 +21,7 @@ use Rattle.writer.specs.Header.{headerText}
 use Rattle.writer.proofs.Headers.{header-gates}
 use Rattle.lines.specs.declared.header.HeaderNumbers.{HeaderNumbers}
 use Rattle.tables.specs.Whole.{ReadAt, ReadNot}
-use Rattle.rewrite.specs.Form.{formText}
+use Rattle.form.specs.Form.{formText}
 use Rattle.rewrite.specs.Promise.{call}
 
 -- the tables' written form is that of the netlist read

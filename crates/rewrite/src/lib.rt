@@ -1,6 +1,4 @@
 // Rewrite: the same netlist in the written form. Questions 1 to 9 with the large limits, and 14.
-mod form;
-
 use lines::header::HeaderNumbers;
 use netlist::Answer;
 use tables::read::Reading;
@@ -13,7 +11,7 @@ ghost use Rattle.netlist.specs.Outcome.{andThen};
 ghost use Rattle.netlist.specs.Read.{readNetlist};
 ghost use Rattle.netlist.specs.Services.{tablesLong, rewriteOutcome, Answers, Delivers};
 ghost use Rattle.netlist.specs.Table.{tables};
-ghost use Rattle.rewrite.specs.Form.{formText};
+ghost use Rattle.form.specs.Form.{formText};
 ghost use Rattle.rewrite.specs.Promise.{call, Promise};
 
 // Question 1 of the lengths of three tables.

@@ -2,8 +2,8 @@
 use Rattle.writer.proofs.Delivering.{deliver-short, deliver-done}
 use native.Mathlib.Omega.{arith}
 use borrow.Author.Needs.{needs}
-use Rattle.rewrite.proofs.form.deliver.Statement.{statement}
-use Rattle.rewrite.proofs.form.deliver.Tie as tie
+use Rattle.form.proofs.deliver.Statement.{statement}
+use Rattle.form.proofs.deliver.Tie as tie
 
 measure-requires : tie.Need-measure-requires
 measure-requires c κs = search needs

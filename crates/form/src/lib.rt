@@ -7,7 +7,7 @@ ghost use Rattle.netlist.specs.Services.{Delivers};
 ghost use Rattle.netlist.specs.Table.{tables, gatesOf};
 ghost use Rattle.buffer.specs.Wrote.{Wrote, cap};
 ghost use Rattle.writer.specs.Gates.{WroteGates};
-ghost use Rattle.rewrite.specs.Form.{formText};
+ghost use Rattle.form.specs.Form.{formText};
 
 // The lines of the tables' first gates.
 fn gates(out: &mut [u8], at: usize, operands: &[u64], results: &[u64], count: usize) -> usize
