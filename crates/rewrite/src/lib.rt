@@ -41,7 +41,8 @@ fn write(
     operands: &[u64],
     results: &[u64],
 ) -> Answer
-    requires { ⌜ (h .inputs ≤ length (now inputs)) × (h .outputs ≤ length (now outputs)) × (h .gates ≤ length (now operands)) × (h .gates ≤ length (now results)) ⌝ }
+    requires { ⌜ (h .inputs ≤ length (now inputs)) × (h .outputs ≤ length (now outputs)) × (h .gates ≤ length (now operands)) × (h .gates ≤ length (now results))
+        × (length (formText (h .gates) (h .wires) (take (h .inputs) (now inputs)) (take (h .outputs) (now outputs)) (tables (now operands) (now results))) ≤ largeLimits .text) ⌝ }
     ensures { λ r. ⌜ Delivers (formText (h .gates) (h .wires) (take (h .inputs) (now (inputs .entry))) (take (h .outputs) (now (outputs .entry))) (tables (now (operands .entry)) (now (results .entry)))) (now (out .entry)) (now (out .exit)) r ⌝ }
 {
     let ins = h.inputs;
