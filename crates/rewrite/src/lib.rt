@@ -1,6 +1,4 @@
 // Rewrite: the same netlist in the written form. Questions 1 to 9 with the large limits, and 14.
-mod form;
-
 use header::HeaderNumbers;
 use netlist::Answer;
 use tables::read::Reading;
@@ -13,7 +11,7 @@ ghost use Rattle.netlist.specs.Outcome.{andThen};
 ghost use Rattle.netlist.specs.Read.{readNetlist};
 ghost use Rattle.netlist.specs.Services.{tablesLong, rewriteOutcome, Answers, Delivers};
 ghost use Rattle.netlist.specs.Table.{tables};
-ghost use Rattle.rewrite.specs.Form.{formText};
+ghost use Rattle.form.specs.Form.{formText};
 ghost use Rattle.rewrite.specs.Promise.{call, Promise};
 
 // Question 1 of the lengths of three tables.
@@ -43,7 +41,8 @@ fn write(
     operands: &[u64],
     results: &[u64],
 ) -> Answer
-    requires { ⌜ (h .inputs ≤ length (now inputs)) × (h .outputs ≤ length (now outputs)) × (h .gates ≤ length (now operands)) × (h .gates ≤ length (now results)) ⌝ }
+    requires { ⌜ (h .inputs ≤ length (now inputs)) × (h .outputs ≤ length (now outputs)) × (h .gates ≤ length (now operands)) × (h .gates ≤ length (now results))
+        × (length (formText (h .gates) (h .wires) (take (h .inputs) (now inputs)) (take (h .outputs) (now outputs)) (tables (now operands) (now results))) ≤ largeLimits .text) ⌝ }
     ensures { λ r. ⌜ Delivers (formText (h .gates) (h .wires) (take (h .inputs) (now (inputs .entry))) (take (h .outputs) (now (outputs .entry))) (tables (now (operands .entry)) (now (results .entry)))) (now (out .entry)) (now (out .exit)) r ⌝ }
 {
     let ins = h.inputs;

@@ -1,13 +1,18 @@
-// The written form of the netlist that the tables hold.
+// The written form of the netlist that the tables hold: at once into a buffer as long as the longest text, and otherwise
+// measured first.
 use netlist::Answer;
 ghost use Prim.Native.Nat.{_≤_};
 ghost use mathlib.Core.Path.{_≡_};
 ghost use lib.ListN.{length};
+ghost use Rattle.netlist.specs.Netlist.{large};
 ghost use Rattle.netlist.specs.Services.{Delivers};
 ghost use Rattle.netlist.specs.Table.{tables, gatesOf};
 ghost use Rattle.buffer.specs.Wrote.{Wrote, cap};
 ghost use Rattle.writer.specs.Gates.{WroteGates};
-ghost use Rattle.rewrite.specs.Form.{formText};
+ghost use Rattle.form.specs.Form.{formText};
+
+// The most bytes of a text that the large limits admit.
+const LONGEST_TEXT: usize = 500000;
 
 // The lines of the tables' first gates.
 fn gates(out: &mut [u8], at: usize, operands: &[u64], results: &[u64], count: usize) -> usize
@@ -56,8 +61,8 @@ fn measure(
     write(&mut none, count, wires, ins, outs, operands, results)
 }
 
-// Question 14, and then the text.
-pub fn deliver(
+// Question 14 of the text as measured, and then the text.
+fn measured(
     out: &mut [u8],
     count: usize,
     wires: usize,
@@ -75,4 +80,24 @@ pub fn deliver(
     }
     write(out, count, wires, ins, outs, operands, results);
     Answer::Done(size)
+}
+
+// Question 14, and then the text. A buffer as long as the longest text holds this one too, without measuring.
+pub fn deliver(
+    out: &mut [u8],
+    count: usize,
+    wires: usize,
+    ins: &[u32],
+    outs: &[u32],
+    operands: &[u64],
+    results: &[u64],
+) -> Answer
+    requires { ⌜ (count ≤ length (now operands)) × (count ≤ length (now results))
+        × (length (formText count wires (now ins) (now outs) (tables (now operands) (now results))) ≤ large .text) ⌝ }
+    ensures { λ r. ⌜ Delivers (formText count wires (now (ins .entry)) (now (outs .entry)) (tables (now (operands .entry)) (now (results .entry)))) (now (out .entry)) (now (out .exit)) r ⌝ }
+{
+    if LONGEST_TEXT <= out.len() {
+        return Answer::Done(write(out, count, wires, ins, outs, operands, results));
+    }
+    measured(out, count, wires, ins, outs, operands, results)
 }
