@@ -1,5 +1,6 @@
 /* What a call does is stated in include/fidrovelj.h. Questions are put in order; a text is read into
- * the lent tables, results are measured before they are written, and every table is cleared last. */
+ * the lent tables, results are measured before they are written (a rewritten text only where the
+ * buffer might be too short), and every table is cleared last. */
 #include "baseline.h"
 
 #include <stdbool.h>
@@ -385,11 +386,13 @@ static inline void put_gates(struct sink *s, uint32_t gates, const uint64_t *ope
 static int64_t rewrite(const struct header *h, const uint64_t *operands, const uint64_t *results,
                        uint8_t *out, size_t out_len)
 {
-    struct sink measure = {false, NULL, 0};
-    put_header(&measure, h);
-    put_gates(&measure, h->gates, operands, results);
-    if (measure.size > out_len)
-        return -14;
+    if (out_len < large.text) {
+        struct sink measure = {false, NULL, 0};
+        put_header(&measure, h);
+        put_gates(&measure, h->gates, operands, results);
+        if (measure.size > out_len)
+            return -14;
+    }
     struct sink text = {true, out, 0};
     put_header(&text, h);
     put_gates(&text, h->gates, operands, results);
