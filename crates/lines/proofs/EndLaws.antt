@@ -15,7 +15,7 @@ use Rattle.netlist.specs.GateLine.{gate1, gate2, XOR, AND, INV, EQW, EQ}
 use Rattle.netlist.proofs.Tests.{onBool, both-true}
 use Rattle.text.specs.declared.cursor.Cursor.{Cursor}
 use Rattle.text.specs.Line.{isSpace, isLineEnd, inWord, lineWords, WordAt, EndAt}
-use Rattle.text.proofs.ScanLaws.{Scanning, scan-start, scan-on, scan-stop, word-at}
+use Rattle.text.proofs.ScanLaws.{scan-start, scan-stop, word-at}
 use Rattle.text.proofs.LineLaws.{end-line}
 use Rattle.lines.specs.GateForm.{named, end1, end2}
 use Rattle.lines.specs.GateAnswers.{gateSaid, gateNamed, UsualEnd, LineIs}
@@ -24,6 +24,7 @@ use Rattle.lines.specs.declared.gate.NamedGate.{NamedGate}
 use Rattle.lines.specs.declared.gate.NamedGate.the-variants as N
 use Rattle.lines.specs.declared.gate.GateLine.the-variants as L
 use Rattle.lines.proofs.GateLaws.{line-named, last-gate}
+use Rattle.lines.proofs.OperandLaws.{scan-to}
 
 -- ---- the bytes
 
@@ -34,6 +35,10 @@ pub usual-end : (t : List ℕ) (at : ℕ) → at + 4 < length t → getD t at 0 
 usual-end t at h a e = record { space = a; lf = eqb-true (getD t (at + 4) 0) 10 e; within = h }
 
 -- ---- the name
+
+-- the three bytes behind the space
+abbrev nameAt : List ℕ → ℕ → List ℕ
+nameAt t at = take (at + 4 - (at + 1)) (drop (at + 1) t)
 
 -- the first three bytes are part of a word
 abbrev Wordy : List ℕ → Type 0
@@ -73,14 +78,10 @@ no-space x e = onBool (isSpace x)
     (λ p. p)
 
 module _ (t : List ℕ) (at : ℕ) (o : UsualEnd t at) where
-  -- one byte more
-  on : (p : ℕ → Bool) (from i j : ℕ) → i + 1 ≡ j → i < length t → p (getD t i 0) ≡ true → Scanning p t from i → Scanning p t from j
-  on p from i j e h b s = subst (Scanning p t from) e (scan-on p t from i h b s)
-
-  module _ (w : Wordy (take (at + 4 - (at + 1)) (drop (at + 1) t))) where
-    letter : (i j : ℕ) → i < 3 → at + 1 + i ≡ j → inWord (getD (take (at + 4 - (at + 1)) (drop (at + 1) t)) i 0) ≡ true → inWord (getD t j 0) ≡ true
+  module _ (w : Wordy (nameAt t at)) where
+    letter : (i j : ℕ) → i < 3 → at + 1 + i ≡ j → inWord (getD (nameAt t at) i 0) ≡ true → inWord (getD t j 0) ≡ true
     letter i j h e b =
-        let p : getD (take (at + 4 - (at + 1)) (drop (at + 1) t)) i 0 ≡ getD t (at + 1 + i) 0
+        let p : getD (nameAt t at) i 0 ≡ getD t (at + 1 + i) 0
         = getD-take (at + 4 - (at + 1)) (drop (at + 1) t) i 0 (omega arith) ∙ getD-drop (at + 1) t i 0 in
         ap inWord (sym (p ∙ ap (λ (k : ℕ). getD t k 0) e)) ∙ b
 
@@ -92,11 +93,11 @@ module _ (t : List ℕ) (at : ℕ) (o : UsualEnd t at) where
         let z = letter 2 (at + 3) (omega arith) (omega arith) (w .2) in
         word-at t at (at + 1) (at + 4)
         (scan-stop isSpace t at (at + 1) (omega arith) (no-space (getD t (at + 1) 0) x)
-        (on isSpace at at (at + 1) refl (omega arith) (ap isSpace (o .space)) (scan-start isSpace t at (omega arith))))
+        (scan-to isSpace t at at (at + 1) refl (omega arith) (ap isSpace (o .space)) (scan-start isSpace t at (omega arith))))
         (scan-stop inWord t (at + 1) (at + 4) l (ap inWord (o .lf))
-        (on inWord (at + 1) (at + 3) (at + 4) (omega arith) (omega arith) z
-        (on inWord (at + 1) (at + 2) (at + 3) (omega arith) (omega arith) y
-        (on inWord (at + 1) (at + 1) (at + 2) (omega arith) (omega arith) x (scan-start inWord t (at + 1) (omega arith))))))
+        (scan-to inWord t (at + 1) (at + 3) (at + 4) (omega arith) (omega arith) z
+        (scan-to inWord t (at + 1) (at + 2) (at + 3) (omega arith) (omega arith) y
+        (scan-to inWord t (at + 1) (at + 1) (at + 2) (omega arith) (omega arith) x (scan-start inWord t (at + 1) (omega arith))))))
 
   last : EndAt t (at + 4) (at + 5)
   last =
@@ -107,20 +108,20 @@ module _ (t : List ℕ) (at : ℕ) (o : UsualEnd t at) where
       (ap isLineEnd (o .lf)))
 
   line-usual : (f : List ℕ → Option Gate) → f [] ≡ none → (n : NamedGate) (g : GateNumbers) (c : Cursor) → n ≡ N.Is g → c .at ≡ at + 5
-      → gateNamed n ≡ f (take (at + 4 - (at + 1)) (drop (at + 1) t)) → Wordy (take (at + 4 - (at + 1)) (drop (at + 1) t))
+      → gateNamed n ≡ f (nameAt t at) → Wordy (nameAt t at)
       → LineIs t at (named f (lineWords (drop at t))) (L.Is g c)
   line-usual f empty n g c p q e w =
       line-named f empty t at (at + 1) (at + 4) (gateNamed n) (L.Is g c) (word w) e
       (last-gate t (at + 4) n g c p (rw q last))
 
   pub line-usual1 : (a r : ℕ) (n : NamedGate) (g : GateNumbers) (c : Cursor) → n ≡ N.Is g → c .at ≡ at + 5
-      → gateNamed n ≡ gate1 (take (at + 4 - (at + 1)) (drop (at + 1) t)) a r → LineIs t at (end1 a r (lineWords (drop at t))) (L.Is g c)
+      → gateNamed n ≡ gate1 (nameAt t at) a r → LineIs t at (end1 a r (lineWords (drop at t))) (L.Is g c)
   line-usual1 a r n g c p q e =
       line-usual (λ name. gate1 name a r) refl n g c p q e
-      (wordy1 (take (at + 4 - (at + 1)) (drop (at + 1) t)) a r (gateSaid g) (sym (ap gateNamed p) ∙ e))
+      (wordy1 (nameAt t at) a r (gateSaid g) (sym (ap gateNamed p) ∙ e))
 
   pub line-usual2 : (a b r : ℕ) (n : NamedGate) (g : GateNumbers) (c : Cursor) → n ≡ N.Is g → c .at ≡ at + 5
-      → gateNamed n ≡ gate2 (take (at + 4 - (at + 1)) (drop (at + 1) t)) a b r → LineIs t at (end2 a b r (lineWords (drop at t))) (L.Is g c)
+      → gateNamed n ≡ gate2 (nameAt t at) a b r → LineIs t at (end2 a b r (lineWords (drop at t))) (L.Is g c)
   line-usual2 a b r n g c p q e =
       line-usual (λ name. gate2 name a b r) refl n g c p q e
-      (wordy2 (take (at + 4 - (at + 1)) (drop (at + 1) t)) a b r (gateSaid g) (sym (ap gateNamed p) ∙ e))
+      (wordy2 (nameAt t at) a b r (gateSaid g) (sym (ap gateNamed p) ∙ e))

@@ -1,7 +1,7 @@
 -- The counts of a gate line: how they are read, and what is left of the line.
 use Prim.Native.Nat.{ℕ, _+_, _≤_, _<_}
 use mathlib.Core.Path.{_≡_, refl, sym, ap, _∙_, subst}
-use mathlib.Core.Bool.{true, false}
+use mathlib.Core.Bool.{Bool, true, false}
 use mathlib.Core.List.{List, _∷_}
 use mathlib.Core.Option.{none}
 use native.Mathlib.Omega.{arith}
@@ -99,6 +99,10 @@ pub usual : (t : List ℕ) (at : ℕ) → at + 3 < length t → getD t (at + 1) 
     → OneResult t at
 usual t at h a b e = record { before = a; one = b; behind = eqb-true (getD t (at + 3) 0) 32 e; within = h }
 
+-- one byte more
+pub scan-to : (p : ℕ → Bool) (t : List ℕ) (from i j : ℕ) → i + 1 ≡ j → i < length t → p (getD t i 0) ≡ true → Scanning p t from i → Scanning p t from j
+scan-to p t from i j e h b s = subst (Scanning p t from) e (scan-on p t from i h b s)
+
 -- one digit is a number
 digit-number : (t : List ℕ) (at from to v : ℕ) → v ≤ 9 → from + 1 ≡ to → to < length t → Scanned isSpace t at from → getD t from 0 ≡ 48 + v
     → isSpace (getD t to 0) ≡ true → NumberAt t at v to
@@ -119,7 +123,7 @@ module _ (t : List ℕ) (at k : ℕ) (o : OneResult t at) where
 
   -- a space was passed over
   past : (i j : ℕ) → i < length t → i + 1 ≡ j → getD t i 0 ≡ 32 → Scanning isSpace t i j
-  past i j h p e = subst (Scanning isSpace t i) p (scan-on isSpace t i i h (ap isSpace e) (scan-start isSpace t i (omega arith)))
+  past i j h p e = scan-to isSpace t i i j p h (ap isSpace e) (scan-start isSpace t i (omega arith))
 
   second : NumberAt t (at + 1) 1 (at + 3)
   second =
