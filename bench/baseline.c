@@ -1,6 +1,7 @@
 /* What a call does is stated in include/fidrovelj.h. Questions are put in order; a text is read into
- * the lent tables, results are measured before they are written (a rewritten text only where the
- * buffer might be too short), and every table is cleared last. */
+ * the lent tables, a result is measured before it is written where the buffer might be too short, and
+ * every table is cleared last. Numbers are written by pairs of digits; compiled
+ * with -DDIGITS_BY_WORDS, by words of up to six digits and a space. */
 #include "baseline.h"
 
 #include <stdbool.h>
@@ -248,7 +249,10 @@ static bool list_good(const uint8_t *list, size_t length, size_t bits, uint8_t l
 
 /* ---- writing */
 
-static inline unsigned digits(uint32_t n)
+/* What counts, measures or writes by turns is made anew for each purpose. */
+#define ALWAYS static inline __attribute__((always_inline))
+
+ALWAYS unsigned digits(uint32_t n)
 {
     return 1 + (n >= 10) + (n >= 100) + (n >= 1000) + (n >= 10000);
 }
@@ -260,14 +264,14 @@ static const char pairs[] =
     "50515253545556575859606162636465666768697071727374"
     "75767778798081828384858687888990919293949596979899";
 
-static inline uint8_t *put_pair(uint8_t *p, uint32_t n)
+ALWAYS uint8_t *put_pair(uint8_t *p, uint32_t n)
 {
     memcpy(p, pairs + 2 * n, 2);
     return p + 2;
 }
 
 /* A number of at most five digits. */
-static inline uint8_t *put_number(uint8_t *p, uint32_t n)
+ALWAYS uint8_t *put_number(uint8_t *p, uint32_t n)
 {
     if (n >= 1000) {
         if (n >= 10000)
@@ -284,65 +288,120 @@ static inline uint8_t *put_number(uint8_t *p, uint32_t n)
     return p + 1;
 }
 
-static inline uint8_t *put_bytes(uint8_t *p, const char *bytes, size_t count)
+/* A number and a space behind it. */
+ALWAYS uint8_t *put_spaced(uint8_t *p, uint32_t n)
+{
+    p = put_number(p, n);
+    *p = ' ';
+    return p + 1;
+}
+
+#ifndef DIGITS_BY_WORDS
+
+#define put_operand put_spaced
+#define put_result put_spaced
+
+#else
+
+/* The bytes of a number and a space, the first the lowest, and in the top byte how many these are;
+ * and what three digits more add to such a word at the place of its space. */
+static uint64_t words_of[1000], added_of[1000];
+
+__attribute__((constructor)) static void fill_words(void)
+{
+    for (uint32_t n = 0; n < 1000; n++) {
+        uint8_t bytes[8] = {0}, *end = put_spaced(bytes, n);
+        bytes[7] = (uint8_t)(end - bytes);
+        memcpy(&words_of[n], bytes, 8);
+        added_of[n] = ('0' + n / 100 - ' ') | (uint64_t)('0' + n / 10 % 10) << 8 | (uint64_t)('0' + n % 10) << 16
+            | (uint64_t)' ' << 24;
+    }
+}
+
+/* A number and a space behind it, and what is left of eight bytes. */
+ALWAYS uint8_t *put_operand(uint8_t *p, uint32_t n)
+{
+    uint64_t word = words_of[n < 1000 ? n : n / 1000];
+    if (n >= 1000)
+        word += (added_of[n % 1000] << 8 * ((word >> 56) - 1)) + ((uint64_t)3 << 56);
+    memcpy(p, &word, 8);
+    return p + (word >> 56);
+}
+
+/* The same behind which four bytes follow: below 100 they do not cover what is left of eight. */
+ALWAYS uint8_t *put_result(uint8_t *p, uint32_t n) { return n < 100 ? put_spaced(p, n) : put_operand(p, n); }
+
+#endif
+
+ALWAYS uint8_t *put_bytes(uint8_t *p, const char *bytes, size_t count)
 {
     memcpy(p, bytes, count);
     return p + count;
 }
 
-/* A text that is measured, or written: there `at` is where the next byte goes. */
+/* A text whose gates are only counted, or measured, or written: there `at` is where the next byte goes. */
+enum purpose { COUNTING, MEASURING, WRITING };
+
 struct sink {
-    bool writing;
+    enum purpose purpose;
     uint8_t *at;
     size_t size;
 };
 
-/* A line of two operands and a result; the name has a space in front and LF behind. */
-static inline void put_two(struct sink *s, uint32_t a, uint32_t b, uint32_t c, const char *name)
+/* A line of two operands and a result; the name has LF behind. */
+ALWAYS void put_two(struct sink *s, uint32_t a, uint32_t b, uint32_t c, const char *name)
 {
-    if (!s->writing) {
+    if (s->purpose == MEASURING)
         s->size += 11 + digits(a) + digits(b) + digits(c);
+    if (s->purpose != WRITING)
         return;
-    }
     uint8_t *p = put_bytes(s->at, "2 1 ", 4);
-    p = put_number(p, a);
-    *p++ = ' ';
-    p = put_number(p, b);
-    *p++ = ' ';
-    p = put_number(p, c);
-    s->at = put_bytes(p, name, 5);
+    p = put_operand(p, a);
+    p = put_operand(p, b);
+    p = put_result(p, c);
+    s->at = put_bytes(p, name, 4);
 }
 
-/* A line of one operand and a result. */
-static inline void put_one(struct sink *s, uint32_t a, uint32_t c, const char *name, size_t name_len)
+/* A line of one operand and a result; the name has LF behind. */
+ALWAYS void put_one(struct sink *s, uint32_t a, uint32_t c, const char *name)
 {
-    if (!s->writing) {
-        s->size += 5 + name_len + digits(a) + digits(c);
+    if (s->purpose == MEASURING)
+        s->size += 10 + digits(a) + digits(c);
+    if (s->purpose != WRITING)
         return;
-    }
     uint8_t *p = put_bytes(s->at, "1 1 ", 4);
-    p = put_number(p, a);
-    *p++ = ' ';
-    p = put_number(p, c);
-    s->at = put_bytes(p, name, name_len);
+    p = put_operand(p, a);
+    p = put_result(p, c);
+    s->at = put_bytes(p, name, 4);
 }
 
-static inline void put_gate(struct sink *s, uint64_t operands, uint64_t result)
+/* The line of a constant. */
+ALWAYS void put_constant(struct sink *s, uint32_t value, uint32_t c)
+{
+    if (s->purpose == MEASURING)
+        s->size += 10 + digits(c);
+    if (s->purpose != WRITING)
+        return;
+    uint8_t *p = put_bytes(s->at, value == 0 ? "1 1 0 " : "1 1 1 ", 6);
+    s->at = put_bytes(put_spaced(p, c), "EQ\n", 3);
+}
+
+ALWAYS void put_gate(struct sink *s, uint64_t operands, uint64_t result)
 {
     uint32_t a = low(operands), b = high(operands), c = low(result);
     switch (high(result)) {
-    case XOR: put_two(s, a, b, c, " XOR\n"); break;
-    case AND: put_two(s, a, b, c, " AND\n"); break;
-    case INV: put_one(s, a, c, " INV\n", 5); break;
-    case EQW: put_one(s, a, c, " EQW\n", 5); break;
-    case EQ0: put_one(s, 0, c, " EQ\n", 4); break;
-    default: put_one(s, 1, c, " EQ\n", 4); break;
+    case XOR: put_two(s, a, b, c, "XOR\n"); break;
+    case AND: put_two(s, a, b, c, "AND\n"); break;
+    case INV: put_one(s, a, c, "INV\n"); break;
+    case EQW: put_one(s, a, c, "EQW\n"); break;
+    case EQ0: put_constant(s, 0, c); break;
+    default: put_constant(s, 1, c); break;
     }
 }
 
 static void put_values(struct sink *s, const struct values *v)
 {
-    if (!s->writing) {
+    if (s->purpose == MEASURING) {
         s->size += digits(v->count) + 1;
         for (uint32_t i = 0; i < v->count; i++)
             s->size += 1 + digits(v->width[i]);
@@ -359,7 +418,7 @@ static void put_values(struct sink *s, const struct values *v)
 /* The header and its blank line. */
 static void put_header(struct sink *s, const struct header *h)
 {
-    if (s->writing) {
+    if (s->purpose == WRITING) {
         s->at = put_number(s->at, h->gates);
         *s->at++ = ' ';
         s->at = put_number(s->at, h->wires);
@@ -369,13 +428,21 @@ static void put_header(struct sink *s, const struct header *h)
     }
     put_values(s, &h->in);
     put_values(s, &h->out);
-    if (s->writing)
+    if (s->purpose == WRITING)
         *s->at++ = '\n';
     else
         s->size++;
 }
 
-static inline void put_gates(struct sink *s, uint32_t gates, const uint64_t *operands, const uint64_t *results)
+/* The header's length and that of as many of the longest lines as there are gates. */
+static size_t most_bytes(const struct header *h)
+{
+    struct sink header = {MEASURING, NULL, 0};
+    put_header(&header, h);
+    return header.size + (size_t)h->gates * (11 + 3 * digits(h->wires));
+}
+
+ALWAYS void put_gates(struct sink *s, uint32_t gates, const uint64_t *operands, const uint64_t *results)
 {
     for (uint32_t i = 0; i < gates; i++)
         put_gate(s, operands[i], results[i]);
@@ -386,14 +453,14 @@ static inline void put_gates(struct sink *s, uint32_t gates, const uint64_t *ope
 static int64_t rewrite(const struct header *h, const uint64_t *operands, const uint64_t *results,
                        uint8_t *out, size_t out_len)
 {
-    if (out_len < large.text) {
-        struct sink measure = {false, NULL, 0};
+    if (out_len < most_bytes(h)) {
+        struct sink measure = {MEASURING, NULL, 0};
         put_header(&measure, h);
         put_gates(&measure, h->gates, operands, results);
         if (measure.size > out_len)
             return -14;
     }
-    struct sink text = {true, out, 0};
+    struct sink text = {WRITING, out, 0};
     put_header(&text, h);
     put_gates(&text, h->gates, operands, results);
     return text.at - out;
@@ -530,35 +597,35 @@ struct masking {
     struct sink text;
 };
 
-static inline uint32_t put_xor(struct masking *m, uint32_t a, uint32_t b)
+ALWAYS uint32_t put_xor(struct masking *m, uint32_t a, uint32_t b)
 {
-    put_two(&m->text, a, b, m->next, " XOR\n");
+    put_two(&m->text, a, b, m->next, "XOR\n");
     return m->next++;
 }
 
-static inline uint32_t put_and(struct masking *m, uint32_t a, uint32_t b)
+ALWAYS uint32_t put_and(struct masking *m, uint32_t a, uint32_t b)
 {
-    put_two(&m->text, a, b, m->next, " AND\n");
+    put_two(&m->text, a, b, m->next, "AND\n");
     return m->next++;
 }
 
-static inline uint32_t put_inv(struct masking *m, uint32_t a)
+ALWAYS uint32_t put_inv(struct masking *m, uint32_t a)
 {
-    put_one(&m->text, a, m->next, " INV\n", 5);
+    put_one(&m->text, a, m->next, "INV\n");
     return m->next++;
 }
 
-static inline uint32_t put_eqw(struct masking *m, uint32_t a)
+ALWAYS uint32_t put_eqw(struct masking *m, uint32_t a)
 {
-    put_one(&m->text, a, m->next, " EQW\n", 5);
+    put_one(&m->text, a, m->next, "EQW\n");
     return m->next++;
 }
 
 /* The wire of a code's mask. */
-static inline uint32_t mask_wire(const struct masking *m, uint8_t code) { return m->bits + code - 1; }
+ALWAYS uint32_t mask_wire(const struct masking *m, uint8_t code) { return m->bits + code - 1; }
 
 /* The seven steps of an AND of operands a and b with mask wires p and q. */
-static inline uint32_t put_masked_and(struct masking *m, uint32_t a, uint32_t b, uint32_t p, uint32_t q)
+ALWAYS uint32_t put_masked_and(struct masking *m, uint32_t a, uint32_t b, uint32_t p, uint32_t q)
 {
     uint32_t s1 = put_and(m, a, b);
     uint32_t s2 = put_and(m, a, q);
@@ -570,7 +637,7 @@ static inline uint32_t put_masked_and(struct masking *m, uint32_t a, uint32_t b,
 }
 
 /* A source gate; the twin and the code of its result go into the tables. */
-static inline void mask_gate(struct masking *m, uint64_t operands, uint64_t result, uint32_t *wires, uint8_t *codes)
+ALWAYS void mask_gate(struct masking *m, uint64_t operands, uint64_t result, uint32_t *wires, uint8_t *codes)
 {
     uint32_t a = wires[low(operands)], b = wires[high(operands)];
     uint8_t code = codes[low(operands)], other = codes[high(operands)];
@@ -601,7 +668,7 @@ static inline void mask_gate(struct masking *m, uint64_t operands, uint64_t resu
 }
 
 /* All gates of the masked netlist. */
-static inline void mask_gates(struct masking *m, const struct header *h, const uint8_t *in_codes,
+ALWAYS void mask_gates(struct masking *m, const struct header *h, const uint8_t *in_codes,
                               const uint8_t *wanted, const uint64_t *operands, const uint64_t *results,
                               uint32_t *wires, uint8_t *codes)
 {
@@ -636,17 +703,23 @@ static int64_t mask(const struct header *h, const uint64_t *operands, const uint
         return -13;
 
     uint32_t n = (uint32_t)h->in.bits;
-    struct masking measure = {n, 0, {false, NULL, 0}};
-    mask_gates(&measure, h, codes, wanted, operands, results, wires, marks);
+    struct masking count = {n, 0, {COUNTING, NULL, 0}};
+    mask_gates(&count, h, codes, wanted, operands, results, wires, marks);
     struct header masked = *h;
-    masked.wires = measure.next;
-    masked.gates = measure.next - n - 2;
+    masked.wires = count.next;
+    masked.gates = count.next - n - 2;
     masked.in.width[masked.in.count++] = 2;
-    put_header(&measure.text, &masked);
-    if (measure.text.size > out_len || h->out.bits > out_codes_len)
+    if (h->out.bits > out_codes_len)
         return -14;
+    if (out_len < most_bytes(&masked)) {
+        struct masking measure = {n, 0, {MEASURING, NULL, 0}};
+        put_header(&measure.text, &masked);
+        mask_gates(&measure, h, codes, wanted, operands, results, wires, marks);
+        if (measure.text.size > out_len)
+            return -14;
+    }
 
-    struct masking written = {n, 0, {true, out, 0}};
+    struct masking written = {n, 0, {WRITING, out, 0}};
     put_header(&written.text, &masked);
     mask_gates(&written, h, codes, wanted, operands, results, wires, marks);
     uint32_t first = h->wires - (uint32_t)h->out.bits;

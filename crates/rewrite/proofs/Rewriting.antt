@@ -1,5 +1,5 @@
 -- From a text that was read to Rewrite's promise.
-use Prim.Native.Nat.{ℕ, _≤_}
+use Prim.Native.Nat.{ℕ}
 use mathlib.Core.Path.{_≡_, refl, sym, ap, ap₂, _∙_, subst}
 use mathlib.Core.Bool.{Bool, true, false}
 use mathlib.Core.List.{List, [], _∷_, _++_}
@@ -14,10 +14,9 @@ use Rattle.netlist.specs.Read.{readNetlist}
 use Rattle.netlist.specs.Write.{writeNetlist, gateText}
 use Rattle.netlist.specs.Services.{tablesLong, rewriteOutcome, rewriteCall, outcomeOf, Answers, Delivers}
 use Rattle.netlist.specs.Table.{Tables}
-use Rattle.netlist.proofs.Accepted.{accepted}
 use Rattle.netlist.proofs.Answering.{answers-as, answers-refused, answers-one, answers-rest}
 use Rattle.netlist.proofs.Puts.{length-gates}
-use Rattle.netlist.proofs.Size.{written-within, roomy-large, rewritten-large}
+use Rattle.netlist.proofs.Size.{rewritten-large}
 use Rattle.writer.specs.Header.{headerText}
 use Rattle.writer.proofs.Headers.{header-gates}
 use Rattle.header.specs.declared.HeaderNumbers.{HeaderNumbers}
@@ -35,11 +34,6 @@ form-same {t} {ins} {outs} {tabs} {h} a =
     ≡ headerText (length (N .gates)) (N .wires) (N .inputs) (N .outputs)
     = rw (g, a .holds .wires, a .inputs, a .outputs) refl in
     ap₂ _++_ p (ap gateText (sym (a .holds .gates))) ∙ header-gates N
-
--- it is no longer than a text that the limits admit
-pub form-within : {t ins outs : List ℕ} {tabs : Tables} {h : HeaderNumbers} → ReadAt large t ins outs tabs h
-    → length (formText (h .gates) (h .wires) (take (h .inputs) ins) (take (h .outputs) outs) tabs) ≤ large .text
-form-within {t} a = let n = accepted large t (a .is) (a .read) in rw (form-same a) (written-within roomy-large (a .is) (n .formed) (n .within))
 
 -- questions 2 to 9 and 14
 pub rewrite-read : {t ins outs : List ℕ} {tabs : Tables} {h : HeaderNumbers} {e x : List ℕ} {r : Answer} → ReadAt large t ins outs tabs h

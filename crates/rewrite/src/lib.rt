@@ -10,7 +10,7 @@ ghost use Rattle.netlist.specs.Netlist.{large as largeLimits};
 ghost use Rattle.netlist.specs.Outcome.{andThen};
 ghost use Rattle.netlist.specs.Read.{readNetlist};
 ghost use Rattle.netlist.specs.Services.{tablesLong, rewriteOutcome, Answers, Delivers};
-ghost use Rattle.netlist.specs.Table.{tables};
+ghost use Rattle.netlist.specs.Table.{tables, Wired};
 ghost use Rattle.form.specs.Form.{formText};
 ghost use Rattle.rewrite.specs.Promise.{call, Promise};
 
@@ -41,8 +41,7 @@ fn write(
     operands: &[u64],
     results: &[u64],
 ) -> Answer
-    requires { ⌜ (h .inputs ≤ length (now inputs)) × (h .outputs ≤ length (now outputs)) × (h .gates ≤ length (now operands)) × (h .gates ≤ length (now results))
-        × (length (formText (h .gates) (h .wires) (take (h .inputs) (now inputs)) (take (h .outputs) (now outputs)) (tables (now operands) (now results))) ≤ largeLimits .text) ⌝ }
+    requires { ⌜ (h .inputs ≤ length (now inputs)) × (h .outputs ≤ length (now outputs)) × Wired (tables (now operands) (now results)) (h .wires) (h .gates) ⌝ }
     ensures { λ r. ⌜ Delivers (formText (h .gates) (h .wires) (take (h .inputs) (now (inputs .entry))) (take (h .outputs) (now (outputs .entry))) (tables (now (operands .entry)) (now (results .entry)))) (now (out .entry)) (now (out .exit)) r ⌝ }
 {
     let ins = h.inputs;

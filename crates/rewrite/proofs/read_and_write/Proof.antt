@@ -1,7 +1,7 @@
 -- `read_and_write`: the netlist read, and its text.
 use lib.Dec.{lit<}
 use Rattle.netlist.specs.Table.{tables}
-use Rattle.rewrite.proofs.Rewriting.{form-within, rewrite-read, rewrite-not}
+use Rattle.rewrite.proofs.Rewriting.{rewrite-read, rewrite-not}
 use Rattle.tables.proofs.Wholes.{read-is}
 use native.Mathlib.Omega.{arith}
 use borrow.Author.Needs.{needs}
@@ -32,7 +32,7 @@ write-requires c κs =
     (c .before .before .before .before .before .before .h .given .1) (at-read .read .ensures) in
     let p = at-args .pre in
     let k = at-read .read .kept in
-    (omega (arith, a .manyIn, p .4, k .1 .1 .0), omega (arith, a .manyOut, p .5, k .1 .1 .1 .0), a .wired .operands, a .wired .results, form-within a)
+    (omega (arith, a .manyIn, p .4, k .1 .1 .0), omega (arith, a .manyOut, p .5, k .1 .1 .1 .0), a .wired)
 
 same-length : tie.Need-same-length
 same-length c = search needs
