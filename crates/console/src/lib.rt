@@ -32,7 +32,7 @@ fn front(buffer: &[u8], n: usize) -> usize
     n
 }
 
-// How many bytes of a list file count: a longer file is cut, and one LF at the end comes off.
+// How many bytes of a list file count: a longer file is cut, and one LF or CR LF at the end comes off.
 fn counted(file: &[u8]) -> usize
     ensures { λ r. ⌜ Front (now (file .entry)) r (listBytes (now (file .entry))) ⌝ }
 {
@@ -40,10 +40,16 @@ fn counted(file: &[u8]) -> usize
     if n == 0 {
         return 0;
     }
-    if file[n - 1] == 10 {
-        return n - 1;
+    if file[n - 1] != b'\n' {
+        return n;
     }
-    n
+    if n == 1 {
+        return 0;
+    }
+    if file[n - 2] == b'\r' {
+        return n - 2;
+    }
+    n - 1
 }
 
 // The list in a file, in place of its bytes; answers how many entries it has.

@@ -11,10 +11,11 @@ use lib.Seq.{getD-take, getD-drop}
 use borrow.Author.Tests.{eqb-true}
 use Rattle.netlist.specs.declared.Gate.{Gate}
 use Rattle.netlist.specs.Lists.{sameBytes}
+use Rattle.netlist.specs.Text.{isSpace, isLineEnd}
 use Rattle.netlist.specs.GateLine.{gate1, gate2, XOR, AND, INV, EQW, EQ}
 use Rattle.netlist.proofs.Tests.{onBool, both-true}
 use Rattle.text.specs.declared.cursor.Cursor.{Cursor}
-use Rattle.text.specs.Line.{isSpace, isLineEnd, inWord, lineWords, WordAt, EndAt}
+use Rattle.text.specs.Line.{inWord, lineWords, WordAt, EndAt}
 use Rattle.text.proofs.ScanLaws.{scan-start, scan-stop, word-at}
 use Rattle.text.proofs.LineLaws.{end-line}
 use Rattle.lines.specs.GateForm.{named, end1, end2}

@@ -11,7 +11,8 @@ use borrow.Author.Tests.{eqb-true, le-leb, ne-eqb}
 use Rattle.netlist.specs.Number.{number, isDigit}
 use Rattle.text.specs.declared.cursor.Cursor.{Cursor}
 use Rattle.text.specs.declared.number.Number.the-variants as N
-use Rattle.text.specs.Line.{isSpace, lineWords, nextWord, afterLine, Scanned}
+use Rattle.netlist.specs.Text.{isSpace}
+use Rattle.text.specs.Line.{lineWords, nextWord, afterLine, Scanned}
 use Rattle.text.specs.Answers.{NumberAt}
 use Rattle.text.proofs.SplitLaws.{skip-words, skip-after}
 use Rattle.text.proofs.ScanLaws.{Scanning, scan-start, scan-on, scan-stop}
@@ -117,7 +118,7 @@ module _ (t : List ℕ) (at k : ℕ) (o : OneResult t at) where
   first : k ≤ 9 → getD t at 0 ≡ 48 + k → NumberAt t at k (at + 1)
   first f e =
       let h : at + 1 < length t = omega (arith, o .within) in
-      let s : isSpace (getD t at 0) ≡ false = ne-eqb (getD t at 0) 32 (λ p. omega arith) in
+      let s : isSpace (getD t at 0) ≡ false = rw (ne-eqb (getD t at 0) 32 (λ p. omega arith), ne-eqb (getD t at 0) 13 (λ p. omega arith)) in
       digit-number t at at (at + 1) k f refl h (scan-stop isSpace t at at (omega arith) s (scan-start isSpace t at (omega arith))) e
       (ap isSpace (o .before))
 

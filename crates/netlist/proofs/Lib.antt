@@ -3,6 +3,7 @@ pub mod Tests
 pub mod Questions
 -- reading and writing
 pub mod Words
+pub mod LineEnds
 pub mod Decimal
 pub mod Lines
 pub mod RoundTrip

@@ -8,7 +8,7 @@ use super::{Call, Given, Service};
 /// Refusals of every service alike: what is read, and the question's number.
 const READING: &[(&str, &str, u8)] = &[
     ("a bad last byte comes before a broken header", "X\n1 1 1\n#", 3),
-    ("CR", "1 3\r\n2 1 1\r\n1 1\r\n2 1 0 1 2 AND\r\n", 3),
+    ("CR", "1 3\r2 1 1\r\n1 1\r\n2 1 0 1 2 AND\r\n", 3),
     ("tab", "1\t3\n2 1 1\n1 1\n2 1 0 1 2 AND\n", 3),
     ("the byte before 0", "1 3\n2 1 1\n1 1\n2 1 / 1 2 AND\n", 3),
     ("the byte after 9", "1 3\n2 1 1\n1 1\n2 1 : 1 2 AND\n", 3),
