@@ -11,6 +11,7 @@ pub mod HeaderFacts
 pub mod Accepted
 pub mod Size
 pub mod ReaderCalls
+pub mod ReadAlike
 -- masking
 pub mod Codes
 pub mod MaskedBits

@@ -1,25 +1,18 @@
--- CR LF line ends: a text and the same text with its CR LFs made LF read alike.
-use Prim.Native.Nat.{ℕ, suc, _≤_}
+-- CR LF line ends: a text and the same text with its CR LFs made LF have the same lines.
+use Prim.Native.Nat.{ℕ}
 use mathlib.Core.Path.{_≡_, refl, sym, ap, _∙_, subst}
-use mathlib.Core.Bool.{Bool, true, false, cond, _&&_, or-false}
+use mathlib.Core.Bool.{Bool, true, false, cond, _&&_, _||_, or-false}
 use mathlib.Core.List.{List, [], _∷_, map}
 use native.Mathlib.Omega.{arith}
 use lib.Dec.{T, eqb}
-use lib.ListN.{length, drop}
-use borrow.Author.Tests.{eqb-true, le-leb}
-use Rattle.netlist.specs.declared.Limits.{Limits}
+use borrow.Author.Tests.{eqb-true}
 use Rattle.netlist.specs.Lists.{every}
 use Rattle.netlist.specs.Text.{space, lf, cr, atLF, lfEnds, isLineEnd, isSpace, onto, split, filled, words, wordLines}
-use Rattle.netlist.specs.Netlist.{large}
-use Rattle.netlist.specs.Read.{byteAllowed, bytesAllowed, opening, readNetlist}
-use Rattle.netlist.specs.GateReader.{readerSays}
-use Rattle.netlist.proofs.Tests.{All, empty, each, onBool, isTrue, both}
+use Rattle.netlist.specs.Read.{byteAllowed, bytesAllowed}
+use Rattle.netlist.proofs.Tests.{All, empty, each, onBool, isTrue, true-T, both}
 use Rattle.netlist.proofs.Words.{Lacks}
 
 -- ---- texts without CR
-
-pub allowed-no-cr : (b : ℕ) → byteAllowed b ≡ true → eqb b cr ≡ false
-allowed-no-cr b h = onBool (eqb b cr) (λ e. e ∙ sym h ∙ ap byteAllowed (eqb-true b cr e)) (λ e. e)
 
 -- no byte is CR
 abbrev pub NoCR : List ℕ → Type 0
@@ -28,6 +21,34 @@ NoCR t = Lacks (λ x. eqb x cr) t
 pub lfEnds-none : {t : List ℕ} → NoCR t → lfEnds t ≡ t
 lfEnds-none empty = refl
 lfEnds-none (each {x = x} p ps) = rw p (ap (λ (l : List ℕ). x ∷ l) (lfEnds-none ps))
+
+-- ---- question 3
+
+-- byte by byte: a digit, a capital letter, a space, LF, or a CR directly before LF
+pub allowed-step : (x : ℕ) (xs : List ℕ) → bytesAllowed (x ∷ xs) ≡ ((byteAllowed x || (eqb x cr && atLF xs)) && bytesAllowed xs)
+allowed-step x xs = go (eqb x cr) (atLF xs) refl
+  where
+    go : (a b : Bool) → eqb x cr ≡ a
+        → every byteAllowed (cond (a && b) (lfEnds xs) (x ∷ lfEnds xs)) ≡ ((byteAllowed x || (a && b)) && bytesAllowed xs)
+    go true true e = sym (ap (λ (y : ℕ). (byteAllowed y || true) && bytesAllowed xs) (eqb-true x cr e))
+    go true false e = rw (or-false (byteAllowed x))
+    go false b e = rw (or-false (byteAllowed x))
+
+allowed-no-cr : (b : ℕ) → byteAllowed b ≡ true → eqb b cr ≡ false
+allowed-no-cr b h = onBool (eqb b cr) (λ e. e ∙ sym h ∙ ap byteAllowed (eqb-true b cr e)) (λ e. e)
+
+every-no-cr : (t : List ℕ) → T (every byteAllowed t) → NoCR t
+every-no-cr [] h = empty
+every-no-cr (b ∷ t) h =
+    let k = both (byteAllowed b) (every byteAllowed t) h in each (allowed-no-cr b (isTrue (byteAllowed b) (k .0))) (every-no-cr t (k .1))
+
+-- in a text that passes each CR stands before LF
+pub allowed-ends : (t : List ℕ) → T (bytesAllowed t) → NoCR (lfEnds t)
+allowed-ends t h = every-no-cr (lfEnds t) h
+
+-- a text of bytes that pass by themselves passes
+pub plain-allowed : (t : List ℕ) → every byteAllowed t ≡ true → bytesAllowed t ≡ true
+plain-allowed t e = ap (every byteAllowed) (lfEnds-none (every-no-cr t (true-T (every byteAllowed t) e))) ∙ e
 
 -- ---- lines and words
 
@@ -130,41 +151,6 @@ same-ends (x ∷ xs) = go (eqb x cr) (atLF xs) refl refl (same-ends xs)
 -- CR LF ends a line as LF does
 pub ends-alike : (t : List ℕ) → wordLines (lfEnds t) ≡ wordLines t
 ends-alike t = same-lines (same-ends t)
-
--- ---- texts
-
-ends-shorter : (t : List ℕ) → length (lfEnds t) ≤ length t
-ends-shorter [] = omega arith
-ends-shorter (x ∷ xs) = go (eqb x cr && atLF xs) (ends-shorter xs)
-  where
-    go : (b : Bool) → length (lfEnds xs) ≤ length xs → length (cond b (lfEnds xs) (x ∷ lfEnds xs)) ≤ suc (length xs)
-    go true h = omega arith
-    go false h = omega arith
-
-pub every-no-cr : (t : List ℕ) → T (every byteAllowed t) → NoCR t
-every-no-cr [] h = empty
-every-no-cr (b ∷ t) h =
-    let k = both (byteAllowed b) (every byteAllowed t) h in each (allowed-no-cr b (isTrue (byteAllowed b) (k .0))) (every-no-cr t (k .1))
-
--- in a text that passes question 3 each CR stands before LF
-pub allowed-ends : (t : List ℕ) → T (bytesAllowed t) → NoCR (lfEnds t)
-allowed-ends t h = every-no-cr (lfEnds t) h
-
--- where each CR stands before LF, every question but 2 is answered as for the text with its CR LFs made LF
-module _ (L : Limits) (t : List ℕ) (n : length t ≤ L .text) (h : NoCR (lfEnds t)) where
-  pub opening-alike : opening L (lfEnds t) ≡ opening L t
-  unfolding opening
-  opening-alike =
-      let k : length (lfEnds t) ≤ L .text = omega (arith, ends-shorter t) in
-      rw (le-leb (length (lfEnds t)) (L .text) k, le-leb (length t) (L .text) n, lfEnds-none h, ends-alike t)
-
-  pub read-alike : readNetlist L (lfEnds t) ≡ readNetlist L t
-  unfolding readNetlist
-  read-alike = rw (opening-alike, ends-alike t)
-
-pub reader-alike : (t : List ℕ) → length t ≤ large .text → NoCR (lfEnds t) → (k : ℕ) → readerSays (lfEnds t) k ≡ readerSays t k
-unfolding readerSays
-reader-alike t n h k = rw (opening-alike large t n h, ends-alike t)
 
 -- ---- words parted by spaces alone
 
