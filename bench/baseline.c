@@ -49,27 +49,38 @@ struct cursor {
 
 static inline bool is_digit(uint8_t b) { return (uint8_t)(b - '0') < 10; }
 
-/* Question 3 of a whole text. */
+static inline bool byte_good(uint8_t b)
+{
+    return is_digit(b) | ((uint8_t)(b - 'A') < 26) | (b == ' ') | (b == '\n');
+}
+
+/* Question 3 of a whole text: few have a CR, so a look at pairs of bytes is rare. */
 static bool bytes_good(const uint8_t *text, size_t length)
 {
     bool bad = false;
-    for (size_t i = 0; i < length; i++) {
-        uint8_t b = text[i];
-        bad |= !(is_digit(b) | ((uint8_t)(b - 'A') < 26) | (b == ' ') | (b == '\n'));
-    }
+    for (size_t i = 0; i < length; i++)
+        bad |= !byte_good(text[i]);
+    if (!bad)
+        return true;
+    bad = !byte_good(text[length - 1]);
+    for (size_t i = 0; i + 1 < length; i++)
+        bad |= !(byte_good(text[i]) | ((text[i] == '\r') & (text[i + 1] == '\n')));
     return !bad;
 }
 
+/* What stands between words: a space, or the CR of a line's end. */
+static inline bool is_space(uint8_t b) { return b == ' ' || b == '\r'; }
+
 static inline void skip_spaces(struct cursor *c)
 {
-    while (c->at != c->end && *c->at == ' ')
+    while (c->at != c->end && is_space(*c->at))
         c->at++;
 }
 
 /* To the first word of the next line that is not blank; false where there is none. */
 static inline bool next_line(struct cursor *c)
 {
-    while (c->at != c->end && (*c->at == ' ' || *c->at == '\n'))
+    while (c->at != c->end && (is_space(*c->at) || *c->at == '\n'))
         c->at++;
     return c->at != c->end;
 }
@@ -79,7 +90,7 @@ static inline bool word_end(struct cursor *c)
 {
     if (c->at == c->end || *c->at == '\n')
         return true;
-    if (*c->at != ' ')
+    if (!is_space(*c->at))
         return false;
     skip_spaces(c);
     return true;

@@ -1,7 +1,7 @@
 /* Fidrovelj: masked netlists under two mask bits.
  *
- * A netlist is a text in Bristol Fashion. Four services work on such texts; each puts a list of
- * questions in order, and the first that is answered no refuses the call.
+ * A netlist is a text in Bristol Fashion, whose lines end in LF or CR LF. Four services work on such
+ * texts; each puts a list of questions in order, and the first that is answered no refuses the call.
  *
  * What holds of every function
  *
@@ -21,7 +21,7 @@
  *
  *  1  Has every lent working table enough entries?
  *  2  Is the text at most 500,000 bytes (Mask: 60,000)?
- *  3  Is each byte a digit, a capital letter, a space or LF?
+ *  3  Is each byte a digit, a capital letter, a space, LF, or a CR directly before LF?
  *  4  Are there three header lines of the stated form, each count and width 1 or more?
  *  5  Are there at most 18,430 wires (Mask: 2,048), 17 input values (Mask: 16) and 16 output values,
  *     and no more input bits or output bits than wires?

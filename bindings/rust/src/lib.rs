@@ -1,6 +1,6 @@
 //! Masked netlists under two mask bits: safe functions over the proved static library.
 //!
-//! A netlist is a text in Bristol Fashion. There are four services:
+//! A netlist is a text in Bristol Fashion, whose lines end in LF or CR LF. There are four services:
 //!
 //! - [`mask`] turns a source netlist into a masked one, in which every bit travels under a mask,
 //! - [`check`] says whether a netlist is clean, or names a leak on one of its wires,
@@ -46,7 +46,7 @@ struct Pages;
 ///
 /// 1. Has every lent working table enough entries?
 /// 2. Is the text short enough?
-/// 3. Is each byte a digit, a capital letter, a space or LF?
+/// 3. Is each byte a digit, a capital letter, a space, LF, or a CR directly before LF?
 /// 4. Are there three header lines of the stated form?
 /// 5. Is the netlist within the limits on wires and values?
 /// 6. Is the gate count W less n, and are there as many gate lines?

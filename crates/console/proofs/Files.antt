@@ -1,51 +1,20 @@
 -- The bytes of a list file that count, and the list that they are.
-use Prim.Native.Nat.{ℕ, zero, suc, _+_, _-_, _≤_, _<_}
+use Prim.Native.Nat.{ℕ, suc, _+_, _-_, _≤_, _<_}
 use mathlib.Core.Path.{_≡_, refl, sym, ap, ap₂, _∙_}
 use mathlib.Core.List.{List, [], _∷_, _++_, map}
 use native.Mathlib.Numerals.{add-one}
 use native.Mathlib.Omega.{arith}
 use lib.ListN.{length, getD, set, take, drop, length-set}
 use lib.Seq.{drop-cons, take-suc, take-suc-set, drop-set-lt}
-use borrow.Author.Tests.{eq-eqb, ne-eqb, le-leb, lt-leb}
-use Rattle.netlist.specs.Text.{lf}
-use Rattle.netlist.specs.Programs.{fileLimit, withoutLF, listBytes, entry, listFile}
+use borrow.Author.Tests.{le-leb, lt-leb}
+use Rattle.netlist.specs.Text.{withoutEnd}
+use Rattle.netlist.specs.Programs.{fileLimit, listBytes, entry, listFile}
+use Rattle.text.specs.Line.{WithoutEnd}
 use Rattle.console.specs.Front.{Front}
 
-without-end : (s : List ℕ) (n : ℕ) → n < length s → getD s n 0 ≡ lf → withoutLF (take (suc n) s) ≡ take n s
-without-end [] n h e = absurd (omega arith)
-without-end (b ∷ s) zero h e = rw (eq-eqb b lf e)
-without-end (b ∷ []) (suc n) h e = absurd (omega arith)
-without-end (b ∷ (c ∷ s)) (suc n) h e = ap (λ (l : List ℕ). b ∷ l) (without-end (c ∷ s) n (omega arith) e)
-
-without-none : (s : List ℕ) (n : ℕ) → n < length s → (getD s n 0 ≡ lf → ⊥) → withoutLF (take (suc n) s) ≡ take (suc n) s
-without-none [] n h e = absurd (omega arith)
-without-none (b ∷ s) zero h e = rw (ne-eqb b lf e)
-without-none (b ∷ []) (suc n) h e = absurd (omega arith)
-without-none (b ∷ (c ∷ s)) (suc n) h e = ap (λ (l : List ℕ). b ∷ l) (without-none (c ∷ s) n (omega arith) e)
-
-module _ {s : List ℕ} {n : ℕ} (c : Front s n (take fileLimit s)) where
-  cut : withoutLF (take n s) ≡ listBytes s
-  cut = ap withoutLF (c .same)
-
-  pub counts-none : n ≡ 0 → Front s 0 (listBytes s)
-  counts-none z = record { within = omega arith; same = sym (ap (λ (k : ℕ). withoutLF (take k s)) z) ∙ cut }
-
-  pub counts-end : (n ≡ 0 → ⊥) → getD s (n - 1) 0 ≡ lf → Front s (n - 1) (listBytes s)
-  counts-end z e =
-      let k : suc (n - 1) ≡ n = omega arith in
-      record {
-        within = omega (arith, c .within);
-        same = sym (without-end s (n - 1) (omega (arith, c .within)) e) ∙ ap (λ (m : ℕ). withoutLF (take m s)) k ∙ cut;
-      }
-
-  pub counts-all : (n ≡ 0 → ⊥) → (getD s (n - 1) 0 ≡ lf → ⊥) → Front s n (listBytes s)
-  counts-all z e =
-      let k : suc (n - 1) ≡ n = omega arith in
-      record {
-        within = c .within;
-        same = ap (λ (m : ℕ). take m s) (sym k) ∙ sym (without-none s (n - 1) (omega (arith, c .within)) e) ∙ ap (λ (m : ℕ). withoutLF (take m s)) k
-            ∙ cut;
-      }
+-- the bytes that a longer file is cut to, without their end
+pub counts : {s : List ℕ} {n r : ℕ} → Front s n (take fileLimit s) → WithoutEnd s n r → Front s r (listBytes s)
+counts c w = record { within = omega (arith, c .within, w .within); same = w .same ∙ ap withoutEnd (c .same) }
 
 -- a list byte as an entry
 pub entry-low : (b : ℕ) → b < 48 → 9 ≡ entry b

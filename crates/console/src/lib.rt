@@ -8,6 +8,7 @@ ghost use Rattle.netlist.specs.Number.{decimal};
 ghost use Rattle.netlist.specs.Programs.{listBytes, entry as entryOf, listFile, printList, printRefused, printClean, printLeak};
 ghost use Rattle.buffer.specs.Wrote.{Wrote, WroteFew};
 ghost use Rattle.console.specs.Front.{Front};
+use text::ends::without_end;
 
 // A list byte that is no digit counts as 9.
 fn entry(b: u8) -> u8
@@ -32,18 +33,12 @@ fn front(buffer: &[u8], n: usize) -> usize
     n
 }
 
-// How many bytes of a list file count: a longer file is cut, and one LF at the end comes off.
+// How many bytes of a list file count: a longer file is cut, and one LF or CR LF at the end comes off.
 fn counted(file: &[u8]) -> usize
     ensures { λ r. ⌜ Front (now (file .entry)) r (listBytes (now (file .entry))) ⌝ }
 {
     let n = front(file, 60000);
-    if n == 0 {
-        return 0;
-    }
-    if file[n - 1] == 10 {
-        return n - 1;
-    }
-    n
+    without_end(file, n)
 }
 
 // The list in a file, in place of its bytes; answers how many entries it has.

@@ -9,11 +9,10 @@ use lib.Dec.{T, eqb, leb, leb→le, eqb→eq}
 use lib.ListN.{length, take, drop}
 use borrow.Author.Tests.{lt-leb, le-leb}
 use Rattle.netlist.specs.declared.Limits.{Limits}
-use Rattle.netlist.specs.Lists.{every}
 use Rattle.netlist.specs.Outcome.{done, ask}
 use Rattle.netlist.specs.Text.{wordLines}
 use Rattle.netlist.specs.Header.{header}
-use Rattle.netlist.specs.Read.{byteAllowed, opening}
+use Rattle.netlist.specs.Read.{bytesAllowed, opening}
 use Rattle.netlist.proofs.Tests.{both, true-T}
 use Rattle.text.specs.declared.cursor.Cursor.{Cursor}
 use Rattle.header.specs.HeaderAnswers.{Kept, HeaderAt}
@@ -64,11 +63,11 @@ module _ (L : Limits) (t : List ℕ) where
   head-2 k = record { refuses = rw (lt-leb _ _ k) }
 
   module _ (k : length t ≤ L .text) where
-    pub head-3 : every byteAllowed t ≡ false → HeadNot L t 3
+    pub head-3 : bytesAllowed t ≡ false → HeadNot L t 3
     unfolding opening
     head-3 e = record { refuses = rw (le-leb _ _ k, e) }
 
-    module _ (e : every byteAllowed t ≡ true) where
+    module _ (e : bytesAllowed t ≡ true) where
       pub head-4 : header (wordLines t) ≡ none → HeadNot L t 4
       unfolding opening
       head-4 f = record { refuses = rw (le-leb _ _ k, e, f) }

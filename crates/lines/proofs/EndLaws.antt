@@ -1,7 +1,7 @@
--- The usual end of a gate line: a space, a name of three letters, LF.
+-- The usual end of a gate line: a space, a name of three letters, and no word behind it.
 use Prim.Native.Nat.{ℕ, _+_, _-_, _<_}
 use mathlib.Core.Path.{_≡_, refl, sym, ap, _∙_, subst}
-use mathlib.Core.Bool.{Bool, true, false}
+use mathlib.Core.Bool.{Bool, true, false, or-true}
 use mathlib.Core.List.{List, [], _∷_}
 use mathlib.Core.Option.{Option, none, some}
 use native.Mathlib.Omega.{arith}
@@ -11,28 +11,46 @@ use lib.Seq.{getD-take, getD-drop}
 use borrow.Author.Tests.{eqb-true}
 use Rattle.netlist.specs.declared.Gate.{Gate}
 use Rattle.netlist.specs.Lists.{sameBytes}
+use Rattle.netlist.specs.Text.{isSpace, isLineEnd}
 use Rattle.netlist.specs.GateLine.{gate1, gate2, XOR, AND, INV, EQW, EQ}
 use Rattle.netlist.proofs.Tests.{onBool, both-true}
 use Rattle.text.specs.declared.cursor.Cursor.{Cursor}
-use Rattle.text.specs.Line.{isSpace, isLineEnd, inWord, lineWords, WordAt, EndAt}
+use Rattle.text.specs.declared.cursor.LineEnd.{LineEnd}
+use Rattle.text.specs.declared.cursor.LineEnd.the-variants as E
+use Rattle.text.specs.Line.{inWord, lineWords, WordAt}
+use Rattle.text.specs.Answers.{EndIs}
+use Rattle.text.proofs.SplitLaws.{end-no-space}
 use Rattle.text.proofs.ScanLaws.{scan-start, scan-stop, word-at}
 use Rattle.text.proofs.LineLaws.{end-line}
 use Rattle.lines.specs.GateForm.{named, end1, end2}
-use Rattle.lines.specs.GateAnswers.{gateSaid, gateNamed, UsualEnd, LineIs}
+use Rattle.lines.specs.GateAnswers.{gateSaid, gateNamed, UsualEnd, UsualIs, LineIs}
 use Rattle.lines.specs.declared.gate.GateNumbers.{GateNumbers}
 use Rattle.lines.specs.declared.gate.NamedGate.{NamedGate}
 use Rattle.lines.specs.declared.gate.NamedGate.the-variants as N
 use Rattle.lines.specs.declared.gate.GateLine.the-variants as L
 use Rattle.lines.proofs.GateLaws.{line-named, last-gate}
-use Rattle.lines.proofs.OperandLaws.{scan-to}
+use Rattle.lines.proofs.OperandLaws.{scan-to, no-space}
 
 -- ---- the bytes
 
-pub not-usual-end : (t : List ℕ) (at : ℕ) → false ≡ true → UsualEnd t at
-not-usual-end t at e = let z : _≡_ {A = ℕ} 0 1 = cc in absurd (omega arith)
+-- a line's end behind the three bytes
+pub usual-end : (t : List ℕ) (at : ℕ) → at + 4 < length t → getD t at 0 ≡ 32 → isLineEnd (getD t (at + 4) 0) ≡ true → UsualEnd t at (at + 4 + 1)
+usual-end t at h a e = record {
+  space = a;
+  behind = rw (e, or-true (isSpace (getD t (at + 4) 0)));
+  end = end-line t (at + 4) (at + 4)
+      (scan-stop isSpace t (at + 4) (at + 4) h (end-no-space (getD t (at + 4) 0) e) (scan-start isSpace t (at + 4) (omega arith))) h e;
+  within = h;
+}
 
-pub usual-end : (t : List ℕ) (at : ℕ) → at + 4 < length t → getD t at 0 ≡ 32 → eqb (getD t (at + 4) 0) 10 ≡ true → UsualEnd t at
-usual-end t at h a e = record { space = a; lf = eqb-true (getD t (at + 4) 0) 10 e; within = h }
+-- a space, or the CR of the end, and what comes then
+pub usual-more : (t : List ℕ) (at : ℕ) → at + 4 < length t → getD t at 0 ≡ 32 → isSpace (getD t (at + 4) 0) ≡ true → (r : LineEnd) → EndIs t (at + 4) r
+    → UsualIs t at r
+usual-more t at h a s (E.At c) e = record { space = a; behind = rw s; end = e; within = h }
+usual-more t at h a s E.More e = tt
+
+pub usual-is : (t : List ℕ) (at : ℕ) (r : LineEnd) (c : Cursor) → r ≡ E.At c → UsualIs t at r → UsualEnd t at (c .at)
+usual-is t at r c e u = subst (UsualIs t at) e u
 
 -- ---- the name
 
@@ -71,13 +89,7 @@ wordy1 u a c g e = onBool (sameBytes u INV)
 
 -- ---- the line
 
--- a byte of a word is no space
-no-space : (x : ℕ) → inWord x ≡ true → isSpace x ≡ false
-no-space x e = onBool (isSpace x)
-    (λ p. let f : false ≡ true = rw p at e in let z : _≡_ {A = ℕ} 0 1 = cc in absurd (omega arith))
-    (λ p. p)
-
-module _ (t : List ℕ) (at : ℕ) (o : UsualEnd t at) where
+module _ (t : List ℕ) (at to : ℕ) (o : UsualEnd t at to) where
   module _ (w : Wordy (nameAt t at)) where
     letter : (i j : ℕ) → i < 3 → at + 1 + i ≡ j → inWord (getD (nameAt t at) i 0) ≡ true → inWord (getD t j 0) ≡ true
     letter i j h e b =
@@ -94,33 +106,25 @@ module _ (t : List ℕ) (at : ℕ) (o : UsualEnd t at) where
         word-at t at (at + 1) (at + 4)
         (scan-stop isSpace t at (at + 1) (omega arith) (no-space (getD t (at + 1) 0) x)
         (scan-to isSpace t at at (at + 1) refl (omega arith) (ap isSpace (o .space)) (scan-start isSpace t at (omega arith))))
-        (scan-stop inWord t (at + 1) (at + 4) l (ap inWord (o .lf))
+        (scan-stop inWord t (at + 1) (at + 4) l (o .behind)
         (scan-to inWord t (at + 1) (at + 3) (at + 4) (omega arith) (omega arith) z
         (scan-to inWord t (at + 1) (at + 2) (at + 3) (omega arith) (omega arith) y
         (scan-to inWord t (at + 1) (at + 1) (at + 2) (omega arith) (omega arith) x (scan-start inWord t (at + 1) (omega arith))))))
 
-  last : EndAt t (at + 4) (at + 5)
-  last =
-      let l : at + 4 < length t = o .within in
-      let e : at + 4 + 1 ≡ at + 5 = omega arith in
-      subst (EndAt t (at + 4)) e
-      (end-line t (at + 4) (at + 4) (scan-stop isSpace t (at + 4) (at + 4) l (ap isSpace (o .lf)) (scan-start isSpace t (at + 4) (omega arith))) l
-      (ap isLineEnd (o .lf)))
-
-  line-usual : (f : List ℕ → Option Gate) → f [] ≡ none → (n : NamedGate) (g : GateNumbers) (c : Cursor) → n ≡ N.Is g → c .at ≡ at + 5
+  line-usual : (f : List ℕ → Option Gate) → f [] ≡ none → (n : NamedGate) (g : GateNumbers) (c : Cursor) → n ≡ N.Is g → c .at ≡ to
       → gateNamed n ≡ f (nameAt t at) → Wordy (nameAt t at)
       → LineIs t at (named f (lineWords (drop at t))) (L.Is g c)
   line-usual f empty n g c p q e w =
       line-named f empty t at (at + 1) (at + 4) (gateNamed n) (L.Is g c) (word w) e
-      (last-gate t (at + 4) n g c p (rw q last))
+      (last-gate t (at + 4) n g c p (rw q (o .end)))
 
-  pub line-usual1 : (a r : ℕ) (n : NamedGate) (g : GateNumbers) (c : Cursor) → n ≡ N.Is g → c .at ≡ at + 5
+  pub line-usual1 : (a r : ℕ) (n : NamedGate) (g : GateNumbers) (c : Cursor) → n ≡ N.Is g → c .at ≡ to
       → gateNamed n ≡ gate1 (nameAt t at) a r → LineIs t at (end1 a r (lineWords (drop at t))) (L.Is g c)
   line-usual1 a r n g c p q e =
       line-usual (λ name. gate1 name a r) refl n g c p q e
       (wordy1 (nameAt t at) a r (gateSaid g) (sym (ap gateNamed p) ∙ e))
 
-  pub line-usual2 : (a b r : ℕ) (n : NamedGate) (g : GateNumbers) (c : Cursor) → n ≡ N.Is g → c .at ≡ at + 5
+  pub line-usual2 : (a b r : ℕ) (n : NamedGate) (g : GateNumbers) (c : Cursor) → n ≡ N.Is g → c .at ≡ to
       → gateNamed n ≡ gate2 (nameAt t at) a b r → LineIs t at (end2 a b r (lineWords (drop at t))) (L.Is g c)
   line-usual2 a b r n g c p q e =
       line-usual (λ name. gate2 name a b r) refl n g c p q e

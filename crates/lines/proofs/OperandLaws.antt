@@ -7,14 +7,17 @@ use mathlib.Core.Option.{none}
 use native.Mathlib.Omega.{arith}
 use lib.Dec.{eqb}
 use lib.ListN.{length, drop, getD}
-use borrow.Author.Tests.{eqb-true, le-leb, ne-eqb}
+use borrow.Author.Tests.{eqb-true, le-leb}
+use Rattle.netlist.specs.Text.{isSpace}
 use Rattle.netlist.specs.Number.{number, isDigit}
+use Rattle.netlist.proofs.Tests.{onBool}
 use Rattle.text.specs.declared.cursor.Cursor.{Cursor}
 use Rattle.text.specs.declared.number.Number.the-variants as N
-use Rattle.text.specs.Line.{isSpace, lineWords, nextWord, afterLine, Scanned}
+use Rattle.text.specs.Line.{inWord, lineWords, nextWord, afterLine, Scanned}
 use Rattle.text.specs.Answers.{NumberAt}
 use Rattle.text.proofs.SplitLaws.{skip-words, skip-after}
 use Rattle.text.proofs.ScanLaws.{Scanning, scan-start, scan-on, scan-stop}
+use Rattle.text.proofs.NumberLaws.{digit-word}
 use Rattle.text.proofs.ReadingLaws.{Reading, reading-start, reading-stop, whole-next}
 use Rattle.text.proofs.AnswerLaws.{number-word, number-line, no-number}
 use Rattle.lines.specs.GateForm.{onNumber, counted, gateForm}
@@ -103,21 +106,30 @@ usual t at h a b e = record { before = a; one = b; behind = eqb-true (getD t (at
 pub scan-to : (p : ℕ → Bool) (t : List ℕ) (from i j : ℕ) → i + 1 ≡ j → i < length t → p (getD t i 0) ≡ true → Scanning p t from i → Scanning p t from j
 scan-to p t from i j e h b s = subst (Scanning p t from) e (scan-on p t from i h b s)
 
+-- a byte of a word is no space
+pub no-space : (x : ℕ) → inWord x ≡ true → isSpace x ≡ false
+no-space x e = onBool (isSpace x)
+    (λ p. let f : false ≡ true = rw p at e in let z : _≡_ {A = ℕ} 0 1 = cc in absurd (omega arith))
+    (λ p. p)
+
+digit-at : (b v : ℕ) → v ≤ 9 → b ≡ 48 + v → isDigit b ≡ true
+digit-at b v f e =
+    let low : 48 ≤ b = omega arith in
+    let high : b ≤ 57 = omega arith in
+    rw (le-leb _ _ low) (rw (le-leb _ _ high))
+
 -- one digit is a number
 digit-number : (t : List ℕ) (at from to v : ℕ) → v ≤ 9 → from + 1 ≡ to → to < length t → Scanned isSpace t at from → getD t from 0 ≡ 48 + v
     → isSpace (getD t to 0) ≡ true → NumberAt t at v to
 digit-number t at from to v f p h s e b =
-    let low : 48 ≤ getD t from 0 = omega arith in
-    let high : getD t from 0 ≤ 57 = omega arith in
-    let digit : isDigit (getD t from 0) ≡ true = rw (le-leb _ _ low) (rw (le-leb _ _ high)) in
-    let r : Reading t from v to = subst (Reading t from v) p (reading-start t from v (omega arith) digit (omega arith)) in
+    let r : Reading t from v to = subst (Reading t from v) p (reading-start t from v (omega arith) (digit-at _ v f e) (omega arith)) in
     whole-next t at from (N.Is v (record { at = to })) s (reading-stop t from v to r h (rw b))
 
 module _ (t : List ℕ) (at k : ℕ) (o : OneResult t at) where
   first : k ≤ 9 → getD t at 0 ≡ 48 + k → NumberAt t at k (at + 1)
   first f e =
       let h : at + 1 < length t = omega (arith, o .within) in
-      let s : isSpace (getD t at 0) ≡ false = ne-eqb (getD t at 0) 32 (λ p. omega arith) in
+      let s : isSpace (getD t at 0) ≡ false = no-space (getD t at 0) (digit-word (getD t at 0) (digit-at _ k f e)) in
       digit-number t at at (at + 1) k f refl h (scan-stop isSpace t at at (omega arith) s (scan-start isSpace t at (omega arith))) e
       (ap isSpace (o .before))
 

@@ -1,14 +1,16 @@
 -- What the answers of the gate line's readers mean.
 use Prim.Native.Nat.{ℕ, _+_, _<_}
 use mathlib.Core.Path.{_≡_}
-use mathlib.Core.Bool.{cond}
+use mathlib.Core.Bool.{false, cond}
 use mathlib.Core.List.{List}
 use mathlib.Core.Option.{Option, none, some}
 use lib.Dec.{eqb}
 use lib.ListN.{length, getD}
 use Rattle.netlist.specs.declared.Gate.{Gate}
 use Rattle.netlist.specs.declared.Gate.the-variants.{Xor, And, Inv, Eqw, Eq}
-use Rattle.text.specs.Line.{LineTaken}
+use Rattle.text.specs.Line.{inWord, EndAt, LineTaken}
+use Rattle.text.specs.declared.cursor.LineEnd.{LineEnd}
+use Rattle.text.specs.declared.cursor.LineEnd.the-variants as E
 use Rattle.lines.specs.declared.gate.GateNumbers.{GateNumbers}
 use Rattle.lines.specs.declared.gate.NamedGate.{NamedGate}
 use Rattle.lines.specs.declared.gate.NamedGate.the-variants as N
@@ -41,8 +43,13 @@ pub record LineIs (t : List ℕ) (at : ℕ) (expected : Option Gate) (r : GateLi
   pub gate : lineGate r ≡ expected
   pub next : LineNext t at r
 
--- a space, three bytes and LF
-pub record UsualEnd (t : List ℕ) (at : ℕ) : Type 0 where
+-- a space, three bytes, and the line's end behind them: the next line starts at `to`
+pub record UsualEnd (t : List ℕ) (at to : ℕ) : Type 0 where
   pub space : getD t at 0 ≡ 32
-  pub lf : getD t (at + 4) 0 ≡ 10
+  pub behind : inWord (getD t (at + 4) 0) ≡ false
+  pub end : EndAt t (at + 4) to
   pub within : at + 4 < length t
+
+abbrev pub UsualIs : List ℕ → ℕ → LineEnd → Type 0
+UsualIs t at (E.At c) = UsualEnd t at (c .at)
+UsualIs t at E.More = Unit {0}

@@ -1,20 +1,21 @@
 // One gate line: question 7. A line is read from the left: how many operands and results, the wires
 // or the constant, the gate's name, and nothing behind it.
 ghost use mathlib.Core.Path.{_≡_};
-ghost use mathlib.Core.Bool.{true};
 ghost use mathlib.Core.Option.{some};
 ghost use Prim.Native.Nat.{_≤_};
 ghost use lib.ListN.{length, drop};
 ghost use Rattle.netlist.specs.GateLine.{gateLine, gate1 as theGate1, gate2 as theGate2};
 ghost use Rattle.text.specs.Line.{lineWords};
 ghost use Rattle.lines.specs.GateForm.{alone, end1, end2, one, resultForm, two};
-ghost use Rattle.lines.specs.GateAnswers.{gateFor, gateSaid, gateNamed, UsualEnd, LineIs};
+ghost use Rattle.lines.specs.GateAnswers.{gateFor, gateSaid, gateNamed, UsualIs, LineIs};
 use crate::operands::Operands;
 use crate::operands::read_operands;
 use netlist::Gate;
 use text::bytes::same;
 use text::cursor::Cursor;
 use text::cursor::LineEnd;
+use text::ends::is_line_end;
+use text::ends::is_space;
 use text::number::Number;
 
 // A gate as plain numbers: its way into the tables needs no jump on its kind. Kinds 1 to 4 are XOR, AND, INV and EQW, any other
@@ -105,20 +106,28 @@ fn last_word(text: &[u8], at: Cursor, named: NamedGate) -> GateLine
     GateLine::Is(g, next)
 }
 
-// Whether a line ends as most do: a space, a name of three letters, and LF.
-fn usual_end(text: &[u8], at: usize) -> bool
-    ensures { λ r. ⌜ (r ≡ true → UsualEnd (now (text .entry)) at) ⌝ }
+// The end of a line that ends as most do: a space, three bytes for a name, and no word behind them.
+fn usual_end(text: &[u8], at: usize) -> LineEnd
+    ensures { λ r. ⌜ UsualIs (now (text .entry)) at r ⌝ }
 {
     if text.len() < 5 {
-        return false;
+        return LineEnd::More;
     }
     if text.len() - 5 < at {
-        return false;
+        return LineEnd::More;
     }
     if text[at] != b' ' {
-        return false;
+        return LineEnd::More;
     }
-    text[at + 4] == b'\n'
+    let end = at + 4;
+    if is_line_end(text[end]) {
+        return LineEnd::At(Cursor { at: end + 1 });
+    }
+    if is_space(text[end]) {
+        let behind = Cursor { at: end };
+        return behind.line_end(text);
+    }
+    LineEnd::More
 }
 
 // The name of a gate of one operand and the line's end, however they are written.
@@ -138,11 +147,11 @@ fn read_end1(text: &[u8], at: Cursor, a: u32, c: u32) -> GateLine
     ensures { λ r. ⌜ LineIs (now (text .entry)) (at .at) (end1 a c (lineWords (drop (at .at) (now (text .entry))))) r ⌝ }
 {
     let start = at.at;
-    if usual_end(text, start) {
+    if let LineEnd::At(next) = usual_end(text, start) {
         let from = start + 1;
         let to = start + 4;
         if let NamedGate::Is(g) = gate1(&text[from..to], a, c) {
-            return GateLine::Is(g, Cursor { at: start + 5 });
+            return GateLine::Is(g, next);
         }
     }
     any_end1(text, at, a, c)
@@ -165,11 +174,11 @@ fn read_end2(text: &[u8], at: Cursor, a: u32, b: u32, c: u32) -> GateLine
     ensures { λ r. ⌜ LineIs (now (text .entry)) (at .at) (end2 a b c (lineWords (drop (at .at) (now (text .entry))))) r ⌝ }
 {
     let start = at.at;
-    if usual_end(text, start) {
+    if let LineEnd::At(next) = usual_end(text, start) {
         let from = start + 1;
         let to = start + 4;
         if let NamedGate::Is(g) = gate2(&text[from..to], a, b, c) {
-            return GateLine::Is(g, Cursor { at: start + 5 });
+            return GateLine::Is(g, next);
         }
     }
     any_end2(text, at, a, b, c)

@@ -3,6 +3,7 @@ pub mod Tests
 pub mod Questions
 -- reading and writing
 pub mod Words
+pub mod LineEnds
 pub mod Decimal
 pub mod Lines
 pub mod RoundTrip
@@ -10,6 +11,7 @@ pub mod HeaderFacts
 pub mod Accepted
 pub mod Size
 pub mod ReaderCalls
+pub mod ReadAlike
 -- masking
 pub mod Codes
 pub mod MaskedBits
