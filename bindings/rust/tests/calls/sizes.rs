@@ -49,8 +49,10 @@ fn long_text(random: &mut Random, service: Service) -> Call {
     let length = random.pick(&[limit - 1, limit, limit + 1, limit + 1, limit + 1, limit + 777]);
     let ends: Vec<usize> = (0..call.text.len()).filter(|&at| call.text[at] == b'\n').collect();
     let at = random.pick(&ends);
-    let blank = random.pick(b" \n");
-    let pad = vec![blank; length - call.text.len()];
+    let blank: &[u8] = random.pick(&[b" ", b"\n", b"\r\n"]);
+    let missing = length - call.text.len();
+    let mut pad = blank.repeat(missing / blank.len());
+    pad.resize(missing, b' ');
     call.text.splice(at..at, pad);
     if random.percent(20) {
         *call.text.last_mut().expect("a text has a last byte") = random.pick(b"\r#");

@@ -122,7 +122,7 @@ pub const WHOLE_LARGE: Limits =
 /// A text's netlist: questions 2 to 9 in order.
 pub fn read(limits: &Limits, text: &[u8]) -> Result<Netlist, u8> {
     ask(2, text.len() <= limits.text)?;
-    ask(3, text.iter().all(|&byte| allowed(byte)))?;
+    ask(3, (0..text.len()).all(|at| allowed(text[at]) || text[at..].starts_with(b"\r\n")))?;
 
     let lines = word_lines(text);
     let Some(header) = header(&lines) else { return Err(4) };
@@ -147,7 +147,7 @@ pub fn read(limits: &Limits, text: &[u8]) -> Result<Netlist, u8> {
     Ok(Netlist { wires: header.wires, inputs: header.inputs, outputs: header.outputs, gates })
 }
 
-/// Question 3 of a byte.
+/// Question 3 of a byte that is no CR.
 fn allowed(byte: u8) -> bool {
     byte.is_ascii_digit() || byte.is_ascii_uppercase() || byte == b' ' || byte == b'\n'
 }

@@ -2,7 +2,12 @@
 
 /// The lines that are not blank, each as its words.
 pub fn word_lines(text: &[u8]) -> Vec<Vec<&[u8]>> {
-    text.split(|&byte| byte == b'\n').map(words).filter(|words| !words.is_empty()).collect()
+    text.split(|&byte| byte == b'\n').map(without_cr).map(words).filter(|words| !words.is_empty()).collect()
+}
+
+/// A line that ended in CR LF, without the CR.
+fn without_cr(line: &[u8]) -> &[u8] {
+    line.strip_suffix(b"\r").unwrap_or(line)
 }
 
 /// The words of a line: what stands between its spaces.
