@@ -233,7 +233,11 @@ static void refusals(void)
     long_text[60001] = '\0';
     expect(mask(long_text, "12", "0", ROOM, LARGE) == -2, "question 2, small");
 
-    expect(rewrite("1 3\r\n2 1 1\r\n1 1\r\n2 1 0 1 2 AND\r\n", ROOM) == -3, "question 3");
+    expect(rewrite("1\t3\n2 1 1\n1 1\n2 1 0 1 2 AND\n", ROOM) == -3, "question 3");
+    expect(rewrite("1 3\n2 1 1\n1 1\n2 1 0 1 2 AND\r", ROOM) == -3, "a CR as the last byte");
+    expect(rewrite("1 3\n2 1 1\n1 1\r\r\n2 1 0 1 2 AND\n", ROOM) == -3, "CR CR LF");
+    expect(rewrite("1 3\n2 1 1\n1 1\n2 1 0\r1 2 AND\n", ROOM) == -3, "a CR between words");
+    expect(mask("1 3\n2 1 1\n1 1\n2 1 0 1 2 A\rND\n", "12", "0", ROOM, LARGE) == -3, "a CR in a word");
     expect(rewrite("1 3\n2 1 0\n1 1\n2 1 0 1 2 AND\n", ROOM) == -4, "question 4");
     expect(rewrite("0 1\n2 65535 2\n1 1\n", ROOM) == -5, "question 5");
     expect(rewrite("1 3\n2 1 1\n1 1\n2 1 0 1 2 AND\nX\n", ROOM) == -6, "question 6");
@@ -246,6 +250,15 @@ static void refusals(void)
     expect(mask(and_gate, "12", "4", ROOM, LARGE) == -13, "question 13");
     expect(mask(and_gate, "12", "0", ROOM, 0) == -14, "question 14, the codes");
     expect(run(and_gate, "11", 0) == -14, "question 14, the bits");
+}
+
+static void line_ends(void)
+{
+    static const char crlf[] = "1 3\r\n2 1 1\r\n1 1\r\n \r\n2 1 0 1 2 AND\r\n";
+    expect(text_is(rewrite(crlf, ROOM), "1 3\n2 1 1\n1 1\n\n2 1 0 1 2 AND\n"), "CR LF, Rewrite");
+    expect(text_is(mask(crlf, "12", "0", ROOM, LARGE), masked_and) && list_out[0] == 1, "CR LF, Mask");
+    expect(run(crlf, "11", 1) == 1 && list_out[0] == 1, "CR LF, Run");
+    expect(leak_is(check("1 4\r\n2 1 2\r\n1 1\n2 1 0 1 3 XOR\r\n", "1"), 3, 1, 0, 4), "CR LF and LF, Check");
 }
 
 static void results_of_others(void)
@@ -301,6 +314,7 @@ int main(void)
 {
     known_results();
     refusals();
+    line_ends();
     results_of_others();
     whole_limits();
     printf("C: %d checks, %d failed\n", checks, failures);
