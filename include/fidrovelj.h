@@ -1,7 +1,7 @@
 /* Fidrovelj: masked netlists under two mask bits.
  *
- * A netlist is a text in Bristol Fashion. Four services work on such texts; each puts a list of
- * questions in order, and the first that is answered no refuses the call.
+ * A netlist is a text in Bristol Fashion, whose lines end in LF or CR LF. Four services work on such
+ * texts; each puts a list of questions in order, and the first that is answered no refuses the call.
  *
  * What holds of every function
  *

@@ -1,6 +1,6 @@
 //! Masked netlists under two mask bits: safe functions over the proved static library.
 //!
-//! A netlist is a text in Bristol Fashion. There are four services:
+//! A netlist is a text in Bristol Fashion, whose lines end in LF or CR LF. There are four services:
 //!
 //! - [`mask`] turns a source netlist into a masked one, in which every bit travels under a mask,
 //! - [`check`] says whether a netlist is clean, or names a leak on one of its wires,
