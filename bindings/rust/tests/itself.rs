@@ -64,7 +64,8 @@ fn agrees_with_the_circuits_vectors() {
 
 /// The masked netlist has no leak, and its outputs with masks off are the source's.
 fn assert_masked(name: &str, source: &Netlist, codes: &[u8], wanted: &[u8]) {
-    let masked = reference::mask(&[], &source.write(), codes, wanted, ROOM, ROOM, Sizes::Old).expect("it can be masked");
+    let masked = reference::mask(&[], &source.write(), codes, wanted, ROOM, ROOM, Sizes::Old)
+        .expect("it can be masked");
     let netlist = read(&LARGE, &masked.text).expect("a masked text is good");
     if codes.len() <= 8 {
         assert_eq!(reference::check(&[], &masked.text, codes, Sizes::Old), Ok(None), "{name}");
@@ -101,8 +102,8 @@ fn masks_the_circuits() {
 #[test]
 fn masks_the_ladder() {
     let source = sizes::ladder().write();
-    let masked =
-        reference::mask(&[], &source, &[1], &[0; 2_048], ROOM, ROOM, Sizes::Old).expect("the ladder can be masked");
+    let masked = reference::mask(&[], &source, &[1], &[0; 2_048], ROOM, ROOM, Sizes::Old)
+        .expect("the ladder can be masked");
     assert_eq!(masked.text.len(), 398_136);
     assert_eq!(read(&LARGE, &masked.text).expect("the masked ladder is good").wires, 18_430);
 }
