@@ -4,10 +4,18 @@ use mathlib.Core.Path.{_≡_}
 use mathlib.Core.List.{List, [], _∷_}
 use lib.IntN.{ℤ, pos, negℤ}
 use lib.Seq.{sets}
+use mathlib.Core.Bool.{cond}
+use lib.Dec.{eqb}
+use Rattle.netlist.specs.declared.Sizes.{Sizes}
+use Rattle.netlist.specs.declared.Sizes.the-variants.{Old, Whole}
 use Rattle.netlist.specs.declared.Answer.{Answer}
 use Rattle.netlist.specs.declared.Answer.the-variants as answer
 use Rattle.judge.specs.declared.Checked.{Checked}
 use Rattle.judge.specs.declared.Checked.the-variants as checked
+
+-- the sizes that a call's last number chooses
+abbrev pub sizesOf : ℕ → Sizes
+sizesOf whole = cond (eqb whole 0) Old Whole
 
 -- how many entries the result has, or minus the number of the question
 abbrev pub number : Answer → ℤ

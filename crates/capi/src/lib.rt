@@ -2,6 +2,7 @@
 // least 0 for a result and minus the number of the refusing question otherwise. include/fidrovelj.h declares them.
 use judge::Checked;
 use netlist::Answer;
+use netlist::Sizes;
 ghost use mathlib.Core.Path.{_≡_};
 ghost use mathlib.Core.List.{[], _∷_};
 ghost use lib.IntN.{pos, negℤ};
@@ -11,7 +12,7 @@ ghost use Rattle.rewrite.specs.Promise.{Promise as RewritePromise};
 ghost use Rattle.run.specs.Promise.{Promise as RunPromise};
 ghost use Rattle.mask.specs.Promise.{Promise as MaskPromise};
 ghost use Rattle.checker.specs.Promise.{Promise as CheckPromise};
-ghost use Rattle.capi.specs.Number.{number as numberOf, Countable, Told, Shows, ToldLeak};
+ghost use Rattle.capi.specs.Number.{sizesOf, number as numberOf, Countable, Told, Shows, ToldLeak};
 
 // The number of a refusal.
 fn minus(question: u8) -> i64
@@ -64,6 +65,16 @@ fn tell(leak: &mut [u64], a: Checked) -> i64
     }
 }
 
+// The sizes of a call: the old ones for 0, and otherwise those for whole ciphers.
+fn sizes(whole: u8) -> Sizes
+    ensures { λ r. ⌜ r ≡ sizesOf whole ⌝ }
+{
+    if whole == 0 {
+        return Sizes::Old;
+    }
+    Sizes::Whole
+}
+
 // Rewrite: how many bytes the written form has at the front of `out`.
 #[no_mangle]
 pub extern "C" fn fidrovelj_rewrite(
@@ -72,10 +83,11 @@ pub extern "C" fn fidrovelj_rewrite(
     operands: &mut [u64],
     results: &mut [u64],
     given: &mut [u8],
+    whole: u8,
 ) -> i64
-    ensures { λ r. ⌜ Told (RewritePromise (now (text .entry)) (now (out .entry)) (now (out .exit)) (now (operands .entry)) (now (operands .exit)) (now (results .entry)) (now (results .exit)) (now (given .entry)) (now (given .exit))) r ⌝ }
+    ensures { λ r. ⌜ Told (RewritePromise (sizesOf whole) (now (text .entry)) (now (out .entry)) (now (out .exit)) (now (operands .entry)) (now (operands .exit)) (now (results .entry)) (now (results .exit)) (now (given .entry)) (now (given .exit))) r ⌝ }
 {
-    number(rewrite::rewrite(text, out, operands, results, given))
+    number(rewrite::rewrite(text, out, operands, results, given, sizes(whole)))
 }
 
 // Run: how many output bits stand at the front of `out`.
@@ -88,10 +100,20 @@ pub extern "C" fn fidrovelj_run(
     results: &mut [u64],
     given: &mut [u8],
     words: &mut [u64],
+    whole: u8,
 ) -> i64
-    ensures { λ r. ⌜ Told (RunPromise (now (text .entry)) (now (list .entry)) (now (out .entry)) (now (out .exit)) (now (operands .entry)) (now (operands .exit)) (now (results .entry)) (now (results .exit)) (now (given .entry)) (now (given .exit)) (now (words .entry)) (now (words .exit))) r ⌝ }
+    ensures { λ r. ⌜ Told (RunPromise (sizesOf whole) (now (text .entry)) (now (list .entry)) (now (out .entry)) (now (out .exit)) (now (operands .entry)) (now (operands .exit)) (now (results .entry)) (now (results .exit)) (now (given .entry)) (now (given .exit)) (now (words .entry)) (now (words .exit))) r ⌝ }
 {
-    number(run::run(text, list, out, operands, results, given, words))
+    number(run::run(
+        text,
+        list,
+        out,
+        operands,
+        results,
+        given,
+        words,
+        sizes(whole),
+    ))
 }
 
 // Mask: how many bytes the masked text has at the front of `out`; the output codes stand at the front of `ends`.
@@ -106,8 +128,9 @@ pub extern "C" fn fidrovelj_mask(
     results: &mut [u64],
     wires: &mut [u32],
     marks: &mut [u8],
+    whole: u8,
 ) -> i64
-    ensures { λ r. ⌜ Told (MaskPromise (now (text .entry)) (now (codes .entry)) (now (wanted .entry)) (now (out .entry)) (now (out .exit)) (now (ends .entry)) (now (ends .exit)) (now (operands .entry)) (now (operands .exit)) (now (results .entry)) (now (results .exit)) (now (wires .entry)) (now (wires .exit)) (now (marks .entry)) (now (marks .exit))) r ⌝ }
+    ensures { λ r. ⌜ Told (MaskPromise (sizesOf whole) (now (text .entry)) (now (codes .entry)) (now (wanted .entry)) (now (out .entry)) (now (out .exit)) (now (ends .entry)) (now (ends .exit)) (now (operands .entry)) (now (operands .exit)) (now (results .entry)) (now (results .exit)) (now (wires .entry)) (now (wires .exit)) (now (marks .entry)) (now (marks .exit))) r ⌝ }
 {
     number(mask::mask(
         text,
@@ -119,6 +142,7 @@ pub extern "C" fn fidrovelj_mask(
         results,
         wires,
         marks,
+        sizes(whole),
     ))
 }
 
@@ -133,11 +157,21 @@ pub extern "C" fn fidrovelj_check(
     given: &mut [u8],
     words: &mut [u64],
     base: &mut [u64],
+    whole: u8,
 ) -> i64
-    ensures { λ r. ⌜ ToldLeak (CheckPromise (now (text .entry)) (now (codes .entry)) (now (operands .entry)) (now (operands .exit)) (now (results .entry)) (now (results .exit)) (now (given .entry)) (now (given .exit)) (now (words .entry)) (now (words .exit)) (now (base .entry)) (now (base .exit))) (now (leak .entry)) (now (leak .exit)) r ⌝ }
+    ensures { λ r. ⌜ ToldLeak (CheckPromise (sizesOf whole) (now (text .entry)) (now (codes .entry)) (now (operands .entry)) (now (operands .exit)) (now (results .entry)) (now (results .exit)) (now (given .entry)) (now (given .exit)) (now (words .entry)) (now (words .exit)) (now (base .entry)) (now (base .exit))) (now (leak .entry)) (now (leak .exit)) r ⌝ }
 {
     tell(
         leak,
-        checker::check(text, codes, operands, results, given, words, base),
+        checker::check(
+            text,
+            codes,
+            operands,
+            results,
+            given,
+            words,
+            base,
+            sizes(whole),
+        ),
     )
 }

@@ -4,6 +4,7 @@ use mathlib.Core.Path.{_≡_}
 use mathlib.Core.List.{List, [], _∷_}
 use mathlib.Core.Option.{Option}
 use lib.ListN.{length}
+use Rattle.netlist.specs.declared.Sizes.{Sizes}
 use Rattle.netlist.specs.Netlist.{Netlist, large}
 use Rattle.netlist.specs.Outcome.{Outcome, done}
 use Rattle.netlist.specs.Read.{readNetlist}
@@ -12,15 +13,15 @@ use Rattle.netlist.specs.Services.{checkCall, Cleared}
 use Rattle.judge.specs.declared.Checked.{Checked}
 use Rattle.judge.specs.Judge.{outcomeOf, Judged}
 
--- the outcome of a call that is handed a text, input codes, and tables of operands, results, given wires, words and base words
-abbrev pub call : List ℕ → List ℕ → List ℕ → List ℕ → List ℕ → List ℕ → List ℕ → Outcome (Option Found)
-call text codes o r g w b = checkCall large (length o ∷ length r ∷ length g ∷ length w ∷ length b ∷ []) text codes
+-- the outcome of a call that is handed its sizes, a text, input codes, and tables of operands, results, given wires, words and base words
+abbrev pub call : Sizes → List ℕ → List ℕ → List ℕ → List ℕ → List ℕ → List ℕ → List ℕ → Outcome (Option Found)
+call s text codes o r g w b = checkCall (large s) (length o ∷ length r ∷ length g ∷ length w ∷ length b ∷ []) text codes
 
--- the text and the input codes, then each table before and after the call
-pub record Promise (text codes o o′ r r′ g g′ w w′ b b′ : List ℕ) (a : Checked) : Type 0 where
-  pub outcome : outcomeOf a ≡ call text codes o r g w b
+-- the sizes, the text and the input codes, then each table before and after the call
+pub record Promise (s : Sizes) (text codes o o′ r r′ g g′ w w′ b b′ : List ℕ) (a : Checked) : Type 0 where
+  pub outcome : outcomeOf a ≡ call s text codes o r g w b
   -- the answer judges the netlist that the text reads as
-  pub judged : (N : Netlist) → readNetlist large text ≡ done N → Judged N codes a
+  pub judged : (N : Netlist) → readNetlist (large s) text ≡ done N → Judged N codes a
   pub operands : Cleared o o′
   pub results : Cleared r r′
   pub given : Cleared g g′

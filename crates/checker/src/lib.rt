@@ -1,5 +1,6 @@
 // Check: whether a netlist whose last input value is the mask pair leaks on one wire. Questions 1 to 12 with the large limits.
 use judge::Checked;
+use netlist::Sizes;
 use tables::read::Reading;
 ghost use mathlib.Core.Path.{_≡_};
 ghost use mathlib.Core.List.{[], _∷_};
@@ -23,12 +24,13 @@ fn read_and_judge(
     base: &mut [u64],
     inputs: &mut [u32],
     outputs: &mut [u32],
+    sizes: Sizes,
 ) -> Checked
-    requires { ⌜ (largeLimits .table ≤ length (now operands)) × (largeLimits .table ≤ length (now results)) × (largeLimits .table ≤ length (now given)) × (largeLimits .table ≤ length (now words)) × (largeLimits .table ≤ length (now base)) ⌝ }
-    requires { ⌜ (now given ≡ replicate (length (now given)) 0) × (largeLimits .inputs ≤ length (now inputs)) × (largeLimits .outputs ≤ length (now outputs)) ⌝ }
-    ensures { λ r. ⌜ outcomeOf r ≡ andThen (readNetlist largeLimits (now (text .entry))) (checkOutcome (now (codes .entry))) ⌝ }
+    requires { ⌜ (largeLimits sizes .table ≤ length (now operands)) × (largeLimits sizes .table ≤ length (now results)) × (largeLimits sizes .table ≤ length (now given)) × (largeLimits sizes .table ≤ length (now words)) × (largeLimits sizes .table ≤ length (now base)) ⌝ }
+    requires { ⌜ (now given ≡ replicate (length (now given)) 0) × (largeLimits sizes .inputs ≤ length (now inputs)) × (largeLimits sizes .outputs ≤ length (now outputs)) ⌝ }
+    ensures { λ r. ⌜ outcomeOf r ≡ andThen (readNetlist (largeLimits sizes) (now (text .entry))) (checkOutcome (now (codes .entry))) ⌝ }
 {
-    let l = netlist::large();
+    let l = netlist::large(sizes);
     match tables::read::read(text, l, inputs, outputs, given, operands, results) {
         Reading::Refused(question) => Checked::Refused(question),
         Reading::Done(h) => judge::judge(h, inputs, codes, operands, results, words, base),
@@ -36,10 +38,17 @@ fn read_and_judge(
 }
 
 // Question 1, of the lengths of the five tables.
-fn tables_long(operands: usize, results: usize, given: usize, words: usize, base: usize) -> bool
-    ensures { λ r. ⌜ r ≡ tablesLong largeLimits (operands ∷ results ∷ given ∷ words ∷ base ∷ []) ⌝ }
+fn tables_long(
+    operands: usize,
+    results: usize,
+    given: usize,
+    words: usize,
+    base: usize,
+    sizes: Sizes,
+) -> bool
+    ensures { λ r. ⌜ r ≡ tablesLong (largeLimits sizes) (operands ∷ results ∷ given ∷ words ∷ base ∷ []) ⌝ }
 {
-    let l = netlist::large();
+    let l = netlist::large(sizes);
     let least = l.table;
     if operands < least {
         return false;
@@ -68,8 +77,9 @@ fn answer(
     given: &mut [u8],
     words: &mut [u64],
     base: &mut [u64],
+    sizes: Sizes,
 ) -> Checked
-    ensures { λ r. ⌜ outcomeOf r ≡ call (now (text .entry)) (now (codes .entry)) (now (operands .entry)) (now (results .entry)) (now (given .entry)) (now (words .entry)) (now (base .entry)) ⌝ }
+    ensures { λ r. ⌜ outcomeOf r ≡ call sizes (now (text .entry)) (now (codes .entry)) (now (operands .entry)) (now (results .entry)) (now (given .entry)) (now (words .entry)) (now (base .entry)) ⌝ }
 {
     if !tables_long(
         operands.len(),
@@ -77,6 +87,7 @@ fn answer(
         given.len(),
         words.len(),
         base.len(),
+        sizes,
     ) {
         return Checked::Refused(1);
     }
@@ -93,6 +104,7 @@ fn answer(
         base,
         &mut inputs,
         &mut outputs,
+        sizes,
     )
 }
 
@@ -105,10 +117,11 @@ pub fn check(
     given: &mut [u8],
     words: &mut [u64],
     base: &mut [u64],
+    sizes: Sizes,
 ) -> Checked
-    ensures { λ r. ⌜ Promise (now (text .entry)) (now (codes .entry)) (now (operands .entry)) (now (operands .exit)) (now (results .entry)) (now (results .exit)) (now (given .entry)) (now (given .exit)) (now (words .entry)) (now (words .exit)) (now (base .entry)) (now (base .exit)) r ⌝ }
+    ensures { λ r. ⌜ Promise sizes (now (text .entry)) (now (codes .entry)) (now (operands .entry)) (now (operands .exit)) (now (results .entry)) (now (results .exit)) (now (given .entry)) (now (given .exit)) (now (words .entry)) (now (words .exit)) (now (base .entry)) (now (base .exit)) r ⌝ }
 {
-    let r = answer(text, codes, operands, results, given, words, base);
+    let r = answer(text, codes, operands, results, given, words, base, sizes);
     clear::words(operands);
     clear::words(results);
     clear::bytes(given);

@@ -8,6 +8,7 @@ use native.Mathlib.Omega.{arith}
 use lib.Dec.{leb, lit≤}
 use lib.ListN.{length, take, length-append}
 use borrow.Author.Tests.{le-leb, lt-leb}
+use Rattle.netlist.specs.declared.Sizes.the-variants.{Old}
 use Rattle.netlist.specs.Netlist.{large}
 use Rattle.netlist.specs.Number.{digits, decimal}
 use Rattle.netlist.specs.Outcome.{Outcome, refused, done, ask, andThen}
@@ -27,18 +28,18 @@ use Rattle.cli_check.specs.Report.{Roomy}
 
 -- what the program asks of the bytes of its two files
 abbrev pub asked : List ℕ → List ℕ → Outcome (Option Found)
-asked netlist inputs = readable netlist (checkCall large [] netlist (listFile inputs))
+asked netlist inputs = readable netlist (checkCall (large Old) [] netlist (listFile inputs))
 
 pub asked-long : (netlist inputs : List ℕ) → 60000 < length netlist → refused 2 ≡ asked netlist inputs
 asked-long netlist inputs h = sym (rw (lt-leb (length netlist) 60000 h))
 
 -- tables that are long enough
-call-roomy : {o r g w b : List ℕ} (text codes : List ℕ) → Roomy o r g w b → call text codes o r g w b ≡ checkCall large [] text codes
+call-roomy : {o r g w b : List ℕ} (text codes : List ℕ) → Roomy o r g w b → call Old text codes o r g w b ≡ checkCall (large Old) [] text codes
 unfolding checkCall
 call-roomy {o} {r} {g} {w} {b} text codes room =
-    ap (λ (k : Bool). ask 1 k (andThen (readNetlist large text) (checkOutcome codes))) long
+    ap (λ (k : Bool). ask 1 k (andThen (readNetlist (large Old) text) (checkOutcome codes))) long
   where
-    long : tablesLong large (length o ∷ length r ∷ length g ∷ length w ∷ length b ∷ []) ≡ true
+    long : tablesLong (large Old) (length o ∷ length r ∷ length g ∷ length w ∷ length b ∷ []) ≡ true
     long =
         rw (
           le-leb 18430 (length o) (room .operands),
@@ -49,9 +50,9 @@ call-roomy {o} {r} {g} {w} {b} text codes room =
         )
 
 pub asked-short : {a : Outcome (Option Found)} {o r g w b : List ℕ} (netlist inputs codes : List ℕ) → Roomy o r g w b → length netlist ≤ 60000
-    → codes ≡ listFile inputs → a ≡ call netlist codes o r g w b → a ≡ asked netlist inputs
+    → codes ≡ listFile inputs → a ≡ call Old netlist codes o r g w b → a ≡ asked netlist inputs
 asked-short netlist inputs codes room h e p =
-    p ∙ call-roomy netlist codes room ∙ ap (checkCall large [] netlist) e ∙ sym (rw (le-leb (length netlist) 60000 h))
+    p ∙ call-roomy netlist codes room ∙ ap (checkCall (large Old) [] netlist) e ∙ sym (rw (le-leb (length netlist) 60000 h))
 
 -- ---- the line
 

@@ -2,12 +2,13 @@
 use Prim.Native.Nat.{ℕ, _≤_}
 use mathlib.Core.List.{List}
 use lib.ListN.{length}
+use Rattle.netlist.specs.declared.Sizes.the-variants.{Old}
 use Rattle.netlist.specs.Netlist.{large}
 
 -- question 1 admits the program's tables
 pub record Roomy (o r g w b : List ℕ) : Type 0 where
-  pub operands : large .table ≤ length o
-  pub results : large .table ≤ length r
-  pub given : large .table ≤ length g
-  pub words : large .table ≤ length w
-  pub base : large .table ≤ length b
+  pub operands : large Old .table ≤ length o
+  pub results : large Old .table ≤ length r
+  pub given : large Old .table ≤ length g
+  pub words : large Old .table ≤ length w
+  pub base : large Old .table ≤ length b

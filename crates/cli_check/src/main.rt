@@ -2,10 +2,12 @@
 // that refuses it.
 use judge::Checked;
 use libc::STDOUT_FILENO;
+use netlist::Sizes;
 ghost use mathlib.Core.Path.{_≡_};
 ghost use mathlib.Core.List.{[]};
 ghost use Prim.Native.Nat.{_≤_};
 ghost use lib.ListN.{length, take};
+ghost use Rattle.netlist.specs.declared.Sizes.the-variants.{Old};
 ghost use Rattle.netlist.specs.Netlist.{large as largeLimits};
 ghost use Rattle.netlist.specs.Programs.{readable, listFile, printCheck, checkProgram};
 ghost use Rattle.netlist.specs.Services.{checkCall};
@@ -24,13 +26,22 @@ fn answer(
     base: &mut [u64],
 ) -> Checked
     requires { ⌜ Roomy (now operands) (now results) (now given) (now words) (now base) ⌝ }
-    ensures { λ r. ⌜ outcomeOf r ≡ readable (now (netlist .entry)) (checkCall largeLimits [] (now (netlist .entry)) (listFile (now (inputs .entry)))) ⌝ }
+    ensures { λ r. ⌜ outcomeOf r ≡ readable (now (netlist .entry)) (checkCall (largeLimits Old) [] (now (netlist .entry)) (listFile (now (inputs .entry)))) ⌝ }
 {
     if 60000 < netlist.len() {
         return Checked::Refused(2);
     }
     let n = console::list(inputs);
-    checker::check(netlist, &inputs[..n], operands, results, given, words, base)
+    checker::check(
+        netlist,
+        &inputs[..n],
+        operands,
+        results,
+        given,
+        words,
+        base,
+        Sizes::Old,
+    )
 }
 
 // The line that an answer prints.

@@ -10,6 +10,7 @@ use borrow.Author.Tests.{le-leb}
 use Rattle.netlist.specs.declared.Answer.{Answer}
 use Rattle.netlist.specs.declared.Answer.the-variants.{Refused}
 use Rattle.netlist.specs.Text.{lf}
+use Rattle.netlist.specs.declared.Sizes.the-variants.{Old}
 use Rattle.netlist.specs.Netlist.{small}
 use Rattle.netlist.specs.Outcome.{Outcome, refused, done, ask, andThen}
 use Rattle.netlist.specs.Read.{readNetlist}
@@ -44,26 +45,26 @@ answer-long netlist codes wanted text ends h = answered-as (sym (readable-long n
 
 module _ (netlist codes wanted : List ℕ) {t e o r w m : List ℕ} (room : Roomy t e o r w m) where
   -- the tables and the buffers are long enough
-  call-roomy : length netlist ≤ 60000 → call netlist codes wanted t e o r w m ≡ outcome netlist codes wanted
+  call-roomy : length netlist ≤ 60000 → call Old netlist codes wanted t e o r w m ≡ outcome netlist codes wanted
   unfolding maskCall
   call-roomy h =
-      let long : tablesLong small (length o ∷ length r ∷ length w ∷ length m ∷ []) ≡ true
+      let long : tablesLong (small Old) (length o ∷ length r ∷ length w ∷ length m ∷ []) ≡ true
       = rw (
         le-leb 2048 (length o) (room .operands),
         le-leb 2048 (length r) (room .results),
         le-leb 2048 (length w) (room .wires),
         le-leb 2048 (length m) (room .marks),
       ) in
-      ap (λ (b : Bool). ask 1 b (andThen (readNetlist small netlist) (maskOutcome codes wanted (length t) (length e)))) long
-      ∙ ap₂ (λ (j k : ℕ). andThen (readNetlist small netlist) (maskOutcome codes wanted j k)) (room .text) (room .ends)
+      ap (λ (b : Bool). ask 1 b (andThen (readNetlist (small Old) netlist) (maskOutcome codes wanted (length t) (length e)))) long
+      ∙ ap₂ (λ (j k : ℕ). andThen (readNetlist (small Old) netlist) (maskOutcome codes wanted j k)) (room .text) (room .ends)
       ∙ sym (readable-short netlist _ h)
 
   -- there are as many output codes as wanted ones
-  masked-answered : {x y : List ℕ} {a : Answer} (c : Outcome MaskedText) → call netlist codes wanted t e o r w m ≡ c → MaskAnswers c t x e y a
+  masked-answered : {x y : List ℕ} {a : Answer} (c : Outcome MaskedText) → call Old netlist codes wanted t e o r w m ≡ c → MaskAnswers c t x e y a
       → Answered c x y (length wanted) a
   masked-answered {x} {y} (refused q) p h = answered-refused x y (length wanted) q (h .text .answer)
   masked-answered {x} {y} (done R) p h =
-      let M = made netlist codes wanted t e o r w m R p in
+      let M = made Old netlist codes wanted t e o r w m R p in
       let same = ap (λ (Q : MaskedText). length (Q .codes)) (M .same) in
       let many : length (R .codes) ≡ length wanted = sym same ∙ output-codes-length (M .inputs) ∙ sym (M .inputs .wantedLength) in
       let fits : length (R .codes) ≤ length e = omega (arith, M .room, same) in
@@ -75,7 +76,7 @@ module _ (netlist codes wanted : List ℕ) {t e o r w m : List ℕ} (room : Room
         counted = λ n d. (answered (h .text) .counted n d, omega (arith, ap length (h .codes) ∙ length-sets e 0 (R .codes)));
       }
 
-  pub answer-short : {x y : List ℕ} {a : Answer} → length netlist ≤ 60000 → MaskAnswers (call netlist codes wanted t e o r w m) t x e y a
+  pub answer-short : {x y : List ℕ} {a : Answer} → length netlist ≤ 60000 → MaskAnswers (call Old netlist codes wanted t e o r w m) t x e y a
       → Answered (outcome netlist codes wanted) x y (length wanted) a
   answer-short h k = answered-as (call-roomy h) (masked-answered _ refl k)
 

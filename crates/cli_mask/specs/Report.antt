@@ -5,6 +5,7 @@ use mathlib.Core.List.{List, [], _++_}
 use lib.ListN.{length, take}
 use Rattle.netlist.specs.declared.Answer.{Answer}
 use Rattle.netlist.specs.declared.Answer.the-variants.{Done, Refused}
+use Rattle.netlist.specs.declared.Sizes.the-variants.{Old}
 use Rattle.netlist.specs.Netlist.{small}
 use Rattle.netlist.specs.Outcome.{Outcome, refused, done}
 use Rattle.netlist.specs.Programs.{readable}
@@ -14,15 +15,15 @@ use Rattle.cli_mask.specs.declared.Printed.{Printed}
 -- question 1 admits the program's tables, and question 14 all output codes and 60,000 bytes of text
 pub record Roomy (t e o r w m : List ℕ) : Type 0 where
   pub text : length t ≡ 60000
-  pub ends : length e ≡ small .wires
-  pub operands : small .table ≤ length o
-  pub results : small .table ≤ length r
-  pub wires : small .table ≤ length w
-  pub marks : small .table ≤ length m
+  pub ends : length e ≡ small Old .wires
+  pub operands : small Old .table ≤ length o
+  pub results : small Old .table ≤ length r
+  pub wires : small Old .table ≤ length w
+  pub marks : small Old .table ≤ length m
 
 -- the outcome of the program's call, from the netlist file's bytes and the two lists
 abbrev pub outcome : List ℕ → List ℕ → List ℕ → Outcome MaskedText
-outcome netlist codes wanted = readable netlist (maskCall small [] netlist codes wanted 60000 (small .wires))
+outcome netlist codes wanted = readable netlist (maskCall (small Old) [] netlist codes wanted 60000 (small Old .wires))
 
 -- the outcome that an answer stands for, with the buffer of the text and the output codes
 abbrev pub outcomeOf : List ℕ → List ℕ → Answer → Outcome MaskedText

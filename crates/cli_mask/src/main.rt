@@ -2,6 +2,7 @@
 // refuses them.
 use libc::STDOUT_FILENO;
 use netlist::Answer;
+use netlist::Sizes;
 ghost use Prim.Native.Nat.{_+_, _*_, _≤_};
 ghost use lib.ListN.{length, take};
 ghost use Rattle.netlist.specs.Programs.{printMask, maskProgram};
@@ -42,6 +43,7 @@ fn answer(
         results,
         wires,
         marks,
+        Sizes::Old,
     )
 }
 

@@ -6,6 +6,7 @@ use mathlib.Core.List.{List, [], _∷_}
 use lib.ListN.{length}
 use borrow.Author.Tests.{le-leb}
 use Rattle.netlist.specs.declared.Answer.{Answer}
+use Rattle.netlist.specs.declared.Sizes.the-variants.{Old}
 use Rattle.netlist.specs.Netlist.{large}
 use Rattle.netlist.specs.declared.Answer.the-variants.{Refused}
 use Rattle.netlist.specs.Outcome.{Outcome, ask, andThen}
@@ -22,17 +23,17 @@ pub answer-long : (netlist out : List ℕ) → 60000 < length netlist → Answer
 answer-long netlist out h = answered-as (sym (readable-long netlist _ h)) (answered-refused out 2)
 
 -- the tables and the buffer are long enough
-call-roomy : (netlist : List ℕ) {b o r g : List ℕ} → Roomy b o r g → length netlist ≤ 60000 → call netlist b o r g ≡ outcome netlist
+call-roomy : (netlist : List ℕ) {b o r g : List ℕ} → Roomy b o r g → length netlist ≤ 60000 → call Old netlist b o r g ≡ outcome netlist
 unfolding rewriteCall
 call-roomy netlist {b} {o} {r} {g} m h =
-    let long : tablesLong large (length o ∷ length r ∷ length g ∷ []) ≡ true
+    let long : tablesLong (large Old) (length o ∷ length r ∷ length g ∷ []) ≡ true
     = rw (le-leb 18430 (length o) (m .operands), le-leb 18430 (length r) (m .results), le-leb 18430 (length g) (m .given)) in
-    ap (λ (t : Bool). ask 1 t (andThen (readNetlist large netlist) (rewriteOutcome (length b)))) long
-    ∙ ap (λ (room : ℕ). andThen (readNetlist large netlist) (rewriteOutcome room)) (m .text)
+    ap (λ (t : Bool). ask 1 t (andThen (readNetlist (large Old) netlist) (rewriteOutcome (length b)))) long
+    ∙ ap (λ (room : ℕ). andThen (readNetlist (large Old) netlist) (rewriteOutcome room)) (m .text)
     ∙ sym (readable-short netlist _ h)
 
 pub answer-short : (netlist : List ℕ) {b o r g x : List ℕ} {a : Answer} → Roomy b o r g → length netlist ≤ 60000
-    → Answers (call netlist b o r g) b x a → Answered (outcome netlist) x a
+    → Answers (call Old netlist b o r g) b x a → Answered (outcome netlist) x a
 answer-short netlist m h w = answered-as (call-roomy netlist m h) (answered w)
 
 -- an answer printed

@@ -3,6 +3,7 @@ use Prim.Native.Nat.{ℕ, _≤_}
 use mathlib.Core.Path.{_≡_}
 use mathlib.Core.List.{List, []}
 use lib.ListN.{length}
+use Rattle.netlist.specs.declared.Sizes.the-variants.{Old}
 use Rattle.netlist.specs.Netlist.{large}
 use Rattle.netlist.specs.Outcome.{Outcome}
 use Rattle.netlist.specs.Programs.{readable}
@@ -10,11 +11,11 @@ use Rattle.netlist.specs.Services.{rewriteCall}
 
 -- question 1 admits the program's tables, and question 14 every text
 pub record Roomy (b o r g : List ℕ) : Type 0 where
-  pub text : length b ≡ large .text
-  pub operands : large .table ≤ length o
-  pub results : large .table ≤ length r
-  pub given : large .table ≤ length g
+  pub text : length b ≡ large Old .text
+  pub operands : large Old .table ≤ length o
+  pub results : large Old .table ≤ length r
+  pub given : large Old .table ≤ length g
 
 -- the outcome of the program's call, from the bytes of its file
 abbrev pub outcome : List ℕ → Outcome (List ℕ)
-outcome netlist = readable netlist (rewriteCall large [] netlist (large .text))
+outcome netlist = readable netlist (rewriteCall (large Old) [] netlist (large Old .text))

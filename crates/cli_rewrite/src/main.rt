@@ -1,6 +1,7 @@
 // *rewrite*: reads netlist.txt and prints the same netlist in the written form, or the question that refuses it.
 use libc::STDOUT_FILENO;
 use netlist::Answer;
+use netlist::Sizes;
 ghost use Prim.Native.Nat.{_≤_};
 ghost use lib.ListN.{length};
 ghost use Rattle.netlist.specs.Programs.{printRewrite, rewriteProgram};
@@ -22,7 +23,7 @@ fn answer(
     if 60000 < netlist.len() {
         return Answer::Refused(2);
     }
-    rewrite::rewrite(netlist, out, operands, results, given)
+    rewrite::rewrite(netlist, out, operands, results, given, Sizes::Old)
 }
 
 // What an answer prints: the text that stands in the buffer, or a refusal's line in its place.

@@ -7,6 +7,7 @@ use lib.ListN.{length}
 use borrow.Author.Tests.{le-leb}
 use Rattle.netlist.specs.declared.Answer.{Answer}
 use Rattle.netlist.specs.declared.Answer.the-variants.{Refused}
+use Rattle.netlist.specs.declared.Sizes.the-variants.{Old}
 use Rattle.netlist.specs.Netlist.{large}
 use Rattle.netlist.specs.Outcome.{Outcome, ask, andThen}
 use Rattle.netlist.specs.Read.{readNetlist}
@@ -23,24 +24,24 @@ answer-long netlist inputs bits h = answered-as (sym (readable-long netlist _ h)
 
 -- the tables and the buffer are long enough
 call-roomy : (netlist inputs : List ℕ) {list b o r g w : List ℕ} → Roomy b o r g w → length netlist ≤ 60000 → list ≡ listFile inputs
-    → call netlist list b o r g w ≡ outcome netlist inputs
+    → call Old netlist list b o r g w ≡ outcome netlist inputs
 unfolding runCall
 call-roomy netlist inputs {list} {b} {o} {r} {g} {w} m h e =
-    let long : tablesLong large (length o ∷ length r ∷ length g ∷ length w ∷ []) ≡ true
+    let long : tablesLong (large Old) (length o ∷ length r ∷ length g ∷ length w ∷ []) ≡ true
     = rw (
       le-leb 18430 (length o) (m .operands),
       le-leb 18430 (length r) (m .results),
       le-leb 18430 (length g) (m .given),
       le-leb 18430 (length w) (m .words),
     ) in
-    ap (λ (t : Bool). ask 1 t (andThen (readNetlist large netlist) (runOutcome list (length b)))) long
-    ∙ ap (λ (room : ℕ). andThen (readNetlist large netlist) (runOutcome list room)) (m .bits)
-    ∙ ap (λ (l : List ℕ). runCall large [] netlist l (large .wires)) e
+    ap (λ (t : Bool). ask 1 t (andThen (readNetlist (large Old) netlist) (runOutcome list (length b)))) long
+    ∙ ap (λ (room : ℕ). andThen (readNetlist (large Old) netlist) (runOutcome list room)) (m .bits)
+    ∙ ap (λ (l : List ℕ). runCall (large Old) [] netlist l (large Old .wires)) e
     ∙ sym (readable-short netlist _ h)
 
 pub answer-short : (netlist inputs list : List ℕ) {b o r g w x : List ℕ} {a : Answer} → Roomy b o r g w → length netlist ≤ 60000
     → list ≡ listFile inputs
-    → Answers (call netlist list b o r g w) b x a → Answered (outcome netlist inputs) x a
+    → Answers (call Old netlist list b o r g w) b x a → Answered (outcome netlist inputs) x a
 answer-short netlist inputs list m h e s = answered-as (call-roomy netlist inputs m h e) (answered s)
 
 -- an answer printed

@@ -2,6 +2,7 @@
 // refuses it.
 use libc::STDOUT_FILENO;
 use netlist::Answer;
+use netlist::Sizes;
 ghost use Prim.Native.Nat.{_+_, _*_, _≤_};
 ghost use lib.ListN.{length};
 ghost use Rattle.netlist.specs.Programs.{printRun, runProgram};
@@ -26,7 +27,16 @@ fn answer(
         return Answer::Refused(2);
     }
     let n = console::list(inputs);
-    run::run(netlist, &inputs[..n], bits, operands, results, given, words)
+    run::run(
+        netlist,
+        &inputs[..n],
+        bits,
+        operands,
+        results,
+        given,
+        words,
+        Sizes::Old,
+    )
 }
 
 // The line that an answer prints.

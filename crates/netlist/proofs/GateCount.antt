@@ -3,11 +3,15 @@ use Prim.Native.Nat.{ℕ, suc, _+_, _-_, _*_, _≤_}
 use mathlib.Core.Path.{_≡_, refl, sym, ap, _∙_}
 use mathlib.Core.Bool.{Bool, true, false}
 use mathlib.Core.List.{List, [], _∷_, _++_}
+use native.Mathlib.Nat.{le-trans}
 use native.Mathlib.Omega.{arith}
-use lib.Dec.{T, leb, leb→le}
+use lib.Dec.{T, leb, lit≤, leb→le}
 use lib.ListN.{length, length-append}
 use Rattle.netlist.specs.declared.Gate.{Gate}
 use Rattle.netlist.specs.declared.Gate.the-variants.{Xor, And, Inv, Eqw, Eq}
+use Rattle.netlist.specs.declared.Limits.{Limits}
+use Rattle.netlist.specs.declared.Sizes.{Sizes}
+use Rattle.netlist.specs.declared.Sizes.the-variants.{Old, Whole}
 use Rattle.netlist.specs.declared.Twin.{Twin}
 use Rattle.netlist.specs.Lists.{every, sum}
 use Rattle.netlist.specs.Netlist.{Netlist, inputBits, outputBits, small, large}
@@ -99,6 +103,16 @@ sum-some : (xs : List ℕ) → 1 ≤ length xs → T (every (leb 1) xs) → 1 �
 sum-some [] s t = absurd (omega arith)
 sum-some (x ∷ xs) s t = let h = leb→le 1 x (both (leb 1 x) (every (leb 1) xs) t .0) in omega arith
 
+-- limits L that have room for what is masked from a source within limits S
+pub record RoomToMask (S L : Limits) : Type 0 where
+  pub wires : 9 * S .wires ≤ L .wires + 2
+  pub inputs : S .inputs + 1 ≤ L .inputs
+  pub outputs : S .outputs ≤ L .outputs
+
+pub room-to-mask : (s : Sizes) → RoomToMask (small s) (large s)
+room-to-mask Old = record { wires = lit≤ tt; inputs = lit≤ tt; outputs = lit≤ tt }
+room-to-mask Whole = record { wires = lit≤ tt; inputs = lit≤ tt; outputs = lit≤ tt }
+
 module _ {N : Netlist} {codes wanted : List ℕ} (C : MaskInputs N codes wanted) where
   -- 3, one for each source gate, six for each AND, one for each mask change of an operand, and one for each output bit
   pub gate-count : length (maskNetlist N codes wanted .netlist .gates)
@@ -123,11 +137,13 @@ module _ {N : Netlist} {codes wanted : List ℕ} (C : MaskInputs N codes wanted)
       let s = sum-some (N .inputs) (F .someInput) (F .inputsPositive) in
       omega arith
 
-  -- so a source of the small limits becomes one of the large limits
-  pub masked-within : Within small N → Within large (maskNetlist N codes wanted .netlist)
-  masked-within H =
-      let w : N .wires ≤ 2048 = H .wires in
-      let v : length (N .inputs) ≤ 16 = H .inputs in
+  -- so a source within limits becomes one within limits that have room for it
+  pub masked-within : {S L : Limits} → RoomToMask S L → Within S N → Within L (maskNetlist N codes wanted .netlist)
+  masked-within R H =
+      let w = H .wires in
+      let r = R .wires in
+      let v = H .inputs in
+      let i = R .inputs in
       let b = masked-wires in
       let l = masked-inputs C in
-      record { wires = omega arith; inputs = omega arith; outputs = rw (masked-outputs C) (H .outputs) }
+      record { wires = omega arith; inputs = omega arith; outputs = rw (masked-outputs C) (le-trans (H .outputs) (R .outputs)) }

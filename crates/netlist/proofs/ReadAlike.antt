@@ -10,7 +10,7 @@ use lib.ListN.{length}
 use borrow.Author.Tests.{le-leb}
 use Rattle.netlist.specs.declared.Limits.{Limits}
 use Rattle.netlist.specs.Text.{cr, atLF, lfEnds}
-use Rattle.netlist.specs.Netlist.{Netlist, large}
+use Rattle.netlist.specs.Netlist.{Netlist}
 use Rattle.netlist.specs.Outcome.{Outcome, ask, andThen}
 use Rattle.netlist.specs.Read.{opening, readNetlist}
 use Rattle.netlist.specs.GateReader.{readerSays}
@@ -55,7 +55,7 @@ module _ (L : Limits) (t : List ℕ) (n : length t ≤ L .text) (h : NoCR (lfEnd
   unfolding checkCall
   check-alike tables codes = rw read-alike
 
--- the gate reader, asked for the k-th time
-pub reader-alike : (t : List ℕ) → length t ≤ large .text → NoCR (lfEnds t) → (k : ℕ) → readerSays (lfEnds t) k ≡ readerSays t k
-unfolding readerSays
-reader-alike t n h k = rw (opening-alike large t n h, ends-alike t)
+  -- the gate reader, asked for the k-th time
+  pub reader-alike : (k : ℕ) → readerSays L (lfEnds t) k ≡ readerSays L t k
+  unfolding readerSays
+  reader-alike k = rw (opening-alike, ends-alike t)

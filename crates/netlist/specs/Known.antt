@@ -5,6 +5,7 @@ use mathlib.Core.List.{List, [], _∷_, map}
 use mathlib.Core.Option.{Option, none, some}
 use mathlib.Core.Path.{_≡_}
 use lib.ListN.{replicate}
+use Rattle.netlist.specs.declared.Sizes.the-variants.{Old}
 use Rattle.netlist.specs.Lists.{ascii}
 use Rattle.netlist.specs.Netlist.{Netlist, small, large}
 use Rattle.netlist.specs.Outcome.{Outcome, refused, done, andThen}
@@ -37,9 +38,9 @@ abbrev pub countAnswer : List ℕ → List ℕ → List ℕ → List Bool → Ne
 countAnswer codes wanted wires x N = done (are (map (λ w. count (maskNetlist N codes wanted .netlist) codes w x) wires))
 
 abbrev pub outcomeOf : Call → Outcome Answer
-outcomeOf (mask tables text codes wanted textRoom codeRoom) = andThen (maskCall small tables text codes wanted textRoom codeRoom) maskAnswer
-outcomeOf (check tables text codes) = andThen (checkCall large tables text codes) checkAnswer
-outcomeOf (counts text codes wanted wires x) = andThen (readNetlist small text) (countAnswer codes wanted wires x)
+outcomeOf (mask tables text codes wanted textRoom codeRoom) = andThen (maskCall (small Old) tables text codes wanted textRoom codeRoom) maskAnswer
+outcomeOf (check tables text codes) = andThen (checkCall (large Old) tables text codes) checkAnswer
+outcomeOf (counts text codes wanted wires x) = andThen (readNetlist (small Old) text) (countAnswer codes wanted wires x)
 
 pub record KnownResult : Type 0 where
   pub call : Call

@@ -1,6 +1,6 @@
 // The types that the definitions in specs/ and all code share.
 ghost use mathlib.Core.Path.{_≡_};
-ghost use Rattle.netlist.specs.Netlist.{small as smallLimits, large as largeLimits};
+ghost use Rattle.netlist.specs.Netlist.{limitsOf, small as smallLimits, large as largeLimits};
 
 // One gate: its operands, then its result wire. The operand of Eq is the constant.
 pub enum Gate {
@@ -21,6 +21,12 @@ pub struct Limits {
     pub outputs: usize,
 }
 
+// Which limits a call takes: those of document 01, or those for whole ciphers.
+pub enum Sizes {
+    Old,
+    Whole,
+}
+
 // Where a source wire stands in the masked netlist: its wire, and the code of the mask on it.
 pub struct Twin {
     pub wire: u32,
@@ -34,28 +40,35 @@ pub enum Answer {
     Refused(u8),
 }
 
-// Mask's limits.
-pub fn small() -> Limits
-    ensures { λ r. ⌜ r ≡ smallLimits ⌝ }
+// The limits of so many wires, with tables as long.
+fn limits_of(wires: u32, text: usize, inputs: usize) -> Limits
+    ensures { λ r. ⌜ r ≡ limitsOf wires text inputs ⌝ }
 {
     Limits {
-        table: 2048,
-        text: 60000,
-        wires: 2048,
-        inputs: 16,
+        table: wires as usize,
+        text,
+        wires,
+        inputs,
         outputs: 16,
     }
 }
 
-// The limits of Check, Run and Rewrite.
-pub fn large() -> Limits
-    ensures { λ r. ⌜ r ≡ largeLimits ⌝ }
+// Mask's limits.
+pub fn small(sizes: Sizes) -> Limits
+    ensures { λ r. ⌜ r ≡ smallLimits sizes ⌝ }
 {
-    Limits {
-        table: 18430,
-        text: 500000,
-        wires: 18430,
-        inputs: 17,
-        outputs: 16,
+    match sizes {
+        Sizes::Old => limits_of(2048, 60000, 16),
+        Sizes::Whole => limits_of(100000, 3000000, 16),
+    }
+}
+
+// The limits of Check, Run and Rewrite.
+pub fn large(sizes: Sizes) -> Limits
+    ensures { λ r. ⌜ r ≡ largeLimits sizes ⌝ }
+{
+    match sizes {
+        Sizes::Old => limits_of(18430, 500000, 17),
+        Sizes::Whole => limits_of(899999, 27000000, 17),
     }
 }

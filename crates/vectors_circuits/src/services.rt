@@ -2,12 +2,20 @@
 use crate::buffers;
 use judge::Checked;
 use netlist::Answer;
+use netlist::Sizes;
 
 pub(crate) fn rewrite(text: &[u8], out: &mut [u8]) -> Answer {
     let mut operands = buffers::words();
     let mut results = buffers::words();
     let mut given = buffers::bytes();
-    rewrite::rewrite(text, out, &mut operands, &mut results, &mut given)
+    rewrite::rewrite(
+        text,
+        out,
+        &mut operands,
+        &mut results,
+        &mut given,
+        Sizes::Old,
+    )
 }
 
 pub(crate) fn run(text: &[u8], list: &[u8], out: &mut [u8]) -> Answer {
@@ -23,6 +31,7 @@ pub(crate) fn run(text: &[u8], list: &[u8], out: &mut [u8]) -> Answer {
         &mut results,
         &mut given,
         &mut words,
+        Sizes::Old,
     )
 }
 
@@ -47,6 +56,7 @@ pub(crate) fn mask(
         &mut results,
         &mut wires,
         &mut marks,
+        Sizes::Old,
     )
 }
 
@@ -64,5 +74,6 @@ pub(crate) fn check(text: &[u8], codes: &[u8]) -> Checked {
         &mut given,
         &mut words,
         &mut base,
+        Sizes::Old,
     )
 }

@@ -111,8 +111,8 @@ impl Draft {
             5 => w.to_string(),
             6 => (w + 1).to_string(),
             7 => "2".into(),
-            8 => "99999".into(),
-            9 => "100000".into(),
+            8 => random.pick(&["99999", "100000", "999999"]).into(),
+            9 => "1000000".into(),
             10 => format!("0{word}"),
             11 => "00".into(),
             12 => format!("{word}0"),
@@ -220,7 +220,7 @@ fn swap_words(random: &mut Random, line: &mut [String]) {
 
 /// A line of words that name no gate.
 fn rubbish(random: &mut Random) -> Vec<String> {
-    let words = ["0", "1", "2", "7", "XOR", "RUBBISH", "Z", "00", "123456"];
+    let words = ["0", "1", "2", "7", "XOR", "RUBBISH", "Z", "00", "123456", "1234567"];
     (0..random.between(1, 7)).map(|_| random.pick(&words).into()).collect()
 }
 

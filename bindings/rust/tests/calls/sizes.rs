@@ -104,9 +104,9 @@ fn bits_and_wires(random: &mut Random, service: Service) -> Call {
 
 /// Widths whose sum exceeds 16 or 32 bits, or widths without number.
 fn wide_values(random: &mut Random, service: Service) -> Call {
-    let width = random.pick(&["65535", "65536", "99999", "32768", "1"]);
+    let width = random.pick(&["65535", "65536", "999999", "32768", "1"]);
     let limit = service.limits().text;
-    let count = random.pick(&[2, 16, 17, 1_000, (limit - 100) / (width.len() + 1)]).min(99_999);
+    let count = random.pick(&[2, 16, 17, 1_000, (limit - 100) / (width.len() + 1)]).min(999_999);
     let mut text = format!("1 3\n{count}");
     for _ in 0..count {
         text += " ";

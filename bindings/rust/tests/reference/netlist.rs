@@ -80,11 +80,44 @@ pub struct Limits {
     pub outputs: usize,
 }
 
+/// Which limits a call takes: the old ones, or those for whole ciphers.
+#[derive(Clone, Copy, Debug, PartialEq, Eq)]
+pub enum Sizes {
+    Old,
+    Whole,
+}
+
+impl Sizes {
+    /// Mask's limits.
+    pub fn small(self) -> &'static Limits {
+        match self {
+            Sizes::Old => &SMALL,
+            Sizes::Whole => &WHOLE_SMALL,
+        }
+    }
+
+    /// The limits of Check, Run and Rewrite.
+    pub fn large(self) -> &'static Limits {
+        match self {
+            Sizes::Old => &LARGE,
+            Sizes::Whole => &WHOLE_LARGE,
+        }
+    }
+}
+
 /// Mask's limits.
 pub const SMALL: Limits = Limits { table: 2_048, text: 60_000, wires: 2_048, inputs: 16, outputs: 16 };
 
 /// The limits of Check, Run and Rewrite.
 pub const LARGE: Limits = Limits { table: 18_430, text: 500_000, wires: 18_430, inputs: 17, outputs: 16 };
+
+/// Mask's limits for whole ciphers.
+pub const WHOLE_SMALL: Limits =
+    Limits { table: 100_000, text: 3_000_000, wires: 100_000, inputs: 16, outputs: 16 };
+
+/// The limits of Check, Run and Rewrite for whole ciphers.
+pub const WHOLE_LARGE: Limits =
+    Limits { table: 899_999, text: 27_000_000, wires: 899_999, inputs: 17, outputs: 16 };
 
 /// A text's netlist: questions 2 to 9 in order.
 pub fn read(limits: &Limits, text: &[u8]) -> Result<Netlist, u8> {

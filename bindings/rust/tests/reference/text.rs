@@ -15,9 +15,9 @@ fn words(line: &[u8]) -> Vec<&[u8]> {
     line.split(|&byte| byte == b' ').filter(|word| !word.is_empty()).collect()
 }
 
-/// A number: one to five digits without a leading zero, or 0 itself.
+/// A number: one to six digits without a leading zero, or 0 itself.
 pub fn number(word: &[u8]) -> Option<usize> {
-    let digits = (1..=5).contains(&word.len()) && word.iter().all(u8::is_ascii_digit);
+    let digits = (1..=6).contains(&word.len()) && word.iter().all(u8::is_ascii_digit);
     if !digits || (word.len() > 1 && word[0] == b'0') {
         return None;
     }

@@ -3,6 +3,9 @@ use borrow.Author.Needs.{needs}
 use Rattle.capi.proofs.fidrovelj_check.Statement.{statement}
 use Rattle.capi.proofs.fidrovelj_check.Tie as tie
 
+sizes-requires : tie.Need-sizes-requires
+sizes-requires c κs = search needs
+
 check-requires : tie.Need-check-requires
 check-requires c κs = search needs
 
@@ -29,13 +32,15 @@ same-length-6 c = search needs
 
 returns : tie.Need-returns
 returns c =
-    let check = c .before .before .before .before .before .before .before .before .before .before .before .before .before .check in
-    record { answer = check .result; promise = check .ensures; shows = record { told = search needs; leak = c .before .before .tell .ensures .leak } }
+    let a = c .before .before .before .before .before .before .before .before .before .before .before .before .before in
+    let check = a .check in
+    record { answer = check .result; promise = rw (a .before .sizes .ensures) at (check .ensures); shows = record { told = search needs; leak = c .before .before .tell .ensures .leak } }
 
 pub fidrovelj-check-spec : {M : Type 1} → statement M
 fidrovelj-check-spec =
     tie.close
     (tie.spec
+    sizes-requires
     check-requires
     tell-requires
     same-length

@@ -5,6 +5,9 @@ use borrow.Author.Needs.{needs}
 use Rattle.capi.proofs.fidrovelj_mask.Statement.{statement}
 use Rattle.capi.proofs.fidrovelj_mask.Tie as tie
 
+sizes-requires : tie.Need-sizes-requires
+sizes-requires c κs = search needs
+
 mask-requires : tie.Need-mask-requires
 mask-requires c κs = search needs
 
@@ -14,7 +17,7 @@ number-requires c κs =
     countable (at-mask .mask .ensures .answers .text)
     (omega (
       arith,
-      at-mask .before .before .before .before .before .before .before .before .before .before .before .before .before .before .before .before .good,
+      at-mask .before .before .before .before .before .before .before .before .before .before .before .before .before .before .before .before .before .good,
     ))
 
 same-length : tie.Need-same-length
@@ -36,12 +39,15 @@ same-length-6 : tie.Need-same-length-6
 same-length-6 c = search needs
 
 returns : tie.Need-returns
-returns c = search needs
+returns c =
+    let a = c .before .before .before .before .before .before .before .before .before .before .before .before .before in
+    record { answer = a .mask .result; promise = rw (a .before .sizes .ensures) at (a .mask .ensures); told = search needs }
 
 pub fidrovelj-mask-spec : {M : Type 1} → statement M
 fidrovelj-mask-spec =
     tie.close
     (tie.spec
+    sizes-requires
     mask-requires
     number-requires
     same-length

@@ -5,6 +5,9 @@ use borrow.Author.Needs.{needs}
 use Rattle.capi.proofs.fidrovelj_run.Statement.{statement}
 use Rattle.capi.proofs.fidrovelj_run.Tie as tie
 
+sizes-requires : tie.Need-sizes-requires
+sizes-requires c κs = search needs
+
 run-requires : tie.Need-run-requires
 run-requires c κs = search needs
 
@@ -12,7 +15,7 @@ number-requires : tie.Need-number-requires
 number-requires c κs =
     let at-run = c .before .before .before .before .before .before .before .before .before .before in
     countable (at-run .run .ensures .answers)
-    (omega (arith, at-run .before .before .before .before .before .before .before .before .before .before .before .before .before .good))
+    (omega (arith, at-run .before .before .before .before .before .before .before .before .before .before .before .before .before .before .good))
 
 same-length : tie.Need-same-length
 same-length c = search needs
@@ -30,12 +33,15 @@ same-length-5 : tie.Need-same-length-5
 same-length-5 c = search needs
 
 returns : tie.Need-returns
-returns c = search needs
+returns c =
+    let a = c .before .before .before .before .before .before .before .before .before .before .before in
+    record { answer = a .run .result; promise = rw (a .before .sizes .ensures) at (a .run .ensures); told = search needs }
 
 pub fidrovelj-run-spec : {M : Type 1} → statement M
 fidrovelj-run-spec =
     tie.close
     (tie.spec
+    sizes-requires
     run-requires
     number-requires
     same-length

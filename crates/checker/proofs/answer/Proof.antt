@@ -15,7 +15,7 @@ tables-long-requires c κs = search needs
 returns : tie.Need-returns
 returns c =
     let s = c .before .before .before .before .before .before .before .before .before .args in
-    call-one (s .text .now) (s .codes .now) (s .operands .now) (s .results .now) (s .given .now) (s .words .now) (s .base .now)
+    call-one (s .sizes) (s .text .now) (s .codes .now) (s .operands .now) (s .results .now) (s .given .now) (s .words .now) (s .base .now)
     (c .before .tables-long .ensures) (not-true _ (c .if1 .taken))
 
 bytes-requires : tie.Need-bytes-requires
@@ -33,7 +33,7 @@ read-and-judge-requires c κs =
     let at-if1 = at-bytes .before .before in
     let at-tables-long = at-if1 .before in
     let s = at-tables-long .before .before .before .before .before .before .before .before .args in
-    let l = call-long (s .text .now) (s .codes .now) (s .operands .now) (s .results .now) (s .given .now) (s .words .now) (s .base .now)
+    let l = call-long (s .sizes) (s .text .now) (s .codes .now) (s .operands .now) (s .results .now) (s .given .now) (s .words .now) (s .base .now)
     (at-tables-long .tables-long .ensures) (not-false _ (at-if1 .if1 .left)) in
     let z = at-bytes .bytes in
     ((l .0, l .1, omega (arith, l .2, z .kept .0), l .3, l .4), (zeros-own (length (s .given .now)) (z .ensures), lit≤ tt, lit≤ tt))
@@ -59,7 +59,7 @@ returns-2 c =
     let at-if1 = at-read-and-judge .before .before .before .before .before .before .before .before .before .before .before .before in
     let at-tables-long = at-if1 .before in
     let s = at-tables-long .before .before .before .before .before .before .before .before .args in
-    call-rest (s .text .now) (s .codes .now) (s .operands .now) (s .results .now) (s .given .now) (s .words .now) (s .base .now)
+    call-rest (s .sizes) (s .text .now) (s .codes .now) (s .operands .now) (s .results .now) (s .given .now) (s .words .now) (s .base .now)
     (at-tables-long .tables-long .ensures) (not-false _ (at-if1 .if1 .left)) (at-read-and-judge .read-and-judge .ensures)
 
 pub answer-spec : {M : Type 1} → statement M

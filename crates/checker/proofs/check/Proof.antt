@@ -48,7 +48,7 @@ returns c =
     let a = at-answer .answer in
     record {
       outcome = a .ensures;
-      judged = call-judged (s .text .now) (s .codes .now) (s .operands .now) (s .results .now) (s .given .now) (s .words .now) (s .base .now)
+      judged = call-judged (s .sizes) (s .text .now) (s .codes .now) (s .operands .now) (s .results .now) (s .given .now) (s .words .now) (s .base .now)
           (a .result) (a .ensures);
       operands = zeros-same (at-words2 .words2 .ensures) (a .kept .1 .1 .0);
       results = zeros-same (at-words3 .words3 .ensures) (a .kept .1 .1 .1 .0);

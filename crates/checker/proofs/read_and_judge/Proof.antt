@@ -1,5 +1,5 @@
 -- `read_and_judge`: the netlist read, and judged.
-use lib.Dec.{lit<}
+use Rattle.netlist.proofs.Size.{large-fits}
 use Rattle.netlist.specs.Table.{tables}
 use Rattle.tables.proofs.Wholes.{read-is}
 use Rattle.checker.proofs.Calling.{read-bits, judge-read, judge-not}
@@ -13,8 +13,9 @@ large-requires c κs = search needs
 
 read-requires : tie.Need-read-requires
 read-requires c κs =
-    let p = c .before .before .before .before .before .before .before .before .before .before .before .before .before .before .before .pre in
-    rw (c .before .before .before .before .before .large .ensures) ((lit< tt, p .1 .1, p .1 .2), (p .0 .2, p .0 .0, p .0 .1, p .1 .0))
+    let s = c .before .before .before .before .before .before .before .before .before .before .before .before .before .before .before in
+    let p = s .pre in
+    rw (c .before .before .before .before .before .large .ensures) ((large-fits (s .args .sizes), p .1 .1, p .1 .2), (p .0 .2, p .0 .0, p .0 .1, p .1 .0))
 
 enum-known-question : tie.Need-enum-known-question
 enum-known-question c = search needs
