@@ -19,11 +19,13 @@ pub mod Models
 pub mod Order
 pub mod AndRows
 pub mod Placed
+pub mod PublicGates
 pub mod OutputGates
 pub mod MaskInputs
 pub mod Shape
 pub mod Carries
 pub mod GateTwins
+pub mod PublicTwins
 pub mod OutputTwins
 pub mod MaskedWires
 -- the leak search
@@ -40,3 +42,5 @@ pub mod Puts
 pub mod Answering
 -- known results
 pub mod KnownResults
+-- the edges of the limits
+pub mod Edges
