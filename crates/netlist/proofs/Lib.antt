@@ -32,6 +32,7 @@ pub mod MaskedWires
 pub mod Settings
 pub mod Search
 pub mod LeakSearch
+pub mod Secrets
 -- what Mask promises
 pub mod Masking
 pub mod GateCount
