@@ -17,7 +17,7 @@ struct limits {
 };
 
 static const struct limits small = {2048, 60000, 2048, 16, 16};
-static const struct limits large = {18430, 500000, 18430, 17, 16};
+static const struct limits large = {18431, 500000, 18431, 17, 16};
 
 #define MOST_VALUES 17
 

@@ -202,8 +202,8 @@ static void known_results(void)
     expect(mask("1 3\n2 1 1\n1 1\n2 1 0 1 2 MAND\n", "12", "0", ROOM, LARGE) == -7, "M9");
     expect(mask(one_gate(2048), ones(2047), "0", ROOM, LARGE) > 0, "M10, 2,048 wires");
     expect(mask(one_gate(2049), ones(2048), "0", ROOM, LARGE) == -5, "M10, 2,049 wires");
-    expect(run(one_gate(18430), ones(18429), LARGE) == 1, "M10, 18,430 wires");
-    expect(run(one_gate(18431), ones(18430), LARGE) == -5, "M10, 18,431 wires");
+    expect(run(one_gate(18431), ones(18430), LARGE) == 1, "M10, 18,431 wires");
+    expect(run(one_gate(18432), ones(18431), LARGE) == -5, "M10, 18,432 wires");
     expect(check("0 15\n2 13 2\n1 1\n", ones(13)) == -12, "M11, thirteen bits");
     expect(check("0 14\n2 12 2\n1 1\n", ones(12)) == 0, "M11, twelve bits");
     expect(mask(and_gate, "12", "0", strlen(masked_and) - 1, LARGE) == -14, "M12");

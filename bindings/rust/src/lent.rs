@@ -1,6 +1,6 @@
 //! The library's four calls with every working table and result buffer lent by the caller.
 //!
-//! Question 1 asks at least 2,048 entries of each working table of [`mask`] and 18,430 of those of
+//! Question 1 asks at least 2,048 entries of each working table of [`mask`] and 18,431 of those of
 //! the others; longer ones are fine. What a table holds does not matter; it is zero along its whole
 //! length on return from every call, a refused one too.
 //!
@@ -185,8 +185,8 @@ pub fn mask(
     })
 }
 
-/// Whether a netlist leaks. If so, `leak` gets the wire, the setting, the count for setting 0 and
-/// the count for that setting; if not, it stays as it was.
+/// Whether a netlist leaks. If so, `leak` gets the wire, the setting, the count of the setting that
+/// this is compared with, and its own; if not, it stays as it was.
 pub fn check(
     text: &[u8],
     codes: &[u8],

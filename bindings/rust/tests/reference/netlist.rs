@@ -84,7 +84,7 @@ pub struct Limits {
 pub const SMALL: Limits = Limits { table: 2_048, text: 60_000, wires: 2_048, inputs: 16, outputs: 16 };
 
 /// The limits of Check, Run and Rewrite.
-pub const LARGE: Limits = Limits { table: 18_430, text: 500_000, wires: 18_430, inputs: 17, outputs: 16 };
+pub const LARGE: Limits = Limits { table: 18_431, text: 500_000, wires: 18_431, inputs: 17, outputs: 16 };
 
 /// A text's netlist: questions 2 to 9 in order.
 pub fn read(limits: &Limits, text: &[u8]) -> Result<Netlist, u8> {
