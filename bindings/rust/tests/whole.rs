@@ -60,7 +60,7 @@ fn ciphers() {
         let gates = cipher.netlist.gates.len();
         if cipher.netlist.wires > 100_000 {
             assert_eq!(mask(&text, &[], &[], tables), Err(Refused(5)), "{name}");
-            println!("{name}: {gates} gates, {} bytes, too large for Mask", text.len());
+            println!("{name}: {gates} gates, {} bytes, too many wires for Mask", text.len());
         } else {
             let length = assert_masked(&cipher, &text, tables);
             println!(

@@ -1,6 +1,7 @@
 //! A netlist in the making, and words of bits over it, lowest bit first.
 
 use crate::reference::netlist::{Gate, Netlist};
+use std::collections::HashMap;
 
 /// A constant, or a wire.
 #[derive(Clone, Copy, PartialEq, Eq)]
@@ -17,6 +18,8 @@ pub struct Net {
     inputs: Vec<usize>,
     wires: usize,
     gates: Vec<Gate>,
+    /// The wire of each XOR of two wires, the lower first.
+    sums: HashMap<(usize, usize), usize>,
 }
 
 impl Net {
@@ -28,7 +31,7 @@ impl Net {
             values.push((wires..wires + width).map(Wire).collect());
             wires += width;
         }
-        (Net { inputs: widths.to_vec(), wires, gates: Vec::new() }, values)
+        (Net { inputs: widths.to_vec(), wires, gates: Vec::new(), sums: HashMap::new() }, values)
     }
 
     fn push(&mut self, gate: impl Fn(usize) -> Gate) -> Bit {
@@ -48,7 +51,14 @@ impl Net {
         match (a, b) {
             (Fixed(false), other) | (other, Fixed(false)) => other,
             (Fixed(true), other) | (other, Fixed(true)) => self.inv(other),
-            (Wire(a), Wire(b)) => self.push(|c| Gate::Xor(a, b, c)),
+            (Wire(a), Wire(b)) => {
+                let pair = (a.min(b), a.max(b));
+                if let Some(&sum) = self.sums.get(&pair) {
+                    return Wire(sum);
+                }
+                self.sums.insert(pair, self.wires);
+                self.push(|c| Gate::Xor(a, b, c))
+            }
         }
     }
 
@@ -109,16 +119,29 @@ pub fn add_full(net: &mut Net, x: &[Bit], y: &[Bit], carry: Bit) -> (Word, Bit) 
     for (&a, &b) in x.iter().zip(y) {
         let left = net.xor(a, carry);
         sum.push(net.xor(left, b));
-        let right = net.xor(b, carry);
-        let both = net.and(left, right);
-        carry = net.xor(carry, both);
+        carry = if let Fixed(b) = b {
+            let both = net.and(a, carry);
+            net.xor(both, if b { left } else { Fixed(false) })
+        } else {
+            let right = net.xor(b, carry);
+            let both = net.and(left, right);
+            net.xor(carry, both)
+        };
     }
     (sum, carry)
 }
 
+/// The sum of two words, without the carry out.
+fn add_two(net: &mut Net, x: &[Bit], y: &[Bit]) -> Word {
+    let top = x.len() - 1;
+    let (mut sum, carry) = add_full(net, &x[..top], &y[..top], Fixed(false));
+    sum.extend(xor(net, &[&x[top..], &y[top..], &[carry]]));
+    sum
+}
+
 pub fn add(net: &mut Net, words: &[&[Bit]]) -> Word {
     let (first, others) = words.split_first().expect("there is a word");
-    others.iter().fold(first.to_vec(), |sum, word| add_full(net, &sum, word, Fixed(false)).0)
+    others.iter().fold(first.to_vec(), |sum, word| add_two(net, &sum, word))
 }
 
 /// `one` where the bit is set, otherwise `zero`.
