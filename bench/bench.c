@@ -305,13 +305,18 @@ static struct line beyond(struct line whole, struct line reading)
     return rest;
 }
 
-/* How many times the LF text's time a CR LF text takes. */
+/* How many times another line's time a line takes. */
+static void times(struct line own, struct line other, const char *what)
+{
+    printf("%-34s", what);
+    for (int i = 0; i < 4; i++)
+        printf(" %10.2f", own.at[i] / other.at[i]);
+    printf("\n");
+}
+
 static void times_lf(struct line crlf, struct line lf)
 {
-    printf("%-34s", "  times the LF text's time");
-    for (int i = 0; i < 4; i++)
-        printf(" %10.2f", crlf.at[i] / lf.at[i]);
-    printf("\n");
+    times(crlf, lf, "  times the LF text's time");
 }
 
 /* The share of one lane: a pass over the gates evaluates sixty-four, of which a run uses the first. */
@@ -433,9 +438,13 @@ int main(int argc, char **argv)
     bench(masked(CHECK, circuit(MASK, folder, "present_sbox")), s);
     bench(masked(CHECK, circuit(MASK, folder, "aes_sbox")), s);
     bench(masked(CHECK, circuit(MASK, folder, "mult6")), s);
-    bench(masked(CHECK, twelve_bits()), s);
+    struct line secret = bench(masked(CHECK, twelve_bits()), s);
 
     whole_cipher(argv[2], s);
     growth(s);
+
+    title("Checking, the first bit public");
+    list[0] = 0;
+    times(bench(masked(CHECK, twelve_bits()), s), secret, "  times that with secrets alone");
     return EXIT_SUCCESS;
 }
