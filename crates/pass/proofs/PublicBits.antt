@@ -5,10 +5,9 @@ use mathlib.Core.List.{List, [], _∷_, _++_, append-assoc, append-nil}
 use native.Mathlib.Nat.{not-suc-le-zero, le-of-suc-le-suc}
 use native.Mathlib.Numerals.{add-one}
 use native.Mathlib.Omega.{arith}
-use lib.ListN.{length, getD, take, length-append}
+use lib.ListN.{length, getD, take}
 use lib.Seq.{take-all}
 use Rattle.netlist.specs.declared.Gate.{Gate}
-use Rattle.netlist.specs.declared.Twin.{Twin}
 use Rattle.netlist.specs.Mask.{isPublic, publicGate, publicGates, inputTwin, inputTwins, pastPublic, pastPublics, noTwin}
 use Rattle.netlist.proofs.Tests.{onBool}
 use Rattle.buffer.specs.Wrote.{top}

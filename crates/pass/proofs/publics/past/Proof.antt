@@ -1,6 +1,5 @@
 -- `publics::past`: the input is public, or not.
 use borrow.Author.Tests.{eq-eqb, ne-eqb}
-use native.Mathlib.Omega.{arith}
 use borrow.Author.Needs.{needs}
 use Rattle.pass.proofs.publics.past.Statement.{statement}
 use Rattle.pass.proofs.publics.past.Tie as tie

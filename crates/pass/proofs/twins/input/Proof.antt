@@ -1,7 +1,5 @@
 -- `twins::input`: the input is public, or not.
 use borrow.Author.Tests.{eq-eqb, ne-eqb}
-use borrow.Author.Needs.{needs}
-use native.Mathlib.Omega.{arith}
 use Rattle.pass.proofs.twins.input.Statement.{statement}
 use Rattle.pass.proofs.twins.input.Tie as tie
 
