@@ -64,7 +64,8 @@ fn agrees_with_the_circuits_vectors() {
 
 /// The masked netlist has no leak, and its outputs with masks off are the source's.
 fn assert_masked(name: &str, source: &Netlist, codes: &[u8], wanted: &[u8]) {
-    let masked = reference::mask(&[], &source.write(), codes, wanted, ROOM, ROOM, Sizes::Old).expect("it can be masked");
+    let masked = reference::mask(&[], &source.write(), codes, wanted, ROOM, ROOM, Sizes::Old)
+        .expect("it can be masked");
     let netlist = read(&LARGE, &masked.text).expect("a masked text is good");
     if codes.len() <= 8 {
         assert_eq!(reference::check(&[], &masked.text, codes, Sizes::Old), Ok(None), "{name}");

@@ -34,7 +34,10 @@ fn assert_masked(cipher: &Cipher, text: &[u8], tables: &mut Tables) -> usize {
     let expected = Call::of(Sizes::Whole, Service::Mask, text, &codes, &wanted).outcome();
     let expected = expected.expect("the reference masks it");
     assert!(given.text == expected.text && given.codes == expected.list, "{name}, masked");
-    assert!(rewrite(&given.text, tables).as_deref() == Ok(&given.text), "{name}, masked, is in the written form");
+    assert!(
+        rewrite(&given.text, tables).as_deref() == Ok(&given.text),
+        "{name}, masked, is in the written form"
+    );
     for (inputs, outputs) in &cipher.vectors {
         for masks in [[0, 0], [1, 0], [0, 1], [1, 1]] {
             let mut bits = masked(inputs, &codes, masks);
@@ -185,7 +188,12 @@ fn digits() {
     ] {
         for service in Service::ALL {
             for sizes in [Sizes::Old, Sizes::Whole] {
-                assert_answer(library, text, &Call::of(sizes, service, text.as_bytes(), &[], &[]), Some(question));
+                assert_answer(
+                    library,
+                    text,
+                    &Call::of(sizes, service, text.as_bytes(), &[], &[]),
+                    Some(question),
+                );
             }
         }
     }
@@ -202,7 +210,12 @@ fn the_ladder() {
     assert_answer(library, "an exact fit", &exact, None);
     assert_answer(library, "a byte short", &Call { text_room: text.len() - 1, ..source }, Some(14));
     for (service, list) in [(Service::Rewrite, vec![]), (Service::Run, vec![1, 0, 1])] {
-        assert_answer(library, "the masked ladder", &Call::of(Sizes::Whole, service, &text, &list, &[]), None);
+        assert_answer(
+            library,
+            "the masked ladder",
+            &Call::of(Sizes::Whole, service, &text, &list, &[]),
+            None,
+        );
     }
     assert_eq!(check(&text, &[1], &mut Tables::whole()), Ok(None));
 }

@@ -105,7 +105,9 @@ pub fn constant(number: u64, width: usize) -> Word {
 
 pub fn xor(net: &mut Net, words: &[&[Bit]]) -> Word {
     let (first, others) = words.split_first().expect("there is a word");
-    others.iter().fold(first.to_vec(), |sum, word| sum.iter().zip(*word).map(|(&a, &b)| net.xor(a, b)).collect())
+    others
+        .iter()
+        .fold(first.to_vec(), |sum, word| sum.iter().zip(*word).map(|(&a, &b)| net.xor(a, b)).collect())
 }
 
 pub fn and(net: &mut Net, x: &[Bit], y: &[Bit]) -> Word {

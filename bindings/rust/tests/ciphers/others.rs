@@ -53,7 +53,8 @@ pub fn sha256() -> Netlist {
     let net = &mut whole;
     let (mut w, start) = (from_highest(&values[0], 32), from_highest(&values[1], 32));
     for t in 16..64 {
-        let (early, late) = (turned(net, &w[t - 15], [7, 18, 3], true), turned(net, &w[t - 2], [17, 19, 10], true));
+        let (early, late) =
+            (turned(net, &w[t - 15], [7, 18, 3], true), turned(net, &w[t - 2], [17, 19, 10], true));
         let word = add(net, &[&early, &w[t - 7], &late, &w[t - 16]]);
         w.push(word);
     }
