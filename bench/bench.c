@@ -440,11 +440,12 @@ int main(int argc, char **argv)
     bench(masked(CHECK, circuit(MASK, folder, "mult6")), s);
     struct line secret = bench(masked(CHECK, twelve_bits()), s);
 
-    whole_cipher(argv[2], s);
-    growth(s);
-
     title("Checking, the first bit public");
     list[0] = 0;
     times(bench(masked(CHECK, twelve_bits()), s), secret, "  times that with secrets alone");
+    list[0] = 1;
+
+    whole_cipher(argv[2], s);
+    growth(s);
     return EXIT_SUCCESS;
 }
