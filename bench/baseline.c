@@ -19,7 +19,7 @@ struct limits {
 
 /* The old limits, and those for whole ciphers. */
 static const struct limits small_limits[2] = {{2048, 60000, 2048, 16, 16}, {100000, 3000000, 100000, 16, 16}};
-static const struct limits large_limits[2] = {{18430, 500000, 18430, 17, 16}, {899999, 27000000, 899999, 17, 16}};
+static const struct limits large_limits[2] = {{18431, 500000, 18431, 17, 16}, {899999, 27000000, 899999, 17, 16}};
 
 #define MOST_VALUES 17
 
@@ -249,13 +249,13 @@ static int read_netlist(const struct limits *l, const uint8_t *text, size_t leng
 }
 
 /* Questions 11 and 13: a list has one entry for each bit, each from low to high. */
-static bool list_good(const uint8_t *list, size_t length, size_t bits, uint8_t low, uint8_t high)
+static bool list_good(const uint8_t *list, size_t length, size_t bits, uint8_t most)
 {
     if (length != bits)
         return false;
     bool bad = false;
     for (size_t i = 0; i < length; i++)
-        bad |= (list[i] < low) | (list[i] > high);
+        bad |= list[i] > most;
     return !bad;
 }
 
@@ -529,7 +529,7 @@ static void evaluate(uint64_t *restrict words, uint32_t gates, const uint64_t *r
 static int64_t run(const struct header *h, const uint64_t *operands, const uint64_t *results, uint64_t *words,
                    const uint8_t *list, size_t list_len, uint8_t *out, size_t out_len)
 {
-    if (!list_good(list, list_len, h->in.bits, 0, 1))
+    if (!list_good(list, list_len, h->in.bits, 1))
         return -11;
     if (h->out.bits > out_len)
         return -14;
@@ -698,8 +698,9 @@ ALWAYS void mask_gates(struct masking *m, const struct header *h, const uint8_t 
     put_and(m, n, n + 1);
     put_xor(m, n + 2, n + 3);
     for (uint32_t i = 0; i < n; i++) {
-        wires[i] = i;
-        codes[i] = in_codes[i];
+        bool public = in_codes[i] == 0;
+        wires[i] = public ? put_xor(m, i, n) : i;
+        codes[i] = public ? 1 : in_codes[i];
     }
     for (uint32_t i = 0; i < h->gates; i++)
         mask_gate(m, operands[i], results[i], wires, codes);
@@ -717,9 +718,9 @@ static int64_t mask(const struct header *h, const uint64_t *operands, const uint
                     uint8_t *marks, const uint8_t *codes, size_t codes_len, const uint8_t *wanted,
                     size_t wanted_len, uint8_t *out, size_t out_len, uint8_t *out_codes, size_t out_codes_len)
 {
-    if (!list_good(codes, codes_len, h->in.bits, 1, 3))
+    if (!list_good(codes, codes_len, h->in.bits, 3))
         return -11;
-    if (!list_good(wanted, wanted_len, h->out.bits, 0, 3))
+    if (!list_good(wanted, wanted_len, h->out.bits, 3))
         return -13;
 
     uint32_t n = (uint32_t)h->in.bits;
@@ -798,16 +799,33 @@ static inline uint64_t counts(uint64_t word)
     return (twos & 0x3333333333333333U) + (twos >> 2 & 0x3333333333333333U);
 }
 
-static void load_block(uint64_t *words, const uint8_t *codes, size_t bits, size_t block)
+/* The input wires in a block's settings, or in those with the same public bits and zero secrets. */
+static void load_block(uint64_t *words, const uint8_t *codes, size_t bits, size_t block, bool secrets)
 {
     static const uint64_t masks[4] = {0, M0, M1, M0 ^ M1};
     for (size_t i = 0; i < bits; i++)
-        words[i] = setting_bit(i, block) ^ masks[codes[i]];
+        words[i] = (secrets || codes[i] == 0 ? setting_bit(i, block) : 0) ^ masks[codes[i]];
     words[bits] = M0;
     words[bits + 1] = M1;
 }
 
-/* Whether a wire below some bound has a count that is not setting 0's. */
+/* The counts that a block's settings are compared with. Without public bits they are setting 0's, taken
+ * from the first block's words. */
+static void load_base(const struct header *h, const uint64_t *operands, const uint64_t *results,
+                      const uint64_t *words, uint64_t *base, const uint8_t *codes, size_t bits, size_t block)
+{
+    if (memchr(codes, 0, bits) != NULL) {
+        load_block(base, codes, bits, block, false);
+        evaluate(base, h->gates, operands, results);
+        for (uint32_t w = 0; w < h->wires; w++)
+            base[w] = counts(base[w]);
+    } else if (block == 0) {
+        for (uint32_t w = 0; w < h->wires; w++)
+            base[w] = (counts(words[w]) & 15) * 0x1111111111111111U;
+    }
+}
+
+/* Whether a wire below some bound has a count that is not its base's. */
 static bool differs(const uint64_t *restrict words, const uint64_t *restrict base, uint32_t bound)
 {
     uint64_t difference = 0;
@@ -822,7 +840,7 @@ static int64_t check(const struct header *h, const uint64_t *operands, const uin
     if (h->in.count < 2 || h->in.width[h->in.count - 1] != 2)
         return -10;
     size_t bits = h->in.bits - 2;
-    if (!list_good(codes, codes_len, bits, 1, 3))
+    if (!list_good(codes, codes_len, bits, 3))
         return -11;
     if (bits > 12)
         return -12;
@@ -830,12 +848,9 @@ static int64_t check(const struct header *h, const uint64_t *operands, const uin
     uint32_t found = h->wires;
     size_t blocks = bits > 4 ? (size_t)1 << (bits - 4) : 1;
     for (size_t block = 0; block < blocks && found > 0; block++) {
-        load_block(words, codes, bits, block);
+        load_block(words, codes, bits, block, true);
         evaluate(words, h->gates, operands, results);
-        if (block == 0) {
-            for (uint32_t w = 0; w < h->wires; w++)
-                base[w] = (counts(words[w]) & 15) * 0x1111111111111111U;
-        }
+        load_base(h, operands, results, words, base, codes, bits, block);
         if (!differs(words, base, found))
             continue;
         for (uint32_t w = 0; w < found; w++) {
@@ -846,7 +861,7 @@ static int64_t check(const struct header *h, const uint64_t *operands, const uin
                     place++;
                 leak[0] = found = w;
                 leak[1] = 16 * block + place;
-                leak[2] = base[w] & 15;
+                leak[2] = base[w] >> 4 * place & 15;
                 leak[3] = counts(words[w]) >> 4 * place & 15;
             }
         }

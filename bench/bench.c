@@ -208,18 +208,25 @@ static void compare(const struct call *c)
 
 /* ---- timing */
 
-static double now(void)
+static double microseconds(clockid_t clock)
 {
     struct timespec t;
-    clock_gettime(CLOCK_MONOTONIC, &t);
+    clock_gettime(clock, &t);
     return (double)t.tv_sec * 1e6 + (double)t.tv_nsec / 1e3;
 }
 
+static double now(void) { return microseconds(CLOCK_MONOTONIC); }
+
+/* What calls are timed by: the clock, and at whole sizes the processor's time, since others' turns on a
+ * shared machine fall into calls of milliseconds. */
+static clockid_t call_clock = CLOCK_MONOTONIC;
+
+
 static double timed(const struct services *s, const struct call *c)
 {
-    double start = now();
+    double start = microseconds(call_clock);
     perform(s, c);
-    return now() - start;
+    return microseconds(call_clock) - start;
 }
 
 static int by_size(const void *a, const void *b)
@@ -305,13 +312,18 @@ static struct line beyond(struct line whole, struct line reading)
     return rest;
 }
 
-/* How many times the LF text's time a CR LF text takes. */
+/* How many times another line's time a line takes. */
+static void times(struct line own, struct line other, const char *what)
+{
+    printf("%-34s", what);
+    for (int i = 0; i < 4; i++)
+        printf(" %10.2f", own.at[i] / other.at[i]);
+    printf("\n");
+}
+
 static void times_lf(struct line crlf, struct line lf)
 {
-    printf("%-34s", "  times the LF text's time");
-    for (int i = 0; i < 4; i++)
-        printf(" %10.2f", crlf.at[i] / lf.at[i]);
-    printf("\n");
+    times(crlf, lf, "  times the LF text's time");
 }
 
 /* The share of one lane: a pass over the gates evaluates sixty-four, of which a run uses the first. */
@@ -347,14 +359,24 @@ static void compare_lanes(const char *folder)
 
 /* ---- whole ciphers */
 
+/* A call on AES-128, or on what Mask makes of it. */
+static struct call aes_128(enum service service, const char *folder, const char *name)
+{
+    struct call c = whole(circuit(service, folder, "aes_128"));
+    if (service != READ_SMALL && service != MASK)
+        c = masked(service, c);
+    snprintf(c.name, sizeof c.name, "%s", name);
+    return c;
+}
+
 static void whole_cipher(const char *folder, double s)
 {
     title("AES-128, whole");
-    struct line source = bench(whole(circuit(READ_SMALL, folder, "aes_128")), s);
-    beyond(bench(whole(circuit(MASK, folder, "aes_128")), s), source);
-    struct line reading = bench(masked(READ_LARGE, whole(circuit(MASK, folder, "aes_128"))), s);
-    beyond(bench(masked(REWRITE, whole(circuit(MASK, folder, "aes_128"))), s), reading);
-    beyond(bench(masked(RUN, whole(circuit(MASK, folder, "aes_128"))), s), reading);
+    struct line source = bench(aes_128(READ_SMALL, folder, "reading"), s);
+    beyond(bench(aes_128(MASK, folder, "Mask"), s), source);
+    struct line reading = bench(aes_128(READ_LARGE, folder, "masked, reading"), s);
+    beyond(bench(aes_128(REWRITE, folder, "masked, Rewrite"), s), reading);
+    beyond(bench(aes_128(RUN, folder, "masked, Run"), s), reading);
 }
 
 /* The best times of the library and of C, in nanoseconds a gate, less those of a call on an empty text,
@@ -433,8 +455,14 @@ int main(int argc, char **argv)
     bench(masked(CHECK, circuit(MASK, folder, "present_sbox")), s);
     bench(masked(CHECK, circuit(MASK, folder, "aes_sbox")), s);
     bench(masked(CHECK, circuit(MASK, folder, "mult6")), s);
-    bench(masked(CHECK, twelve_bits()), s);
+    struct line secret = bench(masked(CHECK, twelve_bits()), s);
 
+    title("Checking, the first bit public");
+    list[0] = 0;
+    times(bench(masked(CHECK, twelve_bits()), s), secret, "  times that with secrets alone");
+    list[0] = 1;
+
+    call_clock = CLOCK_PROCESS_CPUTIME_ID;
     whole_cipher(argv[2], s);
     growth(s);
     return EXIT_SUCCESS;

@@ -29,14 +29,14 @@
  *  3  Is each byte a digit, a capital letter, a space, LF, or a CR directly before LF?
  *  4  Are there three header lines of the stated form, each count and width 1 or more?
  *     (Numbers have one to six digits and no leading zero.)
- *  5  Are there at most 18,430 wires (Mask: 2,048), or 899,999 (100,000), at most 17 input values
+ *  5  Are there at most 18,431 wires (Mask: 2,048), or 899,999 (100,000), at most 17 input values
  *     (Mask: 16) and 16 output values, and no more input bits or output bits than wires?
  *  6  Is the gate count the wires less the input bits, and are there exactly that many gate lines?
  *  7  Has each gate line one of the five forms?                            (7 to 9 line by line)
  *  8  Is each operand an input or the result of an earlier line (of EQ: 0 or 1)?
  *  9  Is each result a wire that is no input and is not yet given?
  * 10  Check: are there two or more input values, the last of width 2?
- * 11  Has the input list one entry for each input bit (Check: without the mask pair), each 1 to 3
+ * 11  Has the input list one entry for each input bit (Check: without the mask pair), each 0 to 3
  *     (Run: 0 or 1)?
  * 12  Check: are there at most 12 input bits besides the mask pair?
  * 13  Mask: has the wanted list one entry for each output bit, each 0 to 3?
@@ -57,7 +57,7 @@ extern "C" {
 #define FIDROVELJ_WHOLE 1
 
 /* The least entries of a working table of Rewrite, Run and Check, and of Mask: the most wires. */
-#define FIDROVELJ_LARGE_TABLE 18430
+#define FIDROVELJ_LARGE_TABLE 18431
 #define FIDROVELJ_SMALL_TABLE 2048
 #define FIDROVELJ_WHOLE_LARGE_TABLE 899999
 #define FIDROVELJ_WHOLE_SMALL_TABLE 100000
@@ -93,10 +93,11 @@ int64_t fidrovelj_run(const uint8_t *text, size_t text_len,
  * to out_codes. Returns the text's length in bytes; there are as many codes as output bits.
  *
  * codes has a mask code for each input bit: a bit with code 1 travels XOR m0, with code 2 XOR m1,
- * with code 3 XOR both. wanted has for each output bit the code that it is to travel with, or 0
- * where any will do. The masked netlist has the source's input values and one more of width 2, the
- * mask bits m0 and m1. Its outputs, with their masks taken off, are the source's; and for each of
- * its wires the number of the four mask settings that make it one is the same for all inputs. */
+ * with code 3 XOR both; a bit with code 0 is public and arrives unmasked. wanted has for each output
+ * bit the code that it is to travel with, or 0 where any will do. The masked netlist has the source's
+ * input values and one more of width 2, the mask bits m0 and m1. Its outputs, with their masks taken
+ * off, are the source's; and for each of its wires the number of the four mask settings that make it
+ * one is the same for all inputs that agree in their public bits. */
 int64_t fidrovelj_mask(const uint8_t *text, size_t text_len,
                        const uint8_t *codes, size_t codes_len,
                        const uint8_t *wanted, size_t wanted_len,
@@ -109,11 +110,13 @@ int64_t fidrovelj_mask(const uint8_t *text, size_t text_len,
                        uint8_t sizes);
 
 /* Check: decides whether a netlist whose last input value is the two mask bits leaks on a wire, for
- * a mask code for each other input bit. Returns 0 where it is clean: for each wire the number of
- * the four mask settings that make it one, its count, is the same for all input settings. Returns 1
- * where it leaks, and then writes four numbers to leak: the lowest wire whose counts differ, the
- * smallest setting whose count is not setting 0's (input bit 0 is the lowest bit), setting 0's count
- * and that setting's count. leak_len is 4; a shorter leak gets as many of them as it has entries. */
+ * a mask code for each other input bit, 0 where the bit is public. Returns 0 where it is clean: for
+ * each wire the number of the four mask settings that make it one, its count, is the same for all
+ * input settings that agree in their public bits. Returns 1 where it leaks, and then writes four
+ * numbers to leak: the lowest wire whose counts differ, the smallest setting (input bit 0 is the
+ * lowest bit) whose count is not that of the setting with the same public bits and zero secrets,
+ * that one's count and its own. leak_len is 4; a shorter leak gets as many of them as it has
+ * entries. */
 int64_t fidrovelj_check(const uint8_t *text, size_t text_len,
                         const uint8_t *codes, size_t codes_len,
                         uint64_t *leak, size_t leak_len,

@@ -123,9 +123,9 @@ static bool text_is(int64_t answer, const char *text)
     return answer == (int64_t)strlen(text) && memcmp(out, text, strlen(text)) == 0;
 }
 
-static bool leak_is(int64_t answer, uint64_t wire, uint64_t setting, uint64_t at_zero, uint64_t own)
+static bool leak_is(int64_t answer, uint64_t wire, uint64_t setting, uint64_t compared, uint64_t own)
 {
-    return answer == 1 && leak[0] == wire && leak[1] == setting && leak[2] == at_zero && leak[3] == own;
+    return answer == 1 && leak[0] == wire && leak[1] == setting && leak[2] == compared && leak[3] == own;
 }
 
 /* ---- the known results */
@@ -203,8 +203,8 @@ static void known_results(void)
     expect(mask("1 3\n2 1 1\n1 1\n2 1 0 1 2 MAND\n", "12", "0", ROOM, LARGE) == -7, "M9");
     expect(mask(one_gate(2048), ones(2047), "0", ROOM, LARGE) > 0, "M10, 2,048 wires");
     expect(mask(one_gate(2049), ones(2048), "0", ROOM, LARGE) == -5, "M10, 2,049 wires");
-    expect(run(one_gate(18430), ones(18429), LARGE) == 1, "M10, 18,430 wires");
-    expect(run(one_gate(18431), ones(18430), LARGE) == -5, "M10, 18,431 wires");
+    expect(run(one_gate(18431), ones(18430), LARGE) == 1, "M10, 18,431 wires");
+    expect(run(one_gate(18432), ones(18431), LARGE) == -5, "M10, 18,432 wires");
     expect(check("0 15\n2 13 2\n1 1\n", ones(13)) == -12, "M11, thirteen bits");
     expect(check("0 14\n2 12 2\n1 1\n", ones(12)) == 0, "M11, twelve bits");
     expect(mask(and_gate, "12", "0", strlen(masked_and) - 1, LARGE) == -14, "M12");
@@ -270,6 +270,21 @@ static void results_of_others(void)
     expect(check(masked_and, "11") == 1, "under other codes it leaks");
 }
 
+static const char masked_public[] =
+    "12 16\n3 1 1 2\n1 1\n\n"
+    "2 1 2 3 4 XOR\n2 1 2 3 5 AND\n2 1 4 5 6 XOR\n2 1 0 2 7 XOR\n"
+    "2 1 7 1 8 AND\n2 1 7 3 9 AND\n2 1 9 3 10 XOR\n2 1 8 10 11 XOR\n2 1 2 1 12 AND\n2 1 12 6 13 XOR\n2 1 11 13 14 XOR\n"
+    "1 1 14 15 EQW\n";
+
+static void public_bits(void)
+{
+    expect(text_is(mask(and_gate, "02", "0", ROOM, LARGE), masked_public) && list_out[0] == 1, "Mask, a public bit");
+    expect(check(masked_public, "02") == 0, "it is clean");
+    expect(check("1 4\n2 1 2\n1 1\n1 1 0 3 INV\n", "0") == 0, "Check, a public bit read openly");
+    expect(leak_is(check("2 6\n2 2 2\n1 1\n2 1 0 1 4 AND\n2 1 4 2 5 XOR\n", "01"), 5, 3, 0, 4),
+           "Check, a public bit mixed with a secret");
+}
+
 /* ---- the limits for whole ciphers */
 
 #define WHOLE FIDROVELJ_WHOLE_LARGE_TABLE
@@ -316,6 +331,7 @@ int main(void)
     refusals();
     line_ends();
     results_of_others();
+    public_bits();
     whole_limits();
     printf("C: %d checks, %d failed\n", checks, failures);
     return failures == 0 ? EXIT_SUCCESS : EXIT_FAILURE;

@@ -196,8 +196,8 @@ pub fn mask(
     })
 }
 
-/// Whether a netlist leaks. If so, `leak` gets the wire, the setting, the count for setting 0 and
-/// the count for that setting; if not, it stays as it was.
+/// Whether a netlist leaks. If so, `leak` gets the wire, the setting, the count of the setting that
+/// this is compared with, and its own; if not, it stays as it was.
 pub fn check(
     text: &[u8],
     codes: &[u8],

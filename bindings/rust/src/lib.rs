@@ -11,7 +11,7 @@
 //! number ([`Refused`]). The services lend the library its working tables and result buffers from a
 //! [`Tables`], made once and used for any number of calls; the functions of [`lent`] take each
 //! table and buffer from the caller instead, and allocate nothing. [`Tables::new`] is for netlists of
-//! up to 18,430 wires, [`Tables::whole`] for whole ciphers.
+//! up to 18,431 wires, [`Tables::whole`] for whole ciphers.
 //!
 //! ```
 //! use fidrovelj::{check, mask, Tables};
@@ -80,15 +80,15 @@ pub struct Masked {
 }
 
 /// A leak: the lowest wire whose count of ones over the four mask settings is not the same for all
-/// input settings.
+/// input settings that agree in their public bits.
 #[derive(Clone, Copy, Debug, PartialEq, Eq)]
 pub struct Leak {
     /// The wire's number.
     pub wire: u64,
-    /// The smallest input setting whose count differs from that of setting 0; input bit 0 is its
-    /// lowest bit.
+    /// The smallest input setting whose count differs from that of the setting with the same public
+    /// bits and zero secrets; input bit 0 is its lowest bit.
     pub setting: u64,
-    /// The wire's count for setting 0.
+    /// The wire's count for the setting that it is compared with: setting 0 if no bit is public.
     pub base: u64,
     /// The wire's count for `setting`.
     pub own: u64,
@@ -138,11 +138,12 @@ pub fn run(text: &[u8], list: &[u8], tables: &mut Tables) -> Result<Vec<u8>, Ref
     Ok(t.bits[..length].to_vec())
 }
 
-/// The masked netlist of a source, for a mask code, 1 to 3, for each input bit and a wanted code
+/// The masked netlist of a source, for a mask code, 0 to 3, for each input bit and a wanted code
 /// for each output bit: 1 to 3, or 0 where any code will do.
 ///
-/// A bit with code 1 travels XOR m0, with code 2 XOR m1, with code 3 XOR both. The masked netlist
-/// has one more input value, the two bits m0 and m1.
+/// A bit with code 1 travels XOR m0, with code 2 XOR m1, with code 3 XOR both; an input bit with code
+/// 0 is public and arrives unmasked. The masked netlist has one more input value, the two bits m0 and
+/// m1.
 ///
 /// ```
 /// # use fidrovelj::{mask, Refused, Tables};
@@ -174,7 +175,7 @@ pub fn mask(text: &[u8], codes: &[u8], wanted: &[u8], tables: &mut Tables) -> Re
 }
 
 /// Whether a netlist whose last input value is the two mask bits is clean (`None`) or has a leak,
-/// for a mask code, 1 to 3, for each other input bit.
+/// for a mask code, 0 to 3, for each other input bit; 0 is a public bit.
 ///
 /// ```
 /// # use fidrovelj::{check, Leak, Refused, Tables};

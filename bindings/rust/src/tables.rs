@@ -3,7 +3,7 @@
 /// Which limits a call takes: the old ones, or those for whole ciphers.
 #[derive(Clone, Copy, Debug, PartialEq, Eq, Hash, Default)]
 pub enum Sizes {
-    /// 2,048 wires and 60,000 bytes of text for [`mask`](crate::mask), 18,430 and 500,000 for the others.
+    /// 2,048 wires and 60,000 bytes of text for [`mask`](crate::mask), 18,431 and 500,000 for the others.
     #[default]
     Old,
     /// 100,000 wires and 3,000,000 bytes of text for [`mask`](crate::mask), 899,999 and 27,000,000 for
@@ -23,7 +23,7 @@ impl Sizes {
     /// The most wires of Check, Run and Rewrite: as many entries question 1 asks of each of their tables.
     pub const fn large(self) -> usize {
         match self {
-            Sizes::Old => 18_430,
+            Sizes::Old => 18_431,
             Sizes::Whole => 899_999,
         }
     }

@@ -111,10 +111,10 @@ fn public_circuits() {
             assert!(mask(&circuit.text, &[], &[], tables).is_err(), "{name}");
             continue;
         };
-        for (lowest, highest) in [(1, 1), (1, 3)] {
+        for (lowest, highest) in [(1, 1), (1, 3), (0, 3)] {
             let random = &mut Random::new(1);
             let codes = random.list(source.input_bits(), lowest, highest);
-            let wanted = random.list(source.output_bits(), lowest - 1, highest);
+            let wanted = random.list(source.output_bits(), lowest.max(1) - 1, highest);
             let call = Call::new(Service::Mask, &circuit.text, &codes, &wanted);
             let expected = call.outcome();
             library.assert_outcome(name, &call, &expected);
@@ -135,18 +135,20 @@ fn the_ladder() {
     let mut library = Library::new();
     let source = sizes::ladder().write();
     let wanted = vec![0; 2_048];
-    let masked = Call::new(Service::Mask, &source, &[1], &wanted);
-    let expected = masked.outcome();
-    library.assert_outcome("the ladder, masked", &masked, &expected);
-    let text = expected.expect("the ladder can be masked").text;
-    assert_eq!(text.len(), 398_136);
-    for (service, list) in
-        [(Service::Rewrite, vec![]), (Service::Run, vec![1, 0, 1]), (Service::Check, vec![1])]
-    {
-        let call = Call::new(service, &text, &list, &[]);
-        let expected = call.outcome();
-        assert!(expected.is_ok());
-        library.assert_outcome("the masked ladder", &call, &expected);
+    for (code, length) in [(1, 398_136), (0, 398_158)] {
+        let masked = Call::new(Service::Mask, &source, &[code], &wanted);
+        let expected = masked.outcome();
+        library.assert_outcome("the ladder, masked", &masked, &expected);
+        let text = expected.expect("the ladder can be masked").text;
+        assert_eq!(text.len(), length);
+        for (service, list) in
+            [(Service::Rewrite, vec![]), (Service::Run, vec![1, 0, 1]), (Service::Check, vec![code])]
+        {
+            let call = Call::new(service, &text, &list, &[]);
+            let expected = call.outcome();
+            assert!(expected.is_ok());
+            library.assert_outcome("the masked ladder", &call, &expected);
+        }
     }
 }
 

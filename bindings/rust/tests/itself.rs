@@ -71,7 +71,8 @@ fn assert_masked(name: &str, source: &Netlist, codes: &[u8], wanted: &[u8]) {
         assert_eq!(reference::check(&[], &masked.text, codes, Sizes::Old), Ok(None), "{name}");
     }
     let ands = source.gates.iter().filter(|gate| matches!(gate, Gate::And(..))).count();
-    let least = 3 + source.gates.len() + 6 * ands + source.output_bits();
+    let publics = codes.iter().filter(|&&code| code == 0).count();
+    let least = 3 + publics + source.gates.len() + 6 * ands + source.output_bits();
     assert!(netlist.gates.len() >= least && netlist.gates.len() <= least + source.gates.len(), "{name}");
 
     let setting = setting_bits(0x9e37_79b9_7f4a_7c15, codes.len().min(64));
@@ -95,6 +96,8 @@ fn masks_the_circuits() {
         let wanted: Vec<u8> = (0..source.output_bits()).map(|bit| (bit % 4) as u8).collect();
         assert_masked(&circuit.name, &source, &codes, &wanted);
         assert_masked(&circuit.name, &source, &vec![1; codes.len()], &vec![0; wanted.len()]);
+        let mixed: Vec<u8> = (0..codes.len()).map(|bit| (bit % 4) as u8).collect();
+        assert_masked(&circuit.name, &source, &mixed, &wanted);
     }
 }
 
@@ -102,10 +105,12 @@ fn masks_the_circuits() {
 #[test]
 fn masks_the_ladder() {
     let source = sizes::ladder().write();
-    let masked = reference::mask(&[], &source, &[1], &[0; 2_048], ROOM, ROOM, Sizes::Old)
-        .expect("the ladder can be masked");
-    assert_eq!(masked.text.len(), 398_136);
-    assert_eq!(read(&LARGE, &masked.text).expect("the masked ladder is good").wires, 18_430);
+    for (code, length, wires) in [(1, 398_136, 18_430), (0, 398_158, 18_431)] {
+        let masked = reference::mask(&[], &source, &[code], &[0; 2_048], ROOM, ROOM, Sizes::Old)
+            .expect("the ladder can be masked");
+        assert_eq!(masked.text.len(), length);
+        assert_eq!(read(&LARGE, &masked.text).expect("the masked ladder is good").wires, wires);
+    }
 }
 
 #[test]

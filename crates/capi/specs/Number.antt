@@ -39,7 +39,7 @@ verdict checked.Clean = pos 0
 verdict (checked.Leak w s z o) = pos 1
 verdict (checked.Refused q) = negℤ (pos q)
 
--- the wire, the setting, setting 0's count and that setting's
+-- the wire, the setting, its base's count and its own
 abbrev pub numbers : Checked → List ℕ
 numbers checked.Clean = []
 numbers (checked.Leak w s z o) = w ∷ s ∷ z ∷ o ∷ []

@@ -41,7 +41,7 @@ fn put(list: &mut [u64], at: usize, entry: u64)
     }
 }
 
-// The numbers of a leak: its wire, its setting, setting 0's count and that setting's.
+// The numbers of a leak: its wire, its setting, its base's count and its own.
 fn show(leak: &mut [u64], wire: usize, setting: u64, base: u8, own: u8)
     ensures { λ _. ⌜ now (leak .exit) ≡ sets (now (leak .entry)) 0 (wire ∷ setting ∷ base ∷ own ∷ []) ⌝ }
 {

@@ -12,7 +12,7 @@ use Rattle.netlist.specs.Lists.{sum}
 use Rattle.netlist.specs.Netlist.{Netlist, inputBits, large}
 use Rattle.netlist.specs.Outcome.{Outcome, refused, done, ask, andThen}
 use Rattle.netlist.specs.Read.{readNetlist}
-use Rattle.netlist.specs.Mask.{isCode}
+use Rattle.netlist.specs.Mask.{isInputCode}
 use Rattle.netlist.specs.Leak.{Found, leak}
 use Rattle.netlist.specs.Services.{tablesLong, listGood, endsInMasks, maxChecked, checkOutcome, checkCall}
 use Rattle.netlist.specs.Table.{Tables, Holds}
@@ -75,7 +75,7 @@ module _ (s : Sizes) (text codes o r g w b : List ℕ) where
   answer-leak N f read e =
       let one = ask-done 1 (tablesLong (large s) lengths) (andThen (readNetlist (large s) text) (checkOutcome codes)) f (sym e) .1 in
       let ten = ask-done 10 (endsInMasks (N .inputs)) _ f (sym (ap (λ (u : Outcome Netlist). andThen u (checkOutcome codes)) read) ∙ one) .1 in
-      let eleven = ask-done 11 (listGood isCode (inputBits N - 2) codes) _ f ten .1 in
+      let eleven = ask-done 11 (listGood isInputCode (inputBits N - 2) codes) _ f ten .1 in
       let twelve = ask-done 12 (leb (length codes) maxChecked) _ f eleven .1 in
       done-same (leak N codes) f twelve
 

@@ -42,11 +42,11 @@ call-roomy {o} {r} {g} {w} {b} text codes room =
     long : tablesLong (large Old) (length o ∷ length r ∷ length g ∷ length w ∷ length b ∷ []) ≡ true
     long =
         rw (
-          le-leb 18430 (length o) (room .operands),
-          le-leb 18430 (length r) (room .results),
-          le-leb 18430 (length g) (room .given),
-          le-leb 18430 (length w) (room .words),
-          le-leb 18430 (length b) (room .base),
+          le-leb 18431 (length o) (room .operands),
+          le-leb 18431 (length r) (room .results),
+          le-leb 18431 (length g) (room .given),
+          le-leb 18431 (length w) (room .words),
+          le-leb 18431 (length b) (room .base),
         )
 
 pub asked-short : {a : Outcome (Option Found)} {o r g w b : List ℕ} (netlist inputs codes : List ℕ) → Roomy o r g w b → length netlist ≤ 60000

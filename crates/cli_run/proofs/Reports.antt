@@ -29,10 +29,10 @@ unfolding runCall
 call-roomy netlist inputs {list} {b} {o} {r} {g} {w} m h e =
     let long : tablesLong (large Old) (length o ∷ length r ∷ length g ∷ length w ∷ []) ≡ true
     = rw (
-      le-leb 18430 (length o) (m .operands),
-      le-leb 18430 (length r) (m .results),
-      le-leb 18430 (length g) (m .given),
-      le-leb 18430 (length w) (m .words),
+      le-leb 18431 (length o) (m .operands),
+      le-leb 18431 (length r) (m .results),
+      le-leb 18431 (length g) (m .given),
+      le-leb 18431 (length w) (m .words),
     ) in
     ap (λ (t : Bool). ask 1 t (andThen (readNetlist (large Old) netlist) (runOutcome list (length b)))) long
     ∙ ap (λ (room : ℕ). andThen (readNetlist (large Old) netlist) (runOutcome list room)) (m .bits)

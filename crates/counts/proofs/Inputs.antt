@@ -1,17 +1,17 @@
 -- The input wires under the mask setting and the input setting of a number, bit by bit.
 use mathlib.Core.Path.{_≡_, refl, ap, _∙_}
-use mathlib.Core.Bool.{Bool, true, false, cond}
+use mathlib.Core.Bool.{Bool, true, false}
 use mathlib.Core.List.{List, [], _∷_}
 use Prim.Native.Nat.{ℕ, zero, suc, _+_, _/_, _<_}
 use native.Mathlib.Nat.{le-of-suc-le-suc, not-suc-le-zero}
 use native.Mathlib.Numerals.{add-one}
 use native.Mathlib.Omega.{arith}
-use lib.Dec.{eqb}
 use lib.ListN.{length, getD}
 use Rattle.netlist.specs.Eval.{differs}
 use Rattle.netlist.specs.Leak.{maskOf, masked, setting}
+use Rattle.netlist.proofs.Settings.{publicOnly-at}
 use Rattle.eval.specs.Lane.{lane}
-use Rattle.counts.specs.Base.{kept, baseOf, part}
+use Rattle.counts.specs.Base.{kept, part}
 use Rattle.counts.specs.Block.{inputsAt}
 
 setting-at : (k s i : ℕ) → i < k → getD (setting k s) i false ≡ lane i s
@@ -19,25 +19,10 @@ setting-at zero s i l = absurd (not-suc-le-zero l)
 setting-at (suc k) s zero l = refl
 setting-at (suc k) s (suc i) l = setting-at k (s / 2) i (le-of-suc-le-suc l)
 
--- a base's bits beyond a short setting are zero too
-none-kept : (e : ℕ) → false ≡ kept false e false
-none-kept e = go (eqb e 0)
-  where
-    go : (b : Bool) → false ≡ cond b false false
-    go true = refl
-    go false = refl
-
-base-at : (es : List ℕ) (x : List Bool) (i : ℕ) → i < length es → getD (baseOf es x) i false ≡ kept false (getD es i 0) (getD x i false)
-base-at [] x i l = absurd (not-suc-le-zero l)
-base-at (e ∷ es) [] zero l = none-kept e
-base-at (e ∷ es) (b ∷ x) zero l = refl
-base-at (e ∷ es) [] (suc i) l = base-at es [] i (le-of-suc-le-suc l)
-base-at (e ∷ es) (b ∷ x) (suc i) l = base-at es x i (le-of-suc-le-suc l)
-
 part-at : (whole : Bool) (codes : List ℕ) (s i : ℕ) → i < length codes
     → getD (part whole codes (setting (length codes) s)) i false ≡ kept whole (getD codes i 0) (lane i s)
 part-at true codes s i l = setting-at (length codes) s i l
-part-at false codes s i l = base-at codes (setting (length codes) s) i l ∙ ap (kept false (getD codes i 0)) (setting-at (length codes) s i l)
+part-at false codes s i l = publicOnly-at codes (setting (length codes) s) i l ∙ ap (kept false (getD codes i 0)) (setting-at (length codes) s i l)
 
 module _ (m0 m1 : Bool) where
   masked-long : (es : List ℕ) (x : List Bool) → length (masked m0 m1 es x) ≡ length es + 2

@@ -7,9 +7,9 @@ use mathlib.Core.Logic.{_≢_}
 use mathlib.Core.Path.{_≡_}
 use lib.ListN.{length, getD}
 use Rattle.netlist.specs.Netlist.{Netlist}
-use Rattle.netlist.specs.Leak.{masked, bit, setting}
+use Rattle.netlist.specs.Leak.{masked, bit, setting, Secret}
 use Rattle.eval.specs.Lane.{lane}
-use Rattle.counts.specs.Base.{part, countIn, Secret}
+use Rattle.counts.specs.Base.{part, countIn}
 
 -- the input wires under the mask setting and the input setting of a number, or that setting's base
 abbrev pub inputsAt : Bool → List ℕ → ℕ → List Bool

@@ -5,9 +5,9 @@ ghost use mathlib.Core.Path.{_≡_};
 ghost use mathlib.Core.Bool.{true, false};
 ghost use Prim.Native.Nat.{ℕ, _+_, _<_, _≤_};
 ghost use lib.ListN.{length};
+ghost use Rattle.netlist.specs.Leak.{Secret};
 ghost use Rattle.netlist.specs.Table.{tables, Wired};
 ghost use Rattle.eval.specs.Bare.{bare};
-ghost use Rattle.counts.specs.Base.{Secret};
 ghost use Rattle.counts.specs.Block.{onesOf, nibblesOf, Counted, Ready};
 
 // The words of all wires in a block's settings, or in their bases.

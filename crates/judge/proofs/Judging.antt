@@ -5,21 +5,19 @@ use mathlib.Core.Bool.{true, false}
 use mathlib.Core.List.{List, [], _∷_}
 use mathlib.Core.Option.{Option}
 use native.Mathlib.Omega.{arith}
-use lib.Dec.{T, eqb, leb, eqb→eq}
+use lib.Dec.{eqb, leb, eqb→eq}
 use lib.ListN.{length, getD}
 use borrow.Author.Tests.{le-leb, lt-leb}
 use Rattle.netlist.specs.Lists.{every, sum}
 use Rattle.netlist.specs.Netlist.{Netlist, inputBits}
 use Rattle.netlist.specs.Outcome.{Outcome, refused, done}
-use Rattle.netlist.specs.Mask.{isCode}
+use Rattle.netlist.specs.Mask.{isInputCode}
 use Rattle.netlist.specs.Leak.{Found, leak}
 use Rattle.netlist.specs.Services.{listGood, endsInMasks, maxChecked, checkOutcome}
 use Rattle.netlist.specs.Table.{Tables, Holds}
 use Rattle.netlist.proofs.Tests.{both, true-T}
 use Rattle.leak.specs.declared.search.Verdict.{Verdict}
-use Rattle.counts.specs.Base.{Secret}
-use Rattle.leak.specs.Search.{foundOf, Tells}
-use Rattle.counts.proofs.Bases.{codes-secret}
+use Rattle.leak.specs.Search.{foundOf}
 
 -- ---- question 10
 
@@ -38,22 +36,15 @@ masks-bits ws e =
 
 -- ---- question 11
 
-module _ (n : ℕ) (codes : List ℕ) (good : listGood isCode n codes ≡ true) where
-  parts : T (eqb (length codes) n) × T (every isCode codes)
-  parts = both (eqb (length codes) n) (every isCode codes) (true-T (listGood isCode n codes) good)
-
-  pub codes-length : length codes ≡ n
-  codes-length = eqb→eq (length codes) n (parts .0)
-
-  pub codes-masked : Secret codes
-  codes-masked = codes-secret codes (parts .1)
+pub codes-length : (n : ℕ) (codes : List ℕ) → listGood isInputCode n codes ≡ true → length codes ≡ n
+codes-length n codes good = eqb→eq (length codes) n (both (eqb (length codes) n) (every isInputCode codes) (true-T (listGood isInputCode n codes) good) .0)
 
 -- ---- the core's verdict, where it is handed as many words as there are wires
 
-pub told : {t : Tables} {m k W n o : ℕ} {N : Netlist} {codes : List ℕ} {v : Verdict} (u : Verdict) → k ≡ W → v ≡ u → Secret codes
-    → ((n o : ℕ) (N : Netlist) → Holds t m k n o N → Tells N codes v) → Holds t m W n o N
+pub told : {t : Tables} {m k W n o : ℕ} {N : Netlist} {v : Verdict} (codes : List ℕ) (u : Verdict) → k ≡ W → v ≡ u
+    → ((n o : ℕ) (N : Netlist) → Holds t m k n o N → foundOf v ≡ leak N codes) → Holds t m W n o N
     → _≡_ {A = Outcome (Option Found)} (done (foundOf u)) (done (leak N codes))
-told {n = n} {o = o} {N = N} u p e s f h = ap done (ap foundOf (sym e) ∙ f n o N (rw p h) .secret s)
+told {n = n} {o = o} {N = N} codes u p e f h = ap done (ap foundOf (sym e) ∙ f n o N (rw p h))
 
 -- ---- questions 10 to 12, from the widths and the number of the input bits
 
@@ -61,12 +52,12 @@ module _ (N : Netlist) (codes ws : List ℕ) (n : ℕ) (widths : ws ≡ N .input
   pub outcome-ten : endsInMasks ws ≡ false → refused 10 ≡ checkOutcome codes N
   outcome-ten e = sym (rw (← widths, e))
 
-  pub outcome-eleven : endsInMasks ws ≡ true → listGood isCode (n - 2) codes ≡ false → refused 11 ≡ checkOutcome codes N
+  pub outcome-eleven : endsInMasks ws ≡ true → listGood isInputCode (n - 2) codes ≡ false → refused 11 ≡ checkOutcome codes N
   outcome-eleven e g = sym (rw (bits, g, ← widths, e))
 
-  pub outcome-twelve : endsInMasks ws ≡ true → listGood isCode (n - 2) codes ≡ true → maxChecked < length codes → refused 12 ≡ checkOutcome codes N
+  pub outcome-twelve : endsInMasks ws ≡ true → listGood isInputCode (n - 2) codes ≡ true → maxChecked < length codes → refused 12 ≡ checkOutcome codes N
   outcome-twelve e g l = sym (rw (bits, g, ← widths, e, lt-leb (length codes) 12 l))
 
-  pub outcome-told : {a : Outcome (Option Found)} → endsInMasks ws ≡ true → listGood isCode (n - 2) codes ≡ true → length codes ≤ maxChecked
+  pub outcome-told : {a : Outcome (Option Found)} → endsInMasks ws ≡ true → listGood isInputCode (n - 2) codes ≡ true → length codes ≤ maxChecked
       → a ≡ done (leak N codes) → a ≡ checkOutcome codes N
   outcome-told e g l p = p ∙ sym (rw (bits, g, ← widths, e, le-leb (length codes) 12 l))

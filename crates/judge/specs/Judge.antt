@@ -11,17 +11,17 @@ use Rattle.judge.specs.declared.Checked.the-variants.{Clean, Leak, Refus
 
 -- the numbers of a leak
 abbrev pub found : ℕ → ℕ → ℕ → ℕ → Found
-found w s z o = record { wire = w; at = s; base = z; own = o }
+found w s b o = record { wire = w; at = s; base = b; own = o }
 
 -- the outcome that an answer stands for
 abbrev pub outcomeOf : Checked → Outcome (Option Found)
 outcomeOf Clean = done none
-outcomeOf (Leak w s z o) = done (some (found w s z o))
+outcomeOf (Leak w s b o) = done (some (found w s b o))
 outcomeOf (Refused q) = refused q
 
 -- the equal-count rule, as an answer has it of a netlist under input codes: clean, so every wire meets the rule; or the lowest leak,
 -- so one does not; a refusal says nothing
 abbrev pub Judged : Netlist → List ℕ → Checked → Type 0
 Judged N codes Clean = L.Clean N codes
-Judged N codes (Leak w s z o) = LowestLeak N codes (found w s z o) × (L.Clean N codes → ⊥)
+Judged N codes (Leak w s b o) = LowestLeak N codes (found w s b o) × (L.Clean N codes → ⊥)
 Judged N codes (Refused q) = Unit

@@ -10,10 +10,9 @@ ghost use Rattle.netlist.specs.Netlist.{Netlist};
 ghost use Rattle.netlist.specs.Outcome.{done};
 ghost use Rattle.netlist.specs.Services.{endsInMasks, checkOutcome, maxChecked};
 ghost use Rattle.netlist.specs.Table.{tables, Wired, Holds};
-ghost use Rattle.counts.specs.Base.{Secret};
 ghost use Rattle.judge.specs.Judge.{outcomeOf};
 
-// Clean; or a leak: its wire, its setting, setting 0's count and that setting's; or the first question that gets a no.
+// Clean; or a leak: its wire, its setting, its base's count and its own; or the first question that gets a no.
 pub enum Checked {
     Clean,
     Leak(usize, u64, u8, u8),
@@ -46,7 +45,7 @@ fn verdict(
     base: &mut [u64],
 ) -> Checked
     requires { ⌜ Wired (tables (now operands) (now results)) wires count ⌝ }
-    requires { ⌜ Secret (now codes) × (length (now codes) ≤ maxChecked) × (length (now codes) + 2 ≤ wires) × (wires ≤ length (now words)) × (wires ≤ length (now base)) ⌝ }
+    requires { ⌜ (length (now codes) ≤ maxChecked) × (length (now codes) + 2 ≤ wires) × (wires ≤ length (now words)) × (wires ≤ length (now base)) ⌝ }
     ensures { λ r. ⌜ ((n o : ℕ) (N : Netlist) → Holds (tables (now (operands .entry)) (now (results .entry))) count wires n o N → outcomeOf r ≡ done (leakOf N (now (codes .entry)))) ⌝ }
 {
     match leak::search::leaks(
@@ -58,7 +57,7 @@ fn verdict(
         &mut base[..wires],
     ) {
         Verdict::Clean => Checked::Clean,
-        Verdict::Leak(wire, setting, zero, own) => Checked::Leak(wire, setting, zero, own),
+        Verdict::Leak(wire, setting, base, own) => Checked::Leak(wire, setting, base, own),
     }
 }
 

@@ -10,7 +10,7 @@ use lib.ListN.{length}
 use lib.Pow.{pow-pos}
 use borrow.Author.Tests.{ltb-true, ltb-false}
 use Rattle.netlist.specs.Netlist.{Netlist}
-use Rattle.netlist.specs.Leak.{count, setting, firstWire}
+use Rattle.netlist.specs.Leak.{count, setting, firstWire, countAt, baseAt, leak}
 use Rattle.netlist.specs.Table.{Tables, Holds}
 use Rattle.netlist.proofs.Tests.{onBool}
 use Rattle.netlist.proofs.Search.{Searched, search-is}
@@ -18,12 +18,11 @@ use Rattle.netlist.proofs.Settings.{setting-mod}
 use Rattle.eval.specs.Bare.{bare}
 use Rattle.eval.proofs.Runs.{bare-wires}
 use Rattle.leak.specs.declared.spot.Spot.{Spot}
-use Rattle.counts.specs.Base.{part, countIn, publicLeak}
+use Rattle.counts.specs.Base.{part, countIn}
 use Rattle.leak.specs.Spot.{Spotted}
-use Rattle.leak.specs.Search.{foundOf, Tells}
+use Rattle.leak.specs.Search.{foundOf}
 use Rattle.leak.specs.declared.search.Verdict.{Verdict}
 use Rattle.leak.specs.declared.search.Verdict.the-variants.{Clean, Leak}
-use Rattle.counts.proofs.Bases.{secret-leak}
 use Rattle.leak.proofs.Spots.{spot-same}
 
 -- a count is that of the netlist that the tables hold
@@ -35,10 +34,10 @@ count-bare h codes w x = simp (bare-wires h)
 module _ {t : Tables} {m W n o : ℕ} {N : Netlist} (h : Holds t m W n o N) (codes : List ℕ) (S : ℕ) (p : Spot)
     (room : 2 ^ length codes ≤ S) (spotted : Spotted (countIn (bare t m W) false codes) (countIn (bare t m W) true codes) W S p) where
   abbrev f : ℕ → ℕ → ℕ
-  f = countIn N false codes
+  f = baseAt N codes
 
   abbrev g : ℕ → ℕ → ℕ
-  g = countIn N true codes
+  g = countAt N codes
 
   -- settings go round after the last
   round : (whole : Bool) (w s : ℕ) → countIn N whole codes w s ≡ countIn N whole codes w (s % 2 ^ length codes)
@@ -59,14 +58,11 @@ module _ {t : Tables} {m W n o : ℕ} {N : Netlist} (h : Holds t m W n o N) (cod
       let c = ltb-false (p .at) (2 ^ length codes) e in
       absurd (d .other (round false (p .wire) (p .at) ∙ d .smaller (p .at % 2 ^ length codes) (omega arith) ∙ sym (round true (p .wire) (p .at)))))
 
-  tells : (v : Verdict) → Searched f g (2 ^ length codes) W (foundOf v) → Tells N codes v
-  unfolding publicLeak
-  tells v s =
-      let e : foundOf v ≡ publicLeak N codes
-      = search-is f g (2 ^ length codes) W (foundOf v) s ∙ ap (λ (k : ℕ). firstWire f g (2 ^ length codes) k 0) (sym (h .wires)) in
-      record { public = e; secret = λ k. e ∙ secret-leak N codes k }
+  tells : (v : Verdict) → Searched f g (2 ^ length codes) W (foundOf v) → foundOf v ≡ leak N codes
+  unfolding leak
+  tells v s = search-is f g (2 ^ length codes) W (foundOf v) s ∙ ap (λ (k : ℕ). firstWire f g (2 ^ length codes) k 0) (sym (h .wires))
 
-  pub tells-leak : p .wire < W → Tells N codes (Leak (p .wire) (p .at) (p .base) (p .own))
+  pub tells-leak : p .wire < W → foundOf (Leak (p .wire) (p .at) (p .base) (p .own)) ≡ leak N codes
   tells-leak l =
       let d = spot .differs l in
       tells (Leak (p .wire) (p .at) (p .base) (p .own))
@@ -76,5 +72,5 @@ module _ {t : Tables} {m W n o : ℕ} {N : Netlist} (h : Holds t m W n o N) (cod
         differs = record { at = inside l; smaller = d .smaller; other = d .other; base = d .base; own = d .own };
       })
 
-  pub tells-clean : p .wire ≡ W → Tells N codes Clean
+  pub tells-clean : p .wire ≡ W → foundOf Clean ≡ leak N codes
   tells-clean e = tells Clean (λ w a s b. spot .lower w (omega arith) s (omega arith))

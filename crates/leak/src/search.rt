@@ -7,13 +7,14 @@ ghost use mathlib.Core.Bool.{true, false};
 ghost use Prim.Native.Nat.{ℕ, _+_, _*_, _^_, _<_, _≤_};
 ghost use lib.ListN.{length};
 ghost use Rattle.netlist.specs.Netlist.{Netlist};
+ghost use Rattle.netlist.specs.Leak.{leak};
 ghost use Rattle.netlist.specs.Services.{maxChecked};
 ghost use Rattle.netlist.specs.Table.{tables, Wired, Holds};
 ghost use Rattle.eval.specs.Bare.{bare};
 ghost use Rattle.counts.specs.Base.{countIn};
 ghost use Rattle.counts.specs.Block.{Ready};
 ghost use Rattle.leak.specs.Spot.{Spotted, from};
-ghost use Rattle.leak.specs.Search.{Tells};
+ghost use Rattle.leak.specs.Search.{foundOf};
 
 // Clean, or a leak: its wire, its setting, its base's count and its own.
 pub enum Verdict {
@@ -87,8 +88,8 @@ fn blocks_of(k: usize) -> u64
     if k < 4 { 1 } else { 1 << (k - 4) }
 }
 
-// Whether the tables' netlist is clean under the input codes, and the leak if not. Code 0 marks a
-// public bit. The words and the base, one entry for each wire, are working store.
+// Whether the tables' netlist is clean under the input codes, and the leak if not. The words and the
+// base, one entry for each wire, are working store.
 pub fn leaks(
     operands: &[u64],
     results: &[u64],
@@ -99,7 +100,7 @@ pub fn leaks(
 ) -> Verdict
     requires { ⌜ Wired (tables (now operands) (now results)) (length (now words)) count ⌝ }
     requires { ⌜ (length (now codes) ≤ maxChecked) × (length (now codes) + 2 ≤ length (now words)) × (length (now base) ≡ length (now words)) ⌝ }
-    ensures { λ r. ⌜ ((n o : ℕ) (N : Netlist) → Holds (tables (now (operands .entry)) (now (results .entry))) count (length (now (words .entry))) n o N → Tells N (now (codes .entry)) r) ⌝ }
+    ensures { λ r. ⌜ ((n o : ℕ) (N : Netlist) → Holds (tables (now (operands .entry)) (now (results .entry))) count (length (now (words .entry))) n o N → foundOf r ≡ leak N (now (codes .entry))) ⌝ }
 {
     let spot = find(
         operands,

@@ -1,17 +1,15 @@
 -- The entries of a list that were looked at, and its length.
 use Prim.Native.Nat.{ℕ, _+_, _≤_, _<_}
-use mathlib.Core.Path.{_≡_, refl, sym, ap, ap₂, _∙_}
+use mathlib.Core.Path.{_≡_, refl, sym, ap, _∙_}
 use mathlib.Core.Bool.{Bool, true, false, _&&_}
-use mathlib.Core.List.{List, [], _∷_}
+use mathlib.Core.List.{List}
 use native.Mathlib.Numerals.{add-one}
 use native.Mathlib.Omega.{arith}
-use lib.Dec.{leb}
 use lib.ListN.{length, drop, getD, drop-of-length-le}
 use lib.Seq.{drop-cons}
-use borrow.Author.Tests.{le-leb, lt-leb, eq-eqb, ne-eqb}
+use borrow.Author.Tests.{eq-eqb, ne-eqb}
 use Rattle.netlist.specs.Lists.{every}
 use Rattle.netlist.specs.Services.{listGood}
-use Rattle.lists.specs.Range.{inRange}
 
 -- the first i entries pass a test
 pub record Passing (p : ℕ → Bool) (s : List ℕ) (i : ℕ) : Type 0 where
@@ -34,28 +32,9 @@ module _ {p : ℕ → Bool} {s : List ℕ} {i : ℕ} (f : Passing p s i) where
   pub passing-all : length s ≤ i → true ≡ every p s
   passing-all h = sym (f .left ∙ ap (every p) (drop-of-length-le s h))
 
--- an entry against the range
-pub in-low : {low e : ℕ} (high : ℕ) → e < low → inRange low high e ≡ false
-in-low {low} {e} high h = rw (lt-leb low e h)
-
-pub in-high : {low high e : ℕ} → low ≤ e → high < e → inRange low high e ≡ false
-in-high {low} {high} {e} h k = rw (le-leb low e h, lt-leb e high k)
-
-pub in-both : {low high e : ℕ} → low ≤ e → e ≤ high → inRange low high e ≡ true
-in-both {low} {high} {e} h k = rw (le-leb low e h, le-leb e high k)
-
--- tests that agree
-every-same : (p q : ℕ → Bool) → ((e : ℕ) → p e ≡ q e) → (s : List ℕ) → every p s ≡ every q s
-every-same p q h [] = refl
-every-same p q h (x ∷ s) = ap₂ _&&_ (h x) (every-same p q h s)
-
 -- a list's length and its entries
 pub list-short : (p : ℕ → Bool) (n : ℕ) (s : List ℕ) → (length s ≡ n → ⊥) → false ≡ listGood p n s
 list-short p n s h = rw (ne-eqb (length s) n h)
 
 pub list-good : (p : ℕ → Bool) (n : ℕ) (s : List ℕ) {r : Bool} → length s ≡ n → r ≡ every p s → r ≡ listGood p n s
 list-good p n s h e = rw (eq-eqb (length s) n h) e
-
--- from 0 on only the upper end counts
-pub range-from-zero : (high : ℕ) (s : List ℕ) → every (inRange 0 high) s ≡ every (λ e. leb e high) s
-range-from-zero high s = every-same (inRange 0 high) (λ e. leb e high) (λ e. rw (le-leb 0 e (omega arith)) refl) s

@@ -1,7 +1,8 @@
 -- A range of numbers.
 use Prim.Native.Nat.{ℕ}
-use mathlib.Core.Bool.{Bool, _&&_}
+use mathlib.Core.Bool.{Bool}
 use lib.Dec.{leb}
 
-abbrev pub inRange : ℕ → ℕ → ℕ → Bool
-inRange low high e = leb low e && leb e high
+-- 0 to most
+abbrev pub upTo : ℕ → ℕ → Bool
+upTo most e = leb e most

@@ -20,17 +20,20 @@ pub mod Models
 pub mod Order
 pub mod AndRows
 pub mod Placed
+pub mod PublicGates
 pub mod OutputGates
 pub mod MaskInputs
 pub mod Shape
 pub mod Carries
 pub mod GateTwins
+pub mod PublicTwins
 pub mod OutputTwins
 pub mod MaskedWires
 -- the leak search
 pub mod Settings
 pub mod Search
 pub mod LeakSearch
+pub mod Secrets
 -- what Mask promises
 pub mod Masking
 pub mod GateCount
@@ -41,3 +44,5 @@ pub mod Puts
 pub mod Answering
 -- known results
 pub mod KnownResults
+-- the edges of the limits
+pub mod Edges

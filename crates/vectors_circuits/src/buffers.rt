@@ -7,12 +7,12 @@ pub(crate) fn text() -> [u8; 500000] {
 }
 
 // As many entries as there are wires at most.
-pub(crate) fn bytes() -> [u8; 18430] {
-    [0; 18430]
+pub(crate) fn bytes() -> [u8; 18431] {
+    [0; 18431]
 }
 
-pub(crate) fn words() -> [u64; 18430] {
-    [0; 18430]
+pub(crate) fn words() -> [u64; 18431] {
+    [0; 18431]
 }
 
 // Four entries a gate.

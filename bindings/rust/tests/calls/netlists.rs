@@ -99,6 +99,12 @@ pub fn with_mask_pair(random: &mut Random, bits: usize, gate_count: usize) -> Ne
     netlist
 }
 
+/// The codes of so many input bits, with public ones among them or without.
+pub fn codes(random: &mut Random, bits: usize) -> Vec<u8> {
+    let least = random.pick(&[0, 1]);
+    random.list(bits, least, 3)
+}
+
 /// A netlist for Check and its codes: one made at random, a masked one, or a masked one with a
 /// change, which leaks or not.
 pub fn checkable(random: &mut Random) -> (Netlist, Vec<u8>) {
@@ -110,21 +116,21 @@ pub fn checkable(random: &mut Random) -> (Netlist, Vec<u8>) {
     };
     let gate_count = random.below(if bits > 8 { 8 } else { 16 });
     if random.percent(40) {
-        return (with_mask_pair(random, bits, gate_count), random.list(bits, 1, 3));
+        return (with_mask_pair(random, bits, gate_count), codes(random, bits));
     }
     let source = netlist(random, bits, gate_count);
-    let mut codes = random.list(bits, 1, 3);
+    let mut list = codes(random, bits);
     let wanted = random.list(source.output_bits(), 0, 3);
-    let (mut masked, _) = mask::mask(&source, &codes, &wanted);
+    let (mut masked, _) = mask::mask(&source, &list, &wanted);
     match random.below(4) {
         0 => (),
-        1 => codes = random.list(bits, 1, 3),
+        1 => list = codes(random, bits),
         _ => change_gate(random, &mut masked),
     }
     if random.percent(30) {
         renumber(random, &mut masked);
     }
-    (masked, codes)
+    (masked, list)
 }
 
 /// Other numbers for the wires that are no inputs, so that low wires may be given late.

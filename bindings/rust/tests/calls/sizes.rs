@@ -24,8 +24,8 @@ pub fn fitted(random: &mut Random, service: Service, netlist: &Netlist) -> Call 
     let list = match service {
         Service::Rewrite => Vec::new(),
         Service::Run => random.list(bits, 0, 1),
-        Service::Mask => random.list(bits, 1, 3),
-        Service::Check => random.list(bits.saturating_sub(2), 1, 3),
+        Service::Mask => netlists::codes(random, bits),
+        Service::Check => netlists::codes(random, bits.saturating_sub(2)),
     };
     let wanted = if service == Service::Mask { random.list(netlist.output_bits(), 0, 3) } else { Vec::new() };
     Call::new(service, &netlist.write(), &list, &wanted)
@@ -141,8 +141,8 @@ fn many_gates(random: &mut Random, service: Service) -> Call {
     fitted(random, service, &netlist)
 }
 
-/// A source of one bit, 2,047 ANDs of a wire with itself and 2,048 output bits: no masked netlist
-/// has more wires, and its text is the longest.
+/// A source of one bit, 2,047 ANDs of a wire with itself and 2,048 output bits: with the bit public no
+/// masked netlist has more wires.
 pub fn ladder() -> Netlist {
     let gates = (1..2_048).map(|c| Gate::And(c - 1, c - 1, c)).collect();
     Netlist { wires: 2_048, inputs: vec![1], outputs: vec![2_048], gates }

@@ -148,6 +148,16 @@ const SQUARE_MASKED: &str = "12 15\n2 1 2\n1 1\n
 2 1 0 6 7 AND\n2 1 0 2 8 AND\n2 1 8 2 9 XOR\n2 1 7 9 10 XOR\n2 1 3 6 11 AND\n2 1 11 5 12 XOR\n2 1 10 12 13 XOR
 1 1 13 14 EQW\n";
 
+/// A public bit that an AND reads beside a secret one, one that nothing reads, and one that is put out.
+const PUBLIC_MASKED: &str = "12 16\n3 1 1 2\n1 1\n
+2 1 2 3 4 XOR\n2 1 2 3 5 AND\n2 1 4 5 6 XOR\n2 1 0 2 7 XOR
+2 1 7 1 8 AND\n2 1 7 3 9 AND\n2 1 9 3 10 XOR\n2 1 8 10 11 XOR\n2 1 2 1 12 AND\n2 1 12 6 13 XOR\n2 1 11 13 14 XOR
+1 1 14 15 EQW\n";
+const UNREAD_MASKED: &str = "6 10\n2 2 2\n1 1\n
+2 1 2 3 4 XOR\n2 1 2 3 5 AND\n2 1 4 5 6 XOR\n2 1 1 2 7 XOR\n1 1 0 8 INV\n1 1 8 9 EQW\n";
+const PUBLIC_OUT_MASKED: &str = "6 10\n2 2 2\n1 2\n
+2 1 2 3 4 XOR\n2 1 2 3 5 AND\n2 1 4 5 6 XOR\n2 1 0 2 7 XOR\n1 1 7 8 EQW\n2 1 1 4 9 XOR\n";
+
 /// Calls of Mask and their results.
 fn masking() -> Vec<Row> {
     let mask = |text: &str, codes: &[u8], wanted: &[u8]| Call::new(Mask, text.as_bytes(), codes, wanted);
@@ -166,7 +176,17 @@ fn masking() -> Vec<Row> {
         ),
         row("AND of a wire with itself", mask(SQUARE, &[3], &[0]), masked(SQUARE_MASKED, &[3])),
         row("17 input values", mask(REWRITTEN[8].1, &[1; 17], &[0; 17]), Err(5)),
-        row("a code of 0", mask(AND, &[0, 1], &[0]), Err(11)),
+        row("a public bit beside a secret one", mask(AND, &[0, 2], &[0]), masked(PUBLIC_MASKED, &[1])),
+        row(
+            "a public bit that nothing reads",
+            mask("1 3\n1 2\n1 1\n1 1 0 2 INV\n", &[1, 0], &[0]),
+            masked(UNREAD_MASKED, &[1]),
+        ),
+        row(
+            "a public bit that is put out",
+            mask("0 2\n1 2\n1 2\n", &[0, 2], &[1, 1]),
+            masked(PUBLIC_OUT_MASKED, &[1, 1]),
+        ),
         row("a code of 4", mask(AND, &[1, 4], &[0]), Err(11)),
         row("a code of 255", mask(AND, &[255, 1], &[0]), Err(11)),
         row("a code too many", mask(AND, &[1, 2, 3], &[0]), Err(11)),
@@ -188,6 +208,8 @@ fn checking() -> Vec<Row> {
     let second_value = "1 5\n3 1 1 2\n1 1\n2 1 1 2 4 XOR\n";
     let late = "2 7\n2 3 2\n1 1\n2 1 2 3 5 XOR\n2 1 1 4 6 XOR\n";
     let product = "1 5\n2 2 2\n1 1\n2 1 0 1 4 AND\n";
+    // The last wire has count 2 where the public bit is 0; where it is 1, the wire is the secret.
+    let mixed = "2 6\n2 2 2\n1 1\n2 1 0 1 4 AND\n2 1 4 2 5 XOR\n";
     vec![
         row("the lowest wire, not the first gate", check(falling, &[1]), leak([3, 1, 0, 4])),
         row("input bits count over all values", check(second_value, &[1, 1]), leak([4, 2, 0, 4])),
@@ -202,11 +224,16 @@ fn checking() -> Vec<Row> {
         row("no mask pair comes before a wrong list", check("0 3\n2 2 1\n1 1\n", &[9, 9, 9]), Err(10)),
         row("a code for the mask pair too", check("0 3\n2 1 2\n1 1\n", &[1, 1, 1]), Err(11)),
         row("no code", check("0 3\n2 1 2\n1 1\n", &[]), Err(11)),
-        row("a code of 0", check("0 3\n2 1 2\n1 1\n", &[0]), Err(11)),
+        row("a public bit", check("0 3\n2 1 2\n1 1\n", &[0]), clean()),
+        row("a public bit read openly", check("1 4\n2 1 2\n1 1\n1 1 0 3 INV\n", &[0]), clean()),
+        row("a public bit mixed with a secret", check(mixed, &[0, 1]), leak([5, 3, 0, 4])),
+        row("the same of two secrets", check(mixed, &[1, 1]), leak([4, 1, 2, 0])),
+        row("twelve public bits", check("0 14\n2 12 2\n1 1\n", &[0; 12]), clean()),
+        row("thirteen public bits", check("0 15\n2 13 2\n1 1\n", &[0; 13]), Err(12)),
         row("a code of 4", check("0 3\n2 1 2\n1 1\n", &[4]), Err(11)),
         row("a wrong list comes before thirteen bits", check("0 15\n2 13 2\n1 1\n", &[1; 12]), Err(11)),
         row("thirteen bits in two values", check("0 15\n3 6 7 2\n1 1\n", &[1; 13]), Err(12)),
-        row("thousands of bits", check("0 18430\n2 18428 2\n1 1\n", &[1; 18_428]), Err(12)),
+        row("thousands of bits", check("0 18431\n2 18429 2\n1 1\n", &[1; 18_429]), Err(12)),
     ]
 }
 

@@ -18,12 +18,13 @@ pub fn wires(netlist: &Netlist, inputs: &[bool]) -> Vec<bool> {
     bits
 }
 
-/// The mask of a code under a setting of the two mask bits.
+/// The mask of a code under a setting of the two mask bits; a public bit, of code 0, has none.
 pub fn mask_of(code: u8, m0: bool, m1: bool) -> bool {
     match code {
         1 => m0,
         2 => m1,
         3 => m0 != m1,
+        0 => false,
         _ => panic!("{code} is no code"),
     }
 }
@@ -56,21 +57,31 @@ pub fn counts(netlist: &Netlist, codes: &[u8], setting: u64) -> Vec<u64> {
     counts
 }
 
-/// The lowest wire whose count is not the same for all settings, the smallest setting whose count
-/// differs from setting 0's, setting 0's count, and that setting's.
+/// The setting with the same public bits and zero secrets.
+fn public_only(setting: u64, codes: &[u8]) -> u64 {
+    (0..codes.len()).filter(|&bit| codes[bit] == 0).map(|bit| setting & 1 << bit).sum()
+}
+
+/// The lowest wire whose count is not the same for all settings that agree in their public bits, the
+/// smallest setting whose count differs from that of the setting with the same public bits and zero
+/// secrets, that one's count, and its own.
 pub fn leak(netlist: &Netlist, codes: &[u8]) -> Option<[u64; 4]> {
-    let base = counts(netlist, codes, 0);
-    let mut first: Vec<Option<(u64, u64)>> = vec![None; netlist.wires];
+    let (mut compared, mut base) = (0, counts(netlist, codes, 0));
+    let mut first: Vec<Option<[u64; 3]>> = vec![None; netlist.wires];
     for setting in 1..1 << codes.len() {
+        if public_only(setting, codes) != compared {
+            compared = public_only(setting, codes);
+            base = counts(netlist, codes, compared);
+        }
         let own = counts(netlist, codes, setting);
         for wire in 0..netlist.wires {
             if first[wire].is_none() && own[wire] != base[wire] {
-                first[wire] = Some((setting, own[wire]));
+                first[wire] = Some([setting, base[wire], own[wire]]);
             }
         }
     }
     (0..netlist.wires).find_map(|wire| {
-        let (setting, own) = first[wire]?;
-        Some([wire as u64, setting, base[wire], own])
+        let [setting, base, own] = first[wire]?;
+        Some([wire as u64, setting, base, own])
     })
 }

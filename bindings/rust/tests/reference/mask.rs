@@ -69,6 +69,14 @@ impl Masking {
         self.bits + 4
     }
 
+    /// The twin of an input bit; a public one, of code 0, gets mask m0.
+    fn input(&mut self, wire: usize, code: u8) -> Twin {
+        if code == 0 {
+            return Twin { wire: self.xor(wire, self.bits), code: 1 };
+        }
+        Twin { wire, code }
+    }
+
     /// The second operand of a gate, with its mask changed where it has the first's code.
     fn parted(&mut self, a: Twin, b: Twin) -> Twin {
         if a.code != b.code {
@@ -130,7 +138,7 @@ pub fn mask(source: &Netlist, codes: &[u8], wanted: &[u8]) -> (Netlist, Vec<u8>)
 
     let mut twins: Vec<Option<Twin>> = vec![None; source.wires];
     for (wire, &code) in codes.iter().enumerate() {
-        twins[wire] = Some(Twin { wire, code });
+        twins[wire] = Some(masking.input(wire, code));
     }
     for gate in &source.gates {
         twins[gate.result()] = Some(masking.masked(gate, &twins));

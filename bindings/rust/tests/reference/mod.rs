@@ -49,7 +49,7 @@ pub fn mask(
     sizes: Sizes,
 ) -> Result<Masked, u8> {
     let source = read(sizes.small(), tables, text)?;
-    ask(11, codes.len() == source.input_bits() && codes.iter().all(|code| (1..=3).contains(code)))?;
+    ask(11, codes.len() == source.input_bits() && codes.iter().all(|&code| code <= 3))?;
     ask(13, wanted.len() == source.output_bits() && wanted.iter().all(|&code| code <= 3))?;
     let (masked, codes) = mask::mask(&source, codes, wanted);
     let text = masked.write();
@@ -57,13 +57,13 @@ pub fn mask(
     Ok(Masked { text, codes })
 }
 
-/// The outcome of Check: none where the netlist is clean, otherwise the leak's wire, setting, count
-/// for setting 0 and count for that setting.
+/// The outcome of Check: none where the netlist is clean, otherwise the leak's wire, its setting, the
+/// count that this is compared with, and its own.
 pub fn check(tables: &[usize], text: &[u8], codes: &[u8], sizes: Sizes) -> Result<Option<[u64; 4]>, u8> {
     let netlist = read(sizes.large(), tables, text)?;
     ask(10, netlist.inputs.len() >= 2 && netlist.inputs.last() == Some(&2))?;
     let bits = netlist.input_bits() - 2;
-    ask(11, codes.len() == bits && codes.iter().all(|code| (1..=3).contains(code)))?;
+    ask(11, codes.len() == bits && codes.iter().all(|&code| code <= 3))?;
     ask(12, bits <= 12)?;
     Ok(evaluate::leak(&netlist, codes))
 }

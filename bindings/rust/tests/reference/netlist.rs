@@ -109,7 +109,7 @@ impl Sizes {
 pub const SMALL: Limits = Limits { table: 2_048, text: 60_000, wires: 2_048, inputs: 16, outputs: 16 };
 
 /// The limits of Check, Run and Rewrite.
-pub const LARGE: Limits = Limits { table: 18_430, text: 500_000, wires: 18_430, inputs: 17, outputs: 16 };
+pub const LARGE: Limits = Limits { table: 18_431, text: 500_000, wires: 18_431, inputs: 17, outputs: 16 };
 
 /// Mask's limits for whole ciphers.
 pub const WHOLE_SMALL: Limits =

@@ -5,9 +5,9 @@ use mathlib.Core.Bool.{true}
 use lib.ListN.{take}
 use lib.Seq.{length-take-le}
 use borrow.Author.Tests.{not-true, not-false}
-use Rattle.netlist.specs.Mask.{isCode}
+use Rattle.netlist.specs.Mask.{isInputCode}
 use Rattle.netlist.specs.Services.{listGood}
-use Rattle.judge.proofs.Judging.{masks-bits, codes-length, codes-masked, outcome-ten, outcome-eleven, outcome-twelve, outcome-told}
+use Rattle.judge.proofs.Judging.{masks-bits, codes-length, outcome-ten, outcome-eleven, outcome-twelve, outcome-told}
 use native.Mathlib.Omega.{arith}
 use borrow.Author.Needs.{needs}
 use Rattle.judge.proofs.judge.Statement.{statement}
@@ -70,10 +70,10 @@ verdict-requires c κs =
     let cs = s .args .codes .now in
     let ten = masks-bits (take (s .args .h .inputs) (s .args .widths .now))
     (sym (at-ends-in-masks .ends-in-masks .ensures) ∙ not-false _ (c .before .before .before .before .before .before .before .if1 .left)) in
-    let eleven : listGood isCode (s .args .h .ins - 2) cs ≡ true
+    let eleven : listGood isInputCode (s .args .h .ins - 2) cs ≡ true
     = sym (c .before .before .before .before .before .before .codes .ensures) ∙ not-false _ (c .before .before .before .before .before .if2 .left) in
     let l = codes-length (s .args .h .ins - 2) cs eleven in
-    (p .0, (codes-masked (s .args .h .ins - 2) cs eleven, c .before .before .before .before .if3 .left, omega arith, p .1 .3, p .1 .4))
+    (p .0, (c .before .before .before .before .if3 .left, omega arith, p .1 .3, p .1 .4))
 
 same-length : tie.Need-same-length
 same-length c = search needs

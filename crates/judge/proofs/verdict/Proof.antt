@@ -12,21 +12,21 @@ slice-relend-prefix-leaks : tie.Need-slice-relend-prefix-leaks
 slice-relend-prefix-leaks c = search needs
 
 slice-aggregate-leaks : tie.Need-slice-aggregate-leaks
-slice-aggregate-leaks c = sym (length-take-le _ _ (c .before .before .before .before .before .before .pre .1 .3))
+slice-aggregate-leaks c = sym (length-take-le _ _ (c .before .before .before .before .before .before .pre .1 .2))
 
 slice-relend-prefix-leaks-2 : tie.Need-slice-relend-prefix-leaks-2
 slice-relend-prefix-leaks-2 c = search needs
 
 slice-aggregate-leaks-2 : tie.Need-slice-aggregate-leaks-2
-slice-aggregate-leaks-2 c = sym (length-take-le _ _ (c .before .before .before .before .before .before .before .pre .1 .4))
+slice-aggregate-leaks-2 c = sym (length-take-le _ _ (c .before .before .before .before .before .before .before .pre .1 .3))
 
 leaks-requires : tie.Need-leaks-requires
 leaks-requires c κs =
     let s = c .before .before .before .before .before .before .before in
     let p = s .pre in
-    let w = length-take-le (s .args .wires) (s .args .words .now) (p .1 .3) in
-    let b = length-take-le (s .args .wires) (s .args .base .now) (p .1 .4) in
-    (rw w (p .0), (p .1 .1, omega arith, b ∙ sym w))
+    let w = length-take-le (s .args .wires) (s .args .words .now) (p .1 .2) in
+    let b = length-take-le (s .args .wires) (s .args .base .now) (p .1 .3) in
+    (rw w (p .0), (p .1 .0, omega arith, b ∙ sym w))
 
 enum-told : tie.Need-enum-told
 enum-told c = search needs
@@ -44,7 +44,7 @@ returns : tie.Need-returns
 returns c n o N h =
     let s = c .before .before .before .before .before .before .before .before .before .before .before .before .before .before in
     let r = c .before .before .before .before .before .before .leaks in
-    told Clean (length-take-le (s .args .wires) (s .args .words .now) (s .pre .1 .3)) (c .enum-told .given .1) (s .pre .1 .0) (r .ensures) h
+    told (s .args .codes .now) Clean (length-take-le (s .args .wires) (s .args .words .now) (s .pre .1 .2)) (c .enum-told .given .1) (r .ensures) h
 
 same-length-3 : tie.Need-same-length-3
 same-length-3 c = search needs
@@ -56,7 +56,7 @@ returns-2 : tie.Need-returns-2
 returns-2 c n o N h =
     let s = c .before .before .before .before .before .before .before .before .before .before .before .before .before .before .before in
     let r = c .before .before .before .before .before .before .before .leaks in
-    told (Leak _ _ _ _) (length-take-le (s .args .wires) (s .args .words .now) (s .pre .1 .3)) (c .before .wire .given .1) (s .pre .1 .0) (r .ensures)
+    told (s .args .codes .now) (Leak _ _ _ _) (length-take-le (s .args .wires) (s .args .words .now) (s .pre .1 .2)) (c .before .wire .given .1) (r .ensures)
     h
 
 pub verdict-spec : {M : Type 1} → statement M
