@@ -13,6 +13,7 @@ pub mod Size
 pub mod ReaderCalls
 -- masking
 pub mod Codes
+pub mod CodeTables
 pub mod MaskedBits
 pub mod GoodGates
 pub mod Models
