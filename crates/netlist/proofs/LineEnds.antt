@@ -9,7 +9,7 @@ use lib.ListN.{length, drop}
 use borrow.Author.Tests.{eqb-true, le-leb}
 use Rattle.netlist.specs.declared.Limits.{Limits}
 use Rattle.netlist.specs.Lists.{every}
-use Rattle.netlist.specs.Text.{space, lf, cr, atLF, lfEnds, isLineEnd, isSpace, onto, split, filled, words, wordLines}
+use Rattle.netlist.specs.Text.{space, lf, cr, atLF, lfEnds, isLineEnd, isSpace, onto, split, filled, words, wordLines, spaceWords}
 use Rattle.netlist.specs.Read.{byteAllowed, bytesAllowed, opening, readNetlist}
 use Rattle.netlist.specs.GateReader.{readerSays}
 use Rattle.netlist.proofs.Tests.{All, empty, each, onBool, isTrue, both}
@@ -167,14 +167,11 @@ module _ (L : Limits) (t : List ℕ) (n : length t ≤ L .text) (h : NoCR (lfEnd
 
 -- ---- words parted by spaces alone
 
-abbrev pub spaceWords : List ℕ → List (List ℕ)
-spaceWords l = filled (split (λ x. eqb x space) l)
-
 split-spaces : {l : List ℕ} → NoCR l → split isSpace l ≡ split (λ x. eqb x space) l
 split-spaces empty = refl
 split-spaces (each {x = x} p ps) = rw (p, or-false (eqb x space), split-spaces ps)
 
-space-words : {l : List ℕ} → NoCR l → words l ≡ spaceWords l
+pub space-words : {l : List ℕ} → NoCR l → words l ≡ spaceWords l
 unfolding words
 space-words h = ap filled (split-spaces h)
 
