@@ -1,0 +1,8 @@
+// AIGER files (document 02, No. 9) into lent tables.
+pub mod ands;
+pub mod gates;
+pub mod inputs;
+pub mod keep;
+pub mod numbers;
+pub mod stray;
+pub mod variables;
