@@ -53,7 +53,7 @@ given-plain M given x e = onBool (ltb x 2)
     (λ z. literal-even x h (eqb-true (x % 2) 0 z))
     (λ z. not-so (sym (ap (canGive M given) (literal-odd x h (eqb-false (x % 2) 0 z))) ∙ e)))
 
-one-entry : (xs : List ℕ) → length xs ≡ 1 → xs ≡ getD xs 0 0 ∷ []
+pub one-entry : (xs : List ℕ) → length xs ≡ 1 → xs ≡ getD xs 0 0 ∷ []
 one-entry [] e = absurd (omega arith)
 one-entry (x ∷ []) e = refl
 one-entry (x ∷ (y ∷ ys)) e = absurd (omega arith)

@@ -8,3 +8,4 @@ pub mod LineByLine
 pub mod InputLines
 pub mod AndLines
 pub mod AndLoop
+pub mod OutLines

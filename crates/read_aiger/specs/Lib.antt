@@ -4,3 +4,4 @@ pub mod LineAnswers
 pub mod Places
 pub mod StepAnswers
 pub mod AndAnswers
+pub mod OutAnswers

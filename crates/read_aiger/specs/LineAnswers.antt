@@ -10,6 +10,8 @@ use Rattle.aiger.specs.Lines.{fileLine, fileLines}
 use Rattle.read_aiger.specs.Stray.{strayAt}
 use Rattle.read_aiger.specs.declared.numbers.Line.{Line}
 use Rattle.read_aiger.specs.declared.numbers.Line.the-variants as L
+use Rattle.read_aiger.specs.declared.numbers.One.{One}
+use Rattle.read_aiger.specs.declared.numbers.One.the-variants as O
 
 -- so many numbers it has not
 abbrev pub NotSoMany : Option (List ℕ) → ℕ → Type 0
@@ -58,3 +60,13 @@ pub record LineNot (ls : List (List (List ℕ))) (n : ℕ) : Type 0 where
 abbrev pub LineIs : List (List (List ℕ)) → List ℕ → ℕ → List ℕ → Line → Type 0
 LineIs ls t n xs (L.Is c) = LineAt ls t n xs (c .at)
 LineIs ls t n xs L.Not = LineNot ls n
+
+-- the first of some lines holds one number
+pub record OneAt (ls : List (List (List ℕ))) (t : List ℕ) (x to : ℕ) : Type 0 where
+  pub line : firstNumbers ls ≡ some (x ∷ [])
+  pub left : fileLines (drop to t) ≡ drop 1 ls
+  pub within : to ≤ strayAt t
+
+abbrev pub OneIs : List (List (List ℕ)) → List ℕ → One → Type 0
+OneIs ls t (O.Is x c) = OneAt ls t x (c .at)
+OneIs ls t O.Not = LineNot ls 1

@@ -4,5 +4,6 @@ pub mod gates;
 pub mod inputs;
 pub mod keep;
 pub mod numbers;
+pub mod outputs;
 pub mod stray;
 pub mod variables;

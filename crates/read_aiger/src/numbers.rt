@@ -7,11 +7,17 @@ ghost use Prim.Native.Nat.{_≤_};
 ghost use lib.ListN.{length, drop};
 ghost use Rattle.aiger.specs.Lines.{fileLines};
 ghost use Rattle.read_aiger.specs.Stray.{strayAt};
-ghost use Rattle.read_aiger.specs.LineAnswers.{NumbersIs, FileLineIs, LineIs};
+ghost use Rattle.read_aiger.specs.LineAnswers.{NumbersIs, FileLineIs, LineIs, OneIs};
 
 // The start of the next line, behind a line that holds as many numbers as were asked for.
 pub enum Line {
     Is(Cursor),
+    Not,
+}
+
+// The number of a line that holds one, with the start of the next line.
+pub enum One {
+    Is(u32, Cursor),
     Not,
 }
 
@@ -56,4 +62,16 @@ pub fn next_numbers(text: &[u8], at: Cursor, stray: usize, into: &mut [u32]) -> 
     ensures { λ r. ⌜ LineIs (fileLines (drop (at .at) (now (text .entry)))) (now (text .entry)) (length (now (into .entry))) (now (into .exit)) r ⌝ }
 {
     line_numbers(text, at.skip_blanks(text), stray, into)
+}
+
+// The number of the next line that is not blank, if it holds one.
+pub fn one_number(text: &[u8], at: Cursor, stray: usize) -> One
+    requires { ⌜ (at .at ≤ strayAt (now text)) × (stray ≡ strayAt (now text)) ⌝ }
+    ensures { λ r. ⌜ OneIs (fileLines (drop (at .at) (now (text .entry)))) (now (text .entry)) r ⌝ }
+{
+    let mut numbers = [0u32; 1];
+    let Line::Is(next) = next_numbers(text, at, stray, &mut numbers) else {
+        return One::Not;
+    };
+    One::Is(numbers[0], next)
 }
