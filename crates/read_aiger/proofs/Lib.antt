@@ -9,3 +9,4 @@ pub mod InputLines
 pub mod AndLines
 pub mod AndLoop
 pub mod OutLines
+pub mod HeadLaws

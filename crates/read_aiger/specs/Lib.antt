@@ -5,3 +5,4 @@ pub mod Places
 pub mod StepAnswers
 pub mod AndAnswers
 pub mod OutAnswers
+pub mod HeadAnswers

@@ -1,6 +1,7 @@
 // AIGER files (document 02, No. 9) into lent tables.
 pub mod ands;
 pub mod gates;
+pub mod head;
 pub mod inputs;
 pub mod keep;
 pub mod numbers;
