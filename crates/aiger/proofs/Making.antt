@@ -85,7 +85,7 @@ length-enter table (v ∷ vs) (x ∷ xs) = length-enter (set table v x) vs xs �
 
 -- ---- order
 
-inputs-located : (M : ℕ) (vs given table : List ℕ) (k : ℕ) → length table ≡ M + 1 → Located (wireAt table) k given → T (freshAll M given vs)
+pub inputs-located : (M : ℕ) (vs given table : List ℕ) (k : ℕ) → length table ≡ M + 1 → Located (wireAt table) k given → T (freshAll M given vs)
     → Located (wireAt (enter table vs (upFrom k (length vs)))) (k + length vs) (giving given vs)
 inputs-located M [] given table k l h t = let z : k + 0 ≡ k = omega arith in rw z h
 inputs-located M (v ∷ vs) given table k l h t =

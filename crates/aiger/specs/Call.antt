@@ -31,8 +31,11 @@ fileOutcome L F =
     (done (netlistMade F)))
 
 -- question 19 of the lines behind the header, and those that follow
+abbrev pub linesRead : Limits → Head → List (List (List ℕ)) → Outcome Netlist
+linesRead L H ls = andThen (given 19 (file H ls)) (fileOutcome L)
+
 abbrev pub linesOutcome : Limits → List ℕ → Head → Outcome Netlist
-linesOutcome L t H = andThen (given 19 (file H (linesBehind t))) (fileOutcome L)
+linesOutcome L t H = linesRead L H (linesBehind t)
 
 -- questions 2, 19, 20, 19 and 5: the netlist that an AIGER file gives
 unfoldable pub readAiger : Limits → List ℕ → Outcome Netlist

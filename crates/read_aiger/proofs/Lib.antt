@@ -10,3 +10,5 @@ pub mod AndLines
 pub mod AndLoop
 pub mod OutLines
 pub mod HeadLaws
+pub mod WholeLines
+pub mod WholeFile

@@ -6,3 +6,4 @@ pub mod StepAnswers
 pub mod AndAnswers
 pub mod OutAnswers
 pub mod HeadAnswers
+pub mod WholeAnswers
