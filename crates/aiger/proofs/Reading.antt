@@ -22,30 +22,10 @@ use Rattle.aiger.specs.Lines.{opens, Head, head, headGood, linesBehind, 
 use Rattle.aiger.specs.Rules.{rulesKept}
 use Rattle.aiger.specs.Outputs.{fileOutputs}
 use Rattle.aiger.specs.Made.{netlistMade}
+use Rattle.aiger.specs.Delivered.{Stands, Reads, Delivered}
 use Rattle.aiger.specs.Call.{headOutcome, fileOutcome, linesOutcome, readAiger, aigerCall}
 use Rattle.aiger.proofs.Making.{Kept, kept, made-wellFormed, made-computes}
 use Rattle.aiger.proofs.Forms.{formed-length, Formed, file-formed}
-
--- what an accepted text stands for: every question got a yes
-pub record Stands (L : Limits) (t : List ℕ) : Type 0 where
-  pub size : T (leb (length t) (L .text))
-  pub opening : T (opens t)
-  pub header : Head
-  pub first : head t ≡ some header
-  pub good : T (headGood L header)
-  pub latches : T (eqb (header .latches) 0)
-  pub is : File
-  pub lines : file header (linesBehind t) ≡ some is
-  pub rules : T (rulesKept is)
-  pub limits : T (withinLimits L (headerOf (netlistMade is)))
-
--- its netlist, and what that computes
-pub record Reads (L : Limits) (t : List ℕ) (N : Netlist) : Type 0 where
-  pub stands : Stands L t
-  pub made : N ≡ netlistMade (stands .is)
-  pub formed : WellFormed N
-  pub within : Within L N
-  pub computes : (ins : List Bool) → length ins ≡ length (stands .is .inputs) → outputsOf N ins ≡ fileOutputs (stands .is) ins
 
 made-within : (L : Limits) (N : Netlist) → T (withinLimits L (headerOf N)) → Within L N
 made-within L N t =
@@ -134,13 +114,6 @@ aiger-accepted L t S =
 -- the written form reads back, under limits that leave room for it
 pub aiger-written : {L : Limits} (R : Roomy L) (t : List ℕ) (N : Netlist) → readAiger L t ≡ done N → readNetlist L (writeNetlist N) ≡ done N
 aiger-written {L} R t N e = let r = aiger-read L t N e in reads-back R N (r .formed) (r .within)
-
--- a result is the written form of the netlist of its text, and reads back as it
-pub record Delivered (L : Limits) (t result : List ℕ) : Type 0 where
-  pub netlist : Netlist
-  pub reads : Reads L t netlist
-  pub written : result ≡ writeNetlist netlist
-  pub back : readNetlist L result ≡ done netlist
 
 pub aiger-delivered : {L : Limits} (R : Roomy L) (tables t : List ℕ) (room : ℕ) (result : List ℕ) → aigerCall L tables t room ≡ done result → Delivered L t result
 unfolding aigerCall

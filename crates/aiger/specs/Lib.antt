@@ -5,4 +5,5 @@ pub mod Rules
 pub mod Outputs
 pub mod Made
 pub mod Call
+pub mod Delivered
 pub mod Examples
