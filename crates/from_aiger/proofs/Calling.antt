@@ -36,7 +36,7 @@ form-same {tabs = tabs} {m = m} a =
     let N = a .is in
     let g : length (N .gates) ≡ m .gates = ap length (a .gates) ∙ length-gates tabs (m .gates) in
     let p : headerText (m .gates) (m .wires) (m .inputs ∷ []) (m .outputs ∷ []) ≡ headerText (length (N .gates)) (N .wires) (N .inputs) (N .outputs)
-        = rw (g, a .wires, a .inputs, a .outputs) refl in
+    = rw (g, a .wires, a .inputs, a .outputs) refl in
     ap₂ _++_ p (ap gateText (sym (a .gates))) ∙ header-gates N
 
 -- questions 2, 19, 20, 19, 5 and 14

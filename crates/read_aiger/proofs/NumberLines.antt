@@ -203,8 +203,8 @@ module _ (t : List ℕ) (at a : ℕ) (b : at ≤ strayAt t) (s : Scanned isBlank
       let u = h .within in
       let z = h .size in
       let l : fileLines (drop at t) ≡ fileLine (drop a t) ∷ fileLines (drop (c .at) t) =
-          same-lines (before-blanks (omega arith)) ∙ file-step (drop a t) ∙ numbers-add (fileLine (drop a t)) _ xs (h .line) (omega arith)
-          ∙ ap (λ (r : List ℕ). fileLine (drop a t) ∷ fileLines r) (sym (h .next .left)) in
+      same-lines (before-blanks (omega arith)) ∙ file-step (drop a t) ∙ numbers-add (fileLine (drop a t)) _ xs (h .line) (omega arith)
+      ∙ ap (λ (r : List ℕ). fileLine (drop a t) ∷ fileLines r) (sym (h .next .left)) in
       record { line = ap firstNumbers l ∙ h .line; size = h .size; left = sym (ap (drop 1) l); within = h .within }
   next-line n xs L.Not one h = record {
     none = λ ys e z.

@@ -137,8 +137,8 @@ module _ {ls : List (List (List ℕ))} {t : List ℕ} {n before : ℕ} {table : 
         let z : before + (i + 1) ≡ before + i + 1 = omega arith in
         let y : n + (before + i) ≡ n + before + length (A .are) = omega arith in
         let g : gs ++ outGates (wireAt wires) (n + before) (A .are ++ (I .is ∷ []))
-            ≡ (gs ++ outGates (wireAt wires) (n + before) (A .are)) ++ (outGate (wireAt wires) (I .is) (n + before + length (A .are)) ∷ []) =
-            ap (λ (os : List Gate). gs ++ os) (out-snoc (wireAt wires) (n + before) (A .are) (I .is)) ∙ sym (append-assoc gs _ _) in
+        ≡ (gs ++ outGates (wireAt wires) (n + before) (A .are)) ++ (outGate (wireAt wires) (I .is) (n + before + length (A .are)) ∷ []) =
+        ap (λ (os : List Gate). gs ++ os) (out-snoc (wireAt wires) (n + before) (A .are) (I .is)) ∙ sym (append-assoc gs _ _) in
         record {
           are = A .are ++ (I .is ∷ []);
           form = formed-snoc outputLine i ls (A .are) (I .is) (A .form) (ap (atFront outputLine) (sym (P .left given wires gs S)) ∙ I .line);

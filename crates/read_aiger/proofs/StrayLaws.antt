@@ -286,7 +286,7 @@ stray-line xs ns e h =
     let w = some-word cr l refl in
     let same : fileLine (cr ∷ xs) ≡ spaceWords (cr ∷ l) = rw e in
     let n : numbers (fileLine (cr ∷ xs)) ≡ some ns =
-        first-add l (w .0) (fileLine (cr ∷ xs)) (w .1) (fileLines (afterLine (cr ∷ xs))) ns (same ∙ w .2) (ap firstNumbers (sym (file-step (cr ∷ xs))) ∙ h) in
+    first-add l (w .0) (fileLine (cr ∷ xs)) (w .1) (fileLines (afterLine (cr ∷ xs))) ns (same ∙ w .2) (ap firstNumbers (sym (file-step (cr ∷ xs))) ∙ h) in
     never true refl (all-head (space-no-cr (cr ∷ l) ns (ap numbers (sym same) ∙ n)))
 
 -- where the next line holds numbers, no such CR stands before it

@@ -57,8 +57,15 @@ module _ (L : Limits) (H : Head) (ls : List (List (List ℕ))) where
         let m = A .many in
         let a : sum (H .inputs ∷ []) ≤ N .wires = omega (arith, A .wires) in
         let b : sum (H .outputs ∷ []) ≤ N .wires = omega (arith, A .wires) in
-        rw (A .inputs, A .outputs, le-leb (N .wires) (L .wires) (omega (arith, A .wires)), le-leb 1 (L .inputs) i, le-leb 1 (L .outputs) o,
-            le-leb (sum (H .inputs ∷ [])) (N .wires) a, le-leb (sum (H .outputs ∷ [])) (N .wires) b)
+        rw (
+          A .inputs,
+          A .outputs,
+          le-leb (N .wires) (L .wires) (omega (arith, A .wires)),
+          le-leb 1 (L .inputs) i,
+          le-leb 1 (L .outputs) o,
+          le-leb (sum (H .inputs ∷ [])) (N .wires) a,
+          le-leb (sum (H .outputs ∷ [])) (N .wires) b,
+        )
 
     abbrev numbersOf : NetlistNumbers
     numbersOf = record { gates = k; wires = H .inputs + k; inputs = H .inputs; outputs = H .outputs }

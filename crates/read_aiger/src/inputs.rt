@@ -37,7 +37,14 @@ fn input(text: &[u8], at: Cursor, stray: usize, wire: u32, most: u32, table: &mu
 }
 
 // So many input lines from a place on, with a table that gives nothing yet.
-pub fn inputs(text: &[u8], from: Cursor, stray: usize, count: u32, most: u32, table: &mut [u32]) -> Step
+pub fn inputs(
+    text: &[u8],
+    from: Cursor,
+    stray: usize,
+    count: u32,
+    most: u32,
+    table: &mut [u32],
+) -> Step
     requires { ⌜ (from .at ≤ strayAt (now text)) × (stray ≡ strayAt (now text)) × (most < length (now table)) × (now table ≡ replicate (length (now table)) 0) ⌝ }
     ensures { λ r. ⌜ InputsIs (fileLines (drop (from .at) (now (text .entry)))) (now (text .entry)) count most (now (table .exit)) r ⌝ }
 {

@@ -1,9 +1,9 @@
 // A whole file into lent tables: questions 2, 19, 20, 19 and 5.
+use crate::body::Gates;
+use crate::body::body;
 use crate::head::HeadNumbers;
 use crate::head::HeadStep;
 use crate::head::head;
-use crate::body::Gates;
-use crate::body::body;
 use crate::stray::first_stray;
 use netlist::Limits;
 use text::cursor::Cursor;

@@ -40,10 +40,12 @@ same-length-2 : tie.Need-same-length-2
 same-length-2 c = search needs
 
 returns-3 : tie.Need-returns-3
-returns-3 c = (λ given wires gs S.
-    let r = sym (c .before .before .before .before .before .before .before .before .is-readable .ensures .0 given wires (S .places)) ∙ not-false _ (c .before .before .before .before .before .before .before .if1 .left) in
-    output-on (one-is _ _ _ _ _ (c .before .before .before .before .before .before .before .before .before .before .x .given .1) (c .before .before .before .before .before .before .before .before .before .before .before .before .one-number .ensures)) r (c .before .before .before .before .out-gate .ensures given wires gs S r),
-    one-is _ _ _ _ _ (c .before .before .before .before .before .before .before .before .before .before .x .given .1) (c .before .before .before .before .before .before .before .before .before .before .before .before .one-number .ensures) .within)
+returns-3 c = (
+  λ given wires gs S.
+      let r = sym (c .before .before .before .before .before .before .before .before .is-readable .ensures .0 given wires (S .places)) ∙ not-false _ (c .before .before .before .before .before .before .before .if1 .left) in
+      output-on (one-is _ _ _ _ _ (c .before .before .before .before .before .before .before .before .before .before .x .given .1) (c .before .before .before .before .before .before .before .before .before .before .before .before .one-number .ensures)) r (c .before .before .before .before .out-gate .ensures given wires gs S r),
+  one-is _ _ _ _ _ (c .before .before .before .before .before .before .before .before .before .before .x .given .1) (c .before .before .before .before .before .before .before .before .before .before .before .before .one-number .ensures) .within,
+)
 
 pub output-spec : {M : Type 1} → statement M
 output-spec =

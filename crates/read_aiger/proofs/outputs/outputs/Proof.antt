@@ -51,10 +51,12 @@ loop-less : tie.Need-loop-less Inv-loop μ-loop
 loop-less c = search needs
 
 loop-again : tie.Need-loop-again Inv-loop μ-loop
-loop-again c = (putting-more (c .before .before .before .before .before .before .before .before .before .before .before .loop .inv .0) (λ given wires gs S. out-is _ _ _ _ _ _ _ _ (tables (c .before .before .before .before .before .before .before .output .last .1 .1 .1 .1 .1 .1 .0) (c .before .before .before .before .before .before .before .output .last .1 .1 .1 .1 .1 .1 .1 .0)) _ _ (c .before .next .given .1) (c .before .before .before .before .before .before .before .output .ensures .0 given wires gs S)) (omega (arith, ap stepPlace (c .before .next .given .1), c .before .before .before .before .before .before .before .output .ensures .1)),
-    omega (arith, c .before .before .before .before .before .before .before .before .before .before .loop-test .taken),
-    c .before .before .before .before .before .before .before .output .kept .1 .1 .1 .1 .1 .1 .0 ∙ c .before .before .before .before .before .before .before .before .before .before .before .loop .inv .2,
-    c .before .before .before .before .before .before .before .output .kept .1 .1 .1 .1 .1 .1 .1 .0 ∙ c .before .before .before .before .before .before .before .before .before .before .before .loop .inv .3)
+loop-again c = (
+  putting-more (c .before .before .before .before .before .before .before .before .before .before .before .loop .inv .0) (λ given wires gs S. out-is _ _ _ _ _ _ _ _ (tables (c .before .before .before .before .before .before .before .output .last .1 .1 .1 .1 .1 .1 .0) (c .before .before .before .before .before .before .before .output .last .1 .1 .1 .1 .1 .1 .1 .0)) _ _ (c .before .next .given .1) (c .before .before .before .before .before .before .before .output .ensures .0 given wires gs S)) (omega (arith, ap stepPlace (c .before .next .given .1), c .before .before .before .before .before .before .before .output .ensures .1)),
+  omega (arith, c .before .before .before .before .before .before .before .before .before .before .loop-test .taken),
+  c .before .before .before .before .before .before .before .output .kept .1 .1 .1 .1 .1 .1 .0 ∙ c .before .before .before .before .before .before .before .before .before .before .before .loop .inv .2,
+  c .before .before .before .before .before .before .before .output .kept .1 .1 .1 .1 .1 .1 .1 .0 ∙ c .before .before .before .before .before .before .before .before .before .before .before .loop .inv .3,
+)
 
 same-length-3 : tie.Need-same-length-3 Inv-loop μ-loop
 same-length-3 c = c .before .loop .inv .2
