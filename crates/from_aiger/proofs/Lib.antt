@@ -1,0 +1,2 @@
+-- Laws of the service.
+pub mod Calling
