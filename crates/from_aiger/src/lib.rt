@@ -11,7 +11,7 @@ ghost use lib.ListN.{length, replicate};
 ghost use Rattle.netlist.specs.Netlist.{small as smallLimits};
 ghost use Rattle.netlist.specs.Outcome.{andThen};
 ghost use Rattle.netlist.specs.Services.{tablesLong, rewriteOutcome, Answers, Delivers};
-ghost use Rattle.netlist.specs.Table.{tables};
+ghost use Rattle.netlist.specs.Table.{tables, Wired};
 ghost use Rattle.form.specs.Form.{formText};
 ghost use Rattle.aiger.specs.Call.{readAiger};
 ghost use Rattle.from_aiger.specs.Promise.{call, Promise};
@@ -36,7 +36,7 @@ fn tables_long(a: usize, b: usize, c: usize, sizes: Sizes) -> bool
 
 // Question 14 and the text of a netlist whose gates the tables begin with.
 fn write(out: &mut [u8], m: NetlistNumbers, operands: &[u64], results: &[u64]) -> Answer
-    requires { ⌜ (m .gates ≤ length (now operands)) × (m .gates ≤ length (now results)) ⌝ }
+    requires { ⌜ Wired (tables (now operands) (now results)) (m .wires) (m .gates) ⌝ }
     ensures { λ r. ⌜ Delivers (formText (m .gates) (m .wires) (m .inputs ∷ []) (m .outputs ∷ []) (tables (now (operands .entry)) (now (results .entry)))) (now (out .entry)) (now (out .exit)) r ⌝ }
 {
     let ins = [m.inputs; 1];

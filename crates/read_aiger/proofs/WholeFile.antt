@@ -83,8 +83,7 @@ module _ (L : Limits) (H : Head) (ls : List (List (List ℕ))) where
           inputs = A .inputs;
           outputs = A .outputs;
           gates = sym (ap (gatesOf tabs) (sym c) ∙ K .gates);
-          operands = omega arith;
-          results = omega arith;
+          wired = rw c at (K .wired);
         }
 
 -- ---- the questions of a text

@@ -8,7 +8,7 @@ use lib.ListN.{length}
 use Rattle.netlist.specs.declared.Limits.{Limits}
 use Rattle.netlist.specs.Netlist.{Netlist}
 use Rattle.netlist.specs.Outcome.{Outcome, refused, done}
-use Rattle.netlist.specs.Table.{Tables, gatesOf}
+use Rattle.netlist.specs.Table.{Tables, gatesOf, Wired}
 use Rattle.aiger.specs.File.{File}
 use Rattle.aiger.specs.Lines.{Head, file}
 use Rattle.aiger.specs.Rules.{rulesKept}
@@ -49,8 +49,7 @@ pub record NetlistAt (o : Outcome Netlist) (tabs : Tables) (m : NetlistNumbers) 
   pub inputs : is .inputs ≡ m .inputs ∷ []
   pub outputs : is .outputs ≡ m .outputs ∷ []
   pub gates : is .gates ≡ gatesOf tabs (m .gates)
-  pub operands : m .gates ≤ length (tabs .operands)
-  pub results : m .gates ≤ length (tabs .results)
+  pub wired : Wired tabs (m .wires) (m .gates)
 
 abbrev pub NetlistIs : Outcome Netlist → Tables → Reading → Type 0
 NetlistIs o tabs (R.Done m) = NetlistAt o tabs m

@@ -29,7 +29,7 @@ enum-known-m c = search needs
 write-requires : tie.Need-write-requires
 write-requires c κs = let r = c .before .before .before .before .before .before .before .before .before .before .before .before .read in
     let a = read-is (c .before .before .before .before .before .before .before .before .before .before .before .before .before .before .before .before .small .ensures) (c .before .before .before .before .before .before .before .before .before .before .before .before .before .before .before .before .before .before .before .before .before .before .args .text .now) (tables (r .last .1 .1 .1 .0) (r .last .1 .1 .1 .1 .0)) (r .result) _ (c .before .before .before .before .m .given .1) (r .ensures) in
-    (a .operands, a .results)
+    a .wired
 
 same-length : tie.Need-same-length
 same-length c = search needs
