@@ -1,11 +1,12 @@
 /* The library and the plain C baseline on the same inputs, in turn, in one process.
  *
- * usage: bench FOLDER [SECONDS]
+ * usage: bench FOLDER WHOLE-FOLDER [SECONDS]
  *
- * FOLDER holds the circuits; SECONDS, by default 1, are spent on each line of the table. Both sides
- * are first compared: they must give the same answers and the same bytes. A line then gives for
- * both the best and the median time of a call, and the ratios library to baseline: of the best
- * times, of the medians, and the quartiles of the ratios of neighbouring calls.
+ * FOLDER holds the circuits, WHOLE-FOLDER those above the old limits; SECONDS, by default 1, are
+ * spent on each line of the table. Both sides are first compared: they must give the same answers
+ * and the same bytes. A line then gives for both the best and the median time of a call, and the
+ * ratios library to baseline: of the best times, of the medians, and the quartiles of the ratios of
+ * neighbouring calls.
  *
  * A call is timed whole, with the clearing of its working tables, which both sides owe. Tables are
  * zero before each call, left so by the one before; result buffers hold an earlier result.
@@ -19,8 +20,12 @@
 #include <string.h>
 #include <time.h>
 
-#define TABLE FIDROVELJ_LARGE_TABLE
-#define ROOM 500002
+#define TABLE FIDROVELJ_WHOLE_LARGE_TABLE
+#define ROOM FIDROVELJ_WHOLE_LARGE_TEXT
+
+/* The tables' entries, by the call's sizes. */
+static const size_t large_table[2] = {FIDROVELJ_LARGE_TABLE, FIDROVELJ_WHOLE_LARGE_TABLE};
+static const size_t small_table[2] = {FIDROVELJ_SMALL_TABLE, FIDROVELJ_WHOLE_SMALL_TABLE};
 
 struct services {
     __typeof__(&fidrovelj_rewrite) rewrite;
@@ -37,6 +42,7 @@ enum service { READ_LARGE, READ_SMALL, REWRITE, RUN, MASK, CHECK };
 /* A call, and the work it stands for. */
 struct call {
     enum service service;
+    uint8_t sizes;
     char name[64];
     uint8_t *text;
     size_t length, inputs, outputs;
@@ -56,20 +62,21 @@ static void die(const char *what, const char *name)
  * Input lists are all ones, wanted lists all zeros. */
 static int64_t perform(const struct services *s, const struct call *c)
 {
+    size_t n = large_table[c->sizes], m = small_table[c->sizes];
     switch (c->service) {
     case READ_LARGE:
     case RUN:
-        return s->run(c->text, c->length, list, c->service == RUN ? c->inputs : 0, list_out, TABLE, operands, TABLE,
-                      results, TABLE, given, TABLE, words, TABLE);
+        return s->run(c->text, c->length, list, c->service == RUN ? c->inputs : 0, list_out, n, operands, n, results,
+                      n, given, n, words, n, c->sizes);
     case READ_SMALL:
     case MASK:
         return s->mask(c->text, c->length, list, c->service == MASK ? c->inputs : 0, wanted, c->outputs, out, ROOM,
-                       list_out, TABLE, operands, 2048, results, 2048, wires, 2048, given, 2048);
+                       list_out, n, operands, m, results, m, wires, m, given, m, c->sizes);
     case REWRITE:
-        return s->rewrite(c->text, c->length, out, ROOM, operands, TABLE, results, TABLE, given, TABLE);
+        return s->rewrite(c->text, c->length, out, ROOM, operands, n, results, n, given, n, c->sizes);
     default:
-        return s->check(c->text, c->length, list, c->inputs - 2, leak, 4, operands, TABLE, results, TABLE, given,
-                        TABLE, words, TABLE, base, TABLE);
+        return s->check(c->text, c->length, list, c->inputs - 2, leak, 4, operands, n, results, n, given, n, words, n,
+                        base, n, c->sizes);
     }
 }
 
@@ -132,8 +139,46 @@ static struct call masked(enum service service, struct call source)
         die("cannot be masked", source.name);
     snprintf(name, sizeof name, "%.50s, masked", source.name);
     struct call c = call(service, name, (const char *)out, (size_t)length);
+    c.sizes = source.sizes;
     free(source.text);
     return c;
+}
+
+/* The same call with the limits for whole ciphers. */
+static struct call whole(struct call c)
+{
+    c.sizes = FIDROVELJ_WHOLE;
+    return c;
+}
+
+/* A source of one bit and so many ANDs of the last wire with itself. */
+static struct call and_ladder(int gates)
+{
+    static char text[ROOM];
+    char name[64];
+    int at = snprintf(text, sizeof text, "%d %d\n1 1\n1 1\n\n", gates, gates + 1);
+    for (int wire = 1; wire <= gates; wire++)
+        at += snprintf(text + at, sizeof text - (size_t)at, "2 1 %d %d %d AND\n", wire - 1, wire - 1, wire);
+    snprintf(name, sizeof name, "%d ANDs", gates);
+    return whole(call(MASK, name, text, (size_t)at));
+}
+
+/* The same call on the text with CR LF for each LF. */
+static struct call with_crlf(struct call c)
+{
+    static char text[ROOM];
+    char name[80];
+    size_t at = 0;
+    for (size_t i = 0; i < c.length && at + 2 <= sizeof text; i++) {
+        if (c.text[i] == '\n')
+            text[at++] = '\r';
+        text[at++] = (char)c.text[i];
+    }
+    snprintf(name, sizeof name, "%.50s, CR LF", c.name);
+    struct call d = call(c.service, name, text, at);
+    d.sizes = c.sizes;
+    free(c.text);
+    return d;
 }
 
 /* ---- comparing */
@@ -163,18 +208,25 @@ static void compare(const struct call *c)
 
 /* ---- timing */
 
-static double now(void)
+static double microseconds(clockid_t clock)
 {
     struct timespec t;
-    clock_gettime(CLOCK_MONOTONIC, &t);
+    clock_gettime(clock, &t);
     return (double)t.tv_sec * 1e6 + (double)t.tv_nsec / 1e3;
 }
 
+static double now(void) { return microseconds(CLOCK_MONOTONIC); }
+
+/* What calls are timed by: the clock, and at whole sizes the processor's time, since others' turns on a
+ * shared machine fall into calls of milliseconds. */
+static clockid_t call_clock = CLOCK_MONOTONIC;
+
+
 static double timed(const struct services *s, const struct call *c)
 {
-    double start = now();
+    double start = microseconds(call_clock);
     perform(s, c);
-    return now() - start;
+    return microseconds(call_clock) - start;
 }
 
 static int by_size(const void *a, const void *b)
@@ -260,6 +312,15 @@ static struct line beyond(struct line whole, struct line reading)
     return rest;
 }
 
+/* How many times the LF text's time a CR LF text takes. */
+static void times_lf(struct line crlf, struct line lf)
+{
+    printf("%-34s", "  times the LF text's time");
+    for (int i = 0; i < 4; i++)
+        printf(" %10.2f", crlf.at[i] / lf.at[i]);
+    printf("\n");
+}
+
 /* The share of one lane: a pass over the gates evaluates sixty-four, of which a run uses the first. */
 static void lane(struct line pass)
 {
@@ -277,7 +338,7 @@ static void compare_lanes(const char *folder)
     for (size_t i = 0; i < c.inputs; i++)
         lanes[i] = 0x9e3779b97f4a7c15U * (2 * i + 1);
     int64_t count = baseline_run_lanes(c.text, c.length, lanes, c.inputs, lanes_out, TABLE, operands, TABLE, results,
-                                       TABLE, given, TABLE, words, TABLE);
+                                       TABLE, given, TABLE, words, TABLE, c.sizes);
     for (unsigned lane = 0; lane < 64; lane++) {
         for (size_t i = 0; i < c.inputs; i++)
             list[i] = lanes[i] >> lane & 1;
@@ -291,14 +352,71 @@ static void compare_lanes(const char *folder)
     free(c.text);
 }
 
+/* ---- whole ciphers */
+
+/* A call on AES-128, or on what Mask makes of it. */
+static struct call aes_128(enum service service, const char *folder, const char *name)
+{
+    struct call c = whole(circuit(service, folder, "aes_128"));
+    if (service != READ_SMALL && service != MASK)
+        c = masked(service, c);
+    snprintf(c.name, sizeof c.name, "%s", name);
+    return c;
+}
+
+static void whole_cipher(const char *folder, double s)
+{
+    title("AES-128, whole");
+    struct line source = bench(aes_128(READ_SMALL, folder, "reading"), s);
+    beyond(bench(aes_128(MASK, folder, "Mask"), s), source);
+    struct line reading = bench(aes_128(READ_LARGE, folder, "masked, reading"), s);
+    beyond(bench(aes_128(REWRITE, folder, "masked, Rewrite"), s), reading);
+    beyond(bench(aes_128(RUN, folder, "masked, Run"), s), reading);
+}
+
+/* The best times of the library and of C, in nanoseconds a gate, less those of a call on an empty text,
+ * which clears the tables and does nothing else. */
+static void a_gate(struct call c, double gates, double seconds)
+{
+    struct call empty = c;
+    empty.length = 0;
+    measure(&empty, seconds / 4);
+    double clear = best(&ours), clear_c = best(&theirs);
+    compare(&c);
+    measure(&c, seconds);
+    printf("   %6.1f %6.1f", (best(&ours) - clear) * 1000 / gates, (best(&theirs) - clear_c) * 1000 / gates);
+    fflush(stdout);
+    free(c.text);
+}
+
+/* What a gate costs as netlists grow: ANDs masked to so many gates, and the masked netlists. */
+static void growth(double s)
+{
+    static const int sources[] = {125, 1250, 12500, 50000, 99998};
+    printf("\n%-14s   %13s   %13s   %13s   %13s\n%-14s", "Nanoseconds", "Mask", "reading", "Rewrite", "Run",
+           "masked gates");
+    for (int i = 0; i < 4; i++)
+        printf("   %6s %6s", "lib.", "C");
+    printf("\n");
+    for (size_t i = 0; i < sizeof sources / sizeof *sources; i++) {
+        double gates = 8.0 * sources[i] + 4;
+        printf("%-14.0f", gates);
+        a_gate(and_ladder(sources[i]), gates, s);
+        a_gate(masked(READ_LARGE, and_ladder(sources[i])), gates, s);
+        a_gate(masked(REWRITE, and_ladder(sources[i])), gates, s);
+        a_gate(masked(RUN, and_ladder(sources[i])), gates, s);
+        printf("\n");
+    }
+}
+
 int main(int argc, char **argv)
 {
-    if (argc < 2) {
-        fprintf(stderr, "usage: bench FOLDER [SECONDS]\n");
+    if (argc < 3) {
+        fprintf(stderr, "usage: bench FOLDER WHOLE-FOLDER [SECONDS]\n");
         return EXIT_FAILURE;
     }
     const char *folder = argv[1];
-    double s = argc > 2 ? atof(argv[2]) : 1;
+    double s = argc > 3 ? atof(argv[3]) : 1;
     compare_lanes(folder);
     memset(list, 1, sizeof list);
     printf("Microseconds a call: best and median; ratios: library to C.\n");
@@ -310,6 +428,9 @@ int main(int argc, char **argv)
     struct line sub_bytes = bench(circuit(READ_SMALL, folder, "aes_sub_bytes"), s);
     struct line column = bench(circuit(READ_SMALL, folder, "aes_column"), s);
     struct line source = bench(circuit(READ_SMALL, folder, "and_ladder_2048"), s);
+    times_lf(bench(with_crlf(circuit(READ_LARGE, folder, "mult64")), s), mult64);
+    times_lf(bench(with_crlf(masked(READ_LARGE, circuit(MASK, folder, "and_ladder_2048"))), s), ladder);
+    times_lf(bench(with_crlf(circuit(READ_SMALL, folder, "aes_sub_bytes")), s), sub_bytes);
 
     title("Rewriting");
     beyond(bench(circuit(REWRITE, folder, "mult64"), s), mult64);
@@ -330,5 +451,9 @@ int main(int argc, char **argv)
     bench(masked(CHECK, circuit(MASK, folder, "aes_sbox")), s);
     bench(masked(CHECK, circuit(MASK, folder, "mult6")), s);
     bench(masked(CHECK, twelve_bits()), s);
+
+    call_clock = CLOCK_PROCESS_CPUTIME_ID;
+    whole_cipher(argv[2], s);
+    growth(s);
     return EXIT_SUCCESS;
 }
