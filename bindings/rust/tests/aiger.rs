@@ -85,7 +85,13 @@ impl Gates {
 }
 
 /// The outcome of a call.
-fn second(text: &[u8], tables: usize, room: usize, wires_limit: usize, text_limit: usize) -> Result<Vec<u8>, u8> {
+fn second(
+    text: &[u8],
+    tables: usize,
+    room: usize,
+    wires_limit: usize,
+    text_limit: usize,
+) -> Result<Vec<u8>, u8> {
     ask(1, tables >= wires_limit)?;
     ask(2, text.len() <= text_limit)?;
     ask(19, text.starts_with(b"aag "))?;
@@ -97,7 +103,8 @@ fn second(text: &[u8], tables: usize, room: usize, wires_limit: usize, text_limi
     ask(20, latches == 0)?;
     let mut wires = HashMap::new();
     let give = |wires: &mut HashMap<u32, usize>, literal: u32, wire: usize| {
-        let good = literal > 1 && literal % 2 == 0 && literal / 2 <= most && !wires.contains_key(&(literal / 2));
+        let good =
+            literal > 1 && literal % 2 == 0 && literal / 2 <= most && !wires.contains_key(&(literal / 2));
         wires.insert(literal / 2, wire);
         ask(19, good)
     };
@@ -289,13 +296,16 @@ fn circuits() {
             let path = entry.unwrap().path();
             let name = path.file_stem().unwrap().to_str().unwrap();
             let made = compare(&fs::read(&path).unwrap(), 2048, 60_000).unwrap();
-            let Ok(netlist) = fs::read(root.join(format!("../../crates/vectors_circuits/data/{name}.txt"))) else {
+            let Ok(netlist) = fs::read(root.join(format!("../../crates/vectors_circuits/data/{name}.txt")))
+            else {
                 continue;
             };
-            let width: usize = std::str::from_utf8(&made).unwrap().lines().nth(1).unwrap()[2..].parse().unwrap();
+            let width: usize =
+                std::str::from_utf8(&made).unwrap().lines().nth(1).unwrap()[2..].parse().unwrap();
             for _ in 0..200 {
                 let bits: Vec<u8> = (0..width).map(|_| r.below(2) as u8).collect();
-                let run = |text: &[u8]| reference::run(&[], text, &bits, 100_000, reference::netlist::Sizes::Old);
+                let run =
+                    |text: &[u8]| reference::run(&[], text, &bits, 100_000, reference::netlist::Sizes::Old);
                 assert_eq!(run(&made), run(&netlist), "{folder}/{name}");
             }
             count += 1;
