@@ -6,7 +6,7 @@
  * What holds of every function
  *
  * - It returns 0 or more for a result, or less than 0 for a refusal: minus the question's number,
- *   -1 to -14.
+ *   -1 to -14, or -19 or -20 for an AIGER file.
  * - A slice is a pointer and then its length, counted in entries. The pointer is not null, also
  *   where the length is 0. Slices that the function writes overlap no other.
  * - The last parameter chooses the limits: FIDROVELJ_OLD, or FIDROVELJ_WHOLE for whole ciphers. Any
