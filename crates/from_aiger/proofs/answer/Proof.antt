@@ -11,11 +11,6 @@ use native.Mathlib.Omega.{arith}
 use borrow.Author.Needs.{needs}
 use Rattle.from_aiger.proofs.answer.Statement.{statement}
 use Rattle.from_aiger.proofs.answer.Tie as tie
-use Rattle.from_aiger.proofs.answer.Reads as reads
-use Rattle.from_aiger.proofs.answer.Lts as lts
-use Rattle.clear.proofs.wires.Reads as wires-reads
-use Rattle.from_aiger.proofs.read_and_write.Reads as read-and-write-reads
-use Rattle.from_aiger.proofs.tables_long.Reads as tables-long-reads
 
 tables-long-requires : tie.Need-tables-long-requires
 tables-long-requires c κs = search needs

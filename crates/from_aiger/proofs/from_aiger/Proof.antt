@@ -5,11 +5,6 @@ use native.Mathlib.Omega.{arith}
 use borrow.Author.Needs.{needs}
 use Rattle.from_aiger.proofs.from_aiger.Statement.{statement}
 use Rattle.from_aiger.proofs.from_aiger.Tie as tie
-use Rattle.from_aiger.proofs.from_aiger.Reads as reads
-use Rattle.from_aiger.proofs.from_aiger.Lts as lts
-use Rattle.clear.proofs.wires.Reads as wires-reads
-use Rattle.clear.proofs.words.Reads as words-reads
-use Rattle.from_aiger.proofs.answer.Reads as answer-reads
 
 answer-requires : tie.Need-answer-requires
 answer-requires c κs = search needs

@@ -5,11 +5,6 @@ use native.Mathlib.Omega.{arith}
 use borrow.Author.Needs.{needs}
 use Rattle.from_aiger.proofs.read_and_write.Statement.{statement}
 use Rattle.from_aiger.proofs.read_and_write.Tie as tie
-use Rattle.from_aiger.proofs.read_and_write.Reads as reads
-use Rattle.from_aiger.proofs.read_and_write.Lts as lts
-use Rattle.from_aiger.proofs.write.Reads as write-reads
-use Rattle.netlist.proofs.small.Reads as small-reads
-use Rattle.read_aiger.proofs.read.read.Reads as read-reads
 
 small-requires : tie.Need-small-requires
 small-requires c κs = search needs

@@ -4,9 +4,6 @@ use native.Mathlib.Omega.{arith}
 use borrow.Author.Needs.{needs}
 use Rattle.from_aiger.proofs.tables_long.Statement.{statement}
 use Rattle.from_aiger.proofs.tables_long.Tie as tie
-use Rattle.from_aiger.proofs.tables_long.Reads as reads
-use Rattle.from_aiger.proofs.tables_long.Lts as lts
-use Rattle.netlist.proofs.small.Reads as small-reads
 
 small-requires : tie.Need-small-requires
 small-requires c κs = search needs

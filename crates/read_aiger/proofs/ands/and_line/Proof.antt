@@ -9,13 +9,6 @@ use native.Mathlib.Omega.{arith}
 use borrow.Author.Needs.{needs}
 use Rattle.read_aiger.proofs.ands.and_line.Statement.{statement}
 use Rattle.read_aiger.proofs.ands.and_line.Tie as tie
-use Rattle.read_aiger.proofs.ands.and_line.Reads as reads
-use Rattle.read_aiger.proofs.ands.and_line.Lts as lts
-use Rattle.read_aiger.proofs.gates.and_gates.Reads as and-gates-reads
-use Rattle.read_aiger.proofs.numbers.next_numbers.Reads as next-numbers-reads
-use Rattle.read_aiger.proofs.variables.can_give.Reads as can-give-reads
-use Rattle.read_aiger.proofs.variables.give.Reads as give-reads
-use Rattle.read_aiger.proofs.variables.is_readable.Reads as is-readable-reads
 
 slice-aggregate-next-numbers : tie.Need-slice-aggregate-next-numbers
 slice-aggregate-next-numbers c = search needs

@@ -11,9 +11,6 @@ use borrow.Author.Needs.{needs}
 use native.Mathlib.Omega.{arith}
 use Rattle.read_aiger.proofs.ands.ands.Statement.{statement}
 use Rattle.read_aiger.proofs.ands.ands.Tie as tie
-use Rattle.read_aiger.proofs.ands.ands.Reads as reads
-use Rattle.read_aiger.proofs.ands.ands.Lts as lts
-use Rattle.read_aiger.proofs.ands.and_line.Reads as and-line-reads
 
 abbrev Inv-loop : tie.InvT-loop
 Inv-loop text stray lines most n table₀ operands₀ results₀ at₀ count₀ i₀ table operands results at count i =

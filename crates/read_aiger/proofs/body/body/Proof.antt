@@ -11,12 +11,6 @@ use native.Mathlib.Omega.{arith}
 use borrow.Author.Needs.{needs}
 use Rattle.read_aiger.proofs.body.body.Statement.{statement}
 use Rattle.read_aiger.proofs.body.body.Tie as tie
-use Rattle.read_aiger.proofs.body.body.Reads as reads
-use Rattle.read_aiger.proofs.body.body.Lts as lts
-use Rattle.read_aiger.proofs.ands.ands.Reads as ands-reads
-use Rattle.read_aiger.proofs.inputs.inputs.Reads as inputs-reads
-use Rattle.read_aiger.proofs.outputs.outputs.Reads as outputs-reads
-use Rattle.read_aiger.proofs.outputs.skip.Reads as skip-reads
 
 cast-outs : tie.Need-cast-outs
 cast-outs c = search needs

@@ -4,10 +4,6 @@ use native.Mathlib.Omega.{arith}
 use borrow.Author.Needs.{needs}
 use Rattle.read_aiger.proofs.gates.and_gates.Statement.{statement}
 use Rattle.read_aiger.proofs.gates.and_gates.Tie as tie
-use Rattle.read_aiger.proofs.gates.and_gates.Reads as reads
-use Rattle.read_aiger.proofs.gates.and_gates.Lts as lts
-use Rattle.read_aiger.proofs.gates.and_gate.Reads as and-gate-reads
-use Rattle.read_aiger.proofs.gates.operand.Reads as operand-reads
 
 operand-requires : tie.Need-operand-requires
 operand-requires c κs = search needs

@@ -6,10 +6,6 @@ use native.Mathlib.Omega.{arith}
 use borrow.Author.Needs.{needs}
 use Rattle.read_aiger.proofs.gates.operand.Statement.{statement}
 use Rattle.read_aiger.proofs.gates.operand.Tie as tie
-use Rattle.read_aiger.proofs.gates.operand.Reads as reads
-use Rattle.read_aiger.proofs.gates.operand.Lts as lts
-use Rattle.read_aiger.proofs.keep.keep.Reads as keep-reads
-use Rattle.read_aiger.proofs.variables.entry.Reads as entry-reads
 
 cast-c : tie.Need-cast-c
 cast-c c = search needs

@@ -6,11 +6,6 @@ use native.Mathlib.Omega.{arith}
 use borrow.Author.Needs.{needs}
 use Rattle.read_aiger.proofs.gates.out_gate.Statement.{statement}
 use Rattle.read_aiger.proofs.gates.out_gate.Tie as tie
-use Rattle.read_aiger.proofs.gates.out_gate.Reads as reads
-use Rattle.read_aiger.proofs.gates.out_gate.Lts as lts
-use Rattle.read_aiger.proofs.gates.out_kind.Reads as out-kind-reads
-use Rattle.read_aiger.proofs.keep.keep.Reads as keep-reads
-use Rattle.read_aiger.proofs.variables.entry.Reads as entry-reads
 
 cast-c : tie.Need-cast-c
 cast-c c = search needs

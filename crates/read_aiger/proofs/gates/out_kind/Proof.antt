@@ -2,8 +2,6 @@
 use borrow.Author.Tests.{eq-eqb, ne-eqb}
 use Rattle.read_aiger.proofs.gates.out_kind.Statement.{statement}
 use Rattle.read_aiger.proofs.gates.out_kind.Tie as tie
-use Rattle.read_aiger.proofs.gates.out_kind.Reads as reads
-use Rattle.read_aiger.proofs.gates.out_kind.Lts as lts
 
 returns : tie.Need-returns
 returns c = rw (eq-eqb _ _ (c .if1 .taken))

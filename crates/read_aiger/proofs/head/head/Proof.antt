@@ -6,11 +6,6 @@ use native.Mathlib.Omega.{arith}
 use borrow.Author.Needs.{needs}
 use Rattle.read_aiger.proofs.head.head.Statement.{statement}
 use Rattle.read_aiger.proofs.head.head.Tie as tie
-use Rattle.read_aiger.proofs.head.head.Reads as reads
-use Rattle.read_aiger.proofs.head.head.Lts as lts
-use Rattle.read_aiger.proofs.head.is_opening.Reads as is-opening-reads
-use Rattle.read_aiger.proofs.head.question.Reads as question-reads
-use Rattle.read_aiger.proofs.numbers.line_numbers.Reads as line-numbers-reads
 
 is-opening-requires : tie.Need-is-opening-requires
 is-opening-requires c κs = search needs

@@ -6,9 +6,6 @@ use native.Mathlib.Omega.{arith}
 use borrow.Author.Needs.{needs}
 use Rattle.read_aiger.proofs.head.is_opening.Statement.{statement}
 use Rattle.read_aiger.proofs.head.is_opening.Tie as tie
-use Rattle.read_aiger.proofs.head.is_opening.Reads as reads
-use Rattle.read_aiger.proofs.head.is_opening.Lts as lts
-use Rattle.text.proofs.bytes.same.Reads as same-reads
 
 returns : tie.Need-returns
 returns c = opens-short (c .before .before .args .text .now) (c .if1 .taken)

@@ -4,8 +4,6 @@ use borrow.Author.Needs.{needs}
 use native.Mathlib.Omega.{arith}
 use Rattle.read_aiger.proofs.head.question.Statement.{statement}
 use Rattle.read_aiger.proofs.head.question.Tie as tie
-use Rattle.read_aiger.proofs.head.question.Reads as reads
-use Rattle.read_aiger.proofs.head.question.Lts as lts
 
 returns : tie.Need-returns
 returns c = rw (lt-leb _ _ (c .if1 .taken))

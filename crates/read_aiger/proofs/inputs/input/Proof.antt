@@ -8,11 +8,6 @@ use native.Mathlib.Omega.{arith}
 use borrow.Author.Needs.{needs}
 use Rattle.read_aiger.proofs.inputs.input.Statement.{statement}
 use Rattle.read_aiger.proofs.inputs.input.Tie as tie
-use Rattle.read_aiger.proofs.inputs.input.Reads as reads
-use Rattle.read_aiger.proofs.inputs.input.Lts as lts
-use Rattle.read_aiger.proofs.numbers.next_numbers.Reads as next-numbers-reads
-use Rattle.read_aiger.proofs.variables.can_give.Reads as can-give-reads
-use Rattle.read_aiger.proofs.variables.give.Reads as give-reads
 
 slice-aggregate-next-numbers : tie.Need-slice-aggregate-next-numbers
 slice-aggregate-next-numbers c = search needs

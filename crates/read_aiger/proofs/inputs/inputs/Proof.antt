@@ -8,9 +8,6 @@ use borrow.Author.Needs.{needs}
 use native.Mathlib.Omega.{arith}
 use Rattle.read_aiger.proofs.inputs.inputs.Statement.{statement}
 use Rattle.read_aiger.proofs.inputs.inputs.Tie as tie
-use Rattle.read_aiger.proofs.inputs.inputs.Reads as reads
-use Rattle.read_aiger.proofs.inputs.inputs.Lts as lts
-use Rattle.read_aiger.proofs.inputs.input.Reads as input-reads
 
 abbrev Inv-loop : tie.InvT-loop
 Inv-loop text stray count most table₀ at₀ i₀ table at i = Entering (fileLines (drop at₀ text)) text most (length table₀) table at i × (i ≤ count)

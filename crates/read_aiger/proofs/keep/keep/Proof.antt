@@ -5,10 +5,6 @@ use native.Mathlib.Omega.{arith}
 use borrow.Author.Needs.{needs}
 use Rattle.read_aiger.proofs.keep.keep.Statement.{statement}
 use Rattle.read_aiger.proofs.keep.keep.Tie as tie
-use Rattle.read_aiger.proofs.keep.keep.Reads as reads
-use Rattle.read_aiger.proofs.keep.keep.Lts as lts
-use Rattle.tables.proofs.entry.entry_of.Reads as entry-of-reads
-use Rattle.tables.proofs.entry.put.Reads as put-reads
 
 entry-of-requires : tie.Need-entry-of-requires
 entry-of-requires c κs = search needs

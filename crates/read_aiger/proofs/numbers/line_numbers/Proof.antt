@@ -4,9 +4,6 @@ use native.Mathlib.Omega.{arith}
 use borrow.Author.Needs.{needs}
 use Rattle.read_aiger.proofs.numbers.line_numbers.Statement.{statement}
 use Rattle.read_aiger.proofs.numbers.line_numbers.Tie as tie
-use Rattle.read_aiger.proofs.numbers.line_numbers.Reads as reads
-use Rattle.read_aiger.proofs.numbers.line_numbers.Lts as lts
-use Rattle.read_aiger.proofs.numbers.read_numbers.Reads as read-numbers-reads
 
 read-numbers-requires : tie.Need-read-numbers-requires
 read-numbers-requires c κs = search needs

@@ -5,10 +5,6 @@ use native.Mathlib.Omega.{arith}
 use borrow.Author.Needs.{needs}
 use Rattle.read_aiger.proofs.numbers.next_numbers.Statement.{statement}
 use Rattle.read_aiger.proofs.numbers.next_numbers.Tie as tie
-use Rattle.read_aiger.proofs.numbers.next_numbers.Reads as reads
-use Rattle.read_aiger.proofs.numbers.next_numbers.Lts as lts
-use Rattle.read_aiger.proofs.numbers.line_numbers.Reads as line-numbers-reads
-use Rattle.text.proofs.cursor.Cursor.skip_blanks.Reads as skip-blanks-reads
 
 skip-blanks-requires : tie.Need-skip-blanks-requires
 skip-blanks-requires c κs = omega (arith, stray-within (c .before .before .args .text .now))

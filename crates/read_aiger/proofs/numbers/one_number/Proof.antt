@@ -5,9 +5,6 @@ use native.Mathlib.Omega.{arith}
 use borrow.Author.Needs.{needs}
 use Rattle.read_aiger.proofs.numbers.one_number.Statement.{statement}
 use Rattle.read_aiger.proofs.numbers.one_number.Tie as tie
-use Rattle.read_aiger.proofs.numbers.one_number.Reads as reads
-use Rattle.read_aiger.proofs.numbers.one_number.Lts as lts
-use Rattle.read_aiger.proofs.numbers.next_numbers.Reads as next-numbers-reads
 
 slice-aggregate-next-numbers : tie.Need-slice-aggregate-next-numbers
 slice-aggregate-next-numbers c = search needs

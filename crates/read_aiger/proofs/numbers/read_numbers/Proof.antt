@@ -8,10 +8,6 @@ use borrow.Author.Needs.{needs}
 use native.Mathlib.Omega.{arith}
 use Rattle.read_aiger.proofs.numbers.read_numbers.Statement.{statement}
 use Rattle.read_aiger.proofs.numbers.read_numbers.Tie as tie
-use Rattle.read_aiger.proofs.numbers.read_numbers.Reads as reads
-use Rattle.read_aiger.proofs.numbers.read_numbers.Lts as lts
-use Rattle.text.proofs.cursor.Cursor.line_end.Reads as line-end-reads
-use Rattle.text.proofs.cursor.Cursor.next_number.Reads as next-number-reads
 
 abbrev Inv-loop : tie.InvT-loop
 Inv-loop text into₀ p₀ i₀ into p i = Numbering text p₀ (length into₀) into p i

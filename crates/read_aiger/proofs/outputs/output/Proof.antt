@@ -6,11 +6,6 @@ use native.Mathlib.Omega.{arith}
 use borrow.Author.Needs.{needs}
 use Rattle.read_aiger.proofs.outputs.output.Statement.{statement}
 use Rattle.read_aiger.proofs.outputs.output.Tie as tie
-use Rattle.read_aiger.proofs.outputs.output.Reads as reads
-use Rattle.read_aiger.proofs.outputs.output.Lts as lts
-use Rattle.read_aiger.proofs.gates.out_gate.Reads as out-gate-reads
-use Rattle.read_aiger.proofs.numbers.one_number.Reads as one-number-reads
-use Rattle.read_aiger.proofs.variables.is_readable.Reads as is-readable-reads
 
 one-number-requires : tie.Need-one-number-requires
 one-number-requires c κs = search needs

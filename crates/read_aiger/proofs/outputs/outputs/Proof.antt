@@ -10,9 +10,6 @@ use borrow.Author.Needs.{needs}
 use native.Mathlib.Omega.{arith}
 use Rattle.read_aiger.proofs.outputs.outputs.Statement.{statement}
 use Rattle.read_aiger.proofs.outputs.outputs.Tie as tie
-use Rattle.read_aiger.proofs.outputs.outputs.Reads as reads
-use Rattle.read_aiger.proofs.outputs.outputs.Lts as lts
-use Rattle.read_aiger.proofs.outputs.output.Reads as output-reads
 
 abbrev Inv-loop : tie.InvT-loop
 Inv-loop text stray lines n before table operands₀ results₀ at₀ i₀ operands results at i = Putting (fileLines (drop at₀ text)) text n before table (tables operands₀ results₀) (tables operands results) at i × (i ≤ lines) × (length operands ≡ length operands₀) × (length results ≡ length results₀)

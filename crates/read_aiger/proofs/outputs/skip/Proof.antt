@@ -8,9 +8,6 @@ use borrow.Author.Needs.{needs}
 use native.Mathlib.Omega.{arith}
 use Rattle.read_aiger.proofs.outputs.skip.Statement.{statement}
 use Rattle.read_aiger.proofs.outputs.skip.Tie as tie
-use Rattle.read_aiger.proofs.outputs.skip.Reads as reads
-use Rattle.read_aiger.proofs.outputs.skip.Lts as lts
-use Rattle.read_aiger.proofs.numbers.one_number.Reads as one-number-reads
 
 abbrev Inv-loop : tie.InvT-loop
 Inv-loop text stray lines at₀ i₀ at i = LiteralsAt (fileLines (drop at₀ text)) text i at × (i ≤ lines)

@@ -10,9 +10,6 @@ use native.Mathlib.Omega.{arith}
 use borrow.Author.Needs.{needs}
 use Rattle.read_aiger.proofs.read.behind_head.Statement.{statement}
 use Rattle.read_aiger.proofs.read.behind_head.Tie as tie
-use Rattle.read_aiger.proofs.read.behind_head.Reads as reads
-use Rattle.read_aiger.proofs.read.behind_head.Lts as lts
-use Rattle.read_aiger.proofs.body.body.Reads as body-reads
 
 body-requires : tie.Need-body-requires
 body-requires c κs = search needs

@@ -5,11 +5,6 @@ use native.Mathlib.Omega.{arith}
 use borrow.Author.Needs.{needs}
 use Rattle.read_aiger.proofs.read.read.Statement.{statement}
 use Rattle.read_aiger.proofs.read.read.Tie as tie
-use Rattle.read_aiger.proofs.read.read.Reads as reads
-use Rattle.read_aiger.proofs.read.read.Lts as lts
-use Rattle.read_aiger.proofs.head.head.Reads as head-reads
-use Rattle.read_aiger.proofs.read.behind_head.Reads as behind-head-reads
-use Rattle.read_aiger.proofs.stray.first_stray.Reads as first-stray-reads
 
 returns : tie.Need-returns
 returns c =

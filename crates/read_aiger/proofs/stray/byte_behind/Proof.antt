@@ -4,8 +4,6 @@ use native.Mathlib.Omega.{arith}
 use borrow.Author.Needs.{needs}
 use Rattle.read_aiger.proofs.stray.byte_behind.Statement.{statement}
 use Rattle.read_aiger.proofs.stray.byte_behind.Tie as tie
-use Rattle.read_aiger.proofs.stray.byte_behind.Reads as reads
-use Rattle.read_aiger.proofs.stray.byte_behind.Lts as lts
 
 returns : tie.Need-returns
 returns c = past-end (c .before .args .text .now) _ (omega arith)

@@ -8,10 +8,6 @@ use borrow.Author.Needs.{needs}
 use native.Mathlib.Omega.{arith}
 use Rattle.read_aiger.proofs.stray.first_stray.Statement.{statement}
 use Rattle.read_aiger.proofs.stray.first_stray.Tie as tie
-use Rattle.read_aiger.proofs.stray.first_stray.Reads as reads
-use Rattle.read_aiger.proofs.stray.first_stray.Lts as lts
-use Rattle.read_aiger.proofs.stray.byte_behind.Reads as byte-behind-reads
-use Rattle.read_aiger.proofs.stray.is_stray.Reads as is-stray-reads
 
 abbrev Inv-loop : tie.InvT-loop
 Inv-loop text i₀ i = (i ≤ length text) × (i + strayAt (drop i text) ≡ strayAt text)

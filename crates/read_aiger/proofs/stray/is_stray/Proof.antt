@@ -4,8 +4,6 @@ use borrow.Author.Needs.{needs}
 use native.Mathlib.Omega.{arith}
 use Rattle.read_aiger.proofs.stray.is_stray.Statement.{statement}
 use Rattle.read_aiger.proofs.stray.is_stray.Tie as tie
-use Rattle.read_aiger.proofs.stray.is_stray.Reads as reads
-use Rattle.read_aiger.proofs.stray.is_stray.Lts as lts
 
 returns : tie.Need-returns
 returns c = rw (eq-eqb _ _ (c .if1 .taken))

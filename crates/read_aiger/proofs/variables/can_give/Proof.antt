@@ -5,9 +5,6 @@ use Rattle.read_aiger.proofs.Placing.{not-so, literal-low, literal-odd,
 use borrow.Author.Needs.{needs}
 use Rattle.read_aiger.proofs.variables.can_give.Statement.{statement}
 use Rattle.read_aiger.proofs.variables.can_give.Tie as tie
-use Rattle.read_aiger.proofs.variables.can_give.Reads as reads
-use Rattle.read_aiger.proofs.variables.can_give.Lts as lts
-use Rattle.read_aiger.proofs.variables.entry.Reads as entry-reads
 
 returns : tie.Need-returns
 returns c = (λ given wires P. sym (ap (canGive _ given) (literal-low _ (c .if1 .taken))), λ e. not-so e)

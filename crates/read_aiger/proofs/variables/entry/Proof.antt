@@ -3,8 +3,6 @@ use Rattle.read_aiger.proofs.Placing.{past-end}
 use borrow.Author.Needs.{needs}
 use Rattle.read_aiger.proofs.variables.entry.Statement.{statement}
 use Rattle.read_aiger.proofs.variables.entry.Tie as tie
-use Rattle.read_aiger.proofs.variables.entry.Reads as reads
-use Rattle.read_aiger.proofs.variables.entry.Lts as lts
 
 mul-result : tie.Need-mul-result
 mul-result c = search needs

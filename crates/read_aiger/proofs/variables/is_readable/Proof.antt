@@ -6,9 +6,6 @@ use native.Mathlib.Omega.{arith}
 use borrow.Author.Needs.{needs}
 use Rattle.read_aiger.proofs.variables.is_readable.Statement.{statement}
 use Rattle.read_aiger.proofs.variables.is_readable.Tie as tie
-use Rattle.read_aiger.proofs.variables.is_readable.Reads as reads
-use Rattle.read_aiger.proofs.variables.is_readable.Lts as lts
-use Rattle.read_aiger.proofs.variables.entry.Reads as entry-reads
 
 returns : tie.Need-returns
 returns c = (λ given wires P. sym (ap (readable given) (literal-low _ (c .if1 .taken))), λ e l. omega (arith, c .if1 .taken))
