@@ -6,7 +6,7 @@
  * What holds of every function
  *
  * - It returns 0 or more for a result, or less than 0 for a refusal: minus the question's number,
- *   -1 to -14.
+ *   -1 to -14, or -19 or -20 for an AIGER file.
  * - A slice is a pointer and then its length, counted in entries. The pointer is not null, also
  *   where the length is 0. Slices that the function writes overlap no other.
  * - The last parameter chooses the limits: FIDROVELJ_OLD, or FIDROVELJ_WHOLE for whole ciphers. Any
@@ -126,6 +126,26 @@ int64_t fidrovelj_check(const uint8_t *text, size_t text_len,
                         uint64_t *words, size_t words_len,
                         uint64_t *base, size_t base_len,
                         uint8_t sizes);
+
+/* From AIGER: reads an ASCII AIGER file (its first four bytes are "aag ") and writes the netlist made
+ * of it to out, in the written form. The inputs form one value in the order of the input lines, the
+ * outputs one value. Before each AND gate stands an EQ for each constant operand and an INV for each
+ * inverse one, left first; last comes an EQW, INV or EQ for each output. What stands behind the AND
+ * lines (symbols, comments) is passed over. Returns the text's length in bytes. Mask's limits hold,
+ * and the questions are 1, 2, then
+ *
+ * 19  Are the opening bytes and the header of the form, I and O 1 or more, M below the limit on wires?
+ * 20  Are there no latches?
+ * 19  Are all lines there and of the form, no variable above M, given twice, read by an AND line
+ *     before it is given, or put out and never given?
+ *
+ * then 5 of the netlist made, and 14. */
+int64_t fidrovelj_from_aiger(const uint8_t *text, size_t text_len,
+                             uint8_t *out, size_t out_len,
+                             uint64_t *operands, size_t operands_len,
+                             uint64_t *results, size_t results_len,
+                             uint32_t *variables, size_t variables_len,
+                             uint8_t sizes);
 
 #ifdef __cplusplus
 }

@@ -89,7 +89,7 @@ extern "C" {
 }
 
 /// An answer of the library: a result, or less than 0 by the refusing question's number.
-fn answer(answer: i64) -> Result<usize, Refused> {
+pub(crate) fn answer(answer: i64) -> Result<usize, Refused> {
     match usize::try_from(answer) {
         Ok(result) => Ok(result),
         Err(_) => Err(Refused(u8::try_from(-answer).expect("a question has a small number"))),

@@ -32,9 +32,11 @@
 use std::error::Error;
 use std::fmt;
 
+mod aiger;
 pub mod lent;
 mod tables;
 
+pub use aiger::{from_aiger, from_aiger_lent};
 pub use tables::{Sizes, Tables};
 
 /// The examples of README.md and docs/LIBRARY.md, as documentation tests.

@@ -12,6 +12,7 @@ ghost use Rattle.rewrite.specs.Promise.{Promise as RewritePromise};
 ghost use Rattle.run.specs.Promise.{Promise as RunPromise};
 ghost use Rattle.mask.specs.Promise.{Promise as MaskPromise};
 ghost use Rattle.checker.specs.Promise.{Promise as CheckPromise};
+ghost use Rattle.from_aiger.specs.Promise.{Promise as AigerPromise};
 ghost use Rattle.capi.specs.Number.{sizesOf, number as numberOf, Countable, Told, Shows, ToldLeak};
 
 // The number of a refusal.
@@ -174,4 +175,26 @@ pub extern "C" fn fidrovelj_check(
             sizes(whole),
         ),
     )
+}
+
+// The netlist made of an AIGER file: how many bytes its written form has at the front of `out`.
+#[no_mangle]
+pub extern "C" fn fidrovelj_from_aiger(
+    text: &[u8],
+    out: &mut [u8],
+    operands: &mut [u64],
+    results: &mut [u64],
+    variables: &mut [u32],
+    whole: u8,
+) -> i64
+    ensures { λ r. ⌜ Told (AigerPromise (sizesOf whole) (now (text .entry)) (now (out .entry)) (now (out .exit)) (now (operands .entry)) (now (operands .exit)) (now (results .entry)) (now (results .exit)) (now (variables .entry)) (now (variables .exit))) r ⌝ }
+{
+    number(from_aiger::from_aiger(
+        text,
+        out,
+        operands,
+        results,
+        variables,
+        sizes(whole),
+    ))
 }

@@ -161,7 +161,7 @@ split-spaces : {l : List ℕ} → NoCR l → split isSpace l ≡ split (λ x. eq
 split-spaces empty = refl
 split-spaces (each {x = x} p ps) = rw (p, or-false (eqb x space), split-spaces ps)
 
-space-words : {l : List ℕ} → NoCR l → words l ≡ spaceWords l
+pub space-words : {l : List ℕ} → NoCR l → words l ≡ spaceWords l
 unfolding words
 space-words h = ap filled (split-spaces h)
 

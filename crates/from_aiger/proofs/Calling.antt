@@ -1,0 +1,78 @@
+-- From a file that was read to the promise.
+use Prim.Native.Nat.{ℕ, _≤_}
+use mathlib.Core.Path.{_≡_, refl, sym, ap, ap₂, _∙_, subst}
+use mathlib.Core.Bool.{true, false}
+use mathlib.Core.List.{List, [], _∷_, _++_}
+use native.Mathlib.Omega.{arith}
+use lib.ListN.{length, take}
+use Rattle.netlist.specs.declared.Limits.{Limits}
+use Rattle.netlist.specs.declared.Sizes.{Sizes}
+use Rattle.netlist.specs.declared.Answer.{Answer}
+use Rattle.netlist.specs.declared.Answer.the-variants.{Done, Refused}
+use Rattle.netlist.specs.Netlist.{Netlist, small}
+use Rattle.netlist.specs.Outcome.{Outcome, refused, andThen}
+use Rattle.netlist.specs.Write.{writeNetlist, gateText}
+use Rattle.netlist.specs.Services.{tablesLong, rewriteOutcome, outcomeOf, Answers, Delivers}
+use Rattle.netlist.specs.Table.{Tables}
+use Rattle.netlist.proofs.Answering.{answers-as, answers-refused, answers-one, answers-rest}
+use Rattle.netlist.proofs.Puts.{length-gates}
+use Rattle.netlist.proofs.Size.{roomy-small}
+use Rattle.writer.specs.Header.{headerText}
+use Rattle.writer.proofs.Headers.{header-gates}
+use Rattle.form.specs.Form.{formText}
+use Rattle.aiger.specs.Call.{readAiger, aigerCall}
+use Rattle.aiger.specs.Delivered.{Delivered}
+use Rattle.aiger.proofs.Reading.{aiger-delivered}
+use Rattle.read_aiger.specs.WholeAnswers.{NetlistAt, NetlistIs}
+use Rattle.read_aiger.specs.declared.read.NetlistNumbers.{NetlistNumbers}
+use Rattle.read_aiger.specs.declared.read.Reading.{Reading}
+use Rattle.read_aiger.specs.declared.read.Reading.the-variants as R
+use Rattle.from_aiger.specs.Promise.{call}
+
+-- the tables' written form is that of the netlist
+form-same : {o : Outcome Netlist} {tabs : Tables} {m : NetlistNumbers} (a : NetlistAt o tabs m)
+    → formText (m .gates) (m .wires) (m .inputs ∷ []) (m .outputs ∷ []) tabs ≡ writeNetlist (a .is)
+form-same {tabs = tabs} {m = m} a =
+    let N = a .is in
+    let g : length (N .gates) ≡ m .gates = ap length (a .gates) ∙ length-gates tabs (m .gates) in
+    let p : headerText (m .gates) (m .wires) (m .inputs ∷ []) (m .outputs ∷ []) ≡ headerText (length (N .gates)) (N .wires) (N .inputs) (N .outputs)
+    = rw (g, a .wires, a .inputs, a .outputs) refl in
+    ap₂ _++_ p (ap gateText (sym (a .gates))) ∙ header-gates N
+
+-- questions 2, 19, 20, 19, 5 and 14
+pub file-read : (o : Outcome Netlist) (tabs : Tables) (m : NetlistNumbers) {e x : List ℕ} {r : Answer} → NetlistAt o tabs m
+    → Delivers (formText (m .gates) (m .wires) (m .inputs ∷ []) (m .outputs ∷ []) tabs) e x r → Answers (andThen o (rewriteOutcome (length e))) e x r
+file-read o tabs m {e} {x} {r} a d =
+    let k : Delivers (writeNetlist (a .is)) e x r = subst (λ (bs : List ℕ). Delivers bs e x r) (form-same a) d in
+    answers-as (sym (ap (λ (o : Outcome Netlist). andThen o (rewriteOutcome (length e))) (a .outcome))) (k .answers)
+
+pub file-not : (o : Outcome Netlist) (e : List ℕ) (q : ℕ) → o ≡ refused q → Answers (andThen o (rewriteOutcome (length e))) e e (Refused q)
+file-not o e q n = answers-refused e (ap (λ (o : Outcome Netlist). andThen o (rewriteOutcome (length e))) n)
+
+-- the answers of the reader, which was handed the limits of the sizes
+module _ {l L : Limits} (is : l ≡ L) (t : List ℕ) (tabs : Tables) (r : Reading) where
+  pub read-is : (m : NetlistNumbers) → r ≡ R.Done m → NetlistIs (readAiger l t) tabs r → NetlistAt (readAiger L t) tabs m
+  read-is m e h = subst (λ (k : Limits). NetlistAt (readAiger k t) tabs m) is (subst (NetlistIs (readAiger l t) tabs) e h)
+
+  pub read-not : (q : ℕ) → r ≡ R.Refused q → NetlistIs (readAiger l t) tabs r → readAiger L t ≡ refused q
+  read-not q e h = subst (λ (k : Limits). readAiger k t ≡ refused q) is (subst (NetlistIs (readAiger l t) tabs) e h)
+
+-- what the reader requires of the limits of the sizes
+pub small-tables : (s : Sizes) → (small s .wires ≤ small s .table) × (1 ≤ small s .inputs) × (1 ≤ small s .outputs)
+small-tables s = (omega arith, omega arith, omega arith)
+
+-- question 1
+module _ (s : Sizes) (text out o r v : List ℕ) where
+  pub call-one : tablesLong (small s) (length o ∷ length r ∷ length v ∷ []) ≡ false → Answers (call s text out o r v) out out (Refused 1)
+  unfolding aigerCall
+  call-one p = answers-one (tablesLong (small s) (length o ∷ length r ∷ length v ∷ [])) _ out p
+
+  pub call-rest : {x : List ℕ} {a : Answer} → tablesLong (small s) (length o ∷ length r ∷ length v ∷ []) ≡ true
+      → Answers (andThen (readAiger (small s) text) (rewriteOutcome (length out))) out x a → Answers (call s text out o r v) out x a
+  unfolding aigerCall
+  call-rest p h = answers-rest (tablesLong (small s) (length o ∷ length r ∷ length v ∷ [])) p h
+
+  -- the result
+  pub call-delivered : {x : List ℕ} {a : Answer} → Answers (call s text out o r v) out x a → (n : ℕ) → a ≡ Done n → Delivered (small s) text (take n x)
+  call-delivered {x} {a} w n p =
+      aiger-delivered (roomy-small s) (length o ∷ length r ∷ length v ∷ []) text (length out) (take n x) (sym (w .outcome) ∙ ap (outcomeOf x) p)

@@ -1,0 +1,3 @@
+-- Laws of the service.
+pub mod Calling
+pub mod PassedOver

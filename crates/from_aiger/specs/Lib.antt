@@ -1,0 +1,2 @@
+-- What the service's contracts cite.
+pub mod Promise

@@ -1,0 +1,9 @@
+-- What the answers of the readers mean.
+pub mod Stray
+pub mod LineAnswers
+pub mod Places
+pub mod StepAnswers
+pub mod AndAnswers
+pub mod OutAnswers
+pub mod HeadAnswers
+pub mod WholeAnswers
