@@ -10,7 +10,6 @@ use borrow.Author.Tests.{eqb-true, le-leb}
 use Rattle.netlist.specs.declared.Limits.{Limits}
 use Rattle.netlist.specs.Lists.{every}
 use Rattle.netlist.specs.Text.{space, lf, cr, atLF, lfEnds, isLineEnd, isSpace, onto, split, filled, words, wordLines}
-use Rattle.netlist.specs.Netlist.{large}
 use Rattle.netlist.specs.Read.{byteAllowed, bytesAllowed, opening, readNetlist}
 use Rattle.netlist.specs.GateReader.{readerSays}
 use Rattle.netlist.proofs.Tests.{All, empty, each, onBool, isTrue, both}
@@ -162,9 +161,9 @@ module _ (L : Limits) (t : List ℕ) (n : length t ≤ L .text) (h : NoCR (lfEnd
   unfolding readNetlist
   read-alike = rw (opening-alike, ends-alike t)
 
-pub reader-alike : (t : List ℕ) → length t ≤ large .text → NoCR (lfEnds t) → (k : ℕ) → readerSays (lfEnds t) k ≡ readerSays t k
-unfolding readerSays
-reader-alike t n h k = rw (opening-alike large t n h, ends-alike t)
+  pub reader-alike : (k : ℕ) → readerSays L (lfEnds t) k ≡ readerSays L t k
+  unfolding readerSays
+  reader-alike k = rw (opening-alike, ends-alike t)
 
 -- ---- words parted by spaces alone
 
