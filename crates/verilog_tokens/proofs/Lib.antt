@@ -1,0 +1,3 @@
+-- Laws of the next token.
+pub mod Classes
+pub mod Nexts
