@@ -1,0 +1,2 @@
+-- Laws of the tables of names.
+pub mod Chains
