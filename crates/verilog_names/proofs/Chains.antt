@@ -97,3 +97,8 @@ module _ (t words w : List ℕ) (size : ℕ) where
   pub find-none : (n p : ℕ) → (0 < p → ⊥) → Finding t words w size n p → p ≡ found t words w n
   unfolding found
   find-none n p h F = let z : p ≡ 0 = omega arith in z ∙ sym (ap (found t words w) z) ∙ sym (F .same)
+
+pub found-within : (t words w : List ℕ) (n : ℕ) → found t words w n ≤ n
+unfolding found
+found-within t words w zero = omega arith
+found-within t words w (suc n) = onBool (sameBytes (nameAt t words n) w) (λ e. rw e (omega arith)) (λ e. rw e (omega (arith, found-within t words w n)))

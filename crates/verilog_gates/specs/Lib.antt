@@ -1,0 +1,4 @@
+-- What the contracts cite.
+pub mod Puts
+pub mod Wires
+pub mod Operands

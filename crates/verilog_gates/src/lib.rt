@@ -1,0 +1,4 @@
+// The gates of equations.
+pub mod expression;
+pub mod gates;
+pub mod wires;
