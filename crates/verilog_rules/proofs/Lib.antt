@@ -1,0 +1,2 @@
+-- Laws of question 17.
+pub mod Moves

@@ -1,0 +1,2 @@
+// Question 17: names as they must be declared, assigned and read.
+pub mod states;
