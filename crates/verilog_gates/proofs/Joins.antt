@@ -156,7 +156,7 @@ pub record OperandAt (t : List ℕ) (from : ℕ) (negated : Bool) (y : Lexed) : 
   pub once : negated ≡ false → eqb (y .code) 12 ≡ false
   pub ahead : (k : ℕ) (ts : List Token) → tokens (drop from t) ≡ some ts → Accepts ts (at onOperand k) → Ahead t place negated k ts
 
-mark-first : (t : List ℕ) (code : ℕ) (sign : List ℕ) → ((w : List ℕ) → tokenOf code w ≡ some (mark sign)) → {w : List ℕ} {behind c : ℕ} {ts : List Token} → c ≡ code → (F : First t c w behind ts) → ts ≡ mark sign ∷ F .more
+pub mark-first : (t : List ℕ) (code : ℕ) (sign : List ℕ) → ((w : List ℕ) → tokenOf code w ≡ some (mark sign)) → {w : List ℕ} {behind c : ℕ} {ts : List Token} → c ≡ code → (F : First t c w behind ts) → ts ≡ mark sign ∷ F .more
 mark-first t code sign marked {w} e F =
     let x : mark sign ≡ F .token = some-same (mark sign) (F .token) (sym (ap (λ (y : ℕ). tokenOf y w) e ∙ marked w) ∙ F .is) in
     F .split ∙ ap (λ (y : Token). y ∷ F .more) (sym x)
@@ -231,7 +231,7 @@ next-sum true c = refl
 next-sum false c = omega arith
 
 -- two ways to split a list of tokens
-head-same : (ts : List Token) (x y : Token) (us vs : List Token) → ts ≡ x ∷ us → ts ≡ y ∷ vs → (x ≡ y) × (us ≡ vs)
+pub head-same : (ts : List Token) (x y : Token) (us vs : List Token) → ts ≡ x ∷ us → ts ≡ y ∷ vs → (x ≡ y) × (us ≡ vs)
 head-same ts x y us vs p q = let e = sym p ∙ q in (ap (headOr x) e, ap tail e)
   where
     headOr : Token → List Token → Token
@@ -248,7 +248,7 @@ unfolding walk
 some-operand true k a = a
 some-operand false k a = a
 
-some-behind : (k : ℕ) → Accepts [] (at behindOperand k) → ⊥
+pub some-behind : (k : ℕ) → Accepts [] (at behindOperand k) → ⊥
 unfolding walk
 some-behind k a = a
 

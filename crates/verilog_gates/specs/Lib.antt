@@ -2,3 +2,4 @@
 pub mod Puts
 pub mod Wires
 pub mod Operands
+pub mod Equations
