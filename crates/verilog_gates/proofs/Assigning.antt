@@ -18,8 +18,8 @@ use Rattle.verilog.specs.Walk.{Shape, at, flat, walk, onAssign, onTarget, onEqu
 use Rattle.verilog.specs.Reading.{Accepts, Read}
 use Rattle.verilog.proofs.Listing.{same-equal, each-snoc}
 use Rattle.verilog.proofs.Descent.{behind-cases}
-use Rattle.verilog_tokens.specs.Next.{tokenOf, between, TokenAt}
-use Rattle.verilog_tokens.proofs.Firsts.{never, codeOf, token-code, First, first, none-left}
+use Rattle.verilog_tokens.specs.Next.{codeOf, tokenOf, between, TokenAt}
+use Rattle.verilog_tokens.proofs.Firsts.{never, token-code, First, first, none-left}
 use Rattle.verilog_names.specs.Names.{found}
 use Rattle.verilog_gates.specs.Puts.{putGates}
 use Rattle.verilog_gates.specs.Wires.{before, wireOf, setBefore, given}

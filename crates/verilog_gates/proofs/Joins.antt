@@ -22,8 +22,8 @@ use Rattle.verilog.specs.Reading.{Accepts, Read}
 use Rattle.verilog.proofs.Walking.{operandPhase}
 use Rattle.verilog.proofs.Descent.{name-read, group-read, term-first, expr-first, term-more, expr-more, operand-cases, negated-cases, behind-cases}
 use Rattle.verilog_tokens.specs.declared.Token.{Token as Lexed}
-use Rattle.verilog_tokens.specs.Next.{tokenOf, between, TokenAt}
-use Rattle.verilog_tokens.proofs.Firsts.{never, codeOf, token-code, First, first, none-left}
+use Rattle.verilog_tokens.specs.Next.{codeOf, tokenOf, between, TokenAt}
+use Rattle.verilog_tokens.proofs.Firsts.{never, token-code, First, first, none-left}
 use Rattle.verilog_gates.specs.Puts.{putGate, putGates}
 use Rattle.verilog_gates.specs.Operands.{Ready, Gives, OperandIs, any, noAnd, noOperator, FactorIs, TermIs, ExprIs, PastIs, Finished}
 use Rattle.verilog_gates.specs.declared.expression.Value.{Value}

@@ -1,2 +1,3 @@
 -- Laws of question 17.
 pub mod Moves
+pub mod Declaring

@@ -1,2 +1,4 @@
 -- What the contracts cite.
 pub mod States
+pub mod Stages
+pub mod One

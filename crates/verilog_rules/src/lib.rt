@@ -1,2 +1,3 @@
 // Question 17: names as they must be declared, assigned and read.
+pub mod declarations;
 pub mod states;

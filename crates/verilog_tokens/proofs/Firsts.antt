@@ -1,7 +1,7 @@
 -- The token at a place as the first of those that follow.
 use Prim.Native.Nat.{ℕ, zero, suc, _+_, _≤_, _<_}
 use mathlib.Core.Path.{_≡_, refl, sym, ap, subst, _∙_}
-use mathlib.Core.Bool.{true, false, cond}
+use mathlib.Core.Bool.{true, false}
 use mathlib.Core.List.{List, [], _∷_}
 use mathlib.Core.Option.{Option, none, some}
 use native.Mathlib.Omega.{arith}
@@ -12,20 +12,12 @@ use Rattle.netlist.specs.Lists.{sameBytes, ascii}
 use Rattle.netlist.proofs.Tests.{onBool}
 use Rattle.netlist.proofs.Questions.{none-some, some-same}
 use Rattle.verilog.specs.Tokens.{Token, name, mark, marks, consToken, tokens}
-use Rattle.verilog_tokens.specs.Next.{markOf, tokenOf, between, tokensFrom, TokenAt}
+use Rattle.verilog_tokens.specs.Next.{markOf, codeFrom, codeOf, tokenOf, between, tokensFrom, TokenAt}
 
 pub never : true ≡ false → ⊥
 never e = let z : _≡_ {A = ℕ} 0 1 = cc in omega arith
 
 -- ---- the code of a token
-
-abbrev pub codeFrom : ℕ → List ℕ → List (List ℕ) → ℕ
-codeFrom c k [] = 0
-codeFrom c k (m ∷ ms) = cond (sameBytes k m) c (codeFrom (suc c) k ms)
-
-abbrev pub codeOf : Token → ℕ
-codeOf (name w) = 15
-codeOf (mark k) = codeFrom 1 k marks
 
 mark-code : (c : ℕ) (x : Token) → markOf c marks ≡ some x → c ≡ codeOf x
 mark-code zero x e = absurd (none-some x e)

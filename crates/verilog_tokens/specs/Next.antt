@@ -38,6 +38,15 @@ markOf zero (m ∷ ms) = none
 markOf (suc zero) (m ∷ ms) = some (mark m)
 markOf (suc (suc k)) (m ∷ ms) = markOf (suc k) ms
 
+-- the code of a token
+abbrev pub codeFrom : ℕ → List ℕ → List (List ℕ) → ℕ
+codeFrom c k [] = 0
+codeFrom c k (m ∷ ms) = cond (sameBytes k m) c (codeFrom (suc c) k ms)
+
+abbrev pub codeOf : Token → ℕ
+codeOf (name w) = 15
+codeOf (mark k) = codeFrom 1 k marks
+
 -- the token of a code and a word
 unfoldable pub tokenOf : ℕ → List ℕ → Option Token
 tokenOf c w = cond (eqb c 15) (some (name w)) (markOf c marks)
