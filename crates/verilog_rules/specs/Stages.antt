@@ -10,6 +10,7 @@ use Rattle.verilog.specs.Tokens.{Token, name, mark, elem, tokens}
 use Rattle.verilog.specs.Equations.{Entry, entry}
 use Rattle.verilog_tokens.specs.Next.{codeOf}
 use Rattle.verilog_names.specs.Names.{namesOf, Chained}
+use Rattle.verilog_rules.specs.declared.declarations.Declared.{Declared}
 
 -- ---- declarations
 
@@ -62,3 +63,6 @@ pub record NotDeclared (t : List ℕ) (at most : ℕ) : Type 0 where
 abbrev pub DeclaredBy : Bool → List ℕ → ℕ → ℕ → ℕ → List ℕ → List ℕ → List ℕ → List ℕ → ℕ → ℕ → Type 0
 DeclaredBy true t at size most heads words links st count place = AllDeclared t at size heads words links st count place
 DeclaredBy false t at size most heads words links st count place = NotDeclared t at most
+
+abbrev pub DeclaredIs : List ℕ → ℕ → ℕ → ℕ → List ℕ → List ℕ → List ℕ → List ℕ → Declared → Type 0
+DeclaredIs t at size most heads words links st r = DeclaredBy (r .good) t at size most heads words links st (r .count) (r .at)

@@ -1,4 +1,5 @@
 // The declarations of a text, each name into the tables once.
+use verilog_tokens::next;
 ghost use mathlib.Core.Path.{_≡_};
 ghost use mathlib.Core.Bool.{_&&_};
 ghost use Prim.Native.Nat.{_≤_, _<_, _+_};
@@ -7,8 +8,16 @@ ghost use lib.ListN.{length};
 ghost use Rattle.netlist.specs.Table.{half};
 ghost use Rattle.verilog_tokens.specs.Next.{between};
 ghost use Rattle.verilog_names.specs.Names.{found, Chained, Added};
-ghost use Rattle.verilog_rules.specs.Stages.{declares as declaresIs, kindBehind};
+ghost use Rattle.verilog_rules.specs.Stages.{declares as declaresIs, kindBehind, DeclaredIs};
 ghost use Rattle.verilog_rules.specs.One.{NameIs, OneIs};
+
+// Whether no name stands twice and the tables have room for all, how many names there are, and the place behind the
+// declarations.
+pub struct Declared {
+    pub good: bool,
+    pub count: usize,
+    pub at: usize,
+}
 
 // How far the declarations are: whether all names are new, how many there are, and the kind of the next one.
 pub struct Names {
@@ -99,5 +108,50 @@ fn one(
         good: true,
         count,
         kind: kind_behind(kind, code),
+    }
+}
+
+// The declarations from a place on.
+pub fn declarations(
+    text: &[u8],
+    heads: &mut [u64],
+    words: &mut [u64],
+    links: &mut [u64],
+    states: &mut [u32],
+    size: usize,
+    most: usize,
+    at: usize,
+) -> Declared
+    requires { ⌜ Chained (now text) (now heads) (now words) (now links) size 0 × (most ≤ length (now words)) × (most ≤ length (now links)) × (most ≤ length (now states)) × (most < half) × (at ≤ length (now text)) ⌝ }
+    ensures { λ r. ⌜ DeclaredIs (now (text .entry)) at size most (now (heads .exit)) (now (words .exit)) (now (links .exit)) (now (states .exit)) r ⌝ }
+{
+    let first = next(text, at);
+    let mut code = first.code;
+    let mut from = first.from;
+    let mut to = first.to;
+    let mut place = at;
+    let mut count: usize = 0;
+    let mut kind: u32 = 0;
+    while declares(code) {
+        let s = one(text, heads, words, links, states, size, most, count, kind, code, from, to);
+        if !s.good {
+            return Declared {
+                good: false,
+                count,
+                at: place,
+            };
+        }
+        count = s.count;
+        kind = s.kind;
+        place = to;
+        let t = next(text, to);
+        code = t.code;
+        from = t.from;
+        to = t.to;
+    }
+    Declared {
+        good: true,
+        count,
+        at: place,
     }
 }
