@@ -14,8 +14,9 @@ use Rattle.netlist.proofs.Tests.{onBool}
 use Rattle.verilog.proofs.Listing.{same-equal, same-self}
 use Rattle.verilog_names.specs.Names.{nameAt, found}
 use Rattle.verilog_names.proofs.Chains.{found-within}
-use Rattle.verilog_gates.specs.Wires.{before, wireOf}
+use Rattle.verilog_gates.specs.Wires.{before, wireOf, given}
 use Rattle.verilog_rules.specs.States.{becomes, allFrom}
+use Rattle.verilog_rules.specs.Ports.{PortIs}
 
 module _ (t words : List ℕ) where
   -- a name that is found is the name of its entry
@@ -41,7 +42,7 @@ module _ (t words : List ℕ) where
       go (suc i) h = let z : suc i - 1 ≡ i = omega arith in sym (ap (λ (j : ℕ). getD states j 0) z)
 
 module _ (t words states : List ℕ) (n : ℕ) (w : List ℕ) (old new : ℕ) where
-  stays : eqb (wireOf t words states n w) old ≡ false → states ≡ becomes t words states n w old new
+  pub stays : eqb (wireOf t words states n w) old ≡ false → states ≡ becomes t words states n w old new
   stays e = rw e
 
   pub become-none : 0 < old → found t words w n ≡ 0 → (false ≡ eqb (wireOf t words states n w) old) × (states ≡ becomes t words states n w old new)
@@ -96,3 +97,25 @@ module _ (states : List ℕ) (least : ℕ) where
 
       first : (a b : Bool) → a ≡ false → (a && b) ≡ false
       first a b e = rw e
+
+-- ---- one port
+
+module _ {t words : List ℕ} {n : ℕ} {w : List ℕ} {inputs outputs : ℕ} {st st′ ws : List ℕ} where
+  pub port-input : {ws′ : List ℕ} {b : Bool} → b ≡ eqb (wireOf t words st n w) 1 → b ≡ true → st′ ≡ becomes t words st n w 1 5 → ws′ ≡ given t words ws n w inputs
+      → PortIs t words n w inputs outputs st st′ ws ws′ (record { good = true; inputs = inputs + 1; outputs = outputs })
+  port-input e q s g = record { isInput = λ h. (refl, s, g); isOther = λ h. absurd (h (eqb-true (wireOf t words st n w) 1 (sym e ∙ q))) }
+
+  pub port-other : {b good : Bool} {st₁ : List ℕ} → b ≡ eqb (wireOf t words st n w) 1 → b ≡ false → st₁ ≡ becomes t words st n w 1 5
+      → good ≡ eqb (wireOf t words st₁ n w) 2 → st′ ≡ becomes t words st₁ n w 2 4
+      → PortIs t words n w inputs outputs st st′ ws ws (record { good = good; inputs = inputs; outputs = outputs + 1 })
+  port-other {b} {good} {st₁} e q s g k =
+      let f = sym e ∙ q in
+      let u : st₁ ≡ st = s ∙ sym (stays t words st n w 1 5 f) in
+      record {
+        isInput = λ h. absurd (eqb-false (wireOf t words st n w) 1 f h);
+        isOther = λ h. (
+          (λ i. record { good = (g ∙ ap (λ (x : List ℕ). eqb (wireOf t words x n w) 2) u) i; inputs = inputs; outputs = outputs + 1 }),
+          k ∙ ap (λ (x : List ℕ). becomes t words x n w 2 4) u,
+          refl,
+        );
+      }

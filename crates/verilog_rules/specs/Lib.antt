@@ -2,3 +2,4 @@
 pub mod States
 pub mod Stages
 pub mod One
+pub mod Ports

@@ -1,5 +1,5 @@
-// The states of names: 1 for an input and 2 for an output that is no port yet, 3 for a wire or an output that is not yet
-// assigned, 4 for a name that may be read.
+// The states of names, which only rise: 1 for an input and 2 for an output as declared, 3 for a wire and 4 for an output that is
+// a port, not yet assigned; 5 for a name that may be read, 6 for an output that may be read.
 ghost use mathlib.Core.Path.{_≡_};
 ghost use mathlib.Core.Bool.{cond};
 ghost use Prim.Native.Nat.{_≤_, _<_, _-_};
