@@ -31,8 +31,32 @@ pub fn equations(
     while code == 5 {
         let target = token_at(text, to);
         let equals = token_at(text, target.to);
-        let v = expression(text, heads, words, links, wires, operands, results, size, count, n, equals.to, free);
-        give(text, heads, words, links, wires, size, count, target.from, target.to, v.wire);
+        let v = expression(
+            text,
+            heads,
+            words,
+            links,
+            wires,
+            operands,
+            results,
+            size,
+            count,
+            n,
+            equals.to,
+            free,
+        );
+        give(
+            text,
+            heads,
+            words,
+            links,
+            wires,
+            size,
+            count,
+            target.from,
+            target.to,
+            v.wire,
+        );
         free = v.next;
         let t = token_at(text, v.behind);
         code = t.code;

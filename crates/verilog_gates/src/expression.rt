@@ -38,13 +38,39 @@ pub fn expression(
     requires { ⌜ Ready (now text) (now heads) (now words) (now links) (now wires) size count n from next ⌝ }
     ensures { λ r. ⌜ ExprIs (wireOf (now (text .entry)) (now (words .entry)) (now (wires .entry)) count) (now (text .entry)) n from next (tables (now (operands .entry)) (now (results .entry))) (tables (now (operands .exit)) (now (results .exit))) r ⌝ }
 {
-    let first = term(text, heads, words, links, wires, operands, results, size, count, n, from, next);
+    let first = term(
+        text,
+        heads,
+        words,
+        links,
+        wires,
+        operands,
+        results,
+        size,
+        count,
+        n,
+        from,
+        next,
+    );
     let mut wire = first.wire;
     let mut free = first.next;
     let mut code = first.code;
     let mut behind = first.behind;
     while code == 14 {
-        let v = term(text, heads, words, links, wires, operands, results, size, count, n, behind, free);
+        let v = term(
+            text,
+            heads,
+            words,
+            links,
+            wires,
+            operands,
+            results,
+            size,
+            count,
+            n,
+            behind,
+            free,
+        );
         put(operands, results, n, 1, wire, v.wire, v.next);
         wire = v.next;
         free = v.next + 1;
@@ -77,13 +103,39 @@ fn term(
     requires { ⌜ Ready (now text) (now heads) (now words) (now links) (now wires) size count n from next ⌝ }
     ensures { λ r. ⌜ TermIs (wireOf (now (text .entry)) (now (words .entry)) (now (wires .entry)) count) (now (text .entry)) n from next (tables (now (operands .entry)) (now (results .entry))) (tables (now (operands .exit)) (now (results .exit))) r ⌝ }
 {
-    let first = factor(text, heads, words, links, wires, operands, results, size, count, n, from, next);
+    let first = factor(
+        text,
+        heads,
+        words,
+        links,
+        wires,
+        operands,
+        results,
+        size,
+        count,
+        n,
+        from,
+        next,
+    );
     let mut wire = first.wire;
     let mut free = first.next;
     let mut code = first.code;
     let mut behind = first.behind;
     while code == 13 {
-        let v = factor(text, heads, words, links, wires, operands, results, size, count, n, behind, free);
+        let v = factor(
+            text,
+            heads,
+            words,
+            links,
+            wires,
+            operands,
+            results,
+            size,
+            count,
+            n,
+            behind,
+            free,
+        );
         put(operands, results, n, 2, wire, v.wire, v.next);
         wire = v.next;
         free = v.next + 1;
@@ -110,7 +162,16 @@ fn past(text: &[u8], t: Token) -> Token
 }
 
 // The value of an operand that ends at a place, inverted by a gate where a `~` stands before it, with the token that follows.
-fn finish(text: &[u8], operands: &mut [u64], results: &mut [u64], n: u32, negated: bool, wire: u32, next: u32, to: usize) -> Value
+fn finish(
+    text: &[u8],
+    operands: &mut [u64],
+    results: &mut [u64],
+    n: u32,
+    negated: bool,
+    wire: u32,
+    next: u32,
+    to: usize,
+) -> Value
     requires { ⌜ (to ≤ length (now text)) × (n ≤ next) × (next + 1 < half) ⌝ }
     ensures { λ r. ⌜ Finished (now (text .entry)) n negated wire next to (tables (now (operands .entry)) (now (results .entry))) (tables (now (operands .exit)) (now (results .exit))) r ⌝ }
 {
@@ -160,6 +221,28 @@ fn factor(
     if t.code != 7 {
         return finish(text, operands, results, n, false, 0, next, t.to);
     }
-    let e = expression(text, heads, words, links, wires, operands, results, size, count, n, t.to, next);
-    finish(text, operands, results, n, negated, e.wire, e.next, e.behind)
+    let e = expression(
+        text,
+        heads,
+        words,
+        links,
+        wires,
+        operands,
+        results,
+        size,
+        count,
+        n,
+        t.to,
+        next,
+    );
+    finish(
+        text,
+        operands,
+        results,
+        n,
+        negated,
+        e.wire,
+        e.next,
+        e.behind,
+    )
 }

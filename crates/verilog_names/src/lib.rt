@@ -47,7 +47,15 @@ fn is_name(text: &[u8], entry: u64, w: &[u8]) -> bool
 }
 
 // One more than the newest entry with the name w, or 0.
-pub fn find(text: &[u8], w: &[u8], heads: &[u64], words: &[u64], links: &[u64], size: usize, count: usize) -> u64
+pub fn find(
+    text: &[u8],
+    w: &[u8],
+    heads: &[u64],
+    words: &[u64],
+    links: &[u64],
+    size: usize,
+    count: usize,
+) -> u64
     requires { ⌜ Chained (now text) (now heads) (now words) (now links) size count ⌝ }
     ensures { λ r. ⌜ r ≡ found (now (text .entry)) (now (words .entry)) (now (w .entry)) count ⌝ }
 {
@@ -64,7 +72,16 @@ pub fn find(text: &[u8], w: &[u8], heads: &[u64], words: &[u64], links: &[u64], 
 }
 
 // The name between two places as the next entry, newest of its chain.
-pub fn add(text: &[u8], from: usize, to: usize, heads: &mut [u64], words: &mut [u64], links: &mut [u64], size: usize, count: usize)
+pub fn add(
+    text: &[u8],
+    from: usize,
+    to: usize,
+    heads: &mut [u64],
+    words: &mut [u64],
+    links: &mut [u64],
+    size: usize,
+    count: usize,
+)
     requires { ⌜ Chained (now text) (now heads) (now words) (now links) size count × (from ≤ to) × (to ≤ length (now text)) × (count < length (now words)) × (count < length (now links)) ⌝ }
     ensures { λ _. ⌜ Added (now (text .entry)) (now (heads .entry)) (now (heads .exit)) (now (words .entry)) (now (words .exit)) (now (links .entry)) (now (links .exit)) size count from to ⌝ }
 {

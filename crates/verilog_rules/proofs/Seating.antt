@@ -80,15 +80,17 @@ module _ {t words : List ℕ} {n at : ℕ} {st₀ ws₀ : List ℕ} where
 
   module _ {st ws : List ℕ} {code from to i o : ℕ} (S : Seating t words n at st₀ ws₀ st ws code from to i o) where
     pub seat-end : (code ≡ 15 → ⊥) → PortsIs t words n at st₀ st ws₀ ws (record { good = true; inputs = i; outputs = o })
-    seat-end h = record { gives = λ ps rest e. let A = S .gives ps rest e in
-        let q : seatAll t words n (unseated st₀ ws₀) ps ≡ seated st ws i o = A .same ∙ ap (seatAll t words n (seated st ws i o)) (none (A .more) rest (A .tokensAre)) in
-        record {
-          said = sym (ap (λ (P : Seated). P .good) q);
-          states = λ g. sym (ap (λ (P : Seated). P .states) q);
-          wires = λ g. sym (ap (λ (P : Seated). P .wires) q);
-          inputs = λ g. sym (ap (λ (P : Seated). P .inputs) q);
-          outputs = λ g. sym (ap (λ (P : Seated). P .outputs) q);
-        } }
+    seat-end h = record {
+      gives = λ ps rest e. let A = S .gives ps rest e in
+          let q : seatAll t words n (unseated st₀ ws₀) ps ≡ seated st ws i o = A .same ∙ ap (seatAll t words n (seated st ws i o)) (none (A .more) rest (A .tokensAre)) in
+          record {
+            said = sym (ap (λ (P : Seated). P .good) q);
+            states = λ g. sym (ap (λ (P : Seated). P .states) q);
+            wires = λ g. sym (ap (λ (P : Seated). P .wires) q);
+            inputs = λ g. sym (ap (λ (P : Seated). P .inputs) q);
+            outputs = λ g. sym (ap (λ (P : Seated). P .outputs) q);
+          };
+    }
       where
         none : (ps : List (List ℕ)) (rest : List Token) → tokens (drop (S .place) t) ≡ some (portsLeft ps rest) → ps ≡ []
         none [] rest e = refl
@@ -119,19 +121,21 @@ module _ {t words : List ℕ} {n at : ℕ} {st₀ ws₀ : List ℕ} where
           pass X Y q ∙ (λ j. record { good = two j; states = sym (K .1) j; wires = sym (K .2) j; inputs = sym (ap (λ (x : Ports). x .inputs) (K .0)) j; outputs = sym (ap (λ (x : Ports). x .outputs) (K .0)) j }))
 
       pub seat-bad : {i′ o′ : ℕ} {st″ ws″ : List ℕ} → r .good ≡ false → PortsIs t words n at st₀ st″ ws₀ ws″ (record { good = false; inputs = i′; outputs = o′ })
-      seat-bad g = record { gives = λ ps rest e. let A = S .gives ps rest e in
-          let T = this (A .more) rest (A .tokensAre) in
-          let b : seat t words n (seated st ws i o) (between t from to) .good ≡ false = onBool (eqb (wireOf t words st n (between t from to)) 1)
-          (λ q. absurd (never (sym (ap (λ (x : Ports). x .good) (P .isInput (eqb-true (wireOf t words st n (between t from to)) 1 q) .0)) ∙ g)))
-          (λ q. rw q (sym (ap (λ (x : Ports). x .good) (P .isOther (eqb-false (wireOf t words st n (between t from to)) 1 q) .0)) ∙ g)) in
-          let q = ap (λ (x : Seated). x .good) (A .same ∙ ap (seatAll t words n (seated st ws i o)) (T .1)) ∙ spoilt t words n (T .0) (seat t words n (seated st ws i o) (between t from to)) b in
-          record {
-            said = sym q;
-            states = λ z. absurd (never (sym z));
-            wires = λ z. absurd (never (sym z));
-            inputs = λ z. absurd (never (sym z));
-            outputs = λ z. absurd (never (sym z));
-          } }
+      seat-bad g = record {
+        gives = λ ps rest e. let A = S .gives ps rest e in
+            let T = this (A .more) rest (A .tokensAre) in
+            let b : seat t words n (seated st ws i o) (between t from to) .good ≡ false = onBool (eqb (wireOf t words st n (between t from to)) 1)
+            (λ q. absurd (never (sym (ap (λ (x : Ports). x .good) (P .isInput (eqb-true (wireOf t words st n (between t from to)) 1 q) .0)) ∙ g)))
+            (λ q. rw q (sym (ap (λ (x : Ports). x .good) (P .isOther (eqb-false (wireOf t words st n (between t from to)) 1 q) .0)) ∙ g)) in
+            let q = ap (λ (x : Seated). x .good) (A .same ∙ ap (seatAll t words n (seated st ws i o)) (T .1)) ∙ spoilt t words n (T .0) (seat t words n (seated st ws i o) (between t from to)) b in
+            record {
+              said = sym q;
+              states = λ z. absurd (never (sym z));
+              wires = λ z. absurd (never (sym z));
+              inputs = λ z. absurd (never (sym z));
+              outputs = λ z. absurd (never (sym z));
+            };
+      }
 
       pub seat-on : r .good ≡ true → length st′ ≡ length st → length ws′ ≡ length ws → {cc fc tc code′ from′ to′ : ℕ} → TokenAt t to cc fc tc → TokenAt t tc code′ from′ to′
           → Seating t words n at st₀ ws₀ st′ ws′ code′ from′ to′ (r .inputs) (r .outputs)

@@ -97,7 +97,19 @@ fn one(
     ensures { λ r. ⌜ OneIs (now (text .entry)) size most count kind code from to (now (heads .entry)) (now (heads .exit)) (now (words .entry)) (now (words .exit)) (now (links .entry)) (now (links .exit)) (now (states .entry)) (now (states .exit)) r ⌝ }
 {
     if code == 15 {
-        let good = name(text, heads, words, links, states, size, most, count, kind, from, to);
+        let good = name(
+            text,
+            heads,
+            words,
+            links,
+            states,
+            size,
+            most,
+            count,
+            kind,
+            from,
+            to,
+        );
         return Names {
             good,
             count: count + 1,
@@ -133,7 +145,20 @@ pub fn declarations(
     let mut count: usize = 0;
     let mut kind: u32 = 0;
     while declares(code) {
-        let s = one(text, heads, words, links, states, size, most, count, kind, code, from, to);
+        let s = one(
+            text,
+            heads,
+            words,
+            links,
+            states,
+            size,
+            most,
+            count,
+            kind,
+            code,
+            from,
+            to,
+        );
         if !s.good {
             return Declared {
                 good: false,

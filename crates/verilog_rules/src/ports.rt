@@ -34,15 +34,50 @@ fn port(
     requires { ⌜ Chained (now text) (now heads) (now words) (now links) size count × (count ≤ length (now states)) × (count ≤ length (now wires)) × (from ≤ to) × (to ≤ length (now text)) × (inputs + 1 < half) × (outputs + 1 < half) ⌝ }
     ensures { λ r. ⌜ PortIs (now (text .entry)) (now (words .entry)) count (between (now (text .entry)) from to) inputs outputs (now (states .entry)) (now (states .exit)) (now (wires .entry)) (now (wires .exit)) r ⌝ }
 {
-    if advance(text, heads, words, links, states, size, count, from, to, 1, 5) {
-        give(text, heads, words, links, wires, size, count, from, to, inputs);
+    if advance(
+        text,
+        heads,
+        words,
+        links,
+        states,
+        size,
+        count,
+        from,
+        to,
+        1,
+        5,
+    ) {
+        give(
+            text,
+            heads,
+            words,
+            links,
+            wires,
+            size,
+            count,
+            from,
+            to,
+            inputs,
+        );
         return Ports {
             good: true,
             inputs: inputs + 1,
             outputs,
         };
     }
-    let good = advance(text, heads, words, links, states, size, count, from, to, 2, 4);
+    let good = advance(
+        text,
+        heads,
+        words,
+        links,
+        states,
+        size,
+        count,
+        from,
+        to,
+        2,
+        4,
+    );
     Ports {
         good,
         inputs,
@@ -72,7 +107,20 @@ pub fn port_list(
     let mut inputs: u32 = 0;
     let mut outputs: u32 = 0;
     while code == 15 {
-        let p = port(text, heads, words, links, states, wires, size, count, inputs, outputs, from, to);
+        let p = port(
+            text,
+            heads,
+            words,
+            links,
+            states,
+            wires,
+            size,
+            count,
+            inputs,
+            outputs,
+            from,
+            to,
+        );
         if !p.good {
             return Ports {
                 good: false,
