@@ -1,0 +1,5 @@
+// The gates of equations.
+pub mod equations;
+pub mod expression;
+pub mod gates;
+pub mod wires;

@@ -1,0 +1,3 @@
+-- Laws of the tables of names.
+pub mod Chains
+pub mod Adding

@@ -1,0 +1,4 @@
+-- Laws of question 17.
+pub mod Moves
+pub mod Declaring
+pub mod Seating

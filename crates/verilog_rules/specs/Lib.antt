@@ -1,0 +1,5 @@
+-- What the contracts cite.
+pub mod States
+pub mod Stages
+pub mod One
+pub mod Ports

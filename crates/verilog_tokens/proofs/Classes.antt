@@ -1,0 +1,138 @@
+-- The classes of bytes: what the table says of each, and what each class means.
+use Prim.Native.Nat.{ℕ, zero, suc, _+_, _<_}
+use native.Mathlib.Omega.{arith}
+use mathlib.Core.Path.{_≡_, refl, subst, sym, ap, _∙_}
+use mathlib.Core.Bool.{Bool, true, false, cond, not, _&&_, _||_}
+use mathlib.Core.List.{List, [], _∷_}
+use lib.Dec.{T, eqb, leb, eqb→eq}
+use lib.ListN.{length, getD}
+use Rattle.netlist.specs.Number.{isDigit}
+use Rattle.netlist.specs.Text.{space, lf}
+use Rattle.netlist.proofs.Tests.{onBool, both, true-T}
+use borrow.Author.Tests.{eq-eqb, ne-eqb}
+use Rattle.verilog.specs.Tokens.{cr, isLetter, inWord, isSign, starts, isWhite, token}
+use Rattle.verilog_tokens.specs.Next.{signCode, classOf, tokenOf}
+
+pub never : true ≡ false → ⊥
+never e = let z : _≡_ {A = ℕ} 0 1 = cc in omega arith
+
+-- ---- the table
+
+abbrev pub classes : List ℕ
+classes =
+    16 ∷ 16 ∷ 16 ∷ 16 ∷ 16 ∷ 16 ∷ 16 ∷ 16 ∷ 16 ∷ 16 ∷ 17 ∷ 16 ∷ 16 ∷ 18 ∷ 16 ∷ 16 ∷ 16 ∷ 16 ∷ 16 ∷ 16 ∷ 16 ∷ 16 ∷ 16 ∷ 16 ∷ 16 ∷ 16 ∷ 16 ∷ 16 ∷ 16 ∷ 16 ∷ 16 ∷ 16 ∷ 17 ∷ 16 ∷ 16 ∷ 16 ∷ 16 ∷ 16 ∷ 13 ∷ 16 ∷ 7 ∷ 8 ∷ 16 ∷ 16 ∷ 10 ∷ 16 ∷ 16 ∷ 16 ∷ 19 ∷ 19 ∷ 19 ∷ 19 ∷ 19 ∷ 19 ∷ 19 ∷ 19 ∷ 19 ∷ 19 ∷ 16 ∷ 9 ∷ 16 ∷ 11 ∷ 16 ∷ 16 ∷ 16 ∷ 15 ∷ 15 ∷ 15 ∷ 15 ∷ 15 ∷ 15 ∷ 15 ∷ 15 ∷ 15 ∷ 15 ∷ 15 ∷ 15 ∷ 15 ∷ 15 ∷ 15 ∷ 15 ∷ 15 ∷ 15 ∷ 15 ∷ 15 ∷ 15 ∷ 15 ∷ 15 ∷ 15 ∷ 15 ∷ 15 ∷ 16 ∷ 16 ∷ 16 ∷ 14 ∷ 16 ∷ 16 ∷ 15 ∷ 15 ∷ 15 ∷ 15 ∷ 15 ∷ 15 ∷ 15 ∷ 15 ∷ 15 ∷ 15 ∷ 15 ∷ 15 ∷ 15 ∷ 15 ∷ 15 ∷ 15 ∷ 15 ∷ 15 ∷ 15 ∷ 15 ∷ 15 ∷ 15 ∷ 15 ∷ 15 ∷ 15 ∷ 15 ∷ 16 ∷ 16 ∷ 16 ∷ 12 ∷ 16 ∷ 16 ∷ 16 ∷ 16 ∷ 16 ∷ 16 ∷ 16 ∷ 16 ∷ 16 ∷ 16 ∷ 16 ∷ 16 ∷ 16 ∷ 16 ∷ 16 ∷ 16 ∷ 16 ∷ 16 ∷ 16 ∷ 16 ∷ 16 ∷ 16 ∷ 16 ∷ 16 ∷ 16 ∷ 16 ∷ 16 ∷ 16 ∷ 16 ∷ 16 ∷ 16 ∷ 16 ∷ 16 ∷ 16 ∷ 16 ∷ 16 ∷ 16 ∷ 16 ∷ 16 ∷ 16 ∷ 16 ∷ 16 ∷ 16 ∷ 16 ∷ 16 ∷ 16 ∷ 16 ∷ 16 ∷ 16 ∷ 16 ∷ 16 ∷ 16 ∷ 16 ∷ 16 ∷ 16 ∷ 16 ∷ 16 ∷ 16 ∷ 16 ∷ 16 ∷ 16 ∷ 16 ∷ 16 ∷ 16 ∷ 16 ∷ 16 ∷ 16 ∷ 16 ∷ 16 ∷ 16 ∷ 16 ∷ 16 ∷ 16 ∷ 16 ∷ 16 ∷ 16 ∷ 16 ∷ 16 ∷ 16 ∷ 16 ∷ 16 ∷ 16 ∷ 16 ∷ 16 ∷ 16 ∷ 16 ∷ 16 ∷ 16 ∷ 16 ∷ 16 ∷ 16 ∷ 16 ∷ 16 ∷ 16 ∷ 16 ∷ 16 ∷ 16 ∷ 16 ∷ 16 ∷ 16 ∷ 16 ∷ 16 ∷ 16 ∷ 16 ∷ 16 ∷ 16 ∷ 16 ∷ 16 ∷ 16 ∷ 16 ∷ 16 ∷ 16 ∷ 16 ∷ 16 ∷ 16 ∷ 16 ∷ 16 ∷ 16 ∷ 16 ∷ 16 ∷ 16 ∷ 16 ∷ 16 ∷ 16 ∷ 16 ∷ 16 ∷ 16 ∷ 16 ∷ 16 ∷ []
+
+-- each entry from a place on is the class of its place
+abbrev allRight : ℕ → List ℕ → Bool
+allRight i [] = true
+allRight i (x ∷ xs) = eqb x (classOf i) && allRight (suc i) xs
+
+right-at : (xs : List ℕ) (i : ℕ) → T (allRight i xs) → (k : ℕ) → k < length xs → getD xs k 0 ≡ classOf (k + i)
+right-at [] i t k h = absurd (omega arith)
+right-at (x ∷ xs) i t zero h = eqb→eq x (classOf i) (both (eqb x (classOf i)) (allRight (suc i) xs) t .0) ∙ ap classOf (omega arith)
+right-at (x ∷ xs) i t (suc k) h =
+    right-at xs (suc i) (both (eqb x (classOf i)) (allRight (suc i) xs) t .1) k (omega arith)
+    ∙ ap classOf (omega arith)
+
+pub class-right : (b : ℕ) → b < 256 → getD classes b 0 ≡ classOf b
+unfolding classOf
+class-right b h = let z : b + 0 ≡ b = omega arith in right-at classes 0 tt b h ∙ ap classOf z
+
+-- ---- signs
+
+-- what the code of a byte says
+pub record Sign (b : ℕ) : Type 0 where
+  pub read : (w : List ℕ) → isSign b ≡ true → token (b ∷ []) ≡ tokenOf (signCode b) w
+  pub high : leb 15 (signCode b) ≡ not (isSign b)
+  pub other : isSign b ≡ false → signCode b ≡ 16
+  pub some : eqb (signCode b) 0 ≡ false
+  pub letter : eqb (signCode b) 15 ≡ false
+  pub digit : eqb (signCode b) 19 ≡ false
+  pub white : eqb (signCode b) 17 ≡ false
+  pub cr : eqb (signCode b) 18 ≡ false
+
+pub sign : (b : ℕ) → Sign b
+unfolding tokenOf
+sign b =
+    go 40 (record { read = λ w e. refl; high = refl; other = λ e. absurd (never e); some = refl; letter = refl; digit = refl; white = refl; cr = refl })
+    (λ p. go 41 (record { read = λ w e. refl; high = refl; other = λ e. absurd (never e); some = refl; letter = refl; digit = refl; white = refl; cr = refl })
+    (λ q. go 59 (record { read = λ w e. refl; high = refl; other = λ e. absurd (never e); some = refl; letter = refl; digit = refl; white = refl; cr = refl })
+    (λ r. go 44 (record { read = λ w e. refl; high = refl; other = λ e. absurd (never e); some = refl; letter = refl; digit = refl; white = refl; cr = refl })
+    (λ s. go 61 (record { read = λ w e. refl; high = refl; other = λ e. absurd (never e); some = refl; letter = refl; digit = refl; white = refl; cr = refl })
+    (λ t. go 126 (record { read = λ w e. refl; high = refl; other = λ e. absurd (never e); some = refl; letter = refl; digit = refl; white = refl; cr = refl })
+    (λ u. go 38 (record { read = λ w e. refl; high = refl; other = λ e. absurd (never e); some = refl; letter = refl; digit = refl; white = refl; cr = refl })
+    (λ v. go 94 (record { read = λ w e. refl; high = refl; other = λ e. absurd (never e); some = refl; letter = refl; digit = refl; white = refl; cr = refl })
+    (λ x. let n : isSign b ≡ false = rw (p, q, r, s, t, u, v, x) in
+    let k : signCode b ≡ 16 = rw (p, q, r, s, t, u, v, x) in
+    record {
+      read = λ w e. absurd (never (sym e ∙ n));
+      other = λ e. k;
+      high = rw (p, q, r, s, t, u, v, x);
+      some = rw (p, q, r, s, t, u, v, x);
+      letter = rw (p, q, r, s, t, u, v, x);
+      digit = rw (p, q, r, s, t, u, v, x);
+      white = rw (p, q, r, s, t, u, v, x);
+      cr = rw (p, q, r, s, t, u, v, x);
+    }))))))))
+  where
+    go : (k : ℕ) → Sign k → (eqb b k ≡ false → Sign b) → Sign b
+    go k f g = onBool (eqb b k) (λ e. subst Sign (sym (eqb→eq b k (true-T (eqb b k) e))) f) g
+
+-- ---- classes
+
+pub record Class (b : ℕ) : Type 0 where
+  pub letter : eqb (classOf b) 15 ≡ isLetter b
+  pub word : (eqb (classOf b) 15 || eqb (classOf b) 19) ≡ inWord b
+  pub white : eqb (classOf b) 17 ≡ (eqb b space || eqb b lf)
+  pub cr : eqb (classOf b) 18 ≡ eqb b cr
+  pub sign : inWord b ≡ false → (eqb b space || eqb b lf) ≡ false → cond (leb 15 (classOf b)) 16 (classOf b) ≡ signCode b
+
+pub class : (b : ℕ) → Class b
+unfolding classOf
+class b =
+    go 32 (record { letter = refl; word = refl; white = refl; cr = refl; sign = λ p q. absurd (never q) })
+    (λ p. go 10 (record { letter = refl; word = refl; white = refl; cr = refl; sign = λ p q. absurd (never q) })
+    (λ q. go 13 (record { letter = refl; word = refl; white = refl; cr = refl; sign = λ p q. refl })
+    (λ r. onBool (isLetter b)
+    (λ l. record { letter = rw l; word = rw l; white = rw (l, p, q); cr = rw (l, r); sign = λ n m. absurd (never (rw l at n)) })
+    (λ l. onBool (isDigit b)
+    (λ d. record { letter = rw (l, d); word = rw (l, d); white = rw (l, d, p, q); cr = rw (l, d, r); sign = λ n m. absurd (never (rw (l, d) at n)) })
+    (λ d. let s = sign b in record {
+      letter = rw (l, d, p, q, r) (s .letter);
+      word = rw (l, d, p, q, r) (rw (s .letter, s .digit));
+      white = rw (l, d, p, q, r) (s .white);
+      cr = rw (l, d, p, q, r) (s .cr);
+      sign = λ n m. rw (l, d, p, q, r) (onBool (isSign b) (λ e. rw (s .high ∙ ap not e)) (λ e. rw (s .high ∙ ap not e) (sym (s .other e))));
+    })))))
+  where
+    go : (k : ℕ) → Class k → (eqb b k ≡ false → Class b) → Class b
+    go k f g = onBool (eqb b k) (λ e. subst Class (sym (eqb→eq b k (true-T (eqb b k) e))) f) g
+
+-- ---- what the tests of a class say
+
+pub word-letter : (b : ℕ) → classOf b ≡ 15 → true ≡ inWord b
+word-letter b e = rw (eq-eqb _ _ e) at (class b .word)
+
+pub word-other : (b : ℕ) → (classOf b ≡ 15 → ⊥) → eqb (classOf b) 19 ≡ inWord b
+word-other b e = rw (ne-eqb _ _ e) at (class b .word)
+
+module _ (b : ℕ) (t : List ℕ) where
+  pub white-plain : classOf b ≡ 17 → true ≡ isWhite b t
+  white-plain e = let h = sym (class b .white) ∙ eq-eqb _ _ e in rw h
+
+  pub white-none : (classOf b ≡ 17 → ⊥) → (classOf b ≡ 18 → ⊥) → false ≡ isWhite b t
+  white-none e f = let h = sym (class b .white) ∙ ne-eqb _ _ e in let k = sym (class b .cr) ∙ ne-eqb _ _ f in rw (h, k)
+
+  pub white-cr : (classOf b ≡ 17 → ⊥) → classOf b ≡ 18 → starts (eqb lf) t ≡ isWhite b t
+  white-cr e f = let h = sym (class b .white) ∙ ne-eqb _ _ e in let k = sym (class b .cr) ∙ eq-eqb _ _ f in rw (h, k)
+
+  -- a white byte is neither part of a word nor a sign
+  pub white-only : isWhite b t ≡ true → (inWord b ≡ false) × (isSign b ≡ false)
+  white-only e =
+      go 32 (refl, refl) (λ p. go 10 (refl, refl) (λ q. go 13 (refl, refl) (λ r. absurd (never (sym e ∙ rw (p, q, r))))))
+    where
+      Neither : ℕ → Type 0
+      Neither k = (inWord k ≡ false) × (isSign k ≡ false)
+
+      go : (k : ℕ) → Neither k → (eqb b k ≡ false → Neither b) → Neither b
+      go k f g = onBool (eqb b k) (λ h. subst Neither (sym (eqb→eq b k (true-T (eqb b k) h))) f) g

@@ -1,0 +1,4 @@
+-- Laws of the next token.
+pub mod Classes
+pub mod Nexts
+pub mod Firsts

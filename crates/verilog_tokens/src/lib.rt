@@ -1,0 +1,405 @@
+// The words and signs of a text of equations, one after another.
+ghost use mathlib.Core.Path.{_≡_};
+ghost use Prim.Native.Nat.{_≤_, _<_, _+_};
+ghost use mathlib.Core.Bool.{cond};
+ghost use lib.Dec.{leb};
+ghost use lib.ListN.{length, drop, getD};
+ghost use Rattle.text.specs.Line.{Scanned};
+ghost use Rattle.verilog.specs.Tokens.{inWord, isWhite};
+ghost use Rattle.verilog_tokens.specs.Next.{classOf, wordCode, White, TokenAt};
+use text::bytes::same;
+
+// A token: its code, and its bytes. Codes 1 to 14 are the marks in the order of their list, the reserved words first; 15 is a
+// name, 0 the end of the text, 16 no token.
+pub struct Token {
+    pub code: u8,
+    pub from: usize,
+    pub to: usize,
+}
+
+// For each byte the code of a sign; 15 for a letter, 19 for a digit, 17 for space and LF, 18 for CR, and 16 for any other byte.
+const CLASSES: [u8; 256] = [
+    16,
+    16,
+    16,
+    16,
+    16,
+    16,
+    16,
+    16,
+    16,
+    16,
+    17,
+    16,
+    16,
+    18,
+    16,
+    16,
+    16,
+    16,
+    16,
+    16,
+    16,
+    16,
+    16,
+    16,
+    16,
+    16,
+    16,
+    16,
+    16,
+    16,
+    16,
+    16,
+    17,
+    16,
+    16,
+    16,
+    16,
+    16,
+    13,
+    16,
+    7,
+    8,
+    16,
+    16,
+    10,
+    16,
+    16,
+    16,
+    19,
+    19,
+    19,
+    19,
+    19,
+    19,
+    19,
+    19,
+    19,
+    19,
+    16,
+    9,
+    16,
+    11,
+    16,
+    16,
+    16,
+    15,
+    15,
+    15,
+    15,
+    15,
+    15,
+    15,
+    15,
+    15,
+    15,
+    15,
+    15,
+    15,
+    15,
+    15,
+    15,
+    15,
+    15,
+    15,
+    15,
+    15,
+    15,
+    15,
+    15,
+    15,
+    15,
+    16,
+    16,
+    16,
+    14,
+    16,
+    16,
+    15,
+    15,
+    15,
+    15,
+    15,
+    15,
+    15,
+    15,
+    15,
+    15,
+    15,
+    15,
+    15,
+    15,
+    15,
+    15,
+    15,
+    15,
+    15,
+    15,
+    15,
+    15,
+    15,
+    15,
+    15,
+    15,
+    16,
+    16,
+    16,
+    12,
+    16,
+    16,
+    16,
+    16,
+    16,
+    16,
+    16,
+    16,
+    16,
+    16,
+    16,
+    16,
+    16,
+    16,
+    16,
+    16,
+    16,
+    16,
+    16,
+    16,
+    16,
+    16,
+    16,
+    16,
+    16,
+    16,
+    16,
+    16,
+    16,
+    16,
+    16,
+    16,
+    16,
+    16,
+    16,
+    16,
+    16,
+    16,
+    16,
+    16,
+    16,
+    16,
+    16,
+    16,
+    16,
+    16,
+    16,
+    16,
+    16,
+    16,
+    16,
+    16,
+    16,
+    16,
+    16,
+    16,
+    16,
+    16,
+    16,
+    16,
+    16,
+    16,
+    16,
+    16,
+    16,
+    16,
+    16,
+    16,
+    16,
+    16,
+    16,
+    16,
+    16,
+    16,
+    16,
+    16,
+    16,
+    16,
+    16,
+    16,
+    16,
+    16,
+    16,
+    16,
+    16,
+    16,
+    16,
+    16,
+    16,
+    16,
+    16,
+    16,
+    16,
+    16,
+    16,
+    16,
+    16,
+    16,
+    16,
+    16,
+    16,
+    16,
+    16,
+    16,
+    16,
+    16,
+    16,
+    16,
+    16,
+    16,
+    16,
+    16,
+    16,
+    16,
+    16,
+    16,
+    16,
+    16,
+    16,
+    16,
+    16,
+    16,
+    16,
+    16,
+    16,
+    16,
+    16,
+    16,
+    16,
+];
+
+fn class(b: u8) -> u8
+    ensures { λ r. ⌜ r ≡ classOf b ⌝ }
+{
+    CLASSES[b as usize]
+}
+
+// Whether a byte is part of a word.
+fn in_word(b: u8) -> bool
+    ensures { λ r. ⌜ r ≡ inWord b ⌝ }
+{
+    let c = class(b);
+    c == 15 || c == 19
+}
+
+// Whether the byte at a place is white: space, LF, or CR directly before LF.
+fn is_white(text: &[u8], at: usize) -> bool
+    requires { ⌜ at < length (now text) ⌝ }
+    ensures { λ r. ⌜ r ≡ isWhite (getD (now (text .entry)) at 0) (drop (at + 1) (now (text .entry))) ⌝ }
+{
+    let c = class(text[at]);
+    if c == 17 {
+        return true;
+    }
+    if c != 18 {
+        return false;
+    }
+    if text.len() - 1 <= at {
+        return false;
+    }
+    text[at + 1] == b'\n'
+}
+
+// Past what stands before the next token.
+fn skip_white(text: &[u8], at: usize) -> usize
+    requires { ⌜ at ≤ length (now text) ⌝ }
+    ensures { λ r. ⌜ White (now (text .entry)) at r ⌝ }
+{
+    let mut i = at;
+    while i < text.len() {
+        if !is_white(text, i) {
+            return i;
+        }
+        i += 1;
+    }
+    i
+}
+
+// Past the bytes of a word.
+fn word_end(text: &[u8], from: usize) -> usize
+    requires { ⌜ from ≤ length (now text) ⌝ }
+    ensures { λ r. ⌜ Scanned inWord (now (text .entry)) from r ⌝ }
+{
+    let mut i = from;
+    while i < text.len() {
+        if !in_word(text[i]) {
+            return i;
+        }
+        i += 1;
+    }
+    i
+}
+
+// The code of a word.
+fn word_code(w: &[u8]) -> u8
+    requires { ⌜ 0 < length (now w) ⌝ }
+    ensures { λ r. ⌜ r ≡ wordCode (now (w .entry)) ⌝ }
+{
+    if same(w, b"module") {
+        return 1;
+    }
+    if same(w, b"input") {
+        return 2;
+    }
+    if same(w, b"output") {
+        return 3;
+    }
+    if same(w, b"wire") {
+        return 4;
+    }
+    if same(w, b"assign") {
+        return 5;
+    }
+    if same(w, b"endmodule") {
+        return 6;
+    }
+    if 16 < w.len() {
+        return 16;
+    }
+    if class(w[0]) == 15 { 15 } else { 16 }
+}
+
+// The code of a byte that is part of no word, by its class.
+fn sign_code(c: u8) -> u8
+    ensures { λ r. ⌜ r ≡ cond (leb 15 c) 16 c ⌝ }
+{
+    if 15 <= c { 16 } else { c }
+}
+
+// The next token from a place.
+pub fn next(text: &[u8], at: usize) -> Token
+    requires { ⌜ at ≤ length (now text) ⌝ }
+    ensures { λ r. ⌜ TokenAt (now (text .entry)) at (r .code) (r .from) (r .to) ⌝ }
+{
+    let from = skip_white(text, at);
+    if text.len() <= from {
+        return Token {
+            code: 0,
+            from,
+            to: from,
+        };
+    }
+    let b = text[from];
+    if in_word(b) {
+        let to = word_end(text, from);
+        return Token {
+            code: word_code(&text[from..to]),
+            from,
+            to,
+        };
+    }
+    Token {
+        code: sign_code(class(b)),
+        from,
+        to: from + 1,
+    }
+}
