@@ -1,34 +1,20 @@
-// Mask codes: the third code and the code after a code, each looked up in a small table, and the
-// wire that carries a code's mask.
+// Mask codes: the third code, the code after a code, and the wire that carries a code's mask.
 ghost use mathlib.Core.Path.{_≡_};
 ghost use Prim.Native.Nat.{_<_, _^_};
 ghost use Rattle.netlist.specs.Mask.{third, after, maskWire};
 
-const THIRD: [[u8; 4]; 4] = [[0, 0, 0, 0], [0, 0, 3, 2], [0, 3, 0, 1], [0, 2, 1, 0]];
-
-const AFTER: [u8; 4] = [0, 2, 3, 1];
-
-// The code that neither of two different codes is; 0 for what is no such pair.
+// The third code of two different codes.
 pub fn third_code(e: u8, f: u8) -> u8
     ensures { λ r. ⌜ r ≡ third e f ⌝ }
 {
-    if e > 3 {
-        return 0;
-    }
-    if f > 3 {
-        return 0;
-    }
-    THIRD[e as usize][f as usize]
+    e ^ f
 }
 
-// The code after a code; 0 for what is no code.
+// The code after a code: 1 to 2, 2 to 3, 3 to 1.
 pub fn code_after(e: u8) -> u8
     ensures { λ r. ⌜ r ≡ after e ⌝ }
 {
-    if e > 3 {
-        return 0;
-    }
-    AFTER[e as usize]
+    e % 3 + 1
 }
 
 // The mask wire of a code, with n input bits; wire n for what is no code.

@@ -14,6 +14,7 @@ pub mod ReaderCalls
 pub mod ReadAlike
 -- masking
 pub mod Codes
+pub mod CodeTables
 pub mod MaskedBits
 pub mod GoodGates
 pub mod Models
