@@ -31,7 +31,7 @@ bytes-requires : tie.Need-bytes-requires
 bytes-requires c κs = search needs
 
 read-text-requires : tie.Need-read-text-requires
-read-text-requires c κs = 
+read-text-requires c κs =
     let p = c .before .before .before .before .before .before .before .before .before .before .before .before .before .before .before .before .before .pre in
     let k = c .before .before .before .before .before .before .before .bytes in
     let o = c .before .before .before .before .before .before .before .before .before .before .before .before .if1 .left in
@@ -49,7 +49,7 @@ same-length-3 : tie.Need-same-length-3
 same-length-3 c = search needs
 
 returns-5 : tie.Need-returns-5
-returns-5 c = 
+returns-5 c =
     let s = c .before .before .before .before .before .before .before .before .before .before .before .before .before .before .before .before .before .before .before .before .before .before .before .before .args in
     let o = c .before .before .before .before .before .before .before .before .before .before .before .before .before .before .before .before .before .before .before .if1 .left in
     let r = c .before .before .before .before .before .before .before .before .before .before .before .before .before .before .before .before .before .before .if2 .left in
