@@ -16,8 +16,9 @@ struct limits {
     uint32_t wires, inputs, outputs;
 };
 
-static const struct limits small = {2048, 60000, 2048, 16, 16};
-static const struct limits large = {18430, 500000, 18430, 17, 16};
+/* The old limits, and those for whole ciphers. */
+static const struct limits small_limits[2] = {{2048, 60000, 2048, 16, 16}, {100000, 3000000, 100000, 16, 16}};
+static const struct limits large_limits[2] = {{18430, 500000, 18430, 17, 16}, {899999, 27000000, 899999, 17, 16}};
 
 #define MOST_VALUES 17
 
@@ -104,7 +105,7 @@ static inline bool number(struct cursor *c, uint32_t *value)
         return false;
     uint32_t v = *c->at++ - '0';
     if (v != 0) {
-        for (int i = 1; i < 5 && c->at != c->end && is_digit(*c->at); i++)
+        for (int i = 1; i < 6 && c->at != c->end && is_digit(*c->at); i++)
             v = 10 * v + (*c->at++ - '0');
     }
     *value = v;
@@ -261,7 +262,7 @@ static bool list_good(const uint8_t *list, size_t length, size_t bits, uint8_t l
 
 static inline unsigned digits(uint32_t n)
 {
-    return 1 + (n >= 10) + (n >= 100) + (n >= 1000) + (n >= 10000);
+    return 1 + (n >= 10) + (n >= 100) + (n >= 1000) + (n >= 10000) + (n >= 100000);
 }
 
 /* The numbers 00 to 99. */
@@ -277,11 +278,13 @@ static inline uint8_t *put_pair(uint8_t *p, uint32_t n)
     return p + 2;
 }
 
-/* A number of at most five digits. */
+/* A number of at most six digits. */
 static inline uint8_t *put_number(uint8_t *p, uint32_t n)
 {
     if (n >= 1000) {
-        if (n >= 10000)
+        if (n >= 100000)
+            p = put_pair(p, n / 10000);
+        else if (n >= 10000)
             *p++ = (uint8_t)('0' + n / 10000);
         return put_pair(put_pair(p, n / 100 % 100), n % 100);
     }
@@ -394,10 +397,10 @@ static inline void put_gates(struct sink *s, uint32_t gates, const uint64_t *ope
 
 /* ---- Rewrite */
 
-static int64_t rewrite(const struct header *h, const uint64_t *operands, const uint64_t *results,
+static int64_t rewrite(const struct limits *l, const struct header *h, const uint64_t *operands, const uint64_t *results,
                        uint8_t *out, size_t out_len)
 {
-    if (out_len < large.text) {
+    if (out_len < l->text) {
         struct sink measure = {false, NULL, 0};
         put_header(&measure, h);
         put_gates(&measure, h->gates, operands, results);
@@ -414,16 +417,18 @@ int64_t baseline_rewrite(const uint8_t *text, size_t text_len,
                          uint8_t *out, size_t out_len,
                          uint64_t *operands, size_t operands_len,
                          uint64_t *results, size_t results_len,
-                         uint8_t *given, size_t given_len)
+                         uint8_t *given, size_t given_len,
+                         uint8_t sizes)
 {
+    const struct limits *l = &large_limits[sizes != 0];
     struct header h;
     int64_t answer;
-    if (operands_len < large.table || results_len < large.table || given_len < large.table)
+    if (operands_len < l->table || results_len < l->table || given_len < l->table)
         answer = -1;
     else
-        answer = -read_netlist(&large, text, text_len, &h, operands, results, given);
+        answer = -read_netlist(l, text, text_len, &h, operands, results, given);
     if (answer == 0)
-        answer = rewrite(&h, operands, results, out, out_len);
+        answer = rewrite(l, &h, operands, results, out, out_len);
     memset(operands, 0, operands_len * sizeof *operands);
     memset(results, 0, results_len * sizeof *results);
     memset(given, 0, given_len);
@@ -489,14 +494,16 @@ int64_t baseline_run(const uint8_t *text, size_t text_len,
                      uint64_t *operands, size_t operands_len,
                      uint64_t *results, size_t results_len,
                      uint8_t *given, size_t given_len,
-                     uint64_t *words, size_t words_len)
+                     uint64_t *words, size_t words_len,
+                     uint8_t sizes)
 {
+    const struct limits *l = &large_limits[sizes != 0];
     struct header h;
     int64_t answer;
-    if (operands_len < large.table || results_len < large.table || given_len < large.table || words_len < large.table)
+    if (operands_len < l->table || results_len < l->table || given_len < l->table || words_len < l->table)
         answer = -1;
     else
-        answer = -read_netlist(&large, text, text_len, &h, operands, results, given);
+        answer = -read_netlist(l, text, text_len, &h, operands, results, given);
     if (answer == 0)
         answer = run(&h, operands, results, words, list, list_len, out, out_len);
     memset(operands, 0, operands_len * sizeof *operands);
@@ -512,14 +519,16 @@ int64_t baseline_run_lanes(const uint8_t *text, size_t text_len,
                            uint64_t *operands, size_t operands_len,
                            uint64_t *results, size_t results_len,
                            uint8_t *given, size_t given_len,
-                           uint64_t *words, size_t words_len)
+                           uint64_t *words, size_t words_len,
+                           uint8_t sizes)
 {
+    const struct limits *l = &large_limits[sizes != 0];
     struct header h;
     int64_t answer;
-    if (operands_len < large.table || results_len < large.table || given_len < large.table || words_len < large.table)
+    if (operands_len < l->table || results_len < l->table || given_len < l->table || words_len < l->table)
         answer = -1;
     else
-        answer = -read_netlist(&large, text, text_len, &h, operands, results, given);
+        answer = -read_netlist(l, text, text_len, &h, operands, results, given);
     if (answer == 0)
         answer = run_lanes(&h, operands, results, words, list, list_len, out, out_len);
     memset(operands, 0, operands_len * sizeof *operands);
@@ -674,14 +683,16 @@ int64_t baseline_mask(const uint8_t *text, size_t text_len,
                       uint64_t *operands, size_t operands_len,
                       uint64_t *results, size_t results_len,
                       uint32_t *wires, size_t wires_len,
-                      uint8_t *marks, size_t marks_len)
+                      uint8_t *marks, size_t marks_len,
+                      uint8_t sizes)
 {
+    const struct limits *l = &small_limits[sizes != 0];
     struct header h;
     int64_t answer;
-    if (operands_len < small.table || results_len < small.table || wires_len < small.table || marks_len < small.table)
+    if (operands_len < l->table || results_len < l->table || wires_len < l->table || marks_len < l->table)
         answer = -1;
     else
-        answer = -read_netlist(&small, text, text_len, &h, operands, results, marks);
+        answer = -read_netlist(l, text, text_len, &h, operands, results, marks);
     if (answer == 0)
         answer = mask(&h, operands, results, wires, marks, codes, codes_len, wanted, wanted_len, out, out_len,
                       out_codes, out_codes_len);
@@ -777,16 +788,18 @@ int64_t baseline_check(const uint8_t *text, size_t text_len,
                        uint64_t *results, size_t results_len,
                        uint8_t *given, size_t given_len,
                        uint64_t *words, size_t words_len,
-                       uint64_t *base, size_t base_len)
+                       uint64_t *base, size_t base_len,
+                       uint8_t sizes)
 {
+    const struct limits *l = &large_limits[sizes != 0];
     struct header h;
     int64_t answer;
     (void)leak_len;
-    if (operands_len < large.table || results_len < large.table || given_len < large.table
-        || words_len < large.table || base_len < large.table)
+    if (operands_len < l->table || results_len < l->table || given_len < l->table
+        || words_len < l->table || base_len < l->table)
         answer = -1;
     else
-        answer = -read_netlist(&large, text, text_len, &h, operands, results, given);
+        answer = -read_netlist(l, text, text_len, &h, operands, results, given);
     if (answer == 0)
         answer = check(&h, operands, results, words, base, codes, codes_len, leak);
     memset(operands, 0, operands_len * sizeof *operands);

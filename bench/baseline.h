@@ -10,7 +10,8 @@ int64_t baseline_rewrite(const uint8_t *text, size_t text_len,
                          uint8_t *out, size_t out_len,
                          uint64_t *operands, size_t operands_len,
                          uint64_t *results, size_t results_len,
-                         uint8_t *given, size_t given_len);
+                         uint8_t *given, size_t given_len,
+                         uint8_t sizes);
 
 int64_t baseline_run(const uint8_t *text, size_t text_len,
                      const uint8_t *list, size_t list_len,
@@ -18,7 +19,8 @@ int64_t baseline_run(const uint8_t *text, size_t text_len,
                      uint64_t *operands, size_t operands_len,
                      uint64_t *results, size_t results_len,
                      uint8_t *given, size_t given_len,
-                     uint64_t *words, size_t words_len);
+                     uint64_t *words, size_t words_len,
+                     uint8_t sizes);
 
 /* Run on 64 settings at once: bit j of each word belongs to setting j, and question 11 asks only
  * the list's length. */
@@ -28,7 +30,8 @@ int64_t baseline_run_lanes(const uint8_t *text, size_t text_len,
                            uint64_t *operands, size_t operands_len,
                            uint64_t *results, size_t results_len,
                            uint8_t *given, size_t given_len,
-                           uint64_t *words, size_t words_len);
+                           uint64_t *words, size_t words_len,
+                           uint8_t sizes);
 
 int64_t baseline_mask(const uint8_t *text, size_t text_len,
                       const uint8_t *codes, size_t codes_len,
@@ -38,7 +41,8 @@ int64_t baseline_mask(const uint8_t *text, size_t text_len,
                       uint64_t *operands, size_t operands_len,
                       uint64_t *results, size_t results_len,
                       uint32_t *wires, size_t wires_len,
-                      uint8_t *marks, size_t marks_len);
+                      uint8_t *marks, size_t marks_len,
+                      uint8_t sizes);
 
 int64_t baseline_check(const uint8_t *text, size_t text_len,
                        const uint8_t *codes, size_t codes_len,
@@ -47,6 +51,7 @@ int64_t baseline_check(const uint8_t *text, size_t text_len,
                        uint64_t *results, size_t results_len,
                        uint8_t *given, size_t given_len,
                        uint64_t *words, size_t words_len,
-                       uint64_t *base, size_t base_len);
+                       uint64_t *base, size_t base_len,
+                       uint8_t sizes);
 
 #endif

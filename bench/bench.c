@@ -136,6 +136,23 @@ static struct call masked(enum service service, struct call source)
     return c;
 }
 
+/* The same call on the text with CR LF for each LF. */
+static struct call with_crlf(struct call c)
+{
+    static char text[ROOM];
+    char name[80];
+    size_t at = 0;
+    for (size_t i = 0; i < c.length && at + 2 <= sizeof text; i++) {
+        if (c.text[i] == '\n')
+            text[at++] = '\r';
+        text[at++] = (char)c.text[i];
+    }
+    snprintf(name, sizeof name, "%.50s, CR LF", c.name);
+    struct call d = call(c.service, name, text, at);
+    free(c.text);
+    return d;
+}
+
 /* ---- comparing */
 
 /* Both sides give the same answer and the same bytes. */
@@ -260,6 +277,15 @@ static struct line beyond(struct line whole, struct line reading)
     return rest;
 }
 
+/* How many times the LF text's time a CR LF text takes. */
+static void times_lf(struct line crlf, struct line lf)
+{
+    printf("%-34s", "  times the LF text's time");
+    for (int i = 0; i < 4; i++)
+        printf(" %10.2f", crlf.at[i] / lf.at[i]);
+    printf("\n");
+}
+
 /* The share of one lane: a pass over the gates evaluates sixty-four, of which a run uses the first. */
 static void lane(struct line pass)
 {
@@ -310,6 +336,9 @@ int main(int argc, char **argv)
     struct line sub_bytes = bench(circuit(READ_SMALL, folder, "aes_sub_bytes"), s);
     struct line column = bench(circuit(READ_SMALL, folder, "aes_column"), s);
     struct line source = bench(circuit(READ_SMALL, folder, "and_ladder_2048"), s);
+    times_lf(bench(with_crlf(circuit(READ_LARGE, folder, "mult64")), s), mult64);
+    times_lf(bench(with_crlf(masked(READ_LARGE, circuit(MASK, folder, "and_ladder_2048"))), s), ladder);
+    times_lf(bench(with_crlf(circuit(READ_SMALL, folder, "aes_sub_bytes")), s), sub_bytes);
 
     title("Rewriting");
     beyond(bench(circuit(REWRITE, folder, "mult64"), s), mult64);

@@ -1,7 +1,7 @@
 /* Fidrovelj: masked netlists under two mask bits.
  *
- * A netlist is a text in Bristol Fashion. Four services work on such texts; each puts a list of
- * questions in order, and the first that is answered no refuses the call.
+ * A netlist is a text in Bristol Fashion, whose lines end in LF or CR LF. Four services work on such
+ * texts; each puts a list of questions in order, and the first that is answered no refuses the call.
  *
  * What holds of every function
  *
@@ -9,9 +9,14 @@
  *   -1 to -14.
  * - A slice is a pointer and then its length, counted in entries. The pointer is not null, also
  *   where the length is 0. Slices that the function writes overlap no other.
+ * - The last parameter chooses the limits: FIDROVELJ_OLD, or FIDROVELJ_WHOLE for whole ciphers. Any
+ *   number but 0 is FIDROVELJ_WHOLE.
  * - Working tables may hold anything when they are lent and are zero along their whole length on
  *   return, also from a refused call. Question 1 asks at least FIDROVELJ_LARGE_TABLE entries of
- *   each (Mask: FIDROVELJ_SMALL_TABLE).
+ *   each (Mask: FIDROVELJ_SMALL_TABLE), or FIDROVELJ_WHOLE_LARGE_TABLE (FIDROVELJ_WHOLE_SMALL_TABLE).
+ *   Longer ones are cleared along their whole length as well.
+ * - A buffer of FIDROVELJ_LARGE_TEXT bytes, or FIDROVELJ_WHOLE_LARGE_TEXT, holds every text that a
+ *   call writes.
  * - A refused call leaves result buffers as they were. An accepted one writes its result to the
  *   buffer's front and leaves what lies beyond it as it was.
  * - Nothing is allocated and nothing is kept from call to call, so calls with tables of their own
@@ -20,11 +25,12 @@
  * The questions
  *
  *  1  Has every lent working table enough entries?
- *  2  Is the text at most 500,000 bytes (Mask: 60,000)?
+ *  2  Is the text at most 500,000 bytes (Mask: 60,000), or 27,000,000 (3,000,000)?
  *  3  Is each byte a digit, a capital letter, a space, LF, or a CR directly before LF?
  *  4  Are there three header lines of the stated form, each count and width 1 or more?
- *  5  Are there at most 18,430 wires (Mask: 2,048), 17 input values (Mask: 16) and 16 output values,
- *     and no more input bits or output bits than wires?
+ *     (Numbers have one to six digits and no leading zero.)
+ *  5  Are there at most 18,430 wires (Mask: 2,048), or 899,999 (100,000), at most 17 input values
+ *     (Mask: 16) and 16 output values, and no more input bits or output bits than wires?
  *  6  Is the gate count the wires less the input bits, and are there exactly that many gate lines?
  *  7  Has each gate line one of the five forms?                            (7 to 9 line by line)
  *  8  Is each operand an input or the result of an earlier line (of EQ: 0 or 1)?
@@ -46,9 +52,21 @@
 extern "C" {
 #endif
 
-/* The least entries of a working table of Rewrite, Run and Check, and of Mask. */
+/* Which limits a call takes. */
+#define FIDROVELJ_OLD 0
+#define FIDROVELJ_WHOLE 1
+
+/* The least entries of a working table of Rewrite, Run and Check, and of Mask: the most wires. */
 #define FIDROVELJ_LARGE_TABLE 18430
 #define FIDROVELJ_SMALL_TABLE 2048
+#define FIDROVELJ_WHOLE_LARGE_TABLE 899999
+#define FIDROVELJ_WHOLE_SMALL_TABLE 100000
+
+/* The most bytes of a text that Rewrite, Run and Check take, and Mask. */
+#define FIDROVELJ_LARGE_TEXT 500000
+#define FIDROVELJ_SMALL_TEXT 60000
+#define FIDROVELJ_WHOLE_LARGE_TEXT 27000000
+#define FIDROVELJ_WHOLE_SMALL_TEXT 3000000
 
 /* Rewrite: writes the netlist's written form to out (single spaces, LF behind each line, one blank
  * line behind the header, gates and operands in the order given). Returns its length in bytes, at
@@ -57,7 +75,8 @@ int64_t fidrovelj_rewrite(const uint8_t *text, size_t text_len,
                           uint8_t *out, size_t out_len,
                           uint64_t *operands, size_t operands_len,
                           uint64_t *results, size_t results_len,
-                          uint8_t *given, size_t given_len);
+                          uint8_t *given, size_t given_len,
+                          uint8_t sizes);
 
 /* Run: evaluates the netlist on list, a 0 or 1 for each input bit, and writes a 0 or 1 for each
  * output bit to out. Returns how many. */
@@ -67,11 +86,11 @@ int64_t fidrovelj_run(const uint8_t *text, size_t text_len,
                       uint64_t *operands, size_t operands_len,
                       uint64_t *results, size_t results_len,
                       uint8_t *given, size_t given_len,
-                      uint64_t *words, size_t words_len);
+                      uint64_t *words, size_t words_len,
+                      uint8_t sizes);
 
 /* Mask: writes the text of the masked netlist to out and the mask code of each output bit, 1 to 3,
- * to out_codes. Returns the text's length in bytes, at most 398,136; there are as many codes as
- * output bits.
+ * to out_codes. Returns the text's length in bytes; there are as many codes as output bits.
  *
  * codes has a mask code for each input bit: a bit with code 1 travels XOR m0, with code 2 XOR m1,
  * with code 3 XOR both. wanted has for each output bit the code that it is to travel with, or 0
@@ -86,7 +105,8 @@ int64_t fidrovelj_mask(const uint8_t *text, size_t text_len,
                        uint64_t *operands, size_t operands_len,
                        uint64_t *results, size_t results_len,
                        uint32_t *wires, size_t wires_len,
-                       uint8_t *marks, size_t marks_len);
+                       uint8_t *marks, size_t marks_len,
+                       uint8_t sizes);
 
 /* Check: decides whether a netlist whose last input value is the two mask bits leaks on a wire, for
  * a mask code for each other input bit. Returns 0 where it is clean: for each wire the number of
@@ -101,7 +121,8 @@ int64_t fidrovelj_check(const uint8_t *text, size_t text_len,
                         uint64_t *results, size_t results_len,
                         uint8_t *given, size_t given_len,
                         uint64_t *words, size_t words_len,
-                        uint64_t *base, size_t base_len);
+                        uint64_t *base, size_t base_len,
+                        uint8_t sizes);
 
 #ifdef __cplusplus
 }

@@ -62,7 +62,7 @@ static int64_t rewrite(const char *text, size_t room)
 {
     fill();
     int64_t answer = fidrovelj_rewrite((const uint8_t *)text, strlen(text), out, room, operands, LARGE, results,
-                                       LARGE, given, LARGE);
+                                       LARGE, given, LARGE, FIDROVELJ_OLD);
     expect(all(operands, sizeof operands, 0) && all(results, sizeof results, 0) && all(given, sizeof given, 0),
            "Rewrite's tables are zero");
     expect_untouched(answer > 0 ? (size_t)answer : 0, 0, "Rewrite touches its result alone");
@@ -81,7 +81,7 @@ static int64_t run(const char *text, const char *list, size_t room)
 {
     fill();
     int64_t answer = fidrovelj_run((const uint8_t *)text, strlen(text), entries(list), strlen(list), list_out, room,
-                                   operands, LARGE, results, LARGE, given, LARGE, words, LARGE);
+                                   operands, LARGE, results, LARGE, given, LARGE, words, LARGE, FIDROVELJ_OLD);
     expect(all(operands, sizeof operands, 0) && all(results, sizeof results, 0) && all(given, sizeof given, 0)
                && all(words, sizeof words, 0),
            "Run's tables are zero");
@@ -96,7 +96,7 @@ static int64_t mask(const char *text, const char *codes, const char *wanted, siz
     memcpy(wanted_codes, entries(wanted), strlen(wanted));
     int64_t answer = fidrovelj_mask((const uint8_t *)text, strlen(text), entries(codes), strlen(codes), wanted_codes,
                                     strlen(wanted), out, text_room, list_out, code_room, operands, LARGE, results,
-                                    LARGE, wires, LARGE, given, LARGE);
+                                    LARGE, wires, LARGE, given, LARGE, FIDROVELJ_OLD);
     expect(all(operands, sizeof operands, 0) && all(results, sizeof results, 0) && all(given, sizeof given, 0)
                && all(wires, sizeof wires, 0),
            "Mask's tables are zero");
@@ -108,7 +108,8 @@ static int64_t check(const char *text, const char *codes)
 {
     fill();
     int64_t answer = fidrovelj_check((const uint8_t *)text, strlen(text), entries(codes), strlen(codes), leak, 4,
-                                     operands, LARGE, results, LARGE, given, LARGE, words, LARGE, base, LARGE);
+                                     operands, LARGE, results, LARGE, given, LARGE, words, LARGE, base, LARGE,
+                                     FIDROVELJ_OLD);
     expect(all(operands, sizeof operands, 0) && all(results, sizeof results, 0) && all(given, sizeof given, 0)
                && all(words, sizeof words, 0) && all(base, sizeof base, 0),
            "Check's tables are zero");
@@ -217,7 +218,7 @@ static void refusals(void)
     static char long_text[500003];
     fill();
     expect(fidrovelj_rewrite((const uint8_t *)and_gate, strlen(and_gate), out, ROOM, operands, LARGE, results,
-                             LARGE - 1, given, LARGE) == -1,
+                             LARGE - 1, given, LARGE, FIDROVELJ_OLD) == -1,
            "question 1");
     expect(all(operands, sizeof operands, 0) && all(results, sizeof results - 8, 0) && all(given, sizeof given, 0),
            "tables are zero after refusal 1");
@@ -232,7 +233,11 @@ static void refusals(void)
     long_text[60001] = '\0';
     expect(mask(long_text, "12", "0", ROOM, LARGE) == -2, "question 2, small");
 
-    expect(rewrite("1 3\r\n2 1 1\r\n1 1\r\n2 1 0 1 2 AND\r\n", ROOM) == -3, "question 3");
+    expect(rewrite("1\t3\n2 1 1\n1 1\n2 1 0 1 2 AND\n", ROOM) == -3, "question 3");
+    expect(rewrite("1 3\n2 1 1\n1 1\n2 1 0 1 2 AND\r", ROOM) == -3, "a CR as the last byte");
+    expect(rewrite("1 3\n2 1 1\n1 1\r\r\n2 1 0 1 2 AND\n", ROOM) == -3, "CR CR LF");
+    expect(rewrite("1 3\n2 1 1\n1 1\n2 1 0\r1 2 AND\n", ROOM) == -3, "a CR between words");
+    expect(mask("1 3\n2 1 1\n1 1\n2 1 0 1 2 A\rND\n", "12", "0", ROOM, LARGE) == -3, "a CR in a word");
     expect(rewrite("1 3\n2 1 0\n1 1\n2 1 0 1 2 AND\n", ROOM) == -4, "question 4");
     expect(rewrite("0 1\n2 65535 2\n1 1\n", ROOM) == -5, "question 5");
     expect(rewrite("1 3\n2 1 1\n1 1\n2 1 0 1 2 AND\nX\n", ROOM) == -6, "question 6");
@@ -247,6 +252,15 @@ static void refusals(void)
     expect(run(and_gate, "11", 0) == -14, "question 14, the bits");
 }
 
+static void line_ends(void)
+{
+    static const char crlf[] = "1 3\r\n2 1 1\r\n1 1\r\n \r\n2 1 0 1 2 AND\r\n";
+    expect(text_is(rewrite(crlf, ROOM), "1 3\n2 1 1\n1 1\n\n2 1 0 1 2 AND\n"), "CR LF, Rewrite");
+    expect(text_is(mask(crlf, "12", "0", ROOM, LARGE), masked_and) && list_out[0] == 1, "CR LF, Mask");
+    expect(run(crlf, "11", 1) == 1 && list_out[0] == 1, "CR LF, Run");
+    expect(leak_is(check("1 4\r\n2 1 2\r\n1 1\n2 1 0 1 3 XOR\r\n", "1"), 3, 1, 0, 4), "CR LF and LF, Check");
+}
+
 static void results_of_others(void)
 {
     expect(text_is(rewrite(" 1  3\n\n2 1 1\n1 1\n2 1 0 1 2 AND", ROOM), "1 3\n2 1 1\n1 1\n\n2 1 0 1 2 AND\n"), "Rewrite");
@@ -256,11 +270,53 @@ static void results_of_others(void)
     expect(check(masked_and, "11") == 1, "under other codes it leaks");
 }
 
+/* ---- the limits for whole ciphers */
+
+#define WHOLE FIDROVELJ_WHOLE_LARGE_TABLE
+#define WHOLE_SMALL FIDROVELJ_WHOLE_SMALL_TABLE
+
+static uint64_t whole_operands[WHOLE], whole_results[WHOLE];
+static uint32_t whole_wires[WHOLE_SMALL];
+static uint8_t whole_given[WHOLE], whole_codes[WHOLE], whole_out[FIDROVELJ_WHOLE_LARGE_TEXT];
+static uint8_t whole_list[WHOLE];
+
+static int64_t whole_rewrite(const char *text, size_t table, uint8_t sizes)
+{
+    return fidrovelj_rewrite((const uint8_t *)text, strlen(text), whole_out, sizeof whole_out, whole_operands, table,
+                             whole_results, table, whole_given, table, sizes);
+}
+
+static int64_t whole_mask(const char *text, size_t bits)
+{
+    memset(whole_codes, 1, sizeof whole_codes);
+    return fidrovelj_mask((const uint8_t *)text, strlen(text), whole_codes, bits, (const uint8_t *)"", 1, whole_out,
+                          sizeof whole_out, whole_list, sizeof whole_list, whole_operands, WHOLE_SMALL, whole_results,
+                          WHOLE_SMALL, whole_wires, WHOLE_SMALL, whole_given, WHOLE_SMALL, FIDROVELJ_WHOLE);
+}
+
+static void whole_limits(void)
+{
+    expect(whole_rewrite(one_gate(899999), WHOLE, FIDROVELJ_WHOLE) > 0, "899,999 wires");
+    expect(whole_rewrite(one_gate(900000), WHOLE, FIDROVELJ_WHOLE) == -5, "900,000 wires");
+    expect(whole_rewrite(one_gate(899999), WHOLE, FIDROVELJ_OLD) == -5, "899,999 wires under the old limits");
+    expect(whole_rewrite(one_gate(899999), WHOLE, 255) > 0, "any number but 0 chooses the limits for whole ciphers");
+    expect(whole_rewrite(one_gate(3), WHOLE - 1, FIDROVELJ_WHOLE) == -1, "a table of 899,998 entries");
+    expect(whole_rewrite(one_gate(3), WHOLE - 1, FIDROVELJ_OLD) > 0, "899,998 entries under the old limits");
+    expect(whole_rewrite(one_gate(1000000), WHOLE, FIDROVELJ_WHOLE) == -4, "seven digits");
+    expect(whole_mask(one_gate(100000), 99999) > 0, "Mask, 100,000 wires");
+    expect(whole_mask(one_gate(100001), 100000) == -5, "Mask, 100,001 wires");
+    expect(all(whole_operands, sizeof whole_operands, 0) && all(whole_results, sizeof whole_results, 0)
+               && all(whole_wires, sizeof whole_wires, 0) && all(whole_given, sizeof whole_given, 0),
+           "the tables are zero");
+}
+
 int main(void)
 {
     known_results();
     refusals();
+    line_ends();
     results_of_others();
+    whole_limits();
     printf("C: %d checks, %d failed\n", checks, failures);
     return failures == 0 ? EXIT_SUCCESS : EXIT_FAILURE;
 }

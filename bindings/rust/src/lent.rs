@@ -1,15 +1,16 @@
 //! The library's four calls with every working table and result buffer lent by the caller.
 //!
-//! Question 1 asks at least 2,048 entries of each working table of [`mask`] and 18,430 of those of
-//! the others; longer ones are fine. What a table holds does not matter; it is zero along its whole
-//! length on return from every call, a refused one too.
+//! Each call takes the old limits or those for whole ciphers ([`Sizes`]). Question 1 asks at least
+//! [`Sizes::small`] entries of each working table of [`mask`] and [`Sizes::large`] of those of the
+//! others; longer ones are fine, and take longer to clear. What a table holds does not matter; it is
+//! zero along its whole length on return from every call, a refused one too.
 //!
 //! A refused call leaves each result buffer as it was. An accepted one writes its result to the
 //! buffer's front and leaves what lies beyond it as it was.
 
 #![allow(clippy::too_many_arguments)]
 
-use crate::Refused;
+use crate::{Refused, Sizes};
 
 extern "C" {
     fn fidrovelj_rewrite(
@@ -23,6 +24,7 @@ extern "C" {
         results_len: usize,
         given: *mut u8,
         given_len: usize,
+        sizes: u8,
     ) -> i64;
 
     fn fidrovelj_run(
@@ -40,6 +42,7 @@ extern "C" {
         given_len: usize,
         words: *mut u64,
         words_len: usize,
+        sizes: u8,
     ) -> i64;
 
     fn fidrovelj_mask(
@@ -61,6 +64,7 @@ extern "C" {
         wires_len: usize,
         marks: *mut u8,
         marks_len: usize,
+        sizes: u8,
     ) -> i64;
 
     fn fidrovelj_check(
@@ -80,6 +84,7 @@ extern "C" {
         words_len: usize,
         base: *mut u64,
         base_len: usize,
+        sizes: u8,
     ) -> i64;
 }
 
@@ -98,6 +103,7 @@ pub fn rewrite(
     operands: &mut [u64],
     results: &mut [u64],
     given: &mut [u8],
+    sizes: Sizes,
 ) -> Result<usize, Refused> {
     // SAFETY: each pointer and length is that of a slice, and slices behind `&mut` overlap no other.
     answer(unsafe {
@@ -112,6 +118,7 @@ pub fn rewrite(
             results.len(),
             given.as_mut_ptr(),
             given.len(),
+            sizes as u8,
         )
     })
 }
@@ -125,6 +132,7 @@ pub fn run(
     results: &mut [u64],
     given: &mut [u8],
     words: &mut [u64],
+    sizes: Sizes,
 ) -> Result<usize, Refused> {
     // SAFETY: as in `rewrite`.
     answer(unsafe {
@@ -143,6 +151,7 @@ pub fn run(
             given.len(),
             words.as_mut_ptr(),
             words.len(),
+            sizes as u8,
         )
     })
 }
@@ -159,6 +168,7 @@ pub fn mask(
     results: &mut [u64],
     wires: &mut [u32],
     marks: &mut [u8],
+    sizes: Sizes,
 ) -> Result<usize, Refused> {
     // SAFETY: as in `rewrite`.
     answer(unsafe {
@@ -181,6 +191,7 @@ pub fn mask(
             wires.len(),
             marks.as_mut_ptr(),
             marks.len(),
+            sizes as u8,
         )
     })
 }
@@ -196,6 +207,7 @@ pub fn check(
     given: &mut [u8],
     words: &mut [u64],
     base: &mut [u64],
+    sizes: Sizes,
 ) -> Result<bool, Refused> {
     // SAFETY: as in `rewrite`.
     let leaks = answer(unsafe {
@@ -216,6 +228,7 @@ pub fn check(
             words.len(),
             base.as_mut_ptr(),
             base.len(),
+            sizes as u8,
         )
     })?;
     Ok(leaks != 0)

@@ -1,6 +1,6 @@
 //! Masked netlists under two mask bits: safe functions over the proved static library.
 //!
-//! A netlist is a text in Bristol Fashion. There are four services:
+//! A netlist is a text in Bristol Fashion, whose lines end in LF or CR LF. There are four services:
 //!
 //! - [`mask`] turns a source netlist into a masked one, in which every bit travels under a mask,
 //! - [`check`] says whether a netlist is clean, or names a leak on one of its wires,
@@ -10,7 +10,8 @@
 //! Each call puts a list of questions in order, and the first no refuses it with that question's
 //! number ([`Refused`]). The services lend the library its working tables and result buffers from a
 //! [`Tables`], made once and used for any number of calls; the functions of [`lent`] take each
-//! table and buffer from the caller instead, and allocate nothing.
+//! table and buffer from the caller instead, and allocate nothing. [`Tables::new`] is for netlists of
+//! up to 18,430 wires, [`Tables::whole`] for whole ciphers.
 //!
 //! ```
 //! use fidrovelj::{check, mask, Tables};
@@ -34,7 +35,7 @@ use std::fmt;
 pub mod lent;
 mod tables;
 
-pub use tables::Tables;
+pub use tables::{Sizes, Tables};
 
 /// The examples of README.md and docs/LIBRARY.md, as documentation tests.
 #[cfg(doctest)]
@@ -106,7 +107,7 @@ pub struct Leak {
 /// ```
 pub fn rewrite(text: &[u8], tables: &mut Tables) -> Result<Vec<u8>, Refused> {
     let t = tables;
-    let length = lent::rewrite(text, &mut t.text, &mut t.operands, &mut t.results, &mut t.given)?;
+    let length = lent::rewrite(text, &mut t.text, &mut t.operands, &mut t.results, &mut t.given, t.sizes)?;
     Ok(t.text[..length].to_vec())
 }
 
@@ -124,8 +125,16 @@ pub fn rewrite(text: &[u8], tables: &mut Tables) -> Result<Vec<u8>, Refused> {
 /// ```
 pub fn run(text: &[u8], list: &[u8], tables: &mut Tables) -> Result<Vec<u8>, Refused> {
     let t = tables;
-    let length =
-        lent::run(text, list, &mut t.bits, &mut t.operands, &mut t.results, &mut t.given, &mut t.words)?;
+    let length = lent::run(
+        text,
+        list,
+        &mut t.bits,
+        &mut t.operands,
+        &mut t.results,
+        &mut t.given,
+        &mut t.words,
+        t.sizes,
+    )?;
     Ok(t.bits[..length].to_vec())
 }
 
@@ -148,16 +157,18 @@ pub fn run(text: &[u8], list: &[u8], tables: &mut Tables) -> Result<Vec<u8>, Ref
 /// ```
 pub fn mask(text: &[u8], codes: &[u8], wanted: &[u8], tables: &mut Tables) -> Result<Masked, Refused> {
     let t = tables;
+    let small = t.sizes.small();
     let length = lent::mask(
         text,
         codes,
         wanted,
         &mut t.text,
         &mut t.bits,
-        &mut t.operands,
-        &mut t.results,
+        &mut t.operands[..small],
+        &mut t.results[..small],
         &mut t.wires,
-        &mut t.given,
+        &mut t.given[..small],
+        t.sizes,
     )?;
     Ok(Masked { text: t.text[..length].to_vec(), codes: t.bits[..wanted.len()].to_vec() })
 }
@@ -187,6 +198,7 @@ pub fn check(text: &[u8], codes: &[u8], tables: &mut Tables) -> Result<Option<Le
         &mut t.given,
         &mut t.words,
         &mut t.base,
+        t.sizes,
     )?;
     let [wire, setting, base, own] = leak;
     Ok(leaks.then_some(Leak { wire, setting, base, own }))

@@ -1,14 +1,44 @@
 //! The working tables and result buffers of the library's calls.
 
-/// The entries that question 1 asks of each table under the large limits: the most wires.
-const WIRES: usize = 18_430;
+/// Which limits a call takes: the old ones, or those for whole ciphers.
+#[derive(Clone, Copy, Debug, PartialEq, Eq, Hash, Default)]
+pub enum Sizes {
+    /// 2,048 wires and 60,000 bytes of text for [`mask`](crate::mask), 18,430 and 500,000 for the others.
+    #[default]
+    Old,
+    /// 100,000 wires and 3,000,000 bytes of text for [`mask`](crate::mask), 899,999 and 27,000,000 for
+    /// the others.
+    Whole,
+}
 
-/// The longest result: the written form of a text of 500,000 bytes, which may lack the blank line
-/// behind its header and its last LF.
-const TEXT: usize = 500_002;
+impl Sizes {
+    /// Mask's most wires: as many entries question 1 asks of each of its tables.
+    pub const fn small(self) -> usize {
+        match self {
+            Sizes::Old => 2_048,
+            Sizes::Whole => 100_000,
+        }
+    }
+
+    /// The most wires of Check, Run and Rewrite: as many entries question 1 asks of each of their tables.
+    pub const fn large(self) -> usize {
+        match self {
+            Sizes::Old => 18_430,
+            Sizes::Whole => 899_999,
+        }
+    }
+
+    /// The bytes of the longest text that a call takes or writes.
+    pub const fn text(self) -> usize {
+        match self {
+            Sizes::Old => 500_000,
+            Sizes::Whole => 27_000_000,
+        }
+    }
+}
 
 /// Working tables and result buffers that are long enough for every call, made once and lent to
-/// each.
+/// each. Calls take the limits that the tables are made for.
 ///
 /// ```
 /// use fidrovelj::{rewrite, run, Tables};
@@ -20,6 +50,7 @@ const TEXT: usize = 500_002;
 /// ```
 #[derive(Clone, Debug)]
 pub struct Tables {
+    pub(crate) sizes: Sizes,
     pub(crate) operands: Vec<u64>,
     pub(crate) results: Vec<u64>,
     pub(crate) given: Vec<u8>,
@@ -31,17 +62,36 @@ pub struct Tables {
 }
 
 impl Tables {
-    /// About 1.2 million bytes.
+    /// Tables for the old limits: about 1.2 million bytes.
     pub fn new() -> Tables {
+        Tables::of(Sizes::Old)
+    }
+
+    /// Tables for whole ciphers: about 60 million bytes.
+    ///
+    /// ```
+    /// use fidrovelj::{rewrite, Refused, Tables};
+    ///
+    /// let wide = b"0 100000\n1 100000\n1 1\n\n";
+    /// assert_eq!(rewrite(wide, &mut Tables::new()), Err(Refused(5)));
+    /// assert_eq!(rewrite(wide, &mut Tables::whole()).as_deref(), Ok(&wide[..]));
+    /// ```
+    pub fn whole() -> Tables {
+        Tables::of(Sizes::Whole)
+    }
+
+    fn of(sizes: Sizes) -> Tables {
+        let (small, large) = (sizes.small(), sizes.large());
         Tables {
-            operands: vec![0; WIRES],
-            results: vec![0; WIRES],
-            given: vec![0; WIRES],
-            words: vec![0; WIRES],
-            base: vec![0; WIRES],
-            wires: vec![0; WIRES],
-            text: vec![0; TEXT],
-            bits: vec![0; WIRES],
+            sizes,
+            operands: vec![0; large],
+            results: vec![0; large],
+            given: vec![0; large],
+            words: vec![0; large],
+            base: vec![0; large],
+            wires: vec![0; small],
+            text: vec![0; sizes.text()],
+            bits: vec![0; large],
         }
     }
 }

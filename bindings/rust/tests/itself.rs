@@ -7,7 +7,7 @@ mod reference;
 use calls::circuits;
 use calls::{known, plan, sizes, slips, Call, Service, Tally, ROOM};
 use reference::evaluate::{counts, masked_inputs, setting_bits, wires, MASKS};
-use reference::netlist::{read, Gate, Netlist, LARGE, SMALL};
+use reference::netlist::{read, Gate, Netlist, Sizes, LARGE, SMALL};
 
 #[test]
 fn gives_known_results() {
@@ -57,17 +57,17 @@ fn agrees_with_the_circuits_vectors() {
                 break;
             }
         }
-        let rewritten = reference::rewrite(&[], &circuit.text, ROOM).expect("a circuit is good");
+        let rewritten = reference::rewrite(&[], &circuit.text, ROOM, Sizes::Old).expect("a circuit is good");
         assert!(rewritten == circuit.text, "{} is in the written form", circuit.name);
     }
 }
 
 /// The masked netlist has no leak, and its outputs with masks off are the source's.
 fn assert_masked(name: &str, source: &Netlist, codes: &[u8], wanted: &[u8]) {
-    let masked = reference::mask(&[], &source.write(), codes, wanted, ROOM, ROOM).expect("it can be masked");
+    let masked = reference::mask(&[], &source.write(), codes, wanted, ROOM, ROOM, Sizes::Old).expect("it can be masked");
     let netlist = read(&LARGE, &masked.text).expect("a masked text is good");
     if codes.len() <= 8 {
-        assert_eq!(reference::check(&[], &masked.text, codes), Ok(None), "{name}");
+        assert_eq!(reference::check(&[], &masked.text, codes, Sizes::Old), Ok(None), "{name}");
     }
     let ands = source.gates.iter().filter(|gate| matches!(gate, Gate::And(..))).count();
     let least = 3 + source.gates.len() + 6 * ands + source.output_bits();
@@ -102,7 +102,7 @@ fn masks_the_circuits() {
 fn masks_the_ladder() {
     let source = sizes::ladder().write();
     let masked =
-        reference::mask(&[], &source, &[1], &[0; 2_048], ROOM, ROOM).expect("the ladder can be masked");
+        reference::mask(&[], &source, &[1], &[0; 2_048], ROOM, ROOM, Sizes::Old).expect("the ladder can be masked");
     assert_eq!(masked.text.len(), 398_136);
     assert_eq!(read(&LARGE, &masked.text).expect("the masked ladder is good").wires, 18_430);
 }

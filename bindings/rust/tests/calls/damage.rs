@@ -28,11 +28,12 @@ impl Draft {
         text.into_bytes()
     }
 
-    /// The text with spaces and blank lines at liberty, the last LF perhaps missing.
+    /// The text with spaces, blank lines and CR LFs at liberty, the last line's end perhaps missing.
     pub fn loose(&self, random: &mut Random) -> Vec<u8> {
         let mut text = Vec::new();
         let often = random.pick(&[2, 20, 60]);
-        blank_lines(random, often, &mut text);
+        let crlf = random.pick(&[0, 0, 40, 100]);
+        blank_lines(random, often, crlf, &mut text);
         for line in &self.lines {
             spaces(random, often, &mut text);
             for (place, word) in line.iter().enumerate() {
@@ -43,12 +44,16 @@ impl Draft {
                 text.extend_from_slice(word.as_bytes());
             }
             spaces(random, often, &mut text);
-            text.push(b'\n');
-            blank_lines(random, often, &mut text);
+            line_end(random, crlf, &mut text);
+            blank_lines(random, often, crlf, &mut text);
         }
         spaces(random, often, &mut text);
         if random.percent(30) && text.last() == Some(&b'\n') {
             text.pop();
+            // A CR that is left behind is no end.
+            if random.percent(80) && text.last() == Some(&b'\r') {
+                text.pop();
+            }
         }
         text
     }
@@ -106,8 +111,8 @@ impl Draft {
             5 => w.to_string(),
             6 => (w + 1).to_string(),
             7 => "2".into(),
-            8 => "99999".into(),
-            9 => "100000".into(),
+            8 => random.pick(&["99999", "100000", "999999"]).into(),
+            9 => "1000000".into(),
             10 => format!("0{word}"),
             11 => "00".into(),
             12 => format!("{word}0"),
@@ -215,7 +220,7 @@ fn swap_words(random: &mut Random, line: &mut [String]) {
 
 /// A line of words that name no gate.
 fn rubbish(random: &mut Random) -> Vec<String> {
-    let words = ["0", "1", "2", "7", "XOR", "RUBBISH", "Z", "00", "123456"];
+    let words = ["0", "1", "2", "7", "XOR", "RUBBISH", "Z", "00", "123456", "1234567"];
     (0..random.between(1, 7)).map(|_| random.pick(&words).into()).collect()
 }
 
@@ -225,10 +230,18 @@ fn spaces(random: &mut Random, often: usize, text: &mut Vec<u8>) {
     }
 }
 
-fn blank_lines(random: &mut Random, often: usize, text: &mut Vec<u8>) {
+/// CR LF in so many of a hundred cases, otherwise LF.
+fn line_end(random: &mut Random, crlf: usize, text: &mut Vec<u8>) {
+    if random.percent(crlf) {
+        text.push(b'\r');
+    }
+    text.push(b'\n');
+}
+
+fn blank_lines(random: &mut Random, often: usize, crlf: usize, text: &mut Vec<u8>) {
     while random.percent(often) {
         spaces(random, often, text);
-        text.push(b'\n');
+        line_end(random, crlf, text);
     }
 }
 
@@ -239,7 +252,7 @@ pub fn damage_bytes(random: &mut Random, text: &mut Vec<u8>) {
         return;
     }
     let at = random.below(text.len());
-    match random.below(13) {
+    match random.below(16) {
         0 => text[at] = random.next() as u8,
         1 => text[at] ^= 1 << random.below(8),
         2 => text[at] = random.pick(b"/:@[`az\r\t\0\x0b\x7f\x80\xff-+.,#"),
@@ -248,14 +261,37 @@ pub fn damage_bytes(random: &mut Random, text: &mut Vec<u8>) {
         5 => text.insert(at, random.next() as u8),
         6 | 7 => drop(text.remove(at)),
         8 => text.truncate(at),
-        9 => *text = text.iter().flat_map(|&b| if b == b'\n' { vec![b'\r', b] } else { vec![b] }).collect(),
+        9 => text.insert(at, b'\r'),
         10 => {
             if let Some(space) = text[at..].iter().position(|&byte| byte == b' ') {
                 text[at + space] = b'\t';
             }
         }
         11 => text.make_ascii_lowercase(),
+        12..=14 => change_ends(random, text, at),
         _ => text.push(random.pick(b"\r\t\0/:@[`a\x80\xff19AZ \n")),
+    }
+}
+
+/// CRs in front of line ends, and where they do not belong. `at` is a place in the text.
+fn change_ends(random: &mut Random, text: &mut Vec<u8>, at: usize) {
+    let share = random.pick(&[50, 100]);
+    let end = at + text[at..].iter().position(|&byte| byte == b'\n').unwrap_or(0);
+    match random.below(8) {
+        0..=2 => {
+            let ends = std::mem::take(text);
+            for byte in ends {
+                if byte == b'\n' && random.percent(share) {
+                    text.push(b'\r');
+                }
+                text.push(byte);
+            }
+        }
+        3 => text.insert(end, b'\r'),
+        4 => drop(text.splice(end..end, *b"\r\r")),
+        5 => text[end] = b'\r',
+        6 => text.insert(end + 1, b'\r'),
+        _ => text.extend_from_slice(random.pick(&["\r", "\r\n", "\n\r", "\r\r\n"]).as_bytes()),
     }
 }
 

@@ -10,6 +10,7 @@ pub mod sizes;
 pub mod slips;
 
 use crate::reference;
+use crate::reference::netlist::{Limits, Sizes};
 use std::fmt;
 
 #[derive(Clone, Copy, Debug, PartialEq, Eq)]
@@ -34,15 +35,15 @@ impl Service {
         }
     }
 
-    /// The least entries of a working table.
-    pub fn table(self) -> usize {
-        self.limits().table
+    /// The old limits.
+    pub fn limits(self) -> &'static Limits {
+        self.limits_of(Sizes::Old)
     }
 
-    pub fn limits(self) -> &'static reference::netlist::Limits {
+    pub fn limits_of(self, sizes: Sizes) -> &'static Limits {
         match self {
-            Mask => &reference::netlist::SMALL,
-            Rewrite | Run | Check => &reference::netlist::LARGE,
+            Mask => sizes.small(),
+            Rewrite | Run | Check => sizes.large(),
         }
     }
 
@@ -72,15 +73,26 @@ pub struct Call {
     pub list_room: usize,
     /// The length of each working table.
     pub tables: Vec<usize>,
+    pub sizes: Sizes,
 }
 
-/// Room for any result.
+/// Room for any result under the old limits.
 pub const ROOM: usize = 600_000;
 
+/// Room for any result under the limits for whole ciphers.
+pub const WHOLE_ROOM: usize = 27_000_000;
+
 impl Call {
-    /// A call with tables of the least length and ample room for what its service gives.
+    /// A call under the old limits, with tables of the least length and ample room for what its service
+    /// gives.
     pub fn new(service: Service, text: &[u8], list: &[u8], wanted: &[u8]) -> Call {
-        let room = |services: [Service; 2]| if services.contains(&service) { ROOM } else { 0 };
+        Call::of(Sizes::Old, service, text, list, wanted)
+    }
+
+    /// The same under these limits.
+    pub fn of(sizes: Sizes, service: Service, text: &[u8], list: &[u8], wanted: &[u8]) -> Call {
+        let ample = if sizes == Sizes::Old { ROOM } else { WHOLE_ROOM };
+        let room = |services: [Service; 2]| if services.contains(&service) { ample } else { 0 };
         Call {
             service,
             text: text.to_vec(),
@@ -88,28 +100,31 @@ impl Call {
             wanted: wanted.to_vec(),
             text_room: room([Rewrite, Mask]),
             list_room: room([Run, Mask]),
-            tables: vec![service.table(); service.tables()],
+            tables: vec![service.limits_of(sizes).table; service.tables()],
+            sizes,
         }
     }
 
     /// The outcome by the reference.
     pub fn outcome(&self) -> Result<Given, u8> {
-        let Call { text, list, wanted, tables, .. } = self;
+        let Call { text, list, wanted, tables, sizes, .. } = self;
+        let sizes = *sizes;
         match self.service {
             Rewrite => {
-                let text = reference::rewrite(tables, text, self.text_room)?;
+                let text = reference::rewrite(tables, text, self.text_room, sizes)?;
                 Ok(Given { text, ..Given::default() })
             }
             Run => {
-                let list = reference::run(tables, text, list, self.list_room)?;
+                let list = reference::run(tables, text, list, self.list_room, sizes)?;
                 Ok(Given { list, ..Given::default() })
             }
             Mask => {
-                let masked = reference::mask(tables, text, list, wanted, self.text_room, self.list_room)?;
+                let masked =
+                    reference::mask(tables, text, list, wanted, self.text_room, self.list_room, sizes)?;
                 Ok(Given { text: masked.text, list: masked.codes, ..Given::default() })
             }
             Check => {
-                let leak = reference::check(tables, text, list)?;
+                let leak = reference::check(tables, text, list, sizes)?;
                 Ok(Given { leak, ..Given::default() })
             }
         }
@@ -119,7 +134,7 @@ impl Call {
 impl fmt::Debug for Call {
     fn fmt(&self, f: &mut fmt::Formatter<'_>) -> fmt::Result {
         let text = String::from_utf8_lossy(&self.text[..self.text.len().min(4_000)]);
-        writeln!(f, "{:?}, a text of {} bytes:\n{text}", self.service, self.text.len())?;
+        writeln!(f, "{:?}, {:?}, a text of {} bytes:\n{text}", self.service, self.sizes, self.text.len())?;
         writeln!(f, "list ({}): {:?}", self.list.len(), &self.list[..self.list.len().min(100)])?;
         writeln!(f, "wanted ({}): {:?}", self.wanted.len(), &self.wanted[..self.wanted.len().min(100)])?;
         write!(f, "rooms {} and {}, tables {:?}", self.text_room, self.list_room, self.tables)

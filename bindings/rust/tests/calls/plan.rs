@@ -5,13 +5,18 @@ use super::netlists;
 use super::random::Random;
 use super::sizes;
 use super::{Call, Service};
-use crate::reference::netlist::Netlist;
+use crate::reference::netlist::{Netlist, Sizes};
 
 /// The call of a seed.
 pub fn call(seed: u64) -> Call {
     let random = &mut Random::new(seed);
     let service = random.pick(&Service::ALL);
     let mut call = if random.percent(3) { sizes::call(random, service) } else { small(random, service) };
+    // Few, as they are lent long tables.
+    if random.below(500) == 0 {
+        call.sizes = Sizes::Whole;
+        call.tables.fill(service.limits_of(Sizes::Whole).table);
+    }
     choose_tables(random, &mut call);
     choose_rooms(random, &mut call);
     call
@@ -57,7 +62,7 @@ fn material(random: &mut Random, service: Service) -> (Netlist, Option<Vec<u8>>)
 
 /// Tables of the least length, longer ones, or one that is short.
 fn choose_tables(random: &mut Random, call: &mut Call) {
-    let least = call.service.table();
+    let least = call.service.limits_of(call.sizes).table;
     if random.percent(20) {
         for length in &mut call.tables {
             *length = least + random.pick(&[0, 1, 2, 100]);

@@ -49,8 +49,10 @@ fn long_text(random: &mut Random, service: Service) -> Call {
     let length = random.pick(&[limit - 1, limit, limit + 1, limit + 1, limit + 1, limit + 777]);
     let ends: Vec<usize> = (0..call.text.len()).filter(|&at| call.text[at] == b'\n').collect();
     let at = random.pick(&ends);
-    let blank = random.pick(b" \n");
-    let pad = vec![blank; length - call.text.len()];
+    let blank: &[u8] = random.pick(&[b" ", b"\n", b"\r\n"]);
+    let missing = length - call.text.len();
+    let mut pad = blank.repeat(missing / blank.len());
+    pad.resize(missing, b' ');
     call.text.splice(at..at, pad);
     if random.percent(20) {
         *call.text.last_mut().expect("a text has a last byte") = random.pick(b"\r#");
@@ -102,9 +104,9 @@ fn bits_and_wires(random: &mut Random, service: Service) -> Call {
 
 /// Widths whose sum exceeds 16 or 32 bits, or widths without number.
 fn wide_values(random: &mut Random, service: Service) -> Call {
-    let width = random.pick(&["65535", "65536", "99999", "32768", "1"]);
+    let width = random.pick(&["65535", "65536", "999999", "32768", "1"]);
     let limit = service.limits().text;
-    let count = random.pick(&[2, 16, 17, 1_000, (limit - 100) / (width.len() + 1)]).min(99_999);
+    let count = random.pick(&[2, 16, 17, 1_000, (limit - 100) / (width.len() + 1)]).min(999_999);
     let mut text = format!("1 3\n{count}");
     for _ in 0..count {
         text += " ";

@@ -8,7 +8,16 @@ use super::{Call, Given, Service};
 /// Refusals of every service alike: what is read, and the question's number.
 const READING: &[(&str, &str, u8)] = &[
     ("a bad last byte comes before a broken header", "X\n1 1 1\n#", 3),
-    ("CR", "1 3\r2 1 1\r\n1 1\r\n2 1 0 1 2 AND\r\n", 3),
+    ("CR for LF", "1 3\r2 1 1\r\n1 1\r\n2 1 0 1 2 AND\r\n", 3),
+    ("CR as the last byte", "1 3\n2 1 1\n1 1\n2 1 0 1 2 AND\r", 3),
+    ("CR CR LF", "1 3\n2 1 1\r\r\n1 1\n2 1 0 1 2 AND\n", 3),
+    ("a space between CR and LF", "1 3\n2 1 1\r \n1 1\n2 1 0 1 2 AND\n", 3),
+    ("LF CR", "1 3\n\r2 1 1\n1 1\n2 1 0 1 2 AND\n", 3),
+    ("CR in a name", "1 3\r\n2 1 1\r\n1 1\r\n2 1 0 1 2 A\rND\r\n", 3),
+    ("CR between words", "1 3\r\n2 1 1\r\n1 1\r\n2 1 0\r1 2 AND\r\n", 3),
+    ("a CR alone comes before a broken header", "X\r\r\n", 3),
+    ("nothing but CR LFs", "\r\n  \r\n", 4),
+    ("a name cut short by CR LF", "1 3\r\n2 1 1\r\n1 1\r\n2 1 0 1 2 AN\r\n", 7),
     ("tab", "1\t3\n2 1 1\n1 1\n2 1 0 1 2 AND\n", 3),
     ("the byte before 0", "1 3\n2 1 1\n1 1\n2 1 / 1 2 AND\n", 3),
     ("the byte after 9", "1 3\n2 1 1\n1 1\n2 1 : 1 2 AND\n", 3),
@@ -23,7 +32,7 @@ const READING: &[(&str, &str, u8)] = &[
     ("line one of one number", "1\n2 1 1\n1 1\n2 1 0 1 2 AND\n", 4),
     ("line one of three numbers", "1 3 3\n2 1 1\n1 1\n2 1 0 1 2 AND\n", 4),
     ("a leading zero in the header", "01 3\n2 1 1\n1 1\n2 1 0 1 2 AND\n", 4),
-    ("six digits in the header", "1 100000\n2 1 1\n1 1\n2 1 0 1 2 AND\n", 4),
+    ("seven digits in the header", "1 1000000\n2 1 1\n1 1\n2 1 0 1 2 AND\n", 4),
     ("no input value", "0 1\n0\n1 1\n", 4),
     ("no output value", "0 1\n1 1\n0\n", 4),
     ("an input of width 0", "1 3\n2 2 0\n1 1\n2 1 0 1 2 AND\n", 4),
@@ -36,7 +45,8 @@ const READING: &[(&str, &str, u8)] = &[
     ("19 widths of 18", "1 99\n18 1 1 1 1 1 1 1 1 1 1 1 1 1 1 1 1 1 1 1\n1 1\n", 4),
     ("18 input values", "0 18\n18 1 1 1 1 1 1 1 1 1 1 1 1 1 1 1 1 1 1\n1 1\n", 5),
     ("17 output values", "0 17\n1 17\n17 1 1 1 1 1 1 1 1 1 1 1 1 1 1 1 1 1\n", 5),
-    ("the most wires of five digits", "0 99999\n1 1\n1 1\n", 5),
+    ("the most wires of six digits", "0 999999\n1 1\n1 1\n", 5),
+    ("a width of six digits", "0 1\n1 999999\n1 1\n", 5),
     ("no wire", "0 0\n1 1\n1 1\n", 5),
     ("more input bits than wires", "0 2\n2 1 2\n1 1\n", 5),
     ("more output bits than wires", "0 2\n1 2\n2 2 1\n", 5),
@@ -45,7 +55,7 @@ const READING: &[(&str, &str, u8)] = &[
     ("too many wires come before a wrong gate count", "5 99999\n1 1\n1 1\nX\n", 5),
     ("a gate count too high", "2 3\n2 1 1\n1 1\n2 1 0 1 2 AND\n", 6),
     ("a gate count too low", "0 3\n2 1 1\n1 1\n2 1 0 1 2 AND\n", 6),
-    ("a gate count above the wires", "99999 3\n2 1 1\n1 1\n2 1 0 1 2 AND\n", 6),
+    ("a gate count above the wires", "999999 3\n2 1 1\n1 1\n2 1 0 1 2 AND\n", 6),
     ("gate lines as many as stated, and not W less n", "1 4\n2 1 1\n1 1\n2 1 0 1 2 AND\n", 6),
     ("a surplus line", "1 3\n2 1 1\n1 1\n2 1 0 1 2 AND\nRUBBISH\n", 6),
     ("a missing line", "1 3\n2 1 1\n1 1\n", 6),
@@ -65,15 +75,15 @@ const READING: &[(&str, &str, u8)] = &[
     ("a leading zero in the second word", "1 3\n2 1 1\n1 1\n2 01 0 1 2 AND\n", 7),
     ("an operand with a leading zero", "1 3\n2 1 1\n1 1\n2 1 00 1 2 AND\n", 7),
     ("a result with a leading zero", "1 3\n2 1 1\n1 1\n2 1 0 1 02 AND\n", 7),
-    ("six digits", "1 3\n2 1 1\n1 1\n2 1 0 100000 2 AND\n", 7),
+    ("seven digits", "1 3\n2 1 1\n1 1\n2 1 0 1000000 2 AND\n", 7),
     ("a number that is 0 in 32 bits", "1 3\n2 1 1\n1 1\n2 1 4294967296 1 2 AND\n", 7),
     ("a number that is 0 in 64 bits", "1 3\n2 1 1\n1 1\n2 1 18446744073709551616 1 2 AND\n", 7),
     ("a letter for a constant", "1 3\n2 1 1\n1 1\n1 1 A 2 EQ\n", 7),
     ("a constant with a leading zero", "1 3\n2 1 1\n1 1\n1 1 01 2 EQ\n", 7),
     ("a bad form comes before a bad result two lines on", "2 4\n2 1 1\n1 1\nX\n2 1 0 1 0 AND\n", 7),
-    ("five digits are a number", "1 3\n2 1 1\n1 1\n2 1 99999 1 2 AND\n", 8),
+    ("six digits are a number", "1 3\n2 1 1\n1 1\n2 1 999999 1 2 AND\n", 8),
     ("a constant of 2", "1 3\n2 1 1\n1 1\n1 1 2 2 EQ\n", 8),
-    ("a constant of five digits", "1 3\n2 1 1\n1 1\n1 1 99999 2 EQ\n", 8),
+    ("a constant of six digits", "1 3\n2 1 1\n1 1\n1 1 100000 2 EQ\n", 8),
     ("a gate that reads its own result", "1 3\n2 1 1\n1 1\n2 1 0 2 2 AND\n", 8),
     ("a gate that reads a later result", "2 4\n2 1 1\n1 1\n2 1 0 3 2 AND\n2 1 0 1 3 AND\n", 8),
     ("a gate that reads a wire past the last", "1 3\n2 1 1\n1 1\n1 1 3 2 INV\n", 8),
@@ -81,7 +91,7 @@ const READING: &[(&str, &str, u8)] = &[
     ("a bad constant comes before a bad result", "1 3\n2 1 1\n1 1\n1 1 2 0 EQ\n", 8),
     ("a result that is an input", "1 3\n2 1 1\n1 1\n2 1 0 1 1 AND\n", 9),
     ("a result past the last wire", "1 3\n2 1 1\n1 1\n2 1 0 1 3 AND\n", 9),
-    ("a result of five digits", "1 3\n2 1 1\n1 1\n2 1 0 1 99999 AND\n", 9),
+    ("a result of six digits", "1 3\n2 1 1\n1 1\n2 1 0 1 999999 AND\n", 9),
     ("a result given twice", "2 4\n2 1 1\n1 1\n2 1 0 1 3 AND\n2 1 0 1 3 XOR\n", 9),
     ("a bad result comes before a bad form on the next line", "2 4\n2 1 1\n1 1\n2 1 0 1 1 AND\nX\n", 9),
 ];
@@ -102,6 +112,12 @@ const REWRITTEN: &[(&str, &str, &str)] = &[
     ),
     ("operands in the order given", "1 3\n1 2\n1 1\n\n2 1 1 0 2 XOR", "1 3\n1 2\n1 1\n\n2 1 1 0 2 XOR\n"),
     ("constants", "2 3\n1 1\n1 3\n1 1 0 2 EQ\n1 1 1 1 EQ\n", "2 3\n1 1\n1 3\n\n1 1 0 2 EQ\n1 1 1 1 EQ\n"),
+    ("CR LF", "1 3\r\n2 1 1\r\n1 1\r\n2 1 0 1 2 AND\r\n", "1 3\n2 1 1\n1 1\n\n2 1 0 1 2 AND\n"),
+    (
+        "CR LF and LF, behind spaces and on blank lines",
+        "\r\n \r\n1 3 \r\n2 1 1\n\r\n1 1\r\n2 1 0 1 2 AND  \r\n ",
+        "1 3\n2 1 1\n1 1\n\n2 1 0 1 2 AND\n",
+    ),
     (
         "17 input values",
         "0 17\n17 1 1 1 1 1 1 1 1 1 1 1 1 1 1 1 1 1\n1 17\n",
@@ -149,7 +165,7 @@ fn masking() -> Vec<Row> {
             masked(INPUT_OUT_MASKED, &[1]),
         ),
         row("AND of a wire with itself", mask(SQUARE, &[3], &[0]), masked(SQUARE_MASKED, &[3])),
-        row("17 input values", mask(REWRITTEN[6].1, &[1; 17], &[0; 17]), Err(5)),
+        row("17 input values", mask(REWRITTEN[8].1, &[1; 17], &[0; 17]), Err(5)),
         row("a code of 0", mask(AND, &[0, 1], &[0]), Err(11)),
         row("a code of 4", mask(AND, &[1, 4], &[0]), Err(11)),
         row("a code of 255", mask(AND, &[255, 1], &[0]), Err(11)),
@@ -222,7 +238,7 @@ fn lengths() -> Vec<Row> {
     let mut rows = Vec::new();
     for service in Service::ALL {
         for table in 0..service.tables() {
-            for length in [service.table() - 1, 0] {
+            for length in [service.limits().table - 1, 0] {
                 let mut call = Call::new(service, b"#", &[9], &[9]);
                 call.tables[table] = length;
                 rows.push(row(&format!("table {table} of {length} entries"), call, Err(1)));

@@ -3,6 +3,7 @@
 
 use crate::calls::random::Random;
 use crate::calls::{Call, Given, Service};
+use crate::reference::netlist::Sizes;
 use fidrovelj::{lent, Refused};
 use std::fmt::Debug;
 
@@ -107,6 +108,10 @@ impl Library {
 
     /// The library's answer to a call; whether there is a leak counts as 0 or 1.
     fn answer(&mut self, call: &Call, seed: u64) -> Result<usize, Refused> {
+        let sizes = match call.sizes {
+            Sizes::Old => fidrovelj::Sizes::Old,
+            Sizes::Whole => fidrovelj::Sizes::Whole,
+        };
         let random = &mut Random::new(seed);
         let text = self.text.fill(random.next(), call.text_room);
         let list = self.list.fill(random.next(), call.list_room);
@@ -115,25 +120,25 @@ impl Library {
         match call.service {
             Service::Rewrite => {
                 let given = self.given.fill(random.next(), call.tables[2]);
-                lent::rewrite(&call.text, text, operands, results, given)
+                lent::rewrite(&call.text, text, operands, results, given, sizes)
             }
             Service::Run => {
                 let given = self.given.fill(random.next(), call.tables[2]);
                 let words = self.words.fill(random.next(), call.tables[3]);
-                lent::run(&call.text, &call.list, list, operands, results, given, words)
+                lent::run(&call.text, &call.list, list, operands, results, given, words, sizes)
             }
             Service::Mask => {
                 let wires = self.wires.fill(random.next(), call.tables[2]);
                 let marks = self.given.fill(random.next(), call.tables[3]);
                 let Call { text: source, list: codes, wanted, .. } = call;
-                lent::mask(source, codes, wanted, text, list, operands, results, wires, marks)
+                lent::mask(source, codes, wanted, text, list, operands, results, wires, marks, sizes)
             }
             Service::Check => {
                 let given = self.given.fill(random.next(), call.tables[2]);
                 let words = self.words.fill(random.next(), call.tables[3]);
                 let base = self.base.fill(random.next(), call.tables[4]);
                 let leak = self.leak.fill(random.next(), 4).try_into().expect("a leak has four numbers");
-                lent::check(&call.text, &call.list, leak, operands, results, given, words, base)
+                lent::check(&call.text, &call.list, leak, operands, results, given, words, base, sizes)
                     .map(usize::from)
             }
         }

@@ -10,19 +10,19 @@ pub mod mask;
 pub mod netlist;
 pub mod text;
 
-use netlist::{Limits, Netlist, LARGE, SMALL};
+use netlist::{Limits, Netlist, Sizes};
 
 /// The outcome of Rewrite: the written form.
-pub fn rewrite(tables: &[usize], text: &[u8], room: usize) -> Result<Vec<u8>, u8> {
-    let netlist = read(&LARGE, tables, text)?;
+pub fn rewrite(tables: &[usize], text: &[u8], room: usize, sizes: Sizes) -> Result<Vec<u8>, u8> {
+    let netlist = read(sizes.large(), tables, text)?;
     let written = netlist.write();
     ask(14, written.len() <= room)?;
     Ok(written)
 }
 
 /// The outcome of Run: the output bits.
-pub fn run(tables: &[usize], text: &[u8], list: &[u8], room: usize) -> Result<Vec<u8>, u8> {
-    let netlist = read(&LARGE, tables, text)?;
+pub fn run(tables: &[usize], text: &[u8], list: &[u8], room: usize, sizes: Sizes) -> Result<Vec<u8>, u8> {
+    let netlist = read(sizes.large(), tables, text)?;
     ask(11, list.len() == netlist.input_bits() && list.iter().all(|&bit| bit <= 1))?;
     ask(14, netlist.output_bits() <= room)?;
     let inputs: Vec<bool> = list.iter().map(|&bit| bit == 1).collect();
@@ -46,8 +46,9 @@ pub fn mask(
     wanted: &[u8],
     text_room: usize,
     code_room: usize,
+    sizes: Sizes,
 ) -> Result<Masked, u8> {
-    let source = read(&SMALL, tables, text)?;
+    let source = read(sizes.small(), tables, text)?;
     ask(11, codes.len() == source.input_bits() && codes.iter().all(|code| (1..=3).contains(code)))?;
     ask(13, wanted.len() == source.output_bits() && wanted.iter().all(|&code| code <= 3))?;
     let (masked, codes) = mask::mask(&source, codes, wanted);
@@ -58,8 +59,8 @@ pub fn mask(
 
 /// The outcome of Check: none where the netlist is clean, otherwise the leak's wire, setting, count
 /// for setting 0 and count for that setting.
-pub fn check(tables: &[usize], text: &[u8], codes: &[u8]) -> Result<Option<[u64; 4]>, u8> {
-    let netlist = read(&LARGE, tables, text)?;
+pub fn check(tables: &[usize], text: &[u8], codes: &[u8], sizes: Sizes) -> Result<Option<[u64; 4]>, u8> {
+    let netlist = read(sizes.large(), tables, text)?;
     ask(10, netlist.inputs.len() >= 2 && netlist.inputs.last() == Some(&2))?;
     let bits = netlist.input_bits() - 2;
     ask(11, codes.len() == bits && codes.iter().all(|code| (1..=3).contains(code)))?;

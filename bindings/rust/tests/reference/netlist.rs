@@ -80,16 +80,49 @@ pub struct Limits {
     pub outputs: usize,
 }
 
+/// Which limits a call takes: the old ones, or those for whole ciphers.
+#[derive(Clone, Copy, Debug, PartialEq, Eq)]
+pub enum Sizes {
+    Old,
+    Whole,
+}
+
+impl Sizes {
+    /// Mask's limits.
+    pub fn small(self) -> &'static Limits {
+        match self {
+            Sizes::Old => &SMALL,
+            Sizes::Whole => &WHOLE_SMALL,
+        }
+    }
+
+    /// The limits of Check, Run and Rewrite.
+    pub fn large(self) -> &'static Limits {
+        match self {
+            Sizes::Old => &LARGE,
+            Sizes::Whole => &WHOLE_LARGE,
+        }
+    }
+}
+
 /// Mask's limits.
 pub const SMALL: Limits = Limits { table: 2_048, text: 60_000, wires: 2_048, inputs: 16, outputs: 16 };
 
 /// The limits of Check, Run and Rewrite.
 pub const LARGE: Limits = Limits { table: 18_430, text: 500_000, wires: 18_430, inputs: 17, outputs: 16 };
 
+/// Mask's limits for whole ciphers.
+pub const WHOLE_SMALL: Limits =
+    Limits { table: 100_000, text: 3_000_000, wires: 100_000, inputs: 16, outputs: 16 };
+
+/// The limits of Check, Run and Rewrite for whole ciphers.
+pub const WHOLE_LARGE: Limits =
+    Limits { table: 899_999, text: 27_000_000, wires: 899_999, inputs: 17, outputs: 16 };
+
 /// A text's netlist: questions 2 to 9 in order.
 pub fn read(limits: &Limits, text: &[u8]) -> Result<Netlist, u8> {
     ask(2, text.len() <= limits.text)?;
-    ask(3, text.iter().all(|&byte| allowed(byte)))?;
+    ask(3, (0..text.len()).all(|at| allowed(text[at]) || text[at..].starts_with(b"\r\n")))?;
 
     let lines = word_lines(text);
     let Some(header) = header(&lines) else { return Err(4) };
@@ -114,7 +147,7 @@ pub fn read(limits: &Limits, text: &[u8]) -> Result<Netlist, u8> {
     Ok(Netlist { wires: header.wires, inputs: header.inputs, outputs: header.outputs, gates })
 }
 
-/// Question 3 of a byte.
+/// Question 3 of a byte that is no CR.
 fn allowed(byte: u8) -> bool {
     byte.is_ascii_digit() || byte.is_ascii_uppercase() || byte == b' ' || byte == b'\n'
 }
