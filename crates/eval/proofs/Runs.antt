@@ -86,7 +86,7 @@ module _ (ws list laid us : List ℕ) {t : Tables} {n m o : ℕ} {N : Netlist} (
       → ((j : ℕ) → j < 64 → lanes j us ≡ wireBits (bare t n (length laid)) (lanes j (take (length list) laid)))
       → out ≡ sets out₀ 0 (last o us) → out ≡ sets out₀ 0 (outputWords N list)
   wide-law out₀ out fits ran e =
-      e ∙ ap (sets out₀ 0) (words-known N list (last o us) (last-long ∙ sym (h .outs)) 
+      e ∙ ap (sets out₀ 0) (words-known N list (last o us) (last-long ∙ sym (h .outs))
       (λ i l. rw (last-drop, getD-drop (length us - o) us i 0) (fits (length us - o + i))) (λ j l. outputs-law j (ran j l)))
 
 -- one run, on the bits of a list, in lane 0
