@@ -11,11 +11,6 @@ use native.Mathlib.Omega.{arith}
 use borrow.Author.Needs.{needs}
 use Rattle.run64.proofs.answer.Statement.{statement}
 use Rattle.run64.proofs.answer.Tie as tie
-use Rattle.run64.proofs.answer.Reads as reads
-use Rattle.run64.proofs.answer.Lts as lts
-use Rattle.netlist.proofs.large.Reads as large-reads
-use Rattle.run64.proofs.evaluate.Reads as evaluate-reads
-use Rattle.tables.proofs.read.read.Reads as read-reads
 
 large-requires : tie.Need-large-requires
 large-requires c κs = search needs

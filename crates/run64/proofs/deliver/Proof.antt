@@ -5,9 +5,6 @@ use native.Mathlib.Omega.{arith}
 use borrow.Author.Needs.{needs}
 use Rattle.run64.proofs.deliver.Statement.{statement}
 use Rattle.run64.proofs.deliver.Tie as tie
-use Rattle.run64.proofs.deliver.Reads as reads
-use Rattle.run64.proofs.deliver.Lts as lts
-use Rattle.eval.proofs.wide.outputs.Reads as outputs-reads
 
 returns : tie.Need-returns
 returns c = λ N h. words-11 h (c .before .before .before .before .before .before .args .list .now) _ (c .if1 .taken)

@@ -7,9 +7,6 @@ use native.Mathlib.Omega.{arith}
 use borrow.Author.Needs.{needs}
 use Rattle.run64.proofs.evaluate.Statement.{statement}
 use Rattle.run64.proofs.evaluate.Tie as tie
-use Rattle.run64.proofs.evaluate.Reads as reads
-use Rattle.run64.proofs.evaluate.Lts as lts
-use Rattle.run64.proofs.deliver.Reads as deliver-reads
 
 cast-wires : tie.Need-cast-wires
 cast-wires c = search needs

@@ -5,11 +5,6 @@ use native.Mathlib.Omega.{arith}
 use borrow.Author.Needs.{needs}
 use Rattle.run64.proofs.run64.Statement.{statement}
 use Rattle.run64.proofs.run64.Tie as tie
-use Rattle.run64.proofs.run64.Reads as reads
-use Rattle.run64.proofs.run64.Lts as lts
-use Rattle.clear.proofs.bytes.Reads as bytes-reads
-use Rattle.clear.proofs.words.Reads as words-reads
-use Rattle.run64.proofs.answer.Reads as answer-reads
 
 answer-requires : tie.Need-answer-requires
 answer-requires c κs = search needs

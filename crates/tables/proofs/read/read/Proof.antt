@@ -10,10 +10,6 @@ use native.Mathlib.Omega.{arith}
 use borrow.Author.Needs.{needs}
 use Rattle.tables.proofs.read.read.Statement.{statement}
 use Rattle.tables.proofs.read.read.Tie as tie
-use Rattle.tables.proofs.read.read.Reads as reads
-use Rattle.tables.proofs.read.read.Lts as lts
-use Rattle.clear.proofs.bytes.Reads as bytes-reads
-use Rattle.tables.proofs.read.read_text.Reads as read-text-reads
 
 returns : tie.Need-returns
 returns c = rw (lt-leb _ _ (c .if1 .taken))
