@@ -1,11 +1,13 @@
 -- From a netlist that was read, and judged, to Check's promise.
-use Prim.Native.Nat.{ℕ, _-_, _≤_}
-use mathlib.Core.Path.{_≡_, sym, ap, _∙_}
-use mathlib.Core.Bool.{Bool, true, false}
+use Prim.Native.Nat.{ℕ, _-_, min}
+use mathlib.Core.Path.{_≡_, refl, sym, ap, _∙_}
+use mathlib.Core.Bool.{Bool, true, false, _&&_}
 use mathlib.Core.List.{List, [], _∷_}
 use mathlib.Core.Option.{Option, none, some}
+use native.Mathlib.Omega.{arith}
 use lib.Dec.{leb}
 use lib.ListN.{length, take}
+use borrow.Author.Tests.{le-leb, lt-leb, leb-true, leb-false}
 use Rattle.netlist.specs.declared.Limits.{Limits}
 use Rattle.netlist.specs.declared.Sizes.{Sizes}
 use Rattle.netlist.specs.Lists.{sum}
@@ -16,58 +18,62 @@ use Rattle.netlist.specs.Mask.{isInputCode}
 use Rattle.netlist.specs.Leak.{Found, leak}
 use Rattle.netlist.specs.Services.{tablesLong, listGood, endsInMasks, maxChecked, checkOutcome, checkCall}
 use Rattle.netlist.specs.Table.{Tables, Holds}
-use Rattle.netlist.proofs.Answering.{tables-long}
+use Rattle.netlist.proofs.Answering.{call-refused, call-goes-on}
 use Rattle.netlist.proofs.Questions.{done-same, ask-done}
 use Rattle.netlist.proofs.LeakSearch.{none-clean, found-lowest}
 use Rattle.header.specs.declared.HeaderNumbers.{HeaderNumbers}
-use Rattle.tables.specs.Whole.{ReadAt, ReadNot}
+use Rattle.tables.specs.Whole.{ReadAt}
 use Rattle.judge.specs.declared.Checked.{Checked}
 use Rattle.judge.specs.declared.Checked.the-variants.{Clean, Leak, Refused}
 use Rattle.judge.specs.Judge.{found, outcomeOf, Judged}
 use Rattle.checker.specs.Promise.{call}
 
--- ---- questions 2 to 12
-
 -- the input bits are those of the widths read
 pub read-bits : {L : Limits} {t ins outs : List ℕ} {tabs : Tables} {h : HeaderNumbers} → ReadAt L t ins outs tabs h → h .ins ≡ sum (take (h .inputs) ins)
 read-bits r = sym (r .holds .ins) ∙ ap sum (sym (r .inputs))
 
-pub judge-read : {L : Limits} {t ins outs : List ℕ} {tabs : Tables} {h : HeaderNumbers} (codes : List ℕ) {a : Outcome (Option Found)}
-    (r : ReadAt L t ins outs tabs h)
-    → ((N : Netlist) → Holds tabs (h .gates) (h .wires) (h .ins) (h .outs) N → take (h .inputs) ins ≡ N .inputs → a ≡ checkOutcome codes N)
-    → a ≡ andThen (readNetlist L t) (checkOutcome codes)
-judge-read codes r f = f (r .is) (r .holds) (r .inputs) ∙ sym (ap (λ (o : Outcome Netlist). andThen o (checkOutcome codes)) (r .read))
+-- the shorter of two tables stands for both
+shorter-long : (t a b : ℕ) → leb t (min a b) ≡ leb t a && leb t b
+shorter-long t a b = go (leb t a) (leb t b) refl refl
+  where
+    go : (x y : Bool) → leb t a ≡ x → leb t b ≡ y → leb t (min a b) ≡ x && y
+    go true true p q = le-leb t (min a b) (omega (arith, leb-true t a p, leb-true t b q))
+    go true false p q = lt-leb t (min a b) (omega (arith, leb-false t b q))
+    go false y p q = lt-leb t (min a b) (omega (arith, leb-false t a p))
 
-pub judge-not : {L : Limits} {t : List ℕ} (codes : List ℕ) {q : ℕ} → ReadNot L t q → refused q ≡ andThen (readNetlist L t) (checkOutcome codes)
-judge-not codes n = sym (ap (λ (o : Outcome Netlist). andThen o (checkOutcome codes)) (n .refuses))
-
--- ---- question 1, and the promise
+long-both : (L : Limits) (o r g w b : ℕ) {n : ℕ} → n ≡ min w b → tablesLong L (o ∷ r ∷ g ∷ n ∷ []) ≡ tablesLong L (o ∷ r ∷ g ∷ w ∷ b ∷ [])
+long-both L o r g w b e =
+    ap (λ (n : ℕ). tablesLong L (o ∷ r ∷ g ∷ n ∷ [])) e
+    ∙ ap (λ (k : Bool). leb (L .table) o && (leb (L .table) r && (leb (L .table) g && k)))
+    (ap (λ (k : Bool). k && true) (shorter-long (L .table) w b) ∙ assoc (leb (L .table) w) (leb (L .table) b))
+  where
+    assoc : (x y : Bool) → (x && y) && true ≡ x && (y && true)
+    assoc true y = refl
+    assoc false y = refl
 
 module _ (s : Sizes) (text codes o r g w b : List ℕ) where
   abbrev lengths : List ℕ
   lengths = length o ∷ length r ∷ length g ∷ length w ∷ length b ∷ []
 
-  call-asks : {k : Bool} → tablesLong (large s) lengths ≡ k → ask 1 k (andThen (readNetlist (large s) text) (checkOutcome codes)) ≡ call s text codes o r g w b
-  unfolding checkCall
-  call-asks e = sym (ap (λ (k : Bool). ask 1 k (andThen (readNetlist (large s) text) (checkOutcome codes))) e)
+  module _ {n : ℕ} (shortest : n ≡ min (length w) (length b)) where
+    -- question 1 of all five tables
+    pub all-long : tablesLong (large s) (length o ∷ length r ∷ length g ∷ n ∷ []) ≡ tablesLong (large s) lengths
+    all-long = long-both (large s) (length o) (length r) (length g) (length w) (length b) shortest
 
-  module _ {k : Bool} (asked : k ≡ tablesLong (large s) lengths) where
-    pub call-one : k ≡ false → refused 1 ≡ call s text codes o r g w b
-    call-one e = call-asks (sym asked ∙ e)
+    -- questions 1 to 9, and then 10 to 12
+    pub call-not : {q : ℕ} → ask 1 (tablesLong (large s) (length o ∷ length r ∷ length g ∷ n ∷ [])) (readNetlist (large s) text) ≡ refused q
+        → refused q ≡ call s text codes o r g w b
+    unfolding checkCall
+    call-not p = sym (call-refused (tablesLong (large s) lengths) (readNetlist (large s) text) (checkOutcome codes) (rw all-long at p))
 
-    pub call-rest : {a : Outcome (Option Found)} → k ≡ true → a ≡ andThen (readNetlist (large s) text) (checkOutcome codes)
+    pub call-read : {ins outs : List ℕ} {tabs : Tables} {h : HeaderNumbers} {a : Outcome (Option Found)}
+        → (tablesLong (large s) (length o ∷ length r ∷ length g ∷ n ∷ []) ≡ true) × ReadAt (large s) text ins outs tabs h
+        → ((N : Netlist) → Holds tabs (h .gates) (h .wires) (h .ins) (h .outs) N → take (h .inputs) ins ≡ N .inputs → a ≡ checkOutcome codes N)
         → a ≡ call s text codes o r g w b
-    call-rest e p = p ∙ call-asks (sym asked ∙ e)
-
-    -- the tables that question 1 admits
-    pub call-long : k ≡ true → (large s .table ≤ length o) × (large s .table ≤ length r) × (large s .table ≤ length g) × (large s .table ≤ length w) × (large s .table ≤ length b)
-    call-long e =
-        let first = tables-long (large s) (length o) (length r ∷ length g ∷ length w ∷ length b ∷ []) (sym asked ∙ e) in
-        let second = tables-long (large s) (length r) (length g ∷ length w ∷ length b ∷ []) (first .1) in
-        let third = tables-long (large s) (length g) (length w ∷ length b ∷ []) (second .1) in
-        let fourth = tables-long (large s) (length w) (length b ∷ []) (third .1) in
-        let fifth = tables-long (large s) (length b) [] (fourth .1) in
-        (first .0, second .0, third .0, fourth .0, fifth .0)
+    unfolding checkCall
+    call-read k f =
+        f (k .1 .is) (k .1 .holds) (k .1 .inputs)
+        ∙ sym (call-goes-on (tablesLong (large s) lengths) (readNetlist (large s) text) (checkOutcome codes) (sym all-long ∙ k .0) (k .1 .read))
 
   -- an answer that is no refusal is that of the search
   answer-leak : (N : Netlist) (f : Option Found) → readNetlist (large s) text ≡ done N → done f ≡ call s text codes o r g w b → leak N codes ≡ f

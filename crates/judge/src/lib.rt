@@ -64,7 +64,7 @@ fn verdict(
 // Questions 10 to 12 and the verdict, from a header's numbers and tables that begin with its input widths and its gates.
 pub fn judge(
     h: HeaderNumbers,
-    widths: &[u32],
+    widths: [u32; 17],
     codes: &[u8],
     operands: &[u64],
     results: &[u64],
@@ -72,8 +72,10 @@ pub fn judge(
     base: &mut [u64],
 ) -> Checked
     requires { ⌜ Wired (tables (now operands) (now results)) (h .wires) (h .gates) ⌝ }
-    requires { ⌜ (h .inputs ≤ length (now widths)) × (h .ins ≡ sum (take (h .inputs) (now widths))) × (h .ins ≤ h .wires) × (h .wires ≤ length (now words)) × (h .wires ≤ length (now base)) ⌝ }
-    ensures { λ r. ⌜ ((N : Netlist) → Holds (tables (now (operands .entry)) (now (results .entry))) (h .gates) (h .wires) (h .ins) (h .outs) N → take (h .inputs) (now (widths .entry)) ≡ N .inputs → outcomeOf r ≡ checkOutcome (now (codes .entry)) N) ⌝ }
+    requires { ⌜ (h .inputs ≤ 17) × (h .ins ≡ sum (take (h .inputs) widths)) × (h .ins ≤ h .wires)
+        × (h .wires ≤ length (now words)) × (h .wires ≤ length (now base)) ⌝ }
+    ensures { λ r. ⌜ ((N : Netlist) → Holds (tables (now (operands .entry)) (now (results .entry))) (h .gates) (h .wires) (h .ins) (h .outs) N
+        → take (h .inputs) widths ≡ N .inputs → outcomeOf r ≡ checkOutcome (now (codes .entry)) N) ⌝ }
 {
     let values = h.inputs;
     if !ends_in_masks(&widths[..values]) {

@@ -1,26 +1,31 @@
--- Questions 2 to 9 together: the head, and then the gate lines.
+-- Questions 1 to 9 together: the tables, the head, and then the gate lines.
 use Prim.Native.Nat.{ℕ, _≤_}
 use mathlib.Core.Path.{_≡_, refl, ap, _∙_, subst}
 use mathlib.Core.Bool.{Bool, true, false}
 use mathlib.Core.List.{List, []}
 use native.Mathlib.Omega.{arith}
-use lib.Dec.{eqb}
+use lib.Dec.{eqb, lit≤}
 use lib.ListN.{length, drop}
 use Rattle.netlist.specs.declared.Gate.{Gate}
 use Rattle.netlist.specs.declared.Limits.{Limits}
+use Rattle.netlist.specs.declared.Sizes.{Sizes}
+use Rattle.netlist.specs.Netlist.{small, large}
 use Rattle.netlist.specs.Outcome.{Outcome, done, ask, andThen}
 use Rattle.netlist.specs.Text.{wordLines}
 use Rattle.netlist.specs.Read.{gateLines, netlistOf, readGates, readNetlist}
+use Rattle.netlist.specs.Services.{tablesLong}
 use Rattle.netlist.specs.Table.{Tables, gatesOf}
 use Rattle.netlist.proofs.HeaderFacts.{header-good}
+use Rattle.netlist.proofs.Size.{small-fits, large-fits}
 use Rattle.header.specs.HeadAnswers.{Inside, HeadAt, HeadNot}
 use Rattle.header.proofs.HeadLaws.{inputs-front, outputs-front}
 use Rattle.header.specs.declared.HeaderNumbers.{HeaderNumbers}
 use Rattle.tables.specs.declared.gates.Gates.{Gates}
 use Rattle.tables.specs.declared.gates.Gates.the-variants as G
 use Rattle.tables.specs.declared.read.Reading.{Reading}
+use Rattle.tables.specs.declared.read.Reading.the-variants as R
 use Rattle.tables.specs.Gates.{askLines, GatesRead, GatesNot, GatesIs}
-use Rattle.tables.specs.Whole.{ReadAt, ReadNot, ReadIs}
+use Rattle.tables.specs.Whole.{ReadAt, ReadNot, TextIs, Readable, ReadIs}
 
 -- there are at most as many gates as wires
 pub few-gates : {L : Limits} {h : HeaderNumbers} → Inside L h → h .gates ≤ h .wires
@@ -77,7 +82,21 @@ module _ (t : List ℕ) (at count n W : ℕ) (tabs : Tables) {r : Gates} (k : Ga
   pub gates-refused : {q : ℕ} → r ≡ G.Refused q → GatesNot t at count n W q
   gates-refused p = subst (GatesIs t at count n W tabs) p k
 
+-- question 1 before the others
+pub read-after : (L : Limits) (lengths t ins outs : List ℕ) (tabs : Tables) (r : Reading) → tablesLong L lengths ≡ true → TextIs L t ins outs tabs r
+    → ReadIs L lengths t ins outs tabs r
+read-after L lengths t ins outs tabs (R.Done h) p a = (p, a)
+read-after L lengths t ins outs tabs (R.Refused q) p n = rw p (n .refuses)
+
 -- what an answer of the reader stands for
-pub read-is : {l L : Limits} (t ins outs : List ℕ) (tabs : Tables) {r s : Reading} → l ≡ L → r ≡ s → ReadIs l t ins outs tabs r
-    → ReadIs L t ins outs tabs s
-read-is {L = L} t ins outs tabs {r} e p h = subst (ReadIs L t ins outs tabs) p (subst (λ (l : Limits). ReadIs l t ins outs tabs r) e h)
+pub read-is : {l L : Limits} (lengths t ins outs : List ℕ) (tabs : Tables) {r s : Reading} → l ≡ L → r ≡ s → ReadIs l lengths t ins outs tabs r
+    → ReadIs L lengths t ins outs tabs s
+read-is {L = L} lengths t ins outs tabs {r} e p h =
+    subst (ReadIs L lengths t ins outs tabs) p (subst (λ (l : Limits). ReadIs l lengths t ins outs tabs r) e h)
+
+-- the limits of the services
+pub readable-small : (s : Sizes) → Readable (small s)
+readable-small s = record { text = small-fits s .0; inputs = lit≤ tt; outputs = lit≤ tt; wires = omega arith }
+
+pub readable-large : (s : Sizes) → Readable (large s)
+readable-large s = record { text = large-fits s; inputs = lit≤ tt; outputs = lit≤ tt; wires = omega arith }

@@ -1,42 +1,61 @@
--- `answer`: question 1, and then the others.
-use borrow.Author.Tests.{not-true, not-false}
-use lib.Dec.{lit≤}
+-- `answer`: the netlist read, and the verdict on it.
+use mathlib.Core.List.{[], _∷_}
+use mathlib.Core.Path.{sym, _∙_}
+use lib.Dec.{lit<}
 use lib.ListN.{length}
-use Rattle.clear.proofs.Filled.{zeros-own}
-use Rattle.checker.proofs.Calling.{call-one, call-rest, call-long}
+use Rattle.netlist.specs.Netlist.{large}
+use Rattle.netlist.specs.Table.{tables}
+use Rattle.netlist.proofs.Answering.{table-at}
+use Rattle.tables.proofs.Wholes.{read-is, readable-large}
+use Rattle.checker.proofs.Calling.{read-bits, all-long, call-not, call-read}
 use native.Mathlib.Omega.{arith}
 use borrow.Author.Needs.{needs}
 use Rattle.checker.proofs.answer.Statement.{statement}
 use Rattle.checker.proofs.answer.Tie as tie
+use Rattle.checker.proofs.answer.Reads as reads
+use Rattle.checker.proofs.answer.Lts as lts
+use Rattle.checker.proofs.shorter.Reads as shorter-reads
+use Rattle.judge.proofs.judge.Reads as judge-reads
+use Rattle.netlist.proofs.large.Reads as large-reads
+use Rattle.tables.proofs.read.read.Reads as read-reads
 
-tables-long-requires : tie.Need-tables-long-requires
-tables-long-requires c κs = search needs
+large-requires : tie.Need-large-requires
+large-requires c κs = search needs
 
-returns : tie.Need-returns
-returns c =
-    let s = c .before .before .before .before .before .before .before .before .before .args in
-    call-one (s .sizes) (s .text .now) (s .codes .now) (s .operands .now) (s .results .now) (s .given .now) (s .words .now) (s .base .now)
-    (c .before .tables-long .ensures) (not-true _ (c .if1 .taken))
+shorter-requires : tie.Need-shorter-requires
+shorter-requires c κs = search needs
 
-bytes-requires : tie.Need-bytes-requires
-bytes-requires c κs = search needs
+read-requires : tie.Need-read-requires
+read-requires c κs = rw (c .before .before .before .before .before .before .large .ensures) (readable-large (c .before .before .before .before .before .before .before .before .before .before .before .before .before .before .args .sizes))
 
-slice-aggregate-read-and-judge : tie.Need-slice-aggregate-read-and-judge
-slice-aggregate-read-and-judge c = search needs
+enum-known-question : tie.Need-enum-known-question
+enum-known-question c = search needs
 
-slice-aggregate-read-and-judge-2 : tie.Need-slice-aggregate-read-and-judge-2
-slice-aggregate-read-and-judge-2 c = search needs
+enum-known-h : tie.Need-enum-known-h
+enum-known-h c = search needs
 
-read-and-judge-requires : tie.Need-read-and-judge-requires
-read-and-judge-requires c κs =
-    let at-bytes = c .before .before .before .before .before .before .before .before .before in
-    let at-if1 = at-bytes .before .before in
-    let at-tables-long = at-if1 .before in
-    let s = at-tables-long .before .before .before .before .before .before .before .before .args in
-    let l = call-long (s .sizes) (s .text .now) (s .codes .now) (s .operands .now) (s .results .now) (s .given .now) (s .words .now) (s .base .now)
-    (at-tables-long .tables-long .ensures) (not-false _ (at-if1 .if1 .left)) in
-    let z = at-bytes .bytes in
-    ((l .0, l .1, omega (arith, l .2, z .kept .0), l .3, l .4), (zeros-own (length (s .given .now)) (z .ensures), lit≤ tt, lit≤ tt))
+judge-requires : tie.Need-judge-requires
+judge-requires c κs =
+    let s = c .before .before .before .before .before .before .before .before .before .before .before .before .before .before .before .before .before .before .before .before .before .before .before .before .before .before .before .before .args in
+    let t = c .before .before .before .before .before .before .before .before .before .before .before .before .before .read in
+    let o = length (s .operands .now) in
+    let r = length (s .results .now) in
+    let g = length (s .given .now) in
+    let w = length (s .words .now) in
+    let b = length (s .base .now) in
+    let k = read-is (o ∷ r ∷ g ∷ _ ∷ []) (s .text .now) (t .last .1 .0) (t .last .1 .1 .0) (tables (t .last .1 .1 .1 .0) (t .last .1 .1 .1 .1 .0))
+    (c .before .before .before .before .before .before .before .before .before .before .before .before .before .before .before .before .before .before .before .before .large .ensures) (c .before .before .before .before .before .h .given .1) (t .ensures) in
+    let a = k .1 in
+    let long = sym (all-long (s .sizes) (s .text .now) (s .codes .now) (s .operands .now) (s .results .now) (s .given .now) (s .words .now) (s .base .now) (c .before .before .before .before .before .before .before .before .before .before .before .before .before .before .before .before .before .before .before .shorter .ensures)) ∙ k .0 in (
+      a .wired,
+      (
+        a .manyIn,
+        read-bits a,
+        a .inBits,
+        omega (arith, a .wires, table-at (large (s .sizes)) (o ∷ r ∷ g ∷ w ∷ b ∷ []) 3 long (lit< tt)),
+        omega (arith, a .wires, table-at (large (s .sizes)) (o ∷ r ∷ g ∷ w ∷ b ∷ []) 4 long (lit< tt)),
+      ),
+    )
 
 same-length : tie.Need-same-length
 same-length c = search needs
@@ -47,34 +66,57 @@ same-length-2 c = search needs
 same-length-3 : tie.Need-same-length-3
 same-length-3 c = search needs
 
+returns : tie.Need-returns
+returns c =
+    let s = c .before .before .before .before .before .before .before .before .before .before .before .before .before .before .before .before .before .before .before .before .before .before .before .before .args in
+    let t = c .before .before .before .before .before .before .before .before .before .read in
+    call-not (s .sizes) (s .text .now) (s .codes .now) (s .operands .now) (s .results .now) (s .given .now) (s .words .now) (s .base .now)
+    (c .before .before .before .before .before .before .before .before .before .before .before .before .before .before .before .shorter .ensures)
+    (read-is (length (s .operands .now) ∷ length (s .results .now) ∷ length (s .given .now) ∷ _ ∷ []) (s .text .now) (t .last .1 .0) (t .last .1 .1 .0)
+    (tables (t .last .1 .1 .1 .0) (t .last .1 .1 .1 .1 .0)) (c .before .before .before .before .before .before .before .before .before .before .before .before .before .before .before .before .large .ensures) (c .before .question .given .1) (t .ensures))
+
 same-length-4 : tie.Need-same-length-4
 same-length-4 c = search needs
 
 same-length-5 : tie.Need-same-length-5
 same-length-5 c = search needs
 
+same-length-6 : tie.Need-same-length-6
+same-length-6 c = search needs
+
+same-length-7 : tie.Need-same-length-7
+same-length-7 c = search needs
+
+same-length-8 : tie.Need-same-length-8
+same-length-8 c = search needs
+
 returns-2 : tie.Need-returns-2
 returns-2 c =
-    let at-read-and-judge = c .before .before .before .before .before .before .before .before .before .before .before .before in
-    let at-if1 = at-read-and-judge .before .before .before .before .before .before .before .before .before .before .before .before in
-    let at-tables-long = at-if1 .before in
-    let s = at-tables-long .before .before .before .before .before .before .before .before .args in
-    call-rest (s .sizes) (s .text .now) (s .codes .now) (s .operands .now) (s .results .now) (s .given .now) (s .words .now) (s .base .now)
-    (at-tables-long .tables-long .ensures) (not-false _ (at-if1 .if1 .left)) (at-read-and-judge .read-and-judge .ensures)
+    let s = c .before .before .before .before .before .before .before .before .before .before .before .before .before .before .before .before .before .before .before .before .before .before .before .before .before .before .before .before .before .before .before .before .before .args in
+    let t = c .before .before .before .before .before .before .before .before .before .before .before .before .before .before .before .before .before .before .read in
+    call-read (s .sizes) (s .text .now) (s .codes .now) (s .operands .now) (s .results .now) (s .given .now) (s .words .now) (s .base .now)
+    (c .before .before .before .before .before .before .before .before .before .before .before .before .before .before .before .before .before .before .before .before .before .before .before .before .shorter .ensures)
+    (read-is (length (s .operands .now) ∷ length (s .results .now) ∷ length (s .given .now) ∷ _ ∷ []) (s .text .now) (t .last .1 .0) (t .last .1 .1 .0)
+    (tables (t .last .1 .1 .1 .0) (t .last .1 .1 .1 .1 .0)) (c .before .before .before .before .before .before .before .before .before .before .before .before .before .before .before .before .before .before .before .before .before .before .before .before .before .large .ensures) (c .before .before .before .before .before .before .before .before .before .before .h .given .1) (t .ensures))
+    (c .before .before .before .before .judge .ensures)
 
 pub answer-spec : {M : Type 1} → statement M
 answer-spec =
     tie.close
     (tie.spec
-    tables-long-requires
-    returns
-    bytes-requires
-    slice-aggregate-read-and-judge
-    slice-aggregate-read-and-judge-2
-    read-and-judge-requires
+    large-requires
+    shorter-requires
+    read-requires
+    enum-known-question
+    enum-known-h
+    judge-requires
     same-length
     same-length-2
     same-length-3
+    returns
     same-length-4
     same-length-5
+    same-length-6
+    same-length-7
+    same-length-8
     returns-2)

@@ -1,34 +1,39 @@
--- `read`: the head, and then the gate lines.
+-- `read`: question 1, table by table, and then the text.
+use borrow.Author.Tests.{lt-leb, le-leb}
+use mathlib.Core.List.{[], _∷_}
+use lib.ListN.{length}
 use Rattle.netlist.specs.Table.{tables}
-use Rattle.header.proofs.HeadLaws.{head-is, head-refused}
-use Rattle.tables.proofs.Wholes.{few-gates, read-no-head, read-not, read-done, gates-done, gates-refused}
+use Rattle.clear.proofs.Filled.{zeros-own}
+use Rattle.tables.proofs.Wholes.{read-after}
+use native.Mathlib.Omega.{arith}
 use native.Mathlib.Omega.{arith}
 use borrow.Author.Needs.{needs}
 use Rattle.tables.proofs.read.read.Statement.{statement}
 use Rattle.tables.proofs.read.read.Tie as tie
 
-read-head-requires : tie.Need-read-head-requires
-read-head-requires c κs = search needs
+returns : tie.Need-returns
+returns c = rw (lt-leb _ _ (c .if1 .taken))
 
-enum-known-question : tie.Need-enum-known-question
-enum-known-question c = search needs
+returns-2 : tie.Need-returns-2
+returns-2 c = rw (le-leb _ _ (c .before .if1 .left), lt-leb _ _ (c .if2 .taken))
 
-enum-known-h : tie.Need-enum-known-h
-enum-known-h c = search needs
+returns-3 : tie.Need-returns-3
+returns-3 c = rw (le-leb _ _ (c .before .before .if1 .left), le-leb _ _ (c .before .if2 .left), lt-leb _ _ (c .if3 .taken))
 
-read-body-requires : tie.Need-read-body-requires
-read-body-requires c κs =
-    let k = c .before .before .before .before .before .before .before .before .before .before in
-    let a = head-is _ _ _ _ (k .read-head .ensures) (c .before .before .before .before .h .given .1) in
-    let i = a .inside in
-    let p = k .before .before .before .before .before .before .before .before .before .pre .1 in
-    ((a .header .within, i .ins, few-gates i), (omega (arith, i .wires, p .0), omega (arith, i .wires, p .1), omega (arith, i .wires, p .2), p .3))
+returns-4 : tie.Need-returns-4
+returns-4 c = rw (le-leb _ _ (c .before .before .before .if1 .left), le-leb _ _ (c .before .before .if2 .left), le-leb _ _ (c .before .if3 .left), lt-leb _ _ (c .if4 .taken))
 
-enum-known-question-2 : tie.Need-enum-known-question-2
-enum-known-question-2 c = search needs
+bytes-requires : tie.Need-bytes-requires
+bytes-requires c κs = search needs
 
-enum-told : tie.Need-enum-told
-enum-told c = search needs
+read-text-requires : tie.Need-read-text-requires
+read-text-requires c κs =
+    let p = c .before .before .before .before .before .before .before .before .before .before .before .before .before .before .before .before .before .pre in
+    let k = c .before .before .before .before .before .before .before .bytes in
+    let o = c .before .before .before .before .before .before .before .before .before .before .before .before .if1 .left in
+    let r = c .before .before .before .before .before .before .before .before .before .before .before .if2 .left in
+    let g = c .before .before .before .before .before .before .before .before .before .before .if3 .left in
+    ((p .text, omega (arith, p .inputs), omega (arith, p .outputs)), (omega (arith, p .wires, g, k .kept .0), omega (arith, p .wires, o), omega (arith, p .wires, r), zeros-own (length (c .before .before .before .before .before .before .before .before .before .before .before .before .before .before .before .before .before .args .given .now)) (k .ensures)))
 
 same-length : tie.Need-same-length
 same-length c = search needs
@@ -36,82 +41,32 @@ same-length c = search needs
 same-length-2 : tie.Need-same-length-2
 same-length-2 c = search needs
 
-returns : tie.Need-returns
-returns c =
-    read-no-head
-    (head-refused _ _ _ _ (c .before .before .before .before .before .before .before .read-head .ensures) (c .before .question .given .1))
-
 same-length-3 : tie.Need-same-length-3
 same-length-3 c = search needs
 
-same-length-4 : tie.Need-same-length-4
-same-length-4 c = search needs
-
-same-length-5 : tie.Need-same-length-5
-same-length-5 c = search needs
-
-same-length-6 : tie.Need-same-length-6
-same-length-6 c = search needs
-
-same-length-7 : tie.Need-same-length-7
-same-length-7 c = search needs
-
-returns-2 : tie.Need-returns-2
-returns-2 c =
-    let b = c .before .before .before .before .before .before .before .before .before in
-    let a = head-is _ _ _ _ (b .before .before .before .before .before .before .before .before .before .before .before .read-head .ensures)
-    (b .before .before .before .before .before .h .given .1) in
-    read-not a
-    (gates-refused _ _ _ _ _ (tables (b .read-body .last .1 .1 .1 .1 .0) (b .read-body .last .1 .1 .1 .1 .1 .0)) (b .read-body .ensures)
-    (c .before .question2 .given .1))
-
-same-length-8 : tie.Need-same-length-8
-same-length-8 c = search needs
-
-same-length-9 : tie.Need-same-length-9
-same-length-9 c = search needs
-
-same-length-10 : tie.Need-same-length-10
-same-length-10 c = search needs
-
-same-length-11 : tie.Need-same-length-11
-same-length-11 c = search needs
-
-same-length-12 : tie.Need-same-length-12
-same-length-12 c = search needs
-
-returns-3 : tie.Need-returns-3
-returns-3 c =
-    let b = c .before .before .before .before .before .before .before .before in
-    let k = b .before .before .before .before .before .before .before .before .before .before .before in
-    let a = head-is _ _ _ _ (k .read-head .ensures) (b .before .before .before .before .before .h .given .1) in
-    let p = k .before .before .before .before .before .before .before .before .before .pre .0 in
-    read-done a (omega (arith, p .1, k .read-head .kept .1 .1 .0)) (omega (arith, p .2, k .read-head .kept .1 .1 .1 .0))
-    (gates-done _ _ _ _ _ (tables (b .read-body .last .1 .1 .1 .1 .0) (b .read-body .last .1 .1 .1 .1 .1 .0)) (b .read-body .ensures)
-    (c .enum-told .given .1))
+returns-5 : tie.Need-returns-5
+returns-5 c =
+    let s = c .before .before .before .before .before .before .before .before .before .before .before .before .before .before .before .before .before .before .before .before .before .before .before .before .args in
+    let o = c .before .before .before .before .before .before .before .before .before .before .before .before .before .before .before .before .before .before .before .if1 .left in
+    let r = c .before .before .before .before .before .before .before .before .before .before .before .before .before .before .before .before .before .before .if2 .left in
+    let g = c .before .before .before .before .before .before .before .before .before .before .before .before .before .before .before .before .before .if3 .left in
+    let w = c .before .before .before .before .before .before .before .before .before .before .before .before .before .before .before .before .if4 .left in
+    let t = c .before .before .before .before .before .before .read-text in
+    read-after (s .l) (length (s .operands .now) ∷ length (s .results .now) ∷ length (s .given .now) ∷ s .shortest ∷ []) (s .text .now) (t .last .1 .1 .0) (t .last .1 .1 .1 .0)
+    (tables (t .last .1 .1 .1 .1 .1 .0) (t .last .1 .1 .1 .1 .1 .1 .0)) (t .result)
+    (rw (le-leb _ _ o, le-leb _ _ r, le-leb _ _ g, le-leb _ _ w)) (t .ensures)
 
 pub read-spec : {M : Type 1} → statement M
 read-spec =
     tie.close
     (tie.spec
-    read-head-requires
-    enum-known-question
-    enum-known-h
-    read-body-requires
-    enum-known-question-2
-    enum-told
+    returns
+    returns-2
+    returns-3
+    returns-4
+    bytes-requires
+    read-text-requires
     same-length
     same-length-2
-    returns
     same-length-3
-    same-length-4
-    same-length-5
-    same-length-6
-    same-length-7
-    returns-2
-    same-length-8
-    same-length-9
-    same-length-10
-    same-length-11
-    same-length-12
-    returns-3)
+    returns-5)
