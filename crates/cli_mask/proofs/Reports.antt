@@ -48,7 +48,7 @@ module _ (netlist codes wanted : List ℕ) {t e o r w m : List ℕ} (room : Room
   call-roomy : length netlist ≤ 60000 → call Old netlist codes wanted t e o r w m ≡ outcome netlist codes wanted
   unfolding maskCall
   call-roomy h =
-      let long : tablesLong (small Old) (length o ∷ length r ∷ length w ∷ length m ∷ []) ≡ true
+      let long : tablesLong (small Old) (length o ∷ length r ∷ length m ∷ length w ∷ []) ≡ true
       = rw (
         le-leb 2048 (length o) (room .operands),
         le-leb 2048 (length r) (room .results),
