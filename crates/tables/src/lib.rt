@@ -1,4 +1,4 @@
-// A whole text into lent tables: questions 2 to 9.
+// A whole text into lent tables: questions 1 to 9.
 pub mod entry;
 pub mod gates;
 mod marks;
