@@ -542,8 +542,8 @@ static int64_t run(const struct header *h, const uint64_t *operands, const uint6
     return (int64_t)h->out.bits;
 }
 
-static int64_t run_lanes(const struct header *h, const uint64_t *operands, const uint64_t *results, uint64_t *words,
-                         const uint64_t *list, size_t list_len, uint64_t *out, size_t out_len)
+static int64_t run64(const struct header *h, const uint64_t *operands, const uint64_t *results, uint64_t *words,
+                     const uint64_t *list, size_t list_len, uint64_t *out, size_t out_len)
 {
     if (list_len != h->in.bits)
         return -11;
@@ -580,14 +580,14 @@ int64_t baseline_run(const uint8_t *text, size_t text_len,
     return answer;
 }
 
-int64_t baseline_run_lanes(const uint8_t *text, size_t text_len,
-                           const uint64_t *list, size_t list_len,
-                           uint64_t *out, size_t out_len,
-                           uint64_t *operands, size_t operands_len,
-                           uint64_t *results, size_t results_len,
-                           uint8_t *given, size_t given_len,
-                           uint64_t *words, size_t words_len,
-                           uint8_t sizes)
+int64_t baseline_run64(const uint8_t *text, size_t text_len,
+                       const uint64_t *list, size_t list_len,
+                       uint64_t *out, size_t out_len,
+                       uint64_t *operands, size_t operands_len,
+                       uint64_t *results, size_t results_len,
+                       uint8_t *given, size_t given_len,
+                       uint64_t *words, size_t words_len,
+                       uint8_t sizes)
 {
     const struct limits *l = &large_limits[sizes != 0];
     struct header h;
@@ -597,7 +597,7 @@ int64_t baseline_run_lanes(const uint8_t *text, size_t text_len,
     else
         answer = -read_netlist(l, text, text_len, &h, operands, results, given);
     if (answer == 0)
-        answer = run_lanes(&h, operands, results, words, list, list_len, out, out_len);
+        answer = run64(&h, operands, results, words, list, list_len, out, out_len);
     memset(operands, 0, operands_len * sizeof *operands);
     memset(results, 0, results_len * sizeof *results);
     memset(given, 0, given_len);

@@ -1,4 +1,4 @@
-/* The four services in plain C, with the promises of include/fidrovelj.h: what the library's times
+/* The services in plain C, with the promises of include/fidrovelj.h: what the library's times
  * are measured against. */
 #ifndef BASELINE_H
 #define BASELINE_H
@@ -22,16 +22,14 @@ int64_t baseline_run(const uint8_t *text, size_t text_len,
                      uint64_t *words, size_t words_len,
                      uint8_t sizes);
 
-/* Run on 64 settings at once: bit j of each word belongs to setting j, and question 11 asks only
- * the list's length. */
-int64_t baseline_run_lanes(const uint8_t *text, size_t text_len,
-                           const uint64_t *list, size_t list_len,
-                           uint64_t *out, size_t out_len,
-                           uint64_t *operands, size_t operands_len,
-                           uint64_t *results, size_t results_len,
-                           uint8_t *given, size_t given_len,
-                           uint64_t *words, size_t words_len,
-                           uint8_t sizes);
+int64_t baseline_run64(const uint8_t *text, size_t text_len,
+                       const uint64_t *list, size_t list_len,
+                       uint64_t *out, size_t out_len,
+                       uint64_t *operands, size_t operands_len,
+                       uint64_t *results, size_t results_len,
+                       uint8_t *given, size_t given_len,
+                       uint64_t *words, size_t words_len,
+                       uint8_t sizes);
 
 int64_t baseline_mask(const uint8_t *text, size_t text_len,
                       const uint8_t *codes, size_t codes_len,

@@ -30,14 +30,16 @@ static const size_t small_table[2] = {FIDROVELJ_SMALL_TABLE, FIDROVELJ_WHOLE_SMA
 struct services {
     __typeof__(&fidrovelj_rewrite) rewrite;
     __typeof__(&fidrovelj_run) run;
+    __typeof__(&fidrovelj_run64) run64;
     __typeof__(&fidrovelj_mask) mask;
     __typeof__(&fidrovelj_check) check;
 };
 
-static const struct services library = {fidrovelj_rewrite, fidrovelj_run, fidrovelj_mask, fidrovelj_check};
-static const struct services baseline = {baseline_rewrite, baseline_run, baseline_mask, baseline_check};
+static const struct services library = {fidrovelj_rewrite, fidrovelj_run, fidrovelj_run64, fidrovelj_mask,
+                                        fidrovelj_check};
+static const struct services baseline = {baseline_rewrite, baseline_run, baseline_run64, baseline_mask, baseline_check};
 
-enum service { READ_LARGE, READ_SMALL, REWRITE, RUN, MASK, CHECK };
+enum service { READ_LARGE, READ_SMALL, REWRITE, RUN, RUN64, MASK, CHECK };
 
 /* A call, and the work it stands for. */
 struct call {
@@ -48,7 +50,7 @@ struct call {
     size_t length, inputs, outputs;
 };
 
-static uint64_t operands[TABLE], results[TABLE], words[TABLE], base[TABLE], leak[4];
+static uint64_t operands[TABLE], results[TABLE], words[TABLE], base[TABLE], leak[4], word_list[TABLE], words_out[TABLE];
 static uint32_t wires[TABLE];
 static uint8_t given[TABLE], out[ROOM], list_out[TABLE], list[TABLE], wanted[TABLE];
 
@@ -59,7 +61,7 @@ static void die(const char *what, const char *name)
 }
 
 /* Reading alone is a call with an empty list, which question 11 refuses as soon as the text is read.
- * Input lists are all ones, wanted lists all zeros. */
+ * Input lists are all ones, wanted lists all zeros, words are random. */
 static int64_t perform(const struct services *s, const struct call *c)
 {
     size_t n = large_table[c->sizes], m = small_table[c->sizes];
@@ -68,6 +70,9 @@ static int64_t perform(const struct services *s, const struct call *c)
     case RUN:
         return s->run(c->text, c->length, list, c->service == RUN ? c->inputs : 0, list_out, n, operands, n, results,
                       n, given, n, words, n, c->sizes);
+    case RUN64:
+        return s->run64(c->text, c->length, word_list, c->inputs, words_out, n, operands, n, results, n, given, n,
+                        words, n, c->sizes);
     case READ_SMALL:
     case MASK:
         return s->mask(c->text, c->length, list, c->service == MASK ? c->inputs : 0, wanted, c->outputs, out, ROOM,
@@ -187,22 +192,26 @@ static struct call with_crlf(struct call c)
 static void compare(const struct call *c)
 {
     static uint8_t text[ROOM], entries[TABLE];
+    static uint64_t lanes[TABLE];
     uint64_t numbers[4];
     memset(out, 1, sizeof out);
     memset(list_out, 1, sizeof list_out);
+    memset(words_out, 1, sizeof words_out);
     memset(leak, 1, sizeof leak);
     int64_t expected = perform(&baseline, c);
     memcpy(text, out, sizeof out);
     memcpy(entries, list_out, sizeof list_out);
+    memcpy(lanes, words_out, sizeof words_out);
     memcpy(numbers, leak, sizeof leak);
     memset(out, 1, sizeof out);
     memset(list_out, 1, sizeof list_out);
+    memset(words_out, 1, sizeof words_out);
     memset(leak, 1, sizeof leak);
     bool reading = c->service == READ_LARGE || c->service == READ_SMALL;
     if (perform(&library, c) != expected || (reading ? expected != -11 : expected < 0))
         die("answers are not as they should be", c->name);
     if (memcmp(text, out, sizeof out) != 0 || memcmp(entries, list_out, sizeof list_out) != 0
-        || memcmp(numbers, leak, sizeof leak) != 0)
+        || memcmp(lanes, words_out, sizeof words_out) != 0 || memcmp(numbers, leak, sizeof leak) != 0)
         die("results differ", c->name);
 }
 
@@ -326,35 +335,19 @@ static void times_lf(struct line crlf, struct line lf)
     times(crlf, lf, "  times the LF text's time");
 }
 
-/* The share of one lane: a pass over the gates evaluates sixty-four, of which a run uses the first. */
-static void lane(struct line pass)
+/* A pass of sixty-four runs: its settings a second, its time in single runs, and what it saves beside
+ * sixty-four of them. */
+static void pass(struct line own, struct line run)
 {
-    for (int i = 0; i < 4; i++)
-        pass.at[i] *= 1000.0 / 64;
-    print_line("  a lane, in nanoseconds", pass.at[0], pass.at[1], pass.at[2], pass.at[3]);
-    printf("\n");
-}
-
-/* The baseline's 64 lanes are 64 runs. */
-static void compare_lanes(const char *folder)
-{
-    static uint64_t lanes[TABLE], lanes_out[TABLE];
-    struct call c = circuit(RUN, folder, "mult6");
-    for (size_t i = 0; i < c.inputs; i++)
-        lanes[i] = 0x9e3779b97f4a7c15U * (2 * i + 1);
-    int64_t count = baseline_run_lanes(c.text, c.length, lanes, c.inputs, lanes_out, TABLE, operands, TABLE, results,
-                                       TABLE, given, TABLE, words, TABLE, c.sizes);
-    for (unsigned lane = 0; lane < 64; lane++) {
-        for (size_t i = 0; i < c.inputs; i++)
-            list[i] = lanes[i] >> lane & 1;
-        if (perform(&baseline, &c) != count)
-            die("lanes differ from runs", c.name);
-        for (int64_t i = 0; i < count; i++) {
-            if (list_out[i] != (lanes_out[i] >> lane & 1))
-                die("lanes differ from runs", c.name);
-        }
+    struct line rate, saved;
+    for (int i = 0; i < 4; i++) {
+        rate.at[i] = 64e3 / own.at[i];
+        saved.at[i] = own.at[i] / 64;
     }
-    free(c.text);
+    print_line("  thousand settings a second", rate.at[0], rate.at[1], rate.at[2], rate.at[3]);
+    printf("\n");
+    times(own, run, "  times one run's time");
+    times(run, saved, "  times as fast as 64 runs");
 }
 
 /* ---- whole ciphers */
@@ -376,7 +369,9 @@ static void whole_cipher(const char *folder, double s)
     beyond(bench(aes_128(MASK, folder, "Mask"), s), source);
     struct line reading = bench(aes_128(READ_LARGE, folder, "masked, reading"), s);
     beyond(bench(aes_128(REWRITE, folder, "masked, Rewrite"), s), reading);
-    beyond(bench(aes_128(RUN, folder, "masked, Run"), s), reading);
+    struct line run = bench(aes_128(RUN, folder, "masked, Run"), s);
+    beyond(run, reading);
+    pass(bench(aes_128(RUN64, folder, "masked, sixty-four runs"), s), run);
 }
 
 /* The best times of the library and of C, in nanoseconds a gate, less those of a call on an empty text,
@@ -422,8 +417,9 @@ int main(int argc, char **argv)
     }
     const char *folder = argv[1];
     double s = argc > 3 ? atof(argv[3]) : 1;
-    compare_lanes(folder);
     memset(list, 1, sizeof list);
+    for (size_t i = 0; i < TABLE; i++)
+        word_list[i] = 0x9e3779b97f4a7c15U * (2 * i + 1);
     printf("Microseconds a call: best and median; ratios: library to C.\n");
 
     title("Reading");
@@ -447,9 +443,19 @@ int main(int argc, char **argv)
     beyond(bench(circuit(MASK, folder, "aes_column"), s), column);
 
     title("Running");
-    lane(beyond(bench(circuit(RUN, folder, "mult64"), s), mult64));
-    lane(beyond(bench(circuit(RUN, folder, "adder64"), s), adder64));
-    lane(beyond(bench(masked(RUN, circuit(MASK, folder, "and_ladder_2048")), s), ladder));
+    struct line run_mult64 = bench(circuit(RUN, folder, "mult64"), s);
+    beyond(run_mult64, mult64);
+    struct line run_adder64 = bench(circuit(RUN, folder, "adder64"), s);
+    beyond(run_adder64, adder64);
+    struct line run_ladder = bench(masked(RUN, circuit(MASK, folder, "and_ladder_2048")), s);
+    beyond(run_ladder, ladder);
+    struct line run_sbox = bench(circuit(RUN, folder, "aes_sbox"), s);
+
+    title("Sixty-four runs in one pass");
+    pass(bench(circuit(RUN64, folder, "mult64"), s), run_mult64);
+    pass(bench(circuit(RUN64, folder, "adder64"), s), run_adder64);
+    pass(bench(masked(RUN64, circuit(MASK, folder, "and_ladder_2048")), s), run_ladder);
+    pass(bench(circuit(RUN64, folder, "aes_sbox"), s), run_sbox);
 
     title("Checking");
     bench(masked(CHECK, circuit(MASK, folder, "present_sbox")), s);

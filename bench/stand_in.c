@@ -26,6 +26,19 @@ int64_t fidrovelj_run(const uint8_t *text, size_t text_len,
                         given, given_len, words, words_len, sizes);
 }
 
+int64_t fidrovelj_run64(const uint8_t *text, size_t text_len,
+                        const uint64_t *list, size_t list_len,
+                        uint64_t *out, size_t out_len,
+                        uint64_t *operands, size_t operands_len,
+                        uint64_t *results, size_t results_len,
+                        uint8_t *given, size_t given_len,
+                        uint64_t *words, size_t words_len,
+                        uint8_t sizes)
+{
+    return baseline_run64(text, text_len, list, list_len, out, out_len, operands, operands_len, results, results_len,
+                          given, given_len, words, words_len, sizes);
+}
+
 int64_t fidrovelj_mask(const uint8_t *text, size_t text_len,
                        const uint8_t *codes, size_t codes_len,
                        const uint8_t *wanted, size_t wanted_len,

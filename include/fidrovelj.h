@@ -1,6 +1,6 @@
 /* Fidrovelj: masked netlists under two mask bits.
  *
- * A netlist is a text in Bristol Fashion, whose lines end in LF or CR LF. Four services work on such
+ * A netlist is a text in Bristol Fashion, whose lines end in LF or CR LF. The services work on such
  * texts; each puts a list of questions in order, and the first that is answered no refuses the call.
  *
  * What holds of every function
@@ -37,7 +37,7 @@
  *  9  Is each result a wire that is no input and is not yet given?
  * 10  Check: are there two or more input values, the last of width 2?
  * 11  Has the input list one entry for each input bit (Check: without the mask pair), each 0 to 3
- *     (Run: 0 or 1)?
+ *     (Run: 0 or 1; Run64: any word)?
  * 12  Check: are there at most 12 input bits besides the mask pair?
  * 13  Mask: has the wanted list one entry for each output bit, each 0 to 3?
  * 14  Can each result buffer hold its whole result?
@@ -56,13 +56,13 @@ extern "C" {
 #define FIDROVELJ_OLD 0
 #define FIDROVELJ_WHOLE 1
 
-/* The least entries of a working table of Rewrite, Run and Check, and of Mask: the most wires. */
+/* The least entries of a working table of Rewrite, Run, Run64 and Check, and of Mask: the most wires. */
 #define FIDROVELJ_LARGE_TABLE 18431
 #define FIDROVELJ_SMALL_TABLE 2048
 #define FIDROVELJ_WHOLE_LARGE_TABLE 899999
 #define FIDROVELJ_WHOLE_SMALL_TABLE 100000
 
-/* The most bytes of a text that Rewrite, Run and Check take, and Mask. */
+/* The most bytes of a text that Rewrite, Run, Run64 and Check take, and Mask. */
 #define FIDROVELJ_LARGE_TEXT 500000
 #define FIDROVELJ_SMALL_TEXT 60000
 #define FIDROVELJ_WHOLE_LARGE_TEXT 27000000
@@ -88,6 +88,18 @@ int64_t fidrovelj_run(const uint8_t *text, size_t text_len,
                       uint8_t *given, size_t given_len,
                       uint64_t *words, size_t words_len,
                       uint8_t sizes);
+
+/* Run64: evaluates the netlist on sixty-four settings at once. list has a word for each input bit, and
+ * out gets a word for each output bit; bit j of each word, bit 0 the lowest, belongs to setting j. Bit j
+ * of the output words is what Run gives on bit j of the input words. Returns how many words. */
+int64_t fidrovelj_run64(const uint8_t *text, size_t text_len,
+                        const uint64_t *list, size_t list_len,
+                        uint64_t *out, size_t out_len,
+                        uint64_t *operands, size_t operands_len,
+                        uint64_t *results, size_t results_len,
+                        uint8_t *given, size_t given_len,
+                        uint64_t *words, size_t words_len,
+                        uint8_t sizes);
 
 /* Mask: writes the text of the masked netlist to out and the mask code of each output bit, 1 to 3,
  * to out_codes. Returns the text's length in bytes; there are as many codes as output bits.

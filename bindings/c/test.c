@@ -11,7 +11,7 @@
 #define ROOM 500002
 #define PATTERN 0xA5
 
-static uint64_t operands[LARGE], results[LARGE], words[LARGE], base[LARGE], leak[4];
+static uint64_t operands[LARGE], results[LARGE], words[LARGE], base[LARGE], words_out[LARGE], leak[4];
 static uint32_t wires[LARGE];
 static uint8_t given[LARGE], out[ROOM], list_out[LARGE], lent_list[LARGE];
 
@@ -38,6 +38,7 @@ static void fill(void)
     memset(given, PATTERN, sizeof given);
     memset(out, PATTERN, sizeof out);
     memset(list_out, PATTERN, sizeof list_out);
+    memset(words_out, PATTERN, sizeof words_out);
     memset(leak, PATTERN, sizeof leak);
 }
 
@@ -86,6 +87,19 @@ static int64_t run(const char *text, const char *list, size_t room)
                && all(words, sizeof words, 0),
            "Run's tables are zero");
     expect_untouched(0, answer > 0 ? (size_t)answer : 0, "Run touches its result alone");
+    return answer;
+}
+
+static int64_t run64(const char *text, const uint64_t *list, size_t length, size_t room)
+{
+    fill();
+    int64_t answer = fidrovelj_run64((const uint8_t *)text, strlen(text), list, length, words_out, room, operands,
+                                     LARGE, results, LARGE, given, LARGE, words, LARGE, FIDROVELJ_OLD);
+    expect(all(operands, sizeof operands, 0) && all(results, sizeof results, 0) && all(given, sizeof given, 0)
+               && all(words, sizeof words, 0),
+           "Run64's tables are zero");
+    size_t count = answer > 0 ? (size_t)answer : 0;
+    expect(all(words_out + count, (LARGE - count) * sizeof *words_out, PATTERN), "Run64 touches its result alone");
     return answer;
 }
 
@@ -285,6 +299,39 @@ static void public_bits(void)
            "Check, a public bit mixed with a secret");
 }
 
+/* ---- sixty-four runs */
+
+/* One gate of each form on two bits, all wires put out. */
+static const char each_gate[] =
+    "6 8\n1 2\n1 8\n2 1 0 1 2 XOR\n2 1 0 1 3 AND\n1 1 0 4 INV\n1 1 1 5 EQW\n1 1 0 6 EQ\n1 1 1 7 EQ\n";
+
+static void sixty_four(void)
+{
+    const uint64_t list[3] = {0x9e3779b97f4a7c15, 0xc2b2ae3d27d4eb4f, 1}, a = list[0], b = list[1];
+    const uint64_t expected[8] = {a, b, a ^ b, a & b, ~a, b, 0, UINT64_MAX};
+    uint64_t lanes[8];
+    expect(run64(each_gate, list, 2, 8) == 8, "Run64, an exact fit");
+    memcpy(lanes, words_out, sizeof lanes);
+    expect(memcmp(lanes, expected, sizeof lanes) == 0, "Run64, each gate");
+    for (unsigned j = 0; j < 64; j++) {
+        bool same = true;
+        char bits[3] = {(char)('0' + (a >> j & 1)), (char)('0' + (b >> j & 1)), '\0'};
+        expect(run(each_gate, bits, 8) == 8, "a setting run alone");
+        for (int i = 0; i < 8; i++)
+            same = same && (lanes[i] >> j & 1) == list_out[i];
+        expect(same, "bit j is what Run gives on setting j");
+    }
+    expect(run64(each_gate, list, 1, 8) == -11, "Run64, a word too few");
+    expect(run64(each_gate, list, 3, 8) == -11, "Run64, a word too many");
+    expect(run64(each_gate, list, 1, 7) == -11, "Run64, question 11 comes before 14");
+    expect(run64(each_gate, list, 2, 7) == -14, "Run64, a buffer a word short");
+    expect(run64("1 3\n2 1 1\n1 1\n2 1 0 1 2 MAND\n", list, 2, 8) == -7, "Run64, question 7");
+    expect(fidrovelj_run64((const uint8_t *)each_gate, strlen(each_gate), list, 2, words_out, 8, operands, LARGE,
+                           results, LARGE, given, LARGE, words, LARGE - 1, FIDROVELJ_OLD)
+               == -1,
+           "Run64, question 1");
+}
+
 /* ---- the limits for whole ciphers */
 
 #define WHOLE FIDROVELJ_WHOLE_LARGE_TABLE
@@ -332,6 +379,7 @@ int main(void)
     line_ends();
     results_of_others();
     public_bits();
+    sixty_four();
     whole_limits();
     printf("C: %d checks, %d failed\n", checks, failures);
     return failures == 0 ? EXIT_SUCCESS : EXIT_FAILURE;

@@ -1,4 +1,4 @@
-//! The library's four calls with every working table and result buffer lent by the caller.
+//! The library's calls with every working table and result buffer lent by the caller.
 //!
 //! Each call takes the old limits or those for whole ciphers ([`Sizes`]). Question 1 asks at least
 //! [`Sizes::small`] entries of each working table of [`mask`] and [`Sizes::large`] of those of the
@@ -33,6 +33,24 @@ extern "C" {
         list: *const u8,
         list_len: usize,
         out: *mut u8,
+        out_len: usize,
+        operands: *mut u64,
+        operands_len: usize,
+        results: *mut u64,
+        results_len: usize,
+        given: *mut u8,
+        given_len: usize,
+        words: *mut u64,
+        words_len: usize,
+        sizes: u8,
+    ) -> i64;
+
+    fn fidrovelj_run64(
+        text: *const u8,
+        text_len: usize,
+        list: *const u64,
+        list_len: usize,
+        out: *mut u64,
         out_len: usize,
         operands: *mut u64,
         operands_len: usize,
@@ -137,6 +155,40 @@ pub fn run(
     // SAFETY: as in `rewrite`.
     answer(unsafe {
         fidrovelj_run(
+            text.as_ptr(),
+            text.len(),
+            list.as_ptr(),
+            list.len(),
+            out.as_mut_ptr(),
+            out.len(),
+            operands.as_mut_ptr(),
+            operands.len(),
+            results.as_mut_ptr(),
+            results.len(),
+            given.as_mut_ptr(),
+            given.len(),
+            words.as_mut_ptr(),
+            words.len(),
+            sizes as u8,
+        )
+    })
+}
+
+/// Writes the output words of a netlist on the input words `list` to `out`, one entry a bit: how many.
+/// Bit j of each word belongs to setting j.
+pub fn run64(
+    text: &[u8],
+    list: &[u64],
+    out: &mut [u64],
+    operands: &mut [u64],
+    results: &mut [u64],
+    given: &mut [u8],
+    words: &mut [u64],
+    sizes: Sizes,
+) -> Result<usize, Refused> {
+    // SAFETY: as in `rewrite`.
+    answer(unsafe {
+        fidrovelj_run64(
             text.as_ptr(),
             text.len(),
             list.as_ptr(),

@@ -1,10 +1,10 @@
 //! Masked netlists under two mask bits: safe functions over the proved static library.
 //!
-//! A netlist is a text in Bristol Fashion, whose lines end in LF or CR LF. There are four services:
+//! A netlist is a text in Bristol Fashion, whose lines end in LF or CR LF. The services are:
 //!
 //! - [`mask`] turns a source netlist into a masked one, in which every bit travels under a mask,
 //! - [`check`] says whether a netlist is clean, or names a leak on one of its wires,
-//! - [`run`] evaluates a netlist,
+//! - [`run`] evaluates a netlist, [`run64`] on sixty-four settings at once,
 //! - [`rewrite`] gives a netlist in its written form.
 //!
 //! Each call puts a list of questions in order, and the first no refuses it with that question's
@@ -35,9 +35,11 @@ use std::fmt;
 mod aiger;
 pub mod lent;
 mod tables;
+mod words;
 
 pub use aiger::{from_aiger, from_aiger_lent};
 pub use tables::{Sizes, Tables};
+pub use words::{from_words, to_words};
 
 /// The examples of README.md and docs/LIBRARY.md, as documentation tests.
 #[cfg(doctest)]
@@ -138,6 +140,30 @@ pub fn run(text: &[u8], list: &[u8], tables: &mut Tables) -> Result<Vec<u8>, Ref
         t.sizes,
     )?;
     Ok(t.bits[..length].to_vec())
+}
+
+/// The output words of a netlist, for a word for each input bit. Bit j of each word, bit 0 the lowest,
+/// belongs to setting j: bit j of the output words is what [`run`] gives on bit j of the input words.
+/// [`to_words`] and [`from_words`] turn settings into words and back.
+///
+/// ```
+/// # use fidrovelj::{run64, Refused, Tables};
+/// let tables = &mut Tables::new();
+/// let and = b"1 3\n2 1 1\n1 1\n\n2 1 0 1 2 AND\n";
+/// // The four settings of two bits in the four lowest bits of two words.
+/// assert_eq!(run64(and, &[0b1010, 0b1100], tables)?, [0b1000]);
+///
+/// // Any word will do, but there must be one for each input bit.
+/// assert_eq!(run64(and, &[u64::MAX], tables), Err(Refused(11)));
+/// # Ok::<(), Refused>(())
+/// ```
+pub fn run64(text: &[u8], list: &[u64], tables: &mut Tables) -> Result<Vec<u64>, Refused> {
+    let t = tables;
+    // A working table of Check alone is the result buffer.
+    let out = &mut t.base;
+    let length =
+        lent::run64(text, list, out, &mut t.operands, &mut t.results, &mut t.given, &mut t.words, t.sizes)?;
+    Ok(out[..length].to_vec())
 }
 
 /// The masked netlist of a source, for a mask code, 0 to 3, for each input bit and a wanted code

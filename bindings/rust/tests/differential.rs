@@ -12,7 +12,7 @@ mod reference;
 
 use calls::random::Random;
 use calls::{circuits, known, plan, sizes, slips, Call, Given, Service, Tally};
-use fidrovelj::{check, mask, rewrite, run, Refused, Tables};
+use fidrovelj::{check, from_words, mask, rewrite, run, run64, to_words, Refused, Tables};
 use library::Library;
 use reference::netlist::{read, Gate, Netlist, LARGE, SMALL};
 use std::env;
@@ -51,9 +51,15 @@ fn random_calls() {
         let expected = call.outcome();
         tally.add(call.service, &expected);
         library.assert_outcome(&format!("seed {seed}"), &call, &expected);
-        if let (Service::Mask, Ok(masked)) = (call.service, &expected) {
-            assert_masked(&call, masked, seed, tables);
-            fed += 1;
+        match (call.service, &expected) {
+            (Service::Mask, Ok(masked)) => {
+                assert_masked(&call, masked, seed, tables);
+                fed += 1;
+            }
+            (Service::Run64, Ok(given)) if seed % 16 == 0 => {
+                assert_lanes(&call.text, &call.words(), &given.words, tables);
+            }
+            _ => (),
         }
     }
     println!("{count} calls from seed {first} on, {:.1} s", start.elapsed().as_secs_f64());
@@ -88,6 +94,15 @@ fn assert_unmasks(call: &Call, masked: &Given, inputs: &[u8], outputs: &[u8], ta
         let given = run(&masked.text, &put_on, tables).expect("a masked text can be run");
         let taken_off = given.iter().zip(&masked.list).map(|(bit, &code)| bit ^ mask_of(code, masks));
         assert!(taken_off.eq(outputs.iter().copied()), "outputs under masks {masks:?}\n{call:?}");
+    }
+}
+
+/// Each of the sixty-four settings, run alone, gives its bits of the output words.
+fn assert_lanes(text: &[u8], words: &[u64], outputs: &[u64], tables: &mut Tables) {
+    let settings = from_words(words, 64).into_iter().zip(from_words(outputs, 64));
+    for (setting, (inputs, outputs)) in settings.enumerate() {
+        let alone = run(text, &inputs, tables).expect("what is run sixty-four times can be run once");
+        assert!(alone == outputs, "setting {setting} of\n{}", String::from_utf8_lossy(text));
     }
 }
 
@@ -129,6 +144,26 @@ fn public_circuits() {
     }
 }
 
+/// Each circuit in passes of sixty-four: its vectors, and random words, whose every setting is run alone as well.
+#[test]
+fn circuits_sixty_four_at_once() {
+    let mut library = Library::new();
+    let tables = &mut Tables::new();
+    for circuit in circuits::all() {
+        let (text, name) = (&circuit.text, &circuit.name);
+        for vectors in circuit.vectors.chunks(64) {
+            let (inputs, outputs): (Vec<_>, Vec<_>) = vectors.iter().cloned().unzip();
+            let given = run64(text, &to_words(&inputs), tables).expect("a circuit can be run");
+            assert!(from_words(&given, inputs.len()) == outputs, "{name}");
+        }
+        let bits = read(&LARGE, text).expect("a circuit is good").input_bits();
+        let call = Call::new(Service::Run64, text, &Random::new(1).list(bits, 0, 255), &[]);
+        let expected = call.outcome();
+        library.assert_outcome(name, &call, &expected);
+        assert_lanes(text, &call.words(), &expected.expect("a circuit can be run").words, tables);
+    }
+}
+
 /// The largest masked netlist: each service takes it.
 #[test]
 fn the_ladder() {
@@ -141,9 +176,12 @@ fn the_ladder() {
         library.assert_outcome("the ladder, masked", &masked, &expected);
         let text = expected.expect("the ladder can be masked").text;
         assert_eq!(text.len(), length);
-        for (service, list) in
-            [(Service::Rewrite, vec![]), (Service::Run, vec![1, 0, 1]), (Service::Check, vec![code])]
-        {
+        for (service, list) in [
+            (Service::Rewrite, vec![]),
+            (Service::Run, vec![1, 0, 1]),
+            (Service::Run64, vec![7, 8, 9]),
+            (Service::Check, vec![code]),
+        ] {
             let call = Call::new(service, &text, &list, &[]);
             let expected = call.outcome();
             assert!(expected.is_ok());

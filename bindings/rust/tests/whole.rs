@@ -10,7 +10,7 @@ mod reference;
 
 use calls::{Call, Given, Service};
 use ciphers::Cipher;
-use fidrovelj::{check, mask, rewrite, run, Refused, Tables};
+use fidrovelj::{check, from_words, mask, rewrite, run, run64, to_words, Refused, Tables};
 use library::Library;
 use reference::netlist::{Gate, Netlist, Sizes};
 use std::time::Instant;
@@ -59,6 +59,11 @@ fn ciphers() {
         assert!(rewrite(&text, tables).as_deref() == Ok(&text), "{name} is in the written form");
         for (inputs, outputs) in &cipher.vectors {
             assert!(run(&text, inputs, tables).as_ref() == Ok(outputs), "{name}");
+        }
+        for vectors in cipher.vectors.chunks(64) {
+            let (inputs, outputs): (Vec<_>, Vec<_>) = vectors.iter().cloned().unzip();
+            let given = run64(&text, &to_words(&inputs), tables).expect("the cipher can be run");
+            assert!(from_words(&given, inputs.len()) == outputs, "{name}, all vectors at once");
         }
         let gates = cipher.netlist.gates.len();
         if cipher.netlist.wires > 100_000 {
@@ -203,15 +208,16 @@ fn digits() {
 #[test]
 fn the_ladder() {
     let library = &mut Library::new();
-    let source =
-        Call { list: vec![0], ..fitted(Service::Mask, Sizes::Whole, &ciphers::and_ladder(100_000)) };
+    let source = Call { list: vec![0], ..fitted(Service::Mask, Sizes::Whole, &ciphers::and_ladder(100_000)) };
     let Ok(Given { text, .. }) = source.outcome() else { panic!("the ladder can be masked") };
     assert!(text.starts_with(b"899996 899999\n"));
     println!("the masked ladder: {} bytes", text.len());
     let exact = Call { text_room: text.len(), ..source.clone() };
     assert_answer(library, "an exact fit", &exact, None);
     assert_answer(library, "a byte short", &Call { text_room: text.len() - 1, ..source }, Some(14));
-    for (service, list) in [(Service::Rewrite, vec![]), (Service::Run, vec![1, 0, 1])] {
+    for (service, list) in
+        [(Service::Rewrite, vec![]), (Service::Run, vec![1, 0, 1]), (Service::Run64, vec![7, 8, 9])]
+    {
         assert_answer(
             library,
             "the masked ladder",

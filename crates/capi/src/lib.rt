@@ -1,4 +1,4 @@
-// The four services for programs in C and Rust: a slice comes as a pointer and a length, and the answer is one number, at
+// The services for programs in C and Rust: a slice comes as a pointer and a length, and the answer is one number, at
 // least 0 for a result and minus the number of the refusing question otherwise. include/fidrovelj.h declares them.
 use judge::Checked;
 use netlist::Answer;
@@ -10,6 +10,7 @@ ghost use lib.ListN.{set};
 ghost use lib.Seq.{sets};
 ghost use Rattle.rewrite.specs.Promise.{Promise as RewritePromise};
 ghost use Rattle.run.specs.Promise.{Promise as RunPromise};
+ghost use Rattle.run64.specs.Promise.{Promise as Run64Promise};
 ghost use Rattle.mask.specs.Promise.{Promise as MaskPromise};
 ghost use Rattle.checker.specs.Promise.{Promise as CheckPromise};
 ghost use Rattle.from_aiger.specs.Promise.{Promise as AigerPromise};
@@ -106,6 +107,32 @@ pub extern "C" fn fidrovelj_run(
     ensures { λ r. ⌜ Told (RunPromise (sizesOf whole) (now (text .entry)) (now (list .entry)) (now (out .entry)) (now (out .exit)) (now (operands .entry)) (now (operands .exit)) (now (results .entry)) (now (results .exit)) (now (given .entry)) (now (given .exit)) (now (words .entry)) (now (words .exit))) r ⌝ }
 {
     number(run::run(
+        text,
+        list,
+        out,
+        operands,
+        results,
+        given,
+        words,
+        sizes(whole),
+    ))
+}
+
+// Sixty-four runs: how many output words stand at the front of `out`.
+#[no_mangle]
+pub extern "C" fn fidrovelj_run64(
+    text: &[u8],
+    list: &[u64],
+    out: &mut [u64],
+    operands: &mut [u64],
+    results: &mut [u64],
+    given: &mut [u8],
+    words: &mut [u64],
+    whole: u8,
+) -> i64
+    ensures { λ r. ⌜ Told (Run64Promise (sizesOf whole) (now (text .entry)) (now (list .entry)) (now (out .entry)) (now (out .exit)) (now (operands .entry)) (now (operands .exit)) (now (results .entry)) (now (results .exit)) (now (given .entry)) (now (given .exit)) (now (words .entry)) (now (words .exit))) r ⌝ }
+{
+    number(run64::run64(
         text,
         list,
         out,

@@ -5,7 +5,7 @@ use mathlib.Core.List.{List, _++_, map}
 use Prim.Native.Nat.{ℕ, _+_, _≤_}
 use native.Mathlib.Omega.{arith}
 use lib.ListN.{length, getD, drop, length-map, List·getD-map}
-use lib.Seq.{sets, sets-eq, drop-at}
+use lib.Seq.{sets, sets-eq}
 use Rattle.netlist.specs.Leak.{bit}
 use Rattle.clear.proofs.Laid.{Laid, laid-all}
 
@@ -17,9 +17,6 @@ front-eq s d h =
 -- what a loop has laid when it ends
 pub laid-front : {s d₀ d : List ℕ} {i : ℕ} → Laid 0 s d₀ d i → length s ≤ i → length s ≤ length d₀ → d ≡ sets d₀ 0 s
 laid-front {s} {d₀} f l h = laid-all f l ∙ sym (front-eq s d₀ h)
-
-pub drop-front : (s d : List ℕ) → length s ≤ length d → drop (length s) (sets d 0 s) ≡ drop (length s) d
-drop-front s d h = ap (drop (length s)) (front-eq s d h) ∙ drop-at s (drop (length s) d) (length s) (omega arith)
 
 -- a list's bits, as a test has them
 module _ (test : ℕ → Bool) (s : List ℕ) where

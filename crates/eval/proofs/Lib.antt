@@ -2,5 +2,6 @@
 pub mod Lanes
 pub mod Made
 pub mod Steps
+pub mod Words
 pub mod Fronts
 pub mod Runs

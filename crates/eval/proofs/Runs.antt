@@ -2,10 +2,10 @@
 use mathlib.Core.Path.{_≡_, refl, sym, ap, ap₂, _∙_}
 use mathlib.Core.Bool.{Bool, false}
 use mathlib.Core.List.{List, [], _∷_, _++_, append-nil, map}
-use Prim.Native.Nat.{ℕ, zero, suc, _-_, _≤_, _<_}
+use Prim.Native.Nat.{ℕ, zero, suc, _+_, _-_, _^_, _≤_, _<_}
 use native.Mathlib.Omega.{arith}
-use lib.ListN.{length, take, drop, replicate, length-map, length-drop, drop-of-length-le}
-use lib.Seq.{sets, length-sets, length-take-le, take-all}
+use lib.ListN.{length, getD, take, drop, replicate, length-map, length-drop, drop-of-length-le}
+use lib.Seq.{sets, length-sets, length-take-le, take-all, getD-drop}
 use borrow.Rule.Slice.PartMut.{putMid, midOf, mid-len, post-is}
 use Rattle.netlist.specs.Netlist.{Netlist, outputBits}
 use Rattle.netlist.specs.Eval.{runGates, wireBits, outputsOf}
@@ -13,10 +13,11 @@ use Rattle.netlist.specs.Leak.{bit}
 use Rattle.netlist.specs.Services.{isOne, bools, outputList}
 use Rattle.netlist.specs.Table.{Tables, gatesOf, Holds}
 use Rattle.netlist.proofs.Answering.{take-sets}
-use Rattle.eval.specs.Lane.{lane, lanes, Runs}
+use Rattle.eval.specs.Lane.{lane, lanes, outputWords}
 use Rattle.eval.specs.Bare.{bare}
 use Rattle.eval.proofs.Lanes.{lane-zero, lane-bit}
-use Rattle.eval.proofs.Fronts.{drop-front, bits-long}
+use Rattle.eval.proofs.Fronts.{bits-long}
+use Rattle.eval.proofs.Words.{words-known}
 
 lanes-zeros : (j : ℕ) (ws : List ℕ) (k : ℕ) → lanes j (ws ++ replicate k 0) ≡ lanes j ws ++ replicate k false
 lanes-zeros j [] zero = refl
@@ -64,30 +65,29 @@ module _ (ws list laid us : List ℕ) {t : Tables} {n m o : ℕ} {N : Netlist} (
   last-long : length (last o us) ≡ o
   last-long = mid-len (length us - o) (length us) us (omega arith) ∙ omega arith
 
+  last-drop : last o us ≡ drop (length us - o) us
+  last-drop =
+      let l = length-drop (length us - o) us in
+      take-all (length us - (length us - o)) (drop (length us - o) us) (omega arith)
+
   outputs-law : (j : ℕ) → lanes j us ≡ wireBits (bare t n (length laid)) (lanes j (take (length list) laid))
       → lanes j (last o us) ≡ outputsOf N (lanes j list)
   unfolding outputsOf
   outputs-law j ran =
-      let l = length-drop (length us - o) us in
-      let whole : last o us ≡ drop (length us - o) us = take-all (length us - (length us - o)) (drop (length us - o) us) (omega arith) in
       let in-all : wireBits (bare t n (length laid)) (lanes j (take (length list) laid)) ≡ wireBits (bare t n (length ws)) (lanes j list) =
       ap₂ (λ (k : ℕ) (x : List ℕ). wireBits (bare t n k) (lanes j x)) (ap length front ∙ length-sets ws 0 list)
       (ap (take (length list)) front ∙ take-sets list ws fits) in
       let out : drop (length ws - o) (wireBits N (lanes j list)) ≡ outputsOf N (lanes j list) = rw (h .wires, h .outs) in
-      ap (lanes j) whole ∙ lanes-drop j (length us - o) us
+      ap (lanes j) last-drop ∙ lanes-drop j (length us - o) us
       ∙ ap₂ (λ (k : ℕ) (v : List Bool). drop (k - o) v) long (ran ∙ in-all ∙ bare-wires h (lanes j list)) ∙ out
 
   -- sixty-four runs
-  pub wide-law : (out₀ out : List ℕ) → o ≤ length out₀
+  pub wide-law : (out₀ out : List ℕ) → ((i : ℕ) → getD us i 0 < 2 ^ 64)
       → ((j : ℕ) → j < 64 → lanes j us ≡ wireBits (bare t n (length laid)) (lanes j (take (length list) laid)))
-      → out ≡ sets out₀ 0 (last o us) → Runs N list out₀ out
-  wide-law out₀ out space ran e =
-      let k : outputBits N ≡ length (last o us) = h .outs ∙ sym last-long in
-      let le : length (last o us) ≤ length out₀ = omega (arith, last-long) in
-      record {
-        each = λ j l. ap (lanes j) (ap₂ take k e ∙ take-sets (last o us) out₀ le) ∙ outputs-law j (ran j l);
-        rest = ap₂ drop k e ∙ drop-front (last o us) out₀ le ∙ ap (λ (i : ℕ). drop i out₀) (sym k);
-      }
+      → out ≡ sets out₀ 0 (last o us) → out ≡ sets out₀ 0 (outputWords N list)
+  wide-law out₀ out fits ran e =
+      e ∙ ap (sets out₀ 0) (words-known N list (last o us) (last-long ∙ sym (h .outs))
+      (λ i l. rw (last-drop, getD-drop (length us - o) us i 0) (fits (length us - o + i))) (λ j l. outputs-law j (ran j l)))
 
 -- one run, on the bits of a list, in lane 0
 pub single-law : (ws bits laid us out₀ out : List ℕ) {t : Tables} {n m o : ℕ} {N : Netlist} → Holds t n (length ws) m o N

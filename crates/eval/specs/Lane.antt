@@ -1,12 +1,12 @@
 -- Sixty-four settings in one word: bit j of each word, its lane j, belongs to setting j.
-use Prim.Native.Nat.{ℕ, zero, suc, _/_, _%_, _<_}
-use mathlib.Core.Bool.{Bool}
-use mathlib.Core.List.{List, map}
-use mathlib.Core.Path.{_≡_}
+use Prim.Native.Nat.{ℕ, zero, suc, _+_, _*_, _/_, _%_}
+use mathlib.Core.Bool.{Bool, false}
+use mathlib.Core.List.{List, [], _∷_, map}
 use lib.Dec.{eqb}
-use lib.ListN.{take, drop}
+use lib.ListN.{getD}
 use Rattle.netlist.specs.Netlist.{Netlist, outputBits}
 use Rattle.netlist.specs.Eval.{outputsOf}
+use Rattle.netlist.specs.Leak.{bit}
 
 -- bit j of a number
 abbrev pub lane : ℕ → ℕ → Bool
@@ -17,8 +17,16 @@ lane (suc j) w = lane j (w / 2)
 abbrev pub lanes : ℕ → List ℕ → List Bool
 lanes j ws = map (lane j) ws
 
--- sixty-four runs: lane j of the output words is what a run on lane j of the input words gives; they stand in front of a
--- table whose other entries are kept
-pub record Runs (N : Netlist) (list table₀ table : List ℕ) : Type 0 where
-  pub each : (j : ℕ) → j < 64 → lanes j (take (outputBits N) table) ≡ outputsOf N (lanes j list)
-  pub rest : drop (outputBits N) table ≡ drop (outputBits N) table₀
+-- the word whose lane j is f j, for each j below k
+abbrev pub word : ℕ → (ℕ → Bool) → ℕ
+word zero f = 0
+word (suc k) f = bit (f 0) + 2 * word k (λ j. f (suc j))
+
+-- the values of f below n
+abbrev pub upTo : ℕ → (ℕ → ℕ) → List ℕ
+upTo zero f = []
+upTo (suc n) f = f 0 ∷ upTo n (λ i. f (suc i))
+
+-- sixty-four runs: lane j of the output words is what a run on lane j of the input words gives
+unfoldable pub outputWords : Netlist → List ℕ → List ℕ
+outputWords N list = upTo (outputBits N) λ i. word 64 λ j. getD (outputsOf N (lanes j list)) i false

@@ -56,7 +56,7 @@ const MASKED_WIRE: &str = "4 7
 ";
 
 pub fn masked(text: &str, codes: &[u8]) -> Result<Given, u8> {
-    Ok(Given { text: text.into(), list: codes.to_vec(), leak: None })
+    Ok(Given { text: text.into(), list: codes.to_vec(), ..Given::default() })
 }
 
 pub fn leak(leak: [u64; 4]) -> Result<Given, u8> {

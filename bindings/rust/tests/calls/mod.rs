@@ -1,4 +1,4 @@
-//! Calls of the four services, and their outcomes by the reference.
+//! Calls of the services, and their outcomes by the reference.
 
 pub mod circuits;
 pub mod damage;
@@ -11,26 +11,28 @@ pub mod slips;
 
 use crate::reference;
 use crate::reference::netlist::{Limits, Sizes};
+use random::Random;
 use std::fmt;
 
 #[derive(Clone, Copy, Debug, PartialEq, Eq)]
 pub enum Service {
     Rewrite,
     Run,
+    Run64,
     Mask,
     Check,
 }
 
-use Service::{Check, Mask, Rewrite, Run};
+use Service::{Check, Mask, Rewrite, Run, Run64};
 
 impl Service {
-    pub const ALL: [Service; 4] = [Rewrite, Run, Mask, Check];
+    pub const ALL: [Service; 5] = [Rewrite, Run, Run64, Mask, Check];
 
     /// How many working tables a call lends.
     pub fn tables(self) -> usize {
         match self {
             Rewrite => 3,
-            Run | Mask => 4,
+            Run | Run64 | Mask => 4,
             Check => 5,
         }
     }
@@ -43,7 +45,7 @@ impl Service {
     pub fn limits_of(self, sizes: Sizes) -> &'static Limits {
         match self {
             Mask => sizes.small(),
-            Rewrite | Run | Check => sizes.large(),
+            Rewrite | Run | Run64 | Check => sizes.large(),
         }
     }
 
@@ -51,7 +53,7 @@ impl Service {
     pub fn questions(self) -> &'static [u8] {
         match self {
             Rewrite => &[1, 2, 3, 4, 5, 6, 7, 8, 9, 14],
-            Run => &[1, 2, 3, 4, 5, 6, 7, 8, 9, 11, 14],
+            Run | Run64 => &[1, 2, 3, 4, 5, 6, 7, 8, 9, 11, 14],
             Mask => &[1, 2, 3, 4, 5, 6, 7, 8, 9, 11, 13, 14],
             Check => &[1, 2, 3, 4, 5, 6, 7, 8, 9, 10, 11, 12],
         }
@@ -63,13 +65,13 @@ impl Service {
 pub struct Call {
     pub service: Service,
     pub text: Vec<u8>,
-    /// Run's input bits, or the codes of Mask and Check.
+    /// Run's input bits, or the codes of Mask and Check. For Run64 an entry stands for a word (`words`).
     pub list: Vec<u8>,
     /// Mask's wanted codes.
     pub wanted: Vec<u8>,
     /// The length of the text buffer of Rewrite and Mask.
     pub text_room: usize,
-    /// The length of Run's buffer of bits or Mask's of codes.
+    /// The length of Run's buffer of bits, Run64's of words or Mask's of codes.
     pub list_room: usize,
     /// The length of each working table.
     pub tables: Vec<usize>,
@@ -92,17 +94,31 @@ impl Call {
     /// The same under these limits.
     pub fn of(sizes: Sizes, service: Service, text: &[u8], list: &[u8], wanted: &[u8]) -> Call {
         let ample = if sizes == Sizes::Old { ROOM } else { WHOLE_ROOM };
-        let room = |services: [Service; 2]| if services.contains(&service) { ample } else { 0 };
+        let limits = service.limits_of(sizes);
         Call {
             service,
             text: text.to_vec(),
             list: list.to_vec(),
             wanted: wanted.to_vec(),
-            text_room: room([Rewrite, Mask]),
-            list_room: room([Run, Mask]),
-            tables: vec![service.limits_of(sizes).table; service.tables()],
+            text_room: if matches!(service, Rewrite | Mask) { ample } else { 0 },
+            list_room: match service {
+                Run | Mask => ample,
+                Run64 => limits.wires,
+                Rewrite | Check => 0,
+            },
+            tables: vec![limits.table; service.tables()],
             sizes,
         }
+    }
+
+    /// Run64's words: an entry 0 stands for zeros, 1 for ones, any other with its place for a random word.
+    pub fn words(&self) -> Vec<u64> {
+        let word = |(place, &entry): (usize, &u8)| match entry {
+            0 => 0,
+            1 => u64::MAX,
+            _ => Random::new((place as u64) << 8 | u64::from(entry)).next(),
+        };
+        self.list.iter().enumerate().map(word).collect()
     }
 
     /// The outcome by the reference.
@@ -117,6 +133,10 @@ impl Call {
             Run => {
                 let list = reference::run(tables, text, list, self.list_room, sizes)?;
                 Ok(Given { list, ..Given::default() })
+            }
+            Run64 => {
+                let words = reference::run64(tables, text, &self.words(), self.list_room, sizes)?;
+                Ok(Given { words, ..Given::default() })
             }
             Mask => {
                 let masked =
@@ -146,15 +166,16 @@ impl fmt::Debug for Call {
 pub struct Given {
     pub text: Vec<u8>,
     pub list: Vec<u8>,
+    pub words: Vec<u64>,
     pub leak: Option<[u64; 4]>,
 }
 
 /// How many calls ended how: for each service the accepted ones, then the refused ones by number.
-pub struct Tally([[u64; 15]; 4]);
+pub struct Tally([[u64; 15]; 5]);
 
 impl Tally {
     pub fn new() -> Tally {
-        Tally([[0; 15]; 4])
+        Tally([[0; 15]; 5])
     }
 
     pub fn add(&mut self, service: Service, outcome: &Result<Given, u8>) {

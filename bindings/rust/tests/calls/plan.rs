@@ -79,7 +79,8 @@ fn choose_rooms(random: &mut Random, call: &mut Call) {
     if call.service == Service::Check {
         return;
     }
-    let (text, list) = call.outcome().map_or((200, 20), |given| (given.text.len(), given.list.len()));
+    let (text, list) =
+        call.outcome().map_or((200, 20), |given| (given.text.len(), given.list.len() + given.words.len()));
     call.text_room = room(random, text);
     call.list_room = room(random, list);
 }

@@ -24,6 +24,7 @@ pub fn fitted(random: &mut Random, service: Service, netlist: &Netlist) -> Call 
     let list = match service {
         Service::Rewrite => Vec::new(),
         Service::Run => random.list(bits, 0, 1),
+        Service::Run64 => random.list(bits, 0, 255),
         Service::Mask => netlists::codes(random, bits),
         Service::Check => netlists::codes(random, bits.saturating_sub(2)),
     };

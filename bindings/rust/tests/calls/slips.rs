@@ -2,7 +2,7 @@
 //! the outcomes worked out by hand.
 
 use super::known::{clean, leak, masked, row, Row, AND};
-use super::Service::{Check, Mask, Rewrite, Run};
+use super::Service::{Check, Mask, Rewrite, Run, Run64};
 use super::{Call, Given, Service};
 
 /// Refusals of every service alike: what is read, and the question's number.
@@ -237,17 +237,19 @@ fn checking() -> Vec<Row> {
     ]
 }
 
+/// One gate of each form on two bits, all wires put out.
+const EACH_GATE: &str =
+    "6 8\n1 2\n1 8\n2 1 0 1 2 XOR\n2 1 0 1 3 AND\n1 1 0 4 INV\n1 1 1 5 EQW\n1 1 0 6 EQ\n1 1 1 7 EQ\n";
+
 /// Calls of Run and their results.
 fn running() -> Vec<Row> {
     let run = |text: &str, list: &[u8]| Call::new(Run, text.as_bytes(), list, &[]);
     let bits = |list: &[u8]| Ok(Given { list: list.to_vec(), ..Given::default() });
-    let all =
-        "6 8\n1 2\n1 8\n2 1 0 1 2 XOR\n2 1 0 1 3 AND\n1 1 0 4 INV\n1 1 1 5 EQW\n1 1 0 6 EQ\n1 1 1 7 EQ\n";
     vec![
-        row("each gate on 0 and 0", run(all, &[0, 0]), bits(&[0, 0, 0, 0, 1, 0, 0, 1])),
-        row("each gate on 1 and 0", run(all, &[1, 0]), bits(&[1, 0, 1, 0, 0, 0, 0, 1])),
-        row("each gate on 0 and 1", run(all, &[0, 1]), bits(&[0, 1, 1, 0, 1, 1, 0, 1])),
-        row("each gate on 1 and 1", run(all, &[1, 1]), bits(&[1, 1, 0, 1, 0, 1, 0, 1])),
+        row("each gate on 0 and 0", run(EACH_GATE, &[0, 0]), bits(&[0, 0, 0, 0, 1, 0, 0, 1])),
+        row("each gate on 1 and 0", run(EACH_GATE, &[1, 0]), bits(&[1, 0, 1, 0, 0, 0, 0, 1])),
+        row("each gate on 0 and 1", run(EACH_GATE, &[0, 1]), bits(&[0, 1, 1, 0, 1, 1, 0, 1])),
+        row("each gate on 1 and 1", run(EACH_GATE, &[1, 1]), bits(&[1, 1, 0, 1, 0, 1, 0, 1])),
         row("results that do not rise", run(FALLING, &[0, 1]), bits(&[1])),
         row("a bit of 2", run(AND, &[0, 2]), Err(11)),
         row("a bit of 255", run(AND, &[255, 1]), Err(11)),
@@ -255,8 +257,41 @@ fn running() -> Vec<Row> {
         row("no bit", run(AND, &[]), Err(11)),
         row("a wrong list comes before a short buffer", Call { list_room: 0, ..run(AND, &[2, 2]) }, Err(11)),
         row("no room", Call { list_room: 0, ..run(AND, &[1, 1]) }, Err(14)),
-        row("room for all bits but one", Call { list_room: 7, ..run(all, &[1, 1]) }, Err(14)),
-        row("an exact fit", Call { list_room: 8, ..run(all, &[1, 1]) }, bits(&[1, 1, 0, 1, 0, 1, 0, 1])),
+        row("room for all bits but one", Call { list_room: 7, ..run(EACH_GATE, &[1, 1]) }, Err(14)),
+        row(
+            "an exact fit",
+            Call { list_room: 8, ..run(EACH_GATE, &[1, 1]) },
+            bits(&[1, 1, 0, 1, 0, 1, 0, 1]),
+        ),
+    ]
+}
+
+/// Calls of Run64 and their results; entries 0 and 1 stand for words of zeros and of ones.
+fn running_sixty_four() -> Vec<Row> {
+    let run64 = |text: &str, list: &[u8]| Call::new(Run64, text.as_bytes(), list, &[]);
+    let words = |words: &[u64]| Ok(Given { words: words.to_vec(), ..Given::default() });
+    let any = run64(AND, &[7, 9]);
+    let both = any.words()[0] & any.words()[1];
+    let (none, ones) = (0, u64::MAX);
+    vec![
+        row("each gate", run64(EACH_GATE, &[1, 1]), words(&[ones, ones, none, ones, none, ones, none, ones])),
+        row(
+            "each gate, zeros",
+            run64(EACH_GATE, &[0, 0]),
+            words(&[none, none, none, none, ones, none, none, ones]),
+        ),
+        row("any words", any, words(&[both])),
+        row("a word too few", run64(AND, &[1]), Err(11)),
+        row("a word too many", run64(AND, &[1, 1, 1]), Err(11)),
+        row("no word", run64(AND, &[]), Err(11)),
+        row("a wrong list comes before a short buffer", Call { list_room: 0, ..run64(AND, &[1]) }, Err(11)),
+        row("no room", Call { list_room: 0, ..run64(AND, &[1, 1]) }, Err(14)),
+        row("room for all words but one", Call { list_room: 7, ..run64(EACH_GATE, &[1, 1]) }, Err(14)),
+        row(
+            "an exact fit",
+            Call { list_room: 8, ..run64(EACH_GATE, &[1, 0]) },
+            words(&[ones, none, ones, none, none, none, none, ones]),
+        ),
     ]
 }
 
@@ -294,5 +329,6 @@ pub fn rows() -> Vec<Row> {
     rows.extend(masking());
     rows.extend(checking());
     rows.extend(running());
+    rows.extend(running_sixty_four());
     rows
 }

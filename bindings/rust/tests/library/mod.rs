@@ -88,6 +88,7 @@ pub struct Library {
     wires: Lent<u32>,
     text: Lent<u8>,
     list: Lent<u8>,
+    out_words: Lent<u64>,
     leak: Lent<u64>,
 }
 
@@ -102,6 +103,7 @@ impl Library {
             wires: Lent::new(),
             text: Lent::new(),
             list: Lent::new(),
+            out_words: Lent::new(),
             leak: Lent::new(),
         }
     }
@@ -127,6 +129,12 @@ impl Library {
                 let words = self.words.fill(random.next(), call.tables[3]);
                 lent::run(&call.text, &call.list, list, operands, results, given, words, sizes)
             }
+            Service::Run64 => {
+                let out = self.out_words.fill(random.next(), call.list_room);
+                let given = self.given.fill(random.next(), call.tables[2]);
+                let words = self.words.fill(random.next(), call.tables[3]);
+                lent::run64(&call.text, &call.words(), out, operands, results, given, words, sizes)
+            }
             Service::Mask => {
                 let wires = self.wires.fill(random.next(), call.tables[2]);
                 let marks = self.given.fill(random.next(), call.tables[3]);
@@ -151,7 +159,7 @@ impl Library {
         assert!(self.given.is_zero(), "{name}: given, or marks");
         match service {
             Service::Rewrite => (),
-            Service::Run => assert!(self.words.is_zero(), "{name}: words"),
+            Service::Run | Service::Run64 => assert!(self.words.is_zero(), "{name}: words"),
             Service::Mask => assert!(self.wires.is_zero(), "{name}: wires"),
             Service::Check => {
                 assert!(self.words.is_zero(), "{name}: words");
@@ -168,6 +176,7 @@ impl Library {
             expected.as_ref().map_err(|&question| Refused(question)).map(|given| match call.service {
                 Service::Rewrite | Service::Mask => given.text.len(),
                 Service::Run => given.list.len(),
+                Service::Run64 => given.words.len(),
                 Service::Check => usize::from(given.leak.is_some()),
             });
         assert_eq!(answer, wanted, "{name}\n{call:?}");
@@ -176,6 +185,9 @@ impl Library {
         let given = expected.as_ref().unwrap_or(&nothing);
         assert!(self.text.holds(&given.text), "{name}: the text buffer\n{call:?}");
         assert!(self.list.holds(&given.list), "{name}: the list buffer\n{call:?}");
+        if call.service == Service::Run64 {
+            assert!(self.out_words.holds(&given.words), "{name}: the buffer of words\n{call:?}");
+        }
         if call.service == Service::Check {
             let leak = given.leak.as_ref().map_or([].as_slice(), |leak| leak.as_slice());
             assert!(self.leak.holds(leak), "{name}: the leak's numbers\n{call:?}");

@@ -1,4 +1,4 @@
-//! The four services once more, written apart from the library and as simply as the rules are
+//! The services once more, written apart from the library and as simply as the rules are
 //! stated: its own reading of the text, a bit a wire, one setting at a time.
 //!
 //! Each function gives the whole outcome of a call, for all that the call is handed: the lengths of
@@ -29,6 +29,24 @@ pub fn run(tables: &[usize], text: &[u8], list: &[u8], room: usize, sizes: Sizes
     let wires = evaluate::wires(&netlist, &inputs);
     let outputs = &wires[netlist.wires - netlist.output_bits()..];
     Ok(outputs.iter().map(|&bit| u8::from(bit)).collect())
+}
+
+/// The outcome of sixty-four runs: for each output bit a word whose bit j is that of setting j.
+pub fn run64(tables: &[usize], text: &[u8], list: &[u64], room: usize, sizes: Sizes) -> Result<Vec<u64>, u8> {
+    let netlist = read(sizes.large(), tables, text)?;
+    ask(11, list.len() == netlist.input_bits())?;
+    ask(14, netlist.output_bits() <= room)?;
+    let mut words = vec![0; netlist.output_bits()];
+    for setting in 0..64 {
+        let inputs: Vec<bool> = list.iter().map(|word| word & 1 << setting != 0).collect();
+        let wires = evaluate::wires(&netlist, &inputs);
+        for (word, &bit) in words.iter_mut().zip(&wires[netlist.wires - netlist.output_bits()..]) {
+            if bit {
+                *word |= 1 << setting;
+            }
+        }
+    }
+    Ok(words)
 }
 
 /// What Mask gives.

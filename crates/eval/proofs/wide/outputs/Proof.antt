@@ -48,7 +48,8 @@ returns c N h =
     let wires = c .before .before .before .before .before .before .before .before .wires in
     wide-law (s .args .words .now) (s .args .list .now) (laid .last .1 .0) (wires .last .1 .1 .1 .1 .0)
     h (laid .ensures) (s .pre .1 .0) (wires .kept .1 .1 .1 .1 .0 ∙ laid .kept .1 .0) (s .pre .1 .1) (s .args .out .now)
-    (c .before .before .words5 .last .1 .0) (s .pre .1 .2) (wires .ensures) (c .before .before .words5 .ensures)
+    (c .before .before .words5 .last .1 .0) (λ i. c .before .before .before .before .before .before .slice-known4 .given i .fits) (wires .ensures)
+    (c .before .before .words5 .ensures)
 
 pub outputs-spec : {M : Type 1} → statement M
 outputs-spec =
