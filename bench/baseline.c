@@ -897,3 +897,161 @@ int64_t baseline_check(const uint8_t *text, size_t text_len,
     memset(base, 0, base_len * sizeof *base);
     return answer;
 }
+
+/* ---- AIGER */
+
+/* A file, the place of its next byte, and the netlist so far: its table of variables (one more than the wire
+ * of each that is given), its next wire and its gates, of which `room` are kept. */
+struct aiger {
+    const uint8_t *text;
+    size_t length, at;
+    uint64_t *operands, *results;
+    uint32_t *variables, next, most;
+    size_t gates, room;
+};
+
+static inline bool aiger_at_end(const struct aiger *f, size_t i)
+{
+    return f->text[i] == '\n' || (f->text[i] == '\r' && i + 1 < f->length && f->text[i + 1] == '\n');
+}
+
+static bool aiger_number(struct aiger *f, uint32_t *value)
+{
+    size_t i = f->at;
+    while (i < f->length && f->text[i] == ' ')
+        i++;
+    size_t from = i;
+    uint32_t v = 0;
+    while (i < f->length && f->text[i] >= '0' && f->text[i] <= '9' && i - from < 7)
+        v = v * 10 + (f->text[i++] - '0');
+    if (i == from || i - from > 6 || (f->text[from] == '0' && i - from > 1))
+        return false;
+    if (i < f->length && f->text[i] != ' ' && !aiger_at_end(f, i))
+        return false;
+    f->at = i;
+    *value = v;
+    return true;
+}
+
+static bool aiger_line_end(struct aiger *f)
+{
+    size_t i = f->at;
+    while (i < f->length && f->text[i] == ' ')
+        i++;
+    if (i < f->length && !aiger_at_end(f, i))
+        return false;
+    f->at = i < f->length ? i + 1 + (f->text[i] == '\r') : i;
+    return true;
+}
+
+/* The next line that is not blank holds exactly so many numbers. */
+static bool aiger_line(struct aiger *f, uint32_t *values, int count)
+{
+    while (f->at < f->length && (f->text[f->at] == ' ' || aiger_at_end(f, f->at)))
+        f->at++;
+    for (int i = 0; i < count; i++) {
+        if (!aiger_number(f, values + i))
+            return false;
+    }
+    return aiger_line_end(f);
+}
+
+static uint32_t aiger_keep(struct aiger *f, uint32_t kind, uint32_t left, uint32_t right)
+{
+    if (f->gates < f->room) {
+        f->operands[f->gates] = pair(left, right);
+        f->results[f->gates] = pair(f->next, kind);
+    }
+    f->gates++;
+    return f->next++;
+}
+
+static bool aiger_can_give(const struct aiger *f, uint32_t x)
+{
+    return x > 1 && x % 2 == 0 && x / 2 <= f->most && f->variables[x / 2] == 0;
+}
+
+static bool aiger_can_read(const struct aiger *f, uint32_t x)
+{
+    return x < 2 || (x / 2 <= f->most && f->variables[x / 2] != 0);
+}
+
+/* The wire of an operand, behind an EQ or an INV where it needs one. */
+static uint32_t aiger_operand(struct aiger *f, uint32_t x)
+{
+    if (x < 2)
+        return aiger_keep(f, EQ0 + x, 0, 0);
+    uint32_t wire = f->variables[x / 2] - 1;
+    return x % 2 ? aiger_keep(f, INV, wire, wire) : wire;
+}
+
+/* Questions 2, 19, 20, 19 and 5: 0, or the number of the first with a no. */
+static int read_aiger(const struct limits *l, struct aiger *f, struct header *h)
+{
+    uint32_t head[5], x[3];
+    if (f->length > l->text)
+        return 2;
+    if (f->length < 4 || memcmp(f->text, "aag ", 4) != 0)
+        return 19;
+    f->at = 4;
+    for (int i = 0; i < 5; i++) {
+        if (!aiger_number(f, head + i))
+            return 19;
+    }
+    if (!aiger_line_end(f) || head[1] == 0 || head[3] == 0 || head[0] >= l->wires)
+        return 19;
+    if (head[2] != 0)
+        return 20;
+    f->most = head[0];
+    for (uint32_t i = 0; i < head[1]; i++) {
+        if (!aiger_line(f, x, 1) || !aiger_can_give(f, x[0]))
+            return 19;
+        f->variables[x[0] / 2] = i + 1;
+    }
+    size_t outputs = f->at;
+    for (uint32_t i = 0; i < head[3]; i++) {
+        if (!aiger_line(f, x, 1))
+            return 19;
+    }
+    f->next = head[1];
+    for (uint32_t i = 0; i < head[4]; i++) {
+        if (!aiger_line(f, x, 3) || !aiger_can_read(f, x[1]) || !aiger_can_read(f, x[2]) || !aiger_can_give(f, x[0]))
+            return 19;
+        uint32_t left = aiger_operand(f, x[1]), right = aiger_operand(f, x[2]);
+        f->variables[x[0] / 2] = aiger_keep(f, AND, left, right) + 1;
+    }
+    f->at = outputs;
+    for (uint32_t i = 0; i < head[3]; i++) {
+        if (!aiger_line(f, x, 1) || !aiger_can_read(f, x[0]))
+            return 19;
+        uint32_t wire = x[0] < 2 ? 0 : f->variables[x[0] / 2] - 1;
+        aiger_keep(f, x[0] < 2 ? EQ0 + x[0] : x[0] % 2 ? INV : EQW, wire, wire);
+    }
+    if (f->next > l->wires)
+        return 5;
+    *h = (struct header){(uint32_t)f->gates, f->next, {1, {head[1]}, head[1]}, {1, {head[3]}, head[3]}};
+    return 0;
+}
+
+int64_t baseline_from_aiger(const uint8_t *text, size_t text_len,
+                            uint8_t *out, size_t out_len,
+                            uint64_t *operands, size_t operands_len,
+                            uint64_t *results, size_t results_len,
+                            uint32_t *variables, size_t variables_len,
+                            uint8_t sizes)
+{
+    const struct limits *l = &small_limits[sizes != 0];
+    struct aiger f = {text, text_len, 0, operands, results, variables, 0, 0, 0, l->table};
+    struct header h;
+    int64_t answer = -1;
+    if (operands_len >= l->table && results_len >= l->table && variables_len >= l->table) {
+        memset(variables, 0, variables_len * sizeof *variables);
+        answer = -read_aiger(l, &f, &h);
+        if (answer == 0)
+            answer = rewrite(&h, operands, results, out, out_len);
+    }
+    memset(operands, 0, operands_len * sizeof *operands);
+    memset(results, 0, results_len * sizeof *results);
+    memset(variables, 0, variables_len * sizeof *variables);
+    return answer;
+}

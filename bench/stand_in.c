@@ -68,3 +68,14 @@ int64_t fidrovelj_check(const uint8_t *text, size_t text_len,
     return baseline_check(text, text_len, codes, codes_len, leak, leak_len, operands, operands_len, results,
                           results_len, given, given_len, words, words_len, base, base_len, sizes);
 }
+
+int64_t fidrovelj_from_aiger(const uint8_t *text, size_t text_len,
+                             uint8_t *out, size_t out_len,
+                             uint64_t *operands, size_t operands_len,
+                             uint64_t *results, size_t results_len,
+                             uint32_t *variables, size_t variables_len,
+                             uint8_t sizes)
+{
+    return baseline_from_aiger(text, text_len, out, out_len, operands, operands_len, results, results_len, variables,
+                               variables_len, sizes);
+}
