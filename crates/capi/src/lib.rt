@@ -214,14 +214,8 @@ pub extern "C" fn fidrovelj_from_aiger(
     variables: &mut [u32],
     whole: u8,
 ) -> i64
-    ensures { λ r. ⌜ Told (AigerPromise (sizesOf whole) (now (text .entry)) (now (out .entry)) (now (out .exit)) (now (operands .entry)) (now (operands .exit)) (now (results .entry)) (now (results .exit)) (now (variables .entry)) (now (variables .exit))) r ⌝ }
+    ensures { λ r. ⌜ Told (AigerPromise (sizesOf whole) (now (text .entry)) (now (out .entry)) (now (out .exit)) (now (operands .entry))
+        (now (operands .exit)) (now (results .entry)) (now (results .exit)) (now (variables .entry)) (now (variables .exit))) r ⌝ }
 {
-    number(from_aiger::from_aiger(
-        text,
-        out,
-        operands,
-        results,
-        variables,
-        sizes(whole),
-    ))
+    number(from_aiger::from_aiger(text, out, operands, results, variables, sizes(whole)))
 }
