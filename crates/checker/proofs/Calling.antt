@@ -21,11 +21,11 @@ use Rattle.netlist.specs.Table.{Tables, Holds}
 use Rattle.netlist.proofs.Answering.{call-refused, call-goes-on}
 use Rattle.netlist.proofs.Questions.{done-same, ask-done}
 use Rattle.netlist.proofs.LeakSearch.{none-clean, found-lowest}
-use Rattle.header.specs.declared.HeaderNumbers.{HeaderNumbers}
-use Rattle.tables.specs.Whole.{ReadAt}
-use Rattle.judge.specs.declared.Checked.{Checked}
-use Rattle.judge.specs.declared.Checked.the-variants.{Clean, Leak, Refused}
-use Rattle.judge.specs.Judge.{found, outcomeOf, Judged}
+use Rattle.read_header.specs.declared.HeaderNumbers.{HeaderNumbers}
+use Rattle.read_netlist.specs.Whole.{ReadAt}
+use Rattle.check_netlist.specs.declared.Checked.{Checked}
+use Rattle.check_netlist.specs.declared.Checked.the-variants.{Clean, Leak, Refused}
+use Rattle.check_netlist.specs.Judge.{found, outcomeOf, Judged}
 use Rattle.checker.specs.Promise.{call}
 
 -- the input bits are those of the widths read

@@ -10,8 +10,8 @@ use Rattle.netlist.specs.Outcome.{Outcome, done}
 use Rattle.netlist.specs.Read.{readNetlist}
 use Rattle.netlist.specs.Leak.{Found}
 use Rattle.netlist.specs.Services.{checkCall, Cleared}
-use Rattle.judge.specs.declared.Checked.{Checked}
-use Rattle.judge.specs.Judge.{outcomeOf, Judged}
+use Rattle.check_netlist.specs.declared.Checked.{Checked}
+use Rattle.check_netlist.specs.Judge.{outcomeOf, Judged}
 
 -- the outcome of a call that is handed its sizes, a text, input codes, and tables of operands, results, given wires, words and base words
 abbrev pub call : Sizes → List ℕ → List ℕ → List ℕ → List ℕ → List ℕ → List ℕ → List ℕ → Outcome (Option Found)

@@ -1,10 +1,10 @@
 // Check: whether a netlist whose last input value is the mask pair leaks on one wire. Questions 1 to 12 with the large limits.
-use judge::Checked;
+use check_netlist::Checked;
 use netlist::Sizes;
-use tables::read::Reading;
+use read_netlist::read::Reading;
 ghost use mathlib.Core.Path.{_≡_};
 ghost use Prim.Native.Nat.{min};
-ghost use Rattle.judge.specs.Judge.{outcomeOf};
+ghost use Rattle.check_netlist.specs.Judge.{outcomeOf};
 ghost use Rattle.checker.specs.Promise.{call, Promise};
 
 // The smaller of two lengths.
@@ -35,7 +35,7 @@ fn answer(
     let mut inputs = [0u32; 17];
     let mut outputs = [0u32; 16];
     let shortest = shorter(words.len(), base.len());
-    match tables::read::read(
+    match read_netlist::read::read(
         text,
         &mut inputs,
         &mut outputs,
@@ -46,7 +46,7 @@ fn answer(
         l,
     ) {
         Reading::Refused(question) => Checked::Refused(question),
-        Reading::Done(h) => judge::judge(h, inputs, codes, operands, results, words, base),
+        Reading::Done(h) => check_netlist::judge(h, inputs, codes, operands, results, words, base),
     }
 }
 

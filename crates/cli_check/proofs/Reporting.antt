@@ -17,10 +17,10 @@ use Rattle.netlist.specs.Leak.{Found}
 use Rattle.netlist.specs.Services.{tablesLong, checkOutcome, checkCall}
 use Rattle.netlist.specs.Programs.{readable, listFile, printCheck, checkProgram}
 use Rattle.netlist.proofs.Tests.{onBool}
-use Rattle.buffer.specs.Wrote.{Wrote}
-use Rattle.buffer.proofs.Wrote.{wrote-front, front-within}
-use Rattle.judge.specs.declared.Checked.{Checked}
-use Rattle.judge.specs.Judge.{outcomeOf}
+use Rattle.write_buffer.specs.Wrote.{Wrote}
+use Rattle.write_buffer.proofs.Wrote.{wrote-front, front-within}
+use Rattle.check_netlist.specs.declared.Checked.{Checked}
+use Rattle.check_netlist.specs.Judge.{outcomeOf}
 use Rattle.checker.specs.Promise.{call}
 use Rattle.cli_check.specs.Report.{Roomy}
 

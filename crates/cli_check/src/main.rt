@@ -1,6 +1,6 @@
 // *check*: reads netlist.txt and inputs.txt, and prints whether the netlist is clean under those codes, or its leak, or the question
 // that refuses it.
-use judge::Checked;
+use check_netlist::Checked;
 use libc::STDOUT_FILENO;
 use netlist::Sizes;
 ghost use mathlib.Core.Path.{_≡_};
@@ -11,8 +11,8 @@ ghost use Rattle.netlist.specs.declared.Sizes.the-variants.{Old};
 ghost use Rattle.netlist.specs.Netlist.{large as largeLimits};
 ghost use Rattle.netlist.specs.Programs.{readable, listFile, printCheck, checkProgram};
 ghost use Rattle.netlist.specs.Services.{checkCall};
-ghost use Rattle.buffer.specs.Wrote.{Wrote};
-ghost use Rattle.judge.specs.Judge.{outcomeOf};
+ghost use Rattle.write_buffer.specs.Wrote.{Wrote};
+ghost use Rattle.check_netlist.specs.Judge.{outcomeOf};
 ghost use Rattle.cli_check.specs.Report.{Roomy};
 
 // The answer, from the bytes of the two files; the list takes the place of its file's bytes.
@@ -31,7 +31,7 @@ fn answer(
     if 60000 < netlist.len() {
         return Checked::Refused(2);
     }
-    let n = console::list(inputs);
+    let n = program_text::list(inputs);
     checker::check(
         netlist,
         &inputs[..n],
@@ -49,11 +49,11 @@ fn print(out: &mut [u8], a: Checked) -> usize
     ensures { λ r. ⌜ Wrote (now (out .entry)) 0 (printCheck (outcomeOf a)) (now (out .exit)) r ⌝ }
 {
     match a {
-        Checked::Clean => console::clean(out),
+        Checked::Clean => program_text::clean(out),
         Checked::Leak(wire, setting, zero, own) => {
-            console::leak(out, wire, setting as usize, zero as usize, own as usize)
+            program_text::leak(out, wire, setting as usize, zero as usize, own as usize)
         }
-        Checked::Refused(question) => console::refused(out, question),
+        Checked::Refused(question) => program_text::refused(out, question),
     }
 }
 
@@ -85,8 +85,8 @@ fn main() {
     let mut words = [0u64; 18431];
     let mut base = [0u64; 18431];
     let mut out = [0u8; 128];
-    let bytes = files::read(b"netlist.txt", &mut netlist);
-    let entries = files::read(b"inputs.txt", &mut inputs);
+    let bytes = program_files::read(b"netlist.txt", &mut netlist);
+    let entries = program_files::read(b"inputs.txt", &mut inputs);
     let n = report(
         &mut out,
         &netlist[..bytes],

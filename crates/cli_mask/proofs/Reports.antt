@@ -19,11 +19,11 @@ use Rattle.netlist.specs.Programs.{listFile, printList, printMask, maskProgram}
 use Rattle.netlist.proofs.Answering.{take-sets}
 use Rattle.netlist.proofs.Questions.{done-same}
 use Rattle.netlist.proofs.Masking.{output-codes-length}
-use Rattle.masked.specs.Whole.{MaskAnswers}
+use Rattle.mask_text.specs.Whole.{MaskAnswers}
 use Rattle.mask.specs.Promise.{call}
 use Rattle.mask.proofs.Promised.{made}
-use Rattle.console.specs.Front.{Front}
-use Rattle.console.proofs.Reporting.{readable-long, readable-short, answered}
+use Rattle.program_text.specs.Front.{Front}
+use Rattle.program_text.proofs.Reporting.{readable-long, readable-short, answered}
 use Rattle.cli_mask.specs.declared.Printed.{Printed}
 use Rattle.cli_mask.specs.Report.{Roomy, outcome, outcomeOf, Answered, Prints}
 

@@ -55,11 +55,11 @@ fn print(line: &mut [u8], text: &[u8], ends: &[u8], codes: usize, a: Answer) -> 
 {
     match a {
         Answer::Done(n) => Printed {
-            line: console::digits(line, &ends[..codes]),
+            line: program_text::digits(line, &ends[..codes]),
             text: n,
         },
         Answer::Refused(question) => Printed {
-            line: console::refused(line, question),
+            line: program_text::refused(line, question),
             text: 0,
         },
     }
@@ -83,8 +83,8 @@ fn report(
     ensures { λ r. ⌜ Prints (now (line .exit)) (now (text .exit)) r
         (maskProgram (now (netlist .entry)) (now (inputs .entry)) (now (outputs .entry))) ⌝ }
 {
-    let n = console::list(inputs);
-    let m = console::list(outputs);
+    let n = program_text::list(inputs);
+    let m = program_text::list(outputs);
     let a = answer(
         netlist,
         &inputs[..n],
@@ -111,9 +111,9 @@ fn main() {
     let mut wires = [0u32; 2048];
     let mut marks = [0u8; 2048];
     let mut line = [0u8; 8192];
-    let bytes = files::read(b"netlist.txt", &mut netlist);
-    let codes = files::read(b"inputs.txt", &mut inputs);
-    let wanted = files::read(b"outputs.txt", &mut outputs);
+    let bytes = program_files::read(b"netlist.txt", &mut netlist);
+    let codes = program_files::read(b"inputs.txt", &mut inputs);
+    let wanted = program_files::read(b"outputs.txt", &mut outputs);
     let p = report(
         &mut line,
         &mut text,

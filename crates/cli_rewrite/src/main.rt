@@ -6,7 +6,7 @@ ghost use Prim.Native.Nat.{_≤_};
 ghost use lib.ListN.{length};
 ghost use Rattle.netlist.specs.Programs.{printRewrite, rewriteProgram};
 ghost use Rattle.netlist.specs.Services.{outcomeOf};
-ghost use Rattle.console.specs.Front.{Front, Counted, Answered};
+ghost use Rattle.program_text.specs.Front.{Front, Counted, Answered};
 ghost use Rattle.cli_rewrite.specs.Report.{Roomy, outcome};
 
 // The answer to the file's bytes.
@@ -33,7 +33,7 @@ fn print(out: &mut [u8], a: Answer) -> usize
 {
     match a {
         Answer::Done(n) => n,
-        Answer::Refused(question) => console::refused(out, question),
+        Answer::Refused(question) => program_text::refused(out, question),
     }
 }
 
@@ -59,7 +59,7 @@ fn main() {
     let mut operands = [0u64; 18431];
     let mut results = [0u64; 18431];
     let mut given = [0u8; 18431];
-    let bytes = files::read(b"netlist.txt", &mut netlist);
+    let bytes = program_files::read(b"netlist.txt", &mut netlist);
     let n = report(
         &mut out,
         &netlist[..bytes],

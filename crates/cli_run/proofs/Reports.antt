@@ -14,8 +14,8 @@ use Rattle.netlist.specs.Read.{readNetlist}
 use Rattle.netlist.specs.Services.{tablesLong, outcomeOf, Answers, runOutcome, runCall}
 use Rattle.netlist.specs.Programs.{listFile, printRun, runProgram}
 use Rattle.run.specs.Promise.{call}
-use Rattle.console.specs.Front.{Front, Answered}
-use Rattle.console.proofs.Reporting.{readable-long, readable-short, answered, answered-as, answered-refused}
+use Rattle.program_text.specs.Front.{Front, Answered}
+use Rattle.program_text.proofs.Reporting.{readable-long, readable-short, answered, answered-as, answered-refused}
 use Rattle.cli_run.specs.Report.{Roomy, outcome}
 
 -- question 2

@@ -7,7 +7,7 @@ ghost use Prim.Native.Nat.{_+_, _*_, _≤_};
 ghost use lib.ListN.{length};
 ghost use Rattle.netlist.specs.Programs.{printRun, runProgram};
 ghost use Rattle.netlist.specs.Services.{outcomeOf};
-ghost use Rattle.console.specs.Front.{Front, Counted, Answered};
+ghost use Rattle.program_text.specs.Front.{Front, Counted, Answered};
 ghost use Rattle.cli_run.specs.Report.{Roomy, outcome};
 
 // The answer, from the bytes of the two files; the list takes the place of its file's bytes.
@@ -26,7 +26,7 @@ fn answer(
     if 60000 < netlist.len() {
         return Answer::Refused(2);
     }
-    let n = console::list(inputs);
+    let n = program_text::list(inputs);
     run::run(
         netlist,
         &inputs[..n],
@@ -45,8 +45,8 @@ fn print(out: &mut [u8], bits: &[u8], a: Answer) -> usize
     ensures { λ r. ⌜ Front (now (out .exit)) r (printRun (outcomeOf (now (bits .entry)) a)) ⌝ }
 {
     match a {
-        Answer::Done(n) => console::digits(out, &bits[..n]),
-        Answer::Refused(question) => console::refused(out, question),
+        Answer::Done(n) => program_text::digits(out, &bits[..n]),
+        Answer::Refused(question) => program_text::refused(out, question),
     }
 }
 
@@ -78,8 +78,8 @@ fn main() {
     let mut given = [0u8; 18431];
     let mut words = [0u64; 18431];
     let mut out = [0u8; 60000];
-    let bytes = files::read(b"netlist.txt", &mut netlist);
-    let entries = files::read(b"inputs.txt", &mut inputs);
+    let bytes = program_files::read(b"netlist.txt", &mut netlist);
+    let entries = program_files::read(b"inputs.txt", &mut inputs);
     let n = report(
         &mut out,
         &netlist[..bytes],

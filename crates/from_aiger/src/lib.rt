@@ -12,7 +12,7 @@ ghost use Rattle.netlist.specs.Netlist.{small as smallLimits};
 ghost use Rattle.netlist.specs.Outcome.{andThen};
 ghost use Rattle.netlist.specs.Services.{tablesLong, rewriteOutcome, Answers, Delivers};
 ghost use Rattle.netlist.specs.Table.{tables, Wired};
-ghost use Rattle.form.specs.Form.{formText};
+ghost use Rattle.write_netlist.specs.Form.{formText};
 ghost use Rattle.aiger.specs.Call.{readAiger};
 ghost use Rattle.from_aiger.specs.Promise.{call, Promise};
 
@@ -41,7 +41,7 @@ fn write(out: &mut [u8], m: NetlistNumbers, operands: &[u64], results: &[u64]) -
 {
     let ins = [m.inputs; 1];
     let outs = [m.outputs; 1];
-    form::deliver(out, m.gates, m.wires, &ins, &outs, operands, results)
+    write_netlist::deliver(out, m.gates, m.wires, &ins, &outs, operands, results)
 }
 
 // Questions 2, 19, 20, 19, 5 and 14, with tables that question 1 admits.

@@ -5,7 +5,7 @@ use crate::numbers::next_numbers;
 use crate::variables::can_give;
 use crate::variables::give;
 use crate::variables::is_readable;
-use text::cursor::Cursor;
+use read_text::cursor::Cursor;
 ghost use mathlib.Core.Path.{_≡_};
 ghost use mathlib.Core.List.{List, []};
 ghost use Prim.Native.Nat.{ℕ, _+_, _*_, _^_, _<_, _≤_};

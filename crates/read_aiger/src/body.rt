@@ -6,7 +6,7 @@ use crate::inputs::Step;
 use crate::inputs::inputs;
 use crate::outputs::outputs;
 use crate::outputs::skip;
-use text::cursor::Cursor;
+use read_text::cursor::Cursor;
 ghost use mathlib.Core.Path.{_≡_};
 ghost use Prim.Native.Nat.{_+_, _*_, _<_, _≤_};
 ghost use lib.ListN.{length, drop, replicate};

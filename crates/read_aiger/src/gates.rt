@@ -1,7 +1,7 @@
 // The gates of operands, of AND lines and of outputs, behind n input bits and `count` gates.
 use crate::keep::keep;
 use crate::variables::entry;
-use lines::gate::GateNumbers;
+use read_gate_line::gate::GateNumbers;
 ghost use mathlib.Core.Path.{_≡_};
 ghost use Prim.Native.Nat.{_+_, _/_, _^_, _<_, _≤_};
 ghost use lib.ListN.{getD};

@@ -3,7 +3,7 @@ use crate::numbers::Line;
 use crate::numbers::next_numbers;
 use crate::variables::can_give;
 use crate::variables::give;
-use text::cursor::Cursor;
+use read_text::cursor::Cursor;
 ghost use mathlib.Core.Path.{_≡_};
 ghost use mathlib.Core.List.{List};
 ghost use Prim.Native.Nat.{ℕ, _+_, _^_, _<_, _≤_};

@@ -4,7 +4,7 @@ use crate::inputs::Step;
 use crate::numbers::One;
 use crate::numbers::one_number;
 use crate::variables::is_readable;
-use text::cursor::Cursor;
+use read_text::cursor::Cursor;
 ghost use mathlib.Core.Path.{_≡_};
 ghost use mathlib.Core.List.{List};
 ghost use Prim.Native.Nat.{ℕ, _+_, _^_, _<_, _≤_};

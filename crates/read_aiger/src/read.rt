@@ -6,7 +6,7 @@ use crate::head::HeadStep;
 use crate::head::head;
 use crate::stray::first_stray;
 use netlist::Limits;
-use text::cursor::Cursor;
+use read_text::cursor::Cursor;
 ghost use mathlib.Core.Path.{_≡_};
 ghost use Prim.Native.Nat.{_≤_, _<_, _^_};
 ghost use lib.ListN.{length, drop, replicate};

@@ -22,10 +22,10 @@ use Rattle.netlist.specs.Table.{Tables, Holds}
 use Rattle.netlist.proofs.Answering.{answers-as, answers-refused, delivers-short, delivers-done, call-refused, call-goes-on}
 use Rattle.netlist.proofs.Accepted.{accepted}
 use Rattle.netlist.proofs.Models.{length-runGates}
-use Rattle.eval.specs.Lane.{lane, lanes, outputWords}
-use Rattle.eval.proofs.Words.{length-outputWords, lanes-outputWords}
-use Rattle.header.specs.declared.HeaderNumbers.{HeaderNumbers}
-use Rattle.tables.specs.Whole.{ReadAt}
+use Rattle.evaluate.specs.Lane.{lane, lanes, outputWords}
+use Rattle.evaluate.proofs.Words.{length-outputWords, lanes-outputWords}
+use Rattle.read_header.specs.declared.HeaderNumbers.{HeaderNumbers}
+use Rattle.read_netlist.specs.Whole.{ReadAt}
 use Rattle.run64.specs.Promise.{run64Outcome, run64Call, call, bitsOf}
 
 -- bits as numbers, and back

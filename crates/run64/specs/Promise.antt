@@ -13,7 +13,7 @@ use Rattle.netlist.specs.Outcome.{Outcome, done, ask, andThen}
 use Rattle.netlist.specs.Read.{readNetlist}
 use Rattle.netlist.specs.Leak.{bit}
 use Rattle.netlist.specs.Services.{tablesLong, delivered, outputList, Answers, Cleared}
-use Rattle.eval.specs.Lane.{lanes, outputWords}
+use Rattle.evaluate.specs.Lane.{lanes, outputWords}
 
 -- questions 11, of the list's length alone, and 14 of a netlist
 abbrev pub run64Outcome : List ℕ → ℕ → Netlist → Outcome (List ℕ)

@@ -1,9 +1,9 @@
 // Sixty-four runs in one pass: a word for each input bit in, a word for each output bit out; bit j of every word belongs to
 // setting j. Questions 1 to 9 with the large limits, 11 (the list's length alone) and 14.
-use header::HeaderNumbers;
+use read_header::HeaderNumbers;
 use netlist::Answer;
 use netlist::Sizes;
-use tables::read::Reading;
+use read_netlist::read::Reading;
 ghost use Prim.Native.Nat.{_≤_};
 ghost use lib.ListN.{length};
 ghost use Rattle.netlist.specs.Netlist.{Netlist};
@@ -33,7 +33,7 @@ fn deliver(
     if out.len() < outs {
         return Answer::Refused(14);
     }
-    eval::wide::outputs(operands, results, count, outs, list, words, out);
+    evaluate::wide::outputs(operands, results, count, outs, list, words, out);
     Answer::Done(outs)
 }
 
@@ -81,7 +81,7 @@ fn answer(
     let mut inputs = [0u32; 17];
     let mut outputs = [0u32; 16];
     let shortest = words.len();
-    match tables::read::read(
+    match read_netlist::read::read(
         text,
         &mut inputs,
         &mut outputs,

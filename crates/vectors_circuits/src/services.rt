@@ -1,6 +1,6 @@
 // The four services, each with tables of its own, as long as question 1 asks.
 use crate::buffers;
-use judge::Checked;
+use check_netlist::Checked;
 use netlist::Answer;
 use netlist::Sizes;
 

@@ -7,7 +7,7 @@ ghost use Rattle.netlist.specs.Lists.{sameBytes};
 ghost use Rattle.netlist.specs.Table.{half};
 ghost use Rattle.verilog_tokens.specs.Next.{between};
 ghost use Rattle.verilog_names.specs.Names.{number, found, chainOf, Chained, Added};
-use text::bytes::same;
+use read_text::bytes::same;
 
 fn wide(b: u8) -> u64
     ensures { λ r. ⌜ r ≡ b ⌝ }

@@ -6,7 +6,7 @@ use lib.ListN.{length}
 use Rattle.netlist.specs.Netlist.{large}
 use Rattle.netlist.specs.Table.{tables}
 use Rattle.netlist.proofs.Answering.{table-at}
-use Rattle.tables.proofs.Wholes.{read-is, readable-large}
+use Rattle.read_netlist.proofs.Wholes.{read-is, readable-large}
 use Rattle.checker.proofs.Calling.{read-bits, all-long, call-not, call-read}
 use native.Mathlib.Omega.{arith}
 use borrow.Author.Needs.{needs}
@@ -15,9 +15,9 @@ use Rattle.checker.proofs.answer.Tie as tie
 use Rattle.checker.proofs.answer.Reads as reads
 use Rattle.checker.proofs.answer.Lts as lts
 use Rattle.checker.proofs.shorter.Reads as shorter-reads
-use Rattle.judge.proofs.judge.Reads as judge-reads
+use Rattle.check_netlist.proofs.judge.Reads as judge-reads
 use Rattle.netlist.proofs.large.Reads as large-reads
-use Rattle.tables.proofs.read.read.Reads as read-reads
+use Rattle.read_netlist.proofs.read.read.Reads as read-reads
 
 large-requires : tie.Need-large-requires
 large-requires c κs = search needs

@@ -5,7 +5,7 @@ use lib.ListN.{length}
 use Rattle.netlist.specs.Netlist.{large}
 use Rattle.netlist.specs.Table.{tables}
 use Rattle.netlist.proofs.Answering.{table-at}
-use Rattle.tables.proofs.Wholes.{read-is, readable-large}
+use Rattle.read_netlist.proofs.Wholes.{read-is, readable-large}
 use Rattle.run64.proofs.Running.{call-not, call-read}
 use native.Mathlib.Omega.{arith}
 use borrow.Author.Needs.{needs}
