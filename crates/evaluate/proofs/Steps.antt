@@ -12,9 +12,9 @@ use Rattle.netlist.specs.Netlist.{result}
 use Rattle.netlist.specs.Eval.{differs, made, bitsAt, runGates}
 use Rattle.netlist.specs.Table.{gateOf, madeOf, gateAt, gatesOf, Tables, Wired}
 use Rattle.netlist.proofs.Puts.{gates-more}
-use Rattle.evaluate.specs.declared.gate.Parts.{Parts}
+use Rattle.gate_table.specs.declared.Parts.{Parts}
 use Rattle.evaluate.specs.Lane.{lane, lanes}
-use Rattle.evaluate.specs.Parts.{partsOf, gateBy, Within}
+use Rattle.gate_table.specs.Parts.{partsOf, gateBy, Within}
 use Rattle.evaluate.proofs.Lanes.{lane-zero}
 
 pub getD-lanes : (j : ℕ) (ws : List ℕ) (a : ℕ) → getD (lanes j ws) a false ≡ lane j (getD ws a 0)

@@ -2,4 +2,3 @@
 pub mod Lane
 pub mod Form
 pub mod Bare
-pub mod Parts

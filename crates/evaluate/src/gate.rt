@@ -1,4 +1,5 @@
 // One gate on words: lane j of each word belongs to setting j.
+use gate_table::Parts;
 ghost use mathlib.Core.Path.{_≡_};
 ghost use Prim.Native.Nat.{ℕ, _<_};
 ghost use mathlib.Core.List.{[], _∷_};
@@ -7,7 +8,7 @@ ghost use Rattle.netlist.specs.Eval.{runGates};
 ghost use Rattle.netlist.specs.Table.{madeOf};
 ghost use Rattle.evaluate.specs.Lane.{lane, lanes};
 ghost use Rattle.evaluate.specs.Form.{factorOf, termOf};
-ghost use Rattle.evaluate.specs.Parts.{partsOf, gateBy, Within};
+ghost use Rattle.gate_table.specs.Parts.{gateBy, Within};
 
 const ALL: u64 = 0xffff_ffff_ffff_ffff;
 
@@ -48,29 +49,6 @@ fn made(kind: usize, a: u64, b: u64) -> u64
     ensures { λ r. ⌜ ((j : ℕ) → j < 64 → lane j r ≡ madeOf kind (lane j a) (lane j b)) ⌝ }
 {
     (a & factor(kind, b)) ^ term(kind, b)
-}
-
-// A gate's two entries, taken apart: its operands' wires, its result's wire, and its kind.
-pub struct Parts {
-    pub left: usize,
-    pub right: usize,
-    pub result: usize,
-    pub kind: usize,
-}
-
-// 2^32, which divides the two numbers of an entry.
-const HALF: u64 = 4294967296;
-
-// The parts of two entries.
-pub fn split(operands: u64, results: u64) -> Parts
-    ensures { λ r. ⌜ r ≡ partsOf operands results ⌝ }
-{
-    Parts {
-        left: (operands % HALF) as usize,
-        right: (operands / HALF) as usize,
-        result: (results % HALF) as usize,
-        kind: (results / HALF) as usize,
-    }
 }
 
 // A gate, on the wires' words.

@@ -23,11 +23,11 @@ fn run(operands: &[u64], results: &[u64], count: usize, words: &mut [u64])
         return;
     }
     let mut i = 0;
-    let mut next = gate::split(operands[0], results[0]);
+    let mut next = gate_table::split(operands[0], results[0]);
     while i + 1 < count {
         gate::step(words, next);
         i += 1;
-        next = gate::split(operands[i], results[i]);
+        next = gate_table::split(operands[i], results[i]);
     }
     gate::step(words, next);
 }

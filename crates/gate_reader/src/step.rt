@@ -1,7 +1,7 @@
 // One step of the gate reader: question 7 of the line at a place.
 use read_gate_line::gate::GateLine;
 use read_gate_line::gate::gate_line;
-use read_gate_line::gate::gate_of;
+use gate_table::gate_of;
 use netlist::Gate;
 use read_text::cursor::Cursor;
 ghost use mathlib.Core.Path.{_≡_};

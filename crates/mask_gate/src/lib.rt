@@ -106,8 +106,7 @@ fn eqw(d: &[u64], out: &mut [u8], at: usize, a: u32, c: u32, code: u8) -> Emitte
     Emitted { at: end, twin }
 }
 
-// A source gate of a kind whose operands have the twins a and b, at the wires from c. The kinds
-// are those of the gate tables: 1 to 4 are XOR, AND, INV and EQW, 5 is EQ 0, any other EQ 1.
+// A source gate of a kind, as the gate tables have it, whose operands have the twins a and b, at the wires from c.
 pub fn emit(
     d: &[u64],
     out: &mut [u8],
@@ -123,11 +122,11 @@ pub fn emit(
     ensures { λ r. ⌜ WroteKind (now (out .entry)) at n c kind a b (now (out .exit)) r ⌝ }
 {
     match kind {
-        1 => xor(d, out, at, n, c, a, b),
-        2 => and(d, out, at, n, c, a, b),
-        3 => inv(d, out, at, a.wire, c, a.code),
-        4 => eqw(d, out, at, a.wire, c, a.code),
-        5 => eqw(d, out, at, n, c, 1),
+        gate_table::XOR => xor(d, out, at, n, c, a, b),
+        gate_table::AND => and(d, out, at, n, c, a, b),
+        gate_table::INV => inv(d, out, at, a.wire, c, a.code),
+        gate_table::EQW => eqw(d, out, at, a.wire, c, a.code),
+        gate_table::EQ => eqw(d, out, at, n, c, 1),
         _ => inv(d, out, at, n, c, 1),
     }
 }

@@ -8,6 +8,8 @@ use lib.Dec.{eqb}
 use borrow.Author.Tests.{eq-eqb, ne-eqb}
 use Rattle.netlist.specs.declared.Gate.{Gate}
 use Rattle.netlist.specs.declared.Twin.{Twin}
+use Rattle.gate_table.specs.declared.Parts.{Parts}
+use Rattle.gate_table.specs.Parts.{partsOf}
 use Rattle.netlist.specs.Table.{Tables, half, gateOf, gateIn, gateAt, gatesOf}
 use Rattle.netlist.specs.Mask.{State, twin, third, after, changes, changed, past, xorTwin, andTwin, resultTwin, advance, advanceAll}
 use Rattle.netlist.proofs.Tests.{onBool}
@@ -46,7 +48,7 @@ stateWith c ts = record { next = c; twins = ts }
 pub twin-small : {t : Twin} (c k : ℕ) (A B : Twin) → t ≡ resultTwin (operands c A B) (gateOf k 0 1 2) → t .wire + 1 ≤ c + 8
 twin-small c k A B h = rw h (next-most (operands c A B) (gateOf k 0 1 2 ∷ []))
 
-pub advanced-made : {c : ℕ} {A B t : Twin} (ws es : List ℕ) (o r : ℕ) → A ≡ twin (stateOf c ws es) (o % half) → B ≡ twin (stateOf c ws es) (o / half)
+advanced-made : {c : ℕ} {A B t : Twin} (ws es : List ℕ) (o r : ℕ) → A ≡ twin (stateOf c ws es) (o % half) → B ≡ twin (stateOf c ws es) (o / half)
     → t ≡ resultTwin (operands c A B) (gateOf (r / half) 0 1 2)
     → Advanced (stateOf c ws es) (gateIn o r) (stateOf (t .wire + 1) (set ws (r % half) (t .wire)) (set es (r % half) (t .code)))
 advanced-made {c = c} {A = A} {B = B} {t = t} ws es o r a b h =
@@ -61,6 +63,12 @@ advanced-made {c = c} {A = A} {B = B} {t = t} ws es o r a b h =
           ∙ ap₂ (λ (v : Twin) (i : ℕ). stateWith (v .wire + 1) (set (twinsOf ws es) i v)) u (sym (result-of k (o % half) (o / half) d));
       grown = twin-small c k A B h;
     }
+
+-- the same step by the parts of the gate's entries
+pub advanced-parts : {c : ℕ} {A B t : Twin} {p : Parts} (ws es : List ℕ) (o r : ℕ) → p ≡ partsOf o r
+    → A ≡ twin (stateOf c ws es) (p .left) → B ≡ twin (stateOf c ws es) (p .right) → t ≡ resultTwin (operands c A B) (gateOf (p .kind) 0 1 2)
+    → Advanced (stateOf c ws es) (gateIn o r) (stateOf (t .wire + 1) (set ws (p .result) (t .wire)) (set es (p .result) (t .code)))
+advanced-parts ws es o r q a b h = rw q (advanced-made ws es o r (rw q at a) (rw q at b) (rw q at h))
 
 advanceAll-more : (S : State) (gs : List Gate) (g : Gate) → advanceAll S (gs ++ (g ∷ [])) ≡ advance (advanceAll S gs) g
 advanceAll-more S [] g = refl

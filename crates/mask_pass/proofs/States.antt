@@ -7,6 +7,8 @@ use native.Mathlib.Omega.{arith}
 use lib.ListN.{length, getD, set}
 use Rattle.netlist.specs.declared.Gate.{Gate}
 use Rattle.netlist.specs.declared.Twin.{Twin}
+use Rattle.gate_table.specs.declared.Parts.{Parts}
+use Rattle.gate_table.specs.Parts.{partsOf}
 use Rattle.netlist.specs.Table.{Tables, half, gateOf, gateIn, gateAt, gatesOf}
 use Rattle.netlist.specs.Mask.{State, twin, noTwin, emit, resultTwin, advance, emitAll, advanceAll}
 use Rattle.netlist.proofs.Puts.{gates-more}
@@ -43,7 +45,7 @@ twins-set (v ∷ ws) (f ∷ es) zero w e = refl
 twins-set (v ∷ ws) (f ∷ es) (suc i) w e = ap (λ (l : List Twin). tw v f ∷ l) (twins-set ws es i w e)
 
 -- one step: with the operands' twins the gates are written, and the result's twin is stored
-pub step-made : {e x : List ℕ} {at n c : ℕ} {R : Emitted} {A B : Twin} (ws es : List ℕ) (o r : ℕ) → A ≡ twin (stateOf c ws es) (o % half) → B ≡ twin (stateOf c ws es) (o / half)
+step-made : {e x : List ℕ} {at n c : ℕ} {R : Emitted} {A B : Twin} (ws es : List ℕ) (o r : ℕ) → A ≡ twin (stateOf c ws es) (o % half) → B ≡ twin (stateOf c ws es) (o / half)
     → WroteKind e at n c (r / half) A B x R
     → WroteStep e at n (stateOf c ws es) (gateIn o r) x (record { at = R .at; next = R .twin .wire + 1 })
     (stateOf (R .twin .wire + 1) (set ws (r % half) (R .twin .wire)) (set es (r % half) (R .twin .code)))
@@ -60,6 +62,13 @@ step-made {n = n} {c = c} {R = R} ws es o r a b h =
           ∙ ap₂ (λ (u : Twin) (i : ℕ). stateWith (u .wire + 1) (set (twinsOf ws es) i u)) t (sym (result-of k (o % half) (o / half) d));
       grown = kind-small h;
     }
+
+-- the same step by the parts of the gate's entries
+pub step-parts : {e x : List ℕ} {at n c : ℕ} {R : Emitted} {A B : Twin} {p : Parts} (ws es : List ℕ) (o r : ℕ) → p ≡ partsOf o r
+    → A ≡ twin (stateOf c ws es) (p .left) → B ≡ twin (stateOf c ws es) (p .right) → WroteKind e at n c (p .kind) A B x R
+    → WroteStep e at n (stateOf c ws es) (gateIn o r) x (record { at = R .at; next = R .twin .wire + 1 })
+    (stateOf (R .twin .wire + 1) (set ws (p .result) (R .twin .wire)) (set es (p .result) (R .twin .code)))
+step-parts ws es o r q a b h = rw q (step-made ws es o r (rw q at a) (rw q at b) (rw q at h))
 
 emitAll-more : (n : ℕ) (S : State) (gs : List Gate) (g : Gate) → emitAll n S (gs ++ (g ∷ [])) ≡ emitAll n S gs ++ emit n (advanceAll S gs) g
 emitAll-more n S [] g = append-nil (emit n S g)

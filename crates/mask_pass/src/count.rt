@@ -12,9 +12,6 @@ ghost use Rattle.mask_gate.specs.Emitted.{operands as operandsOf};
 ghost use Rattle.mask_pass.specs.State.{stateOf, Advanced, AdvancedAll};
 ghost use Rattle.mask_pass.specs.Pass.{Ready, Counted};
 
-// 2^32.
-const HALF: u64 = 4294967296;
-
 // The second operand behind its mask change, if there is one.
 fn changed(c: u32, a: Twin, b: Twin) -> Twin
     ensures { λ r. ⌜ r ≡ changedTwin c a b ⌝ }
@@ -72,13 +69,13 @@ fn result(c: u32, kind: u64, a: Twin, b: Twin) -> Twin
     ensures { λ r. ⌜ r ≡ resultTwin (operandsOf c a b) (gateOf kind 0 1 2) ⌝ }
 {
     match kind {
-        1 => xor(c, a, b),
-        2 => and(c, a, b),
-        3 => Twin {
+        gate_table::XOR => xor(c, a, b),
+        gate_table::AND => and(c, a, b),
+        gate_table::INV => Twin {
             wire: c,
             code: a.code,
         },
-        4 => Twin {
+        gate_table::EQW => Twin {
             wire: c,
             code: a.code,
         },
@@ -92,12 +89,11 @@ fn step(c: u32, operands: u64, results: u64, wire: &mut [u32], code: &mut [u8]) 
     requires { ⌜ Named (length (now wire)) operands results × (length (now code) ≡ length (now wire)) ⌝ }
     ensures { λ r. ⌜ Advanced (stateOf c (now (wire .entry)) (now (code .entry))) (gateIn operands results) (stateOf r (now (wire .exit)) (now (code .exit))) ⌝ }
 {
-    let left = (operands % HALF) as usize;
-    let right = (operands / HALF) as usize;
-    let place = (results % HALF) as usize;
-    let a = crate::twins::twin(wire, code, left);
-    let b = crate::twins::twin(wire, code, right);
-    let t = result(c, results / HALF, a, b);
+    let g = gate_table::split(operands, results);
+    let place = g.result;
+    let a = crate::twins::twin(wire, code, g.left);
+    let b = crate::twins::twin(wire, code, g.right);
+    let t = result(c, g.kind as u64, a, b);
     wire[place] = t.wire;
     code[place] = t.code;
     t.wire + 1

@@ -6,9 +6,6 @@ ghost use Rattle.write_wires.specs.Packed.{WordTable};
 ghost use Rattle.netlist.specs.Table.{gateIn, tables, Named, Wired};
 ghost use Rattle.mask_pass.specs.State.{stateOf, WroteStep, WroteAll};
 
-// 2^32: the right operand and the kind stand in the upper halves of their entries.
-const HALF: u64 = 4294967296;
-
 // The next place in the buffer, and the next wire.
 pub struct Next {
     pub at: usize,
@@ -32,12 +29,11 @@ fn step(
     requires { ⌜ Named (length (now wire)) operands results × (length (now code) ≡ length (now wire)) ⌝ }
     ensures { λ t. ⌜ WroteStep (now (out .entry)) at n (stateOf c (now (wire .entry)) (now (code .entry))) (gateIn operands results) (now (out .exit)) t (stateOf (t .next) (now (wire .exit)) (now (code .exit))) ⌝ }
 {
-    let left = (operands % HALF) as usize;
-    let right = (operands / HALF) as usize;
-    let result = (results % HALF) as usize;
-    let a = crate::twins::twin(wire, code, left);
-    let b = crate::twins::twin(wire, code, right);
-    let made = mask_gate::emit(d, out, at, n, c, results / HALF, a, b);
+    let g = gate_table::split(operands, results);
+    let result = g.result;
+    let a = crate::twins::twin(wire, code, g.left);
+    let b = crate::twins::twin(wire, code, g.right);
+    let made = mask_gate::emit(d, out, at, n, c, g.kind as u64, a, b);
     let t = made.twin;
     wire[result] = t.wire;
     code[result] = t.code;

@@ -1,7 +1,7 @@
 // The gates of operands, of AND lines and of outputs, behind n input bits and `count` gates.
 use crate::keep::keep;
 use crate::variables::entry;
-use read_gate_line::gate::GateNumbers;
+use gate_table::GateNumbers;
 ghost use mathlib.Core.Path.{_≡_};
 ghost use Prim.Native.Nat.{_+_, _/_, _^_, _<_, _≤_};
 ghost use lib.ListN.{getD};
@@ -34,7 +34,7 @@ pub fn operand(
             results,
             count,
             GateNumbers {
-                kind: 5,
+                kind: gate_table::EQ,
                 left: x,
                 right: 0,
                 result: c,
@@ -54,7 +54,7 @@ pub fn operand(
         results,
         count,
         GateNumbers {
-            kind: 3,
+            kind: gate_table::INV,
             left: w,
             right: 0,
             result: c,
@@ -76,7 +76,7 @@ fn and_gate(operands: &mut [u64], results: &mut [u64], left: u32, right: u32, n:
         results,
         count,
         GateNumbers {
-            kind: 2,
+            kind: gate_table::AND,
             left,
             right,
             result: n + count as u32,
@@ -113,7 +113,11 @@ pub fn and_gates(
 fn out_kind(x: u32) -> u64
     ensures { λ r. ⌜ r ≡ outKind x ⌝ }
 {
-    if x % 2 == 0 { 4 } else { 3 }
+    if x % 2 == 0 {
+        gate_table::EQW
+    } else {
+        gate_table::INV
+    }
 }
 
 // An output: an EQW, an INV or an EQ.
@@ -135,7 +139,7 @@ pub fn out_gate(
             results,
             count,
             GateNumbers {
-                kind: 5,
+                kind: gate_table::EQ,
                 left: x,
                 right: 0,
                 result: c,

@@ -1,9 +1,9 @@
 // Gates into two tables, as many as they have room for.
-use read_gate_line::gate::GateNumbers;
-use read_netlist::entry::entry_of;
-use read_netlist::entry::put;
+use gate_table::GateNumbers;
+use gate_table::entry_of;
+use gate_table::put;
 ghost use Rattle.netlist.specs.Table.{tables};
-ghost use Rattle.read_gate_line.specs.GateAnswers.{gateSaid};
+ghost use Rattle.gate_table.specs.Numbers.{gateSaid};
 ghost use Rattle.read_aiger.specs.Places.{Keeping};
 
 // Puts a gate behind the first `at`, where the tables have room.

@@ -23,8 +23,9 @@ use Rattle.read_text.proofs.SplitLaws.{end-no-space}
 use Rattle.read_text.proofs.ScanLaws.{scan-start, scan-stop, word-at}
 use Rattle.read_text.proofs.LineLaws.{end-line}
 use Rattle.read_gate_line.specs.GateForm.{named, end1, end2}
-use Rattle.read_gate_line.specs.GateAnswers.{gateSaid, gateNamed, UsualEnd, UsualIs, LineIs}
-use Rattle.read_gate_line.specs.declared.gate.GateNumbers.{GateNumbers}
+use Rattle.read_gate_line.specs.GateAnswers.{gateNamed, UsualEnd, UsualIs, LineIs}
+use Rattle.gate_table.specs.Numbers.{gateSaid}
+use Rattle.gate_table.specs.declared.GateNumbers.{GateNumbers}
 use Rattle.read_gate_line.specs.declared.gate.NamedGate.{NamedGate}
 use Rattle.read_gate_line.specs.declared.gate.NamedGate.the-variants as N
 use Rattle.read_gate_line.specs.declared.gate.GateLine.the-variants as L

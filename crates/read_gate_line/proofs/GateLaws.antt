@@ -14,8 +14,9 @@ use Rattle.read_text.specs.Answers.{NumberAt}
 use Rattle.read_text.proofs.SplitLaws.{addWord}
 use Rattle.read_text.proofs.AnswerLaws.{number-word, number-line, no-number, word-words, word-none, word-stays}
 use Rattle.read_gate_line.specs.GateForm.{onNumber, alone, named}
-use Rattle.read_gate_line.specs.GateAnswers.{gateSaid, gateNamed, LineNext, LineIs}
-use Rattle.read_gate_line.specs.declared.gate.GateNumbers.{GateNumbers}
+use Rattle.read_gate_line.specs.GateAnswers.{gateNamed, LineNext, LineIs}
+use Rattle.gate_table.specs.Numbers.{gateSaid}
+use Rattle.gate_table.specs.declared.GateNumbers.{GateNumbers}
 use Rattle.read_gate_line.specs.declared.gate.NamedGate.{NamedGate}
 use Rattle.read_gate_line.specs.declared.gate.NamedGate.the-variants as N
 use Rattle.read_gate_line.specs.declared.gate.GateLine.{GateLine}

@@ -11,19 +11,11 @@ use Rattle.netlist.specs.declared.Gate.the-variants.{Xor, And, Inv, Eqw, Eq}
 use Rattle.read_text.specs.Line.{inWord, EndAt, LineTaken}
 use Rattle.read_text.specs.declared.cursor.LineEnd.{LineEnd}
 use Rattle.read_text.specs.declared.cursor.LineEnd.the-variants as E
-use Rattle.read_gate_line.specs.declared.gate.GateNumbers.{GateNumbers}
+use Rattle.gate_table.specs.Numbers.{gateSaid}
 use Rattle.read_gate_line.specs.declared.gate.NamedGate.{NamedGate}
 use Rattle.read_gate_line.specs.declared.gate.NamedGate.the-variants as N
 use Rattle.read_gate_line.specs.declared.gate.GateLine.{GateLine}
 use Rattle.read_gate_line.specs.declared.gate.GateLine.the-variants as L
-
--- the gate of a kind
-abbrev pub gateFor : ℕ → ℕ → ℕ → ℕ → Gate
-gateFor kind a b c = cond (eqb kind 1) (Xor a b c) (cond (eqb kind 2) (And a b c) (cond (eqb kind 3) (Inv a c) (cond (eqb kind 4) (Eqw a c) (Eq a c))))
-
--- the gate that numbers are
-abbrev pub gateSaid : GateNumbers → Gate
-gateSaid g = gateFor (g .kind) (g .left) (g .right) (g .result)
 
 abbrev pub gateNamed : NamedGate → Option Gate
 gateNamed (N.Is g) = some (gateSaid g)

@@ -7,25 +7,17 @@ ghost use lib.ListN.{length, drop};
 ghost use Rattle.netlist.specs.GateLine.{gateLine, gate1 as theGate1, gate2 as theGate2};
 ghost use Rattle.read_text.specs.Line.{lineWords};
 ghost use Rattle.read_gate_line.specs.GateForm.{alone, end1, end2, one, resultForm, two};
-ghost use Rattle.read_gate_line.specs.GateAnswers.{gateFor, gateSaid, gateNamed, UsualIs, LineIs};
+ghost use Rattle.read_gate_line.specs.GateAnswers.{gateNamed, UsualIs, LineIs};
+ghost use Rattle.gate_table.specs.Numbers.{gateFor, gateSaid};
 use crate::operands::Operands;
 use crate::operands::read_operands;
-use netlist::Gate;
+use gate_table::GateNumbers;
 use read_text::bytes::same;
 use read_text::cursor::Cursor;
 use read_text::cursor::LineEnd;
 use read_text::ends::is_line_end;
 use read_text::ends::is_space;
 use read_text::number::Number;
-
-// A gate as plain numbers: its way into the tables needs no jump on its kind. Kinds 1 to 4 are XOR, AND, INV and EQW, any other
-// is EQ, whose constant stands on the left; a gate of one operand has 0 on the right.
-pub struct GateNumbers {
-    pub kind: u64,
-    pub left: u32,
-    pub right: u32,
-    pub result: u32,
-}
 
 // The gate that a name stands for, if there is one.
 enum NamedGate {
@@ -68,13 +60,13 @@ fn gate1(name: &[u8], a: u32, c: u32) -> NamedGate
     ensures { λ r. ⌜ gateNamed r ≡ theGate1 (now (name .entry)) a c ⌝ }
 {
     if same(name, b"INV") {
-        return unary(3, a, c);
+        return unary(gate_table::INV, a, c);
     }
     if same(name, b"EQW") {
-        return unary(4, a, c);
+        return unary(gate_table::EQW, a, c);
     }
     if same(name, b"EQ") {
-        return unary(5, a, c);
+        return unary(gate_table::EQ, a, c);
     }
     NamedGate::Not
 }
@@ -84,10 +76,10 @@ fn gate2(name: &[u8], a: u32, b: u32, c: u32) -> NamedGate
     ensures { λ r. ⌜ gateNamed r ≡ theGate2 (now (name .entry)) a b c ⌝ }
 {
     if same(name, b"XOR") {
-        return binary(1, a, b, c);
+        return binary(gate_table::XOR, a, b, c);
     }
     if same(name, b"AND") {
-        return binary(2, a, b, c);
+        return binary(gate_table::AND, a, b, c);
     }
     NamedGate::Not
 }
@@ -238,18 +230,4 @@ pub fn gate_line(text: &[u8], at: Cursor) -> GateLine
         return two_operands(text, at2);
     }
     GateLine::Not
-}
-
-// The gate that the numbers are.
-pub fn gate_of(g: GateNumbers) -> Gate
-    ensures { λ r. ⌜ r ≡ gateSaid g ⌝ }
-{
-    let kind = g.kind;
-    match kind {
-        1 => Gate::Xor(g.left, g.right, g.result),
-        2 => Gate::And(g.left, g.right, g.result),
-        3 => Gate::Inv(g.left, g.result),
-        4 => Gate::Eqw(g.left, g.result),
-        _ => Gate::Eq(g.left, g.result),
-    }
 }

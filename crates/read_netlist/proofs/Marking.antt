@@ -15,7 +15,7 @@ use Rattle.netlist.specs.Netlist.{result}
 use Rattle.netlist.specs.Read.{operandsGiven, isGiven, resultGood}
 use Rattle.netlist.proofs.Tests.{All, empty, each, onBool, both-true}
 use Rattle.read_netlist.specs.Marks.{marked, Marks}
-use Rattle.read_netlist.specs.Entry.{Names}
+use Rattle.gate_table.specs.Numbers.{Names}
 
 -- question 8 asked of the table
 pub marks-operands : {table rs : List ℕ} {n W : ℕ} → Marks table n W rs → (g : Gate) → operandsGiven (marked table) g ≡ operandsGiven (isGiven n rs) g

@@ -20,7 +20,8 @@ use Rattle.netlist.proofs.Puts.{wired-none}
 use Rattle.read_text.specs.Line.{lineWords, afterLine, LineTaken, isBlank, Scanned}
 use Rattle.read_text.proofs.LineLaws.{at-word, word-line, no-line, blanks-lines}
 use Rattle.read_netlist.specs.Marks.{marked, Marks}
-use Rattle.read_netlist.specs.Gates.{Admitted, RefusedAt, GateStepIs, Stored, GatesRead, GatesNot, GatesIs}
+use Rattle.read_netlist.specs.Gates.{Admitted, RefusedAt, GateStepIs, GatesRead, GatesNot, GatesIs}
+use Rattle.gate_table.specs.Entry.{Stored}
 use Rattle.read_netlist.specs.declared.gates.GateStep.{GateStep}
 use Rattle.read_netlist.specs.declared.gates.Gates.{Gates}
 use Rattle.read_netlist.specs.declared.gates.Gates.the-variants as G

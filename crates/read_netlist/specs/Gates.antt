@@ -11,9 +11,9 @@ use Rattle.netlist.specs.Text.{wordLines}
 use Rattle.netlist.specs.Read.{gateLines}
 use Rattle.netlist.specs.Table.{Tables, gatesOf, Wired}
 use Rattle.read_text.specs.Line.{lineWords, LineTaken}
-use Rattle.read_gate_line.specs.GateAnswers.{gateSaid}
+use Rattle.gate_table.specs.Numbers.{gateSaid}
 use Rattle.read_netlist.specs.Marks.{Marks}
-use Rattle.read_netlist.specs.Entry.{Names}
+use Rattle.gate_table.specs.Numbers.{Names}
 use Rattle.read_netlist.specs.declared.gates.GateStep.{GateStep}
 use Rattle.read_netlist.specs.declared.gates.GateStep.the-variants as S
 use Rattle.read_netlist.specs.declared.gates.Gates.{Gates}
@@ -35,11 +35,6 @@ pub record RefusedAt (t : List ℕ) (at n W : ℕ) (results : List ℕ) (q : ℕ
 abbrev pub GateStepIs : List ℕ → ℕ → ℕ → ℕ → List ℕ → List ℕ → GateStep → Type 0
 GateStepIs t at n W results given (S.On g c) = Admitted t at n W results given (gateSaid g) (c .at)
 GateStepIs t at n W results given (S.Refused q) = RefusedAt t at n W results q
-
--- a gate was stored behind the first n
-pub record Stored (W : ℕ) (t : Tables) (n : ℕ) (g : Gate) (u : Tables) : Type 0 where
-  pub gates : gatesOf u (n + 1) ≡ gatesOf t n ++ (g ∷ [])
-  pub wired : Wired t W n → Wired u W (n + 1)
 
 -- question 6 of the lines, and then 7 to 9
 abbrev pub askLines : ℕ → ℕ → ℕ → List (List (List ℕ)) → Outcome (List Gate)

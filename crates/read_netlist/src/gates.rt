@@ -1,12 +1,12 @@
 // The gate lines: questions 6 to 9, each gate into the tables. An accepted text is walked once; behind a refused line the
 // others are only counted, since question 6 comes first.
-use crate::entry::entry_of;
-use crate::entry::put;
+use gate_table::entry_of;
+use gate_table::put;
 use crate::marks::mark;
 use crate::marks::operands_given;
 use crate::marks::result_free;
 use read_gate_line::gate::GateLine;
-use read_gate_line::gate::GateNumbers;
+use gate_table::GateNumbers;
 use read_gate_line::gate::gate_line;
 use read_text::count::count_lines;
 use read_text::cursor::Cursor;
@@ -18,10 +18,11 @@ ghost use lib.Dec.{eqb};
 ghost use lib.ListN.{length, drop};
 ghost use Rattle.netlist.specs.Text.{wordLines};
 ghost use Rattle.netlist.specs.Table.{tables};
-ghost use Rattle.read_gate_line.specs.GateAnswers.{gateSaid};
+ghost use Rattle.gate_table.specs.Numbers.{gateSaid};
 ghost use Rattle.read_netlist.specs.Marks.{Marks};
-ghost use Rattle.read_netlist.specs.Entry.{Names};
-ghost use Rattle.read_netlist.specs.Gates.{GateStepIs, GatesIs, Stored};
+ghost use Rattle.gate_table.specs.Numbers.{Names};
+ghost use Rattle.read_netlist.specs.Gates.{GateStepIs, GatesIs};
+ghost use Rattle.gate_table.specs.Entry.{Stored};
 
 // A gate that questions 7 to 9 admit, with the start of the next line; or the first question with a no.
 pub enum GateStep {

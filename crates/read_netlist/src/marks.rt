@@ -1,7 +1,7 @@
 // Which wires are given: the inputs, and the results of earlier lines. Entry x of the table is 1 where wire x is.
-use crate::entry::has_constant;
-use crate::entry::second;
-use read_gate_line::gate::GateNumbers;
+use gate_table::has_constant;
+use gate_table::second;
+use gate_table::GateNumbers;
 ghost use mathlib.Core.Path.{_≡_};
 ghost use mathlib.Core.Bool.{_&&_, not};
 ghost use mathlib.Core.List.{[]};
@@ -9,7 +9,7 @@ ghost use Prim.Native.Nat.{_≤_, _<_};
 ghost use lib.Dec.{leb, ltb};
 ghost use lib.ListN.{length, set, replicate};
 ghost use Rattle.netlist.specs.Read.{operandsGiven};
-ghost use Rattle.read_gate_line.specs.GateAnswers.{gateSaid};
+ghost use Rattle.gate_table.specs.Numbers.{gateSaid};
 ghost use Rattle.read_netlist.specs.Marks.{marked, Marks};
 
 // Whether a wire is marked. Past the table's end none is.

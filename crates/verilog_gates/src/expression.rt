@@ -71,7 +71,7 @@ pub fn expression(
             behind,
             free,
         );
-        put(operands, results, n, 1, wire, v.wire, v.next);
+        put(operands, results, n, gate_table::XOR, wire, v.wire, v.next);
         wire = v.next;
         free = v.next + 1;
         code = v.code;
@@ -136,7 +136,7 @@ fn term(
             behind,
             free,
         );
-        put(operands, results, n, 2, wire, v.wire, v.next);
+        put(operands, results, n, gate_table::AND, wire, v.wire, v.next);
         wire = v.next;
         free = v.next + 1;
         code = v.code;
@@ -177,7 +177,7 @@ fn finish(
 {
     let t = token_at(text, to);
     if negated {
-        put(operands, results, n, 3, wire, wire, next);
+        put(operands, results, n, gate_table::INV, wire, wire, next);
         return Value {
             wire: next,
             next: next + 1,

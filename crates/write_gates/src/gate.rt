@@ -92,23 +92,21 @@ pub fn eq(out: &mut [u8], at: usize, v: u32, c: u32) -> usize
     write_buffer::bytes(out, space, b" EQ\n")
 }
 
-// 2^32: the right operand and the kind stand in the upper halves of their table entries.
-const HALF: u64 = 4294967296;
-
 // The line of the gate that two table entries hold.
 pub fn entry(d: &[u64], out: &mut [u8], at: usize, operands: u64, results: u64) -> usize
     requires { ⌜ WordTable (now d) ⌝ }
     ensures { λ r. ⌜ WroteGates (now (out .entry)) at (gateIn operands results ∷ []) (now (out .exit)) r ⌝ }
 {
-    let a = (operands % HALF) as u32;
-    let b = (operands / HALF) as u32;
-    let c = (results % HALF) as u32;
-    match results / HALF {
-        1 => xor(d, out, at, a, b, c),
-        2 => and(d, out, at, a, b, c),
-        3 => inv(d, out, at, a, c),
-        4 => eqw(d, out, at, a, c),
-        5 => eq(out, at, 0, c),
+    let g = gate_table::split(operands, results);
+    let a = g.left as u32;
+    let b = g.right as u32;
+    let c = g.result as u32;
+    match g.kind as u64 {
+        gate_table::XOR => xor(d, out, at, a, b, c),
+        gate_table::AND => and(d, out, at, a, b, c),
+        gate_table::INV => inv(d, out, at, a, c),
+        gate_table::EQW => eqw(d, out, at, a, c),
+        gate_table::EQ => eq(out, at, 0, c),
         _ => eq(out, at, 1, c),
     }
 }

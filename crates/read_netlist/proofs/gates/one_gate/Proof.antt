@@ -2,7 +2,7 @@
 use mathlib.Core.Path.{sym, _∙_}
 use borrow.Author.Tests.{not-true, not-false}
 use Rattle.read_gate_line.proofs.GateLaws.{line-is, line-is-not}
-use Rattle.read_netlist.proofs.Entries.{said-result}
+use Rattle.gate_table.proofs.Entries.{said-result}
 use Rattle.read_netlist.proofs.Reading.{one-7, one-8, one-9, one-on, one-room}
 use borrow.Author.Needs.{needs}
 use Rattle.read_netlist.proofs.gates.one_gate.Statement.{statement}

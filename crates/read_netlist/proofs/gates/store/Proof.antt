@@ -1,5 +1,6 @@
 -- `store`: the gate's entries are put behind the first.
-use Rattle.read_netlist.proofs.Entries.{stored}
+use Rattle.gate_table.proofs.Entries.{gate-entered, stored}
+use native.Mathlib.Omega.{arith}
 use borrow.Author.Needs.{needs}
 use Rattle.read_netlist.proofs.gates.store.Statement.{statement}
 use Rattle.read_netlist.proofs.gates.store.Tie as tie
@@ -18,8 +19,9 @@ same-length-2 c = search needs
 
 returns : tie.Need-returns
 returns c =
-    let pre = c .before .before .before .before .before .before .before .before .before .before .pre in
-    λ W n. stored _ (record { operands = pre .0; results = pre .1 }) (c .before .before .before .before .before .entry-of .ensures W n)
+    let s = c .before .before .before .before .before .before .before .before .before .before in
+    λ W n. stored _ (record { operands = s .pre .0; results = s .pre .1 })
+    (gate-entered (s .args .g) (omega arith) (omega arith) W (c .before .before .before .before .before .entry-of .ensures) n)
     (c .before .before .before .before .put .ensures)
 
 pub store-spec : {M : Type 1} → statement M

@@ -2,7 +2,7 @@
 use mathlib.Core.Path.{sym, ap, _∙_}
 use Rattle.netlist.specs.Read.{operandsGiven}
 use Rattle.read_netlist.specs.Marks.{marked}
-use Rattle.read_netlist.proofs.Entries.{said-constant, said-operands}
+use Rattle.gate_table.proofs.Entries.{said-constant, said-operands}
 use Rattle.read_netlist.proofs.Marking.{and-second, and-first}
 use borrow.Author.Needs.{needs}
 use Rattle.read_netlist.proofs.marks.operands_given.Statement.{statement}

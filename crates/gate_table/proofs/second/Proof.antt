@@ -1,7 +1,7 @@
 -- Either choice.
 use borrow.Author.Tests.{lt-ltb, le-ltb}
-use Rattle.read_netlist.proofs.entry.second.Statement.{statement}
-use Rattle.read_netlist.proofs.entry.second.Tie as tie
+use Rattle.gate_table.proofs.second.Statement.{statement}
+use Rattle.gate_table.proofs.second.Tie as tie
 
 returns : tie.Need-returns
 returns c = rw (lt-ltb _ _ (c .if1 .taken))

@@ -1,5 +1,5 @@
 -- A gate's numbers, and its two entries.
-use Prim.Native.Nat.{ℕ, _+_, _*_, _<_, _≤_}
+use Prim.Native.Nat.{ℕ, zero, suc, _+_, _*_, _<_, _≤_}
 use mathlib.Core.Path.{_≡_, refl, sym, ap, _∙_, subst}
 use mathlib.Core.Bool.{Bool, true, false, cond, _&&_, _||_}
 use mathlib.Core.List.{[], _∷_, _++_}
@@ -13,10 +13,10 @@ use Rattle.netlist.specs.Read.{operandsGiven}
 use Rattle.netlist.specs.Table.{Tables, half, gateOf, gatesOf, putEntry}
 use Rattle.netlist.proofs.Tests.{onBool}
 use Rattle.netlist.proofs.Puts.{entry-low, entry-high, Room, gates-put, wired-put}
-use Rattle.read_gate_line.specs.GateAnswers.{gateFor, gateSaid}
-use Rattle.read_gate_line.specs.declared.gate.GateNumbers.{GateNumbers}
-use Rattle.read_netlist.specs.Gates.{Stored}
-use Rattle.read_netlist.specs.Entry.{hasConstant, secondOf, Names, Entered}
+use Rattle.gate_table.specs.declared.GateNumbers.{GateNumbers}
+use Rattle.gate_table.specs.declared.Entry.{Entry}
+use Rattle.gate_table.specs.Numbers.{gateFor, gateSaid, hasConstant, secondOf, Names}
+use Rattle.gate_table.specs.Entry.{packed, entryOf, Entered, Stored}
 
 -- ---- by the kind
 
@@ -74,45 +74,52 @@ said-result g = onBool (hasConstant g)
 
 -- ---- the entries
 
--- the two entries are those of a kind, its operands and its result
-abbrev pub Packed : ℕ → ℕ → ℕ → ℕ → ℕ → ℕ → Type 0
-Packed k a b c o r = (o ≡ a + b * half) × (r ≡ c + k * half)
-
 -- a kind, two operands and a result as two entries
-entered : (W k a b c : ℕ) → k < 8 → a < W → b < W → c < W → a < half → c < half → (g : Gate) → gateOf k a b c ≡ g
-    → {o r : ℕ} → Packed k a b c o r → Entered W g o r
-entered W k a b c lk la lb lc fa fc g e {o} {r} h =
+pub entered : (W k a b c : ℕ) → k < 8 → a < W → b < W → c < W → a < half → c < half → (g : Gate) → gateOf k a b c ≡ g
+    → Entered W g (packed k a b c .operands) (packed k a b c .results)
+entered W k a b c lk la lb lc fa fc g e =
     let ol = entry-low a b fa in
     let oh = entry-high a b fa in
     let rl = entry-low c k fc in
     let rh = entry-high c k fc in
-    rw (h .0, h .1) (record {
+    record {
       gate = rw (ol, oh, rl, rh) e;
       named = record { kind = rw rh lk; left = rw ol la; right = rw oh lb; result = rw rl lc };
-    })
+    }
 
-module _ (g : GateNumbers) {o r : ℕ} (fa : g .left < half) (fc : g .result < half) where
+-- the entries hold the gate
+abbrev Holds : ℕ → Gate → Entry → Type 0
+Holds W g e = Entered W g (e .operands) (e .results)
+
+module _ (g : GateNumbers) (fa : g .left < half) (fc : g .result < half) (W : ℕ) where
   -- a gate without a constant
-  pub enter-operands : hasConstant g ≡ false → Packed (g .kind) (g .left) (secondOf g) (g .result) o r
-      → (W : ℕ) → Names W (gateSaid g) → Entered W (gateSaid g) o r
-  enter-operands e h W n =
+  enter-operands : hasConstant g ≡ false → Names W (gateSaid g) → Holds W (gateSaid g) (packed (g .kind) (g .left) (secondOf g) (g .result))
+  enter-operands e n =
       let a = g .left in
       let b = g .right in
       let c = g .result in
       by-kind
-      (λ k. Packed k a (cond (ltb 2 k) a b) c o r → Names W (gateFor k a b c) → Entered W (gateFor k a b c) o r)
-      (λ h n. entered W 1 a b c (lit< tt) (n .0) (n .1) (n .2) fa fc _ refl h)
-      (λ h n. entered W 2 a b c (lit< tt) (n .0) (n .1) (n .2) fa fc _ refl h)
-      (λ h n. entered W 3 a a c (lit< tt) (n .0) (n .0) (n .1) fa fc _ refl h)
-      (λ h n. entered W 4 a a c (lit< tt) (n .0) (n .0) (n .1) fa fc _ refl h)
-      (g .kind) e h n
+      (λ k. Names W (gateFor k a b c) → Holds W (gateFor k a b c) (packed k a (cond (ltb 2 k) a b) c))
+      (λ n. entered W 1 a b c (lit< tt) (n .0) (n .1) (n .2) fa fc _ refl)
+      (λ n. entered W 2 a b c (lit< tt) (n .0) (n .1) (n .2) fa fc _ refl)
+      (λ n. entered W 3 a a c (lit< tt) (n .0) (n .0) (n .1) fa fc _ refl)
+      (λ n. entered W 4 a a c (lit< tt) (n .0) (n .0) (n .1) fa fc _ refl)
+      (g .kind) e n
 
   -- a constant of either value
-  pub enter-constant : hasConstant g ≡ true → (k v : ℕ) → k < 8 → (g .left < 2 → g .left ≡ v) → gateOf k 0 0 (g .result) ≡ Eq v (g .result)
-      → Packed k 0 0 (g .result) o r → (W : ℕ) → Names W (gateSaid g) → Entered W (gateSaid g) o r
-  enter-constant e k v lk lv q h W n =
-      let m : Names W (Eq (g .left) (g .result)) = rw (said-constant g e) at n in
-      rw (said-constant g e, lv (m .0)) (entered W k 0 0 (g .result) lk (omega (arith, m .1)) (omega (arith, m .1)) (m .1) (lit< tt) fc _ q h)
+  enter-bit : (v c : ℕ) → c < half → Names W (Eq v c) → Holds W (Eq v c) (packed (cond (eqb v 0) 5 6) 0 0 c)
+  enter-bit zero c f n = entered W 5 0 0 c (lit< tt) (omega (arith, n .1)) (omega (arith, n .1)) (n .1) (lit< tt) f _ refl
+  enter-bit (suc zero) c f n = entered W 6 0 0 c (lit< tt) (omega (arith, n .1)) (omega (arith, n .1)) (n .1) (lit< tt) f _ refl
+  enter-bit (suc (suc v)) c f n = absurd (omega (arith, n .0))
+
+  enter-constant : hasConstant g ≡ true → Names W (gateSaid g) → Holds W (gateSaid g) (packed (cond (eqb (g .left) 0) 5 6) 0 0 (g .result))
+  enter-constant e n = rw (said-constant g e) (enter-bit (g .left) (g .result) fc (rw (said-constant g e) at n))
+
+  -- a gate's entries hold it
+  pub gate-entered : {e : Entry} → e ≡ entryOf g → Names W (gateSaid g) → Entered W (gateSaid g) (e .operands) (e .results)
+  gate-entered p n = rw p (onBool (hasConstant g)
+      (λ h. rw h (enter-constant h n))
+      (λ h. rw h (enter-operands h n)))
 
 -- a gate's entries, put behind the first n gates
 pub stored : {W n o r : ℕ} {g : Gate} {u : Tables} (t : Tables) → Room t n → Entered W g o r → u ≡ putEntry t n o r → Stored W t n g u

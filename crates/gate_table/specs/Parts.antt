@@ -2,7 +2,7 @@
 use Prim.Native.Nat.{ℕ, _/_, _%_, _<_}
 use Rattle.netlist.specs.declared.Gate.{Gate}
 use Rattle.netlist.specs.Table.{gateOf, half}
-use Rattle.evaluate.specs.declared.gate.Parts.{Parts}
+use Rattle.gate_table.specs.declared.Parts.{Parts}
 
 abbrev pub partsOf : ℕ → ℕ → Parts
 partsOf o r = record { left = o % half; right = o / half; result = r % half; kind = r / half }

@@ -1,7 +1,7 @@
 -- The kinds one after another.
 use borrow.Author.Tests.{ne-eqb}
-use Rattle.read_gate_line.proofs.gate.gate_of.Statement.{statement}
-use Rattle.read_gate_line.proofs.gate.gate_of.Tie as tie
+use Rattle.gate_table.proofs.gate_of.Statement.{statement}
+use Rattle.gate_table.proofs.gate_of.Tie as tie
 
 returns : tie.Need-returns
 returns c = rw (c .match .keys1)

@@ -1,7 +1,7 @@
 -- Either test.
 use borrow.Author.Tests.{eq-eqb, ne-eqb}
-use Rattle.read_netlist.proofs.entry.has_constant.Statement.{statement}
-use Rattle.read_netlist.proofs.entry.has_constant.Tie as tie
+use Rattle.gate_table.proofs.has_constant.Statement.{statement}
+use Rattle.gate_table.proofs.has_constant.Tie as tie
 
 returns : tie.Need-returns
 returns c = rw (eq-eqb _ _ (c .if1 .taken))
