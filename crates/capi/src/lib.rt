@@ -87,7 +87,8 @@ pub extern "C" fn fidrovelj_rewrite(
     given: &mut [u8],
     whole: u8,
 ) -> i64
-    ensures { λ r. ⌜ Told (RewritePromise (sizesOf whole) (now (text .entry)) (now (out .entry)) (now (out .exit)) (now (operands .entry)) (now (operands .exit)) (now (results .entry)) (now (results .exit)) (now (given .entry)) (now (given .exit))) r ⌝ }
+    ensures { λ r. ⌜ Told (RewritePromise (sizesOf whole) (now (text .entry)) (now (out .entry)) (now (out .exit)) (now (operands .entry))
+        (now (operands .exit)) (now (results .entry)) (now (results .exit)) (now (given .entry)) (now (given .exit))) r ⌝ }
 {
     number(rewrite::rewrite(text, out, operands, results, given, sizes(whole)))
 }
@@ -104,7 +105,9 @@ pub extern "C" fn fidrovelj_run(
     words: &mut [u64],
     whole: u8,
 ) -> i64
-    ensures { λ r. ⌜ Told (RunPromise (sizesOf whole) (now (text .entry)) (now (list .entry)) (now (out .entry)) (now (out .exit)) (now (operands .entry)) (now (operands .exit)) (now (results .entry)) (now (results .exit)) (now (given .entry)) (now (given .exit)) (now (words .entry)) (now (words .exit))) r ⌝ }
+    ensures { λ r. ⌜ Told (RunPromise (sizesOf whole) (now (text .entry)) (now (list .entry)) (now (out .entry)) (now (out .exit))
+        (now (operands .entry)) (now (operands .exit)) (now (results .entry)) (now (results .exit)) (now (given .entry)) (now (given .exit))
+        (now (words .entry)) (now (words .exit))) r ⌝ }
 {
     number(run::run(
         text,
@@ -130,7 +133,9 @@ pub extern "C" fn fidrovelj_run64(
     words: &mut [u64],
     whole: u8,
 ) -> i64
-    ensures { λ r. ⌜ Told (Run64Promise (sizesOf whole) (now (text .entry)) (now (list .entry)) (now (out .entry)) (now (out .exit)) (now (operands .entry)) (now (operands .exit)) (now (results .entry)) (now (results .exit)) (now (given .entry)) (now (given .exit)) (now (words .entry)) (now (words .exit))) r ⌝ }
+    ensures { λ r. ⌜ Told (Run64Promise (sizesOf whole) (now (text .entry)) (now (list .entry)) (now (out .entry)) (now (out .exit))
+        (now (operands .entry)) (now (operands .exit)) (now (results .entry)) (now (results .exit)) (now (given .entry)) (now (given .exit))
+        (now (words .entry)) (now (words .exit))) r ⌝ }
 {
     number(run64::run64(
         text,
@@ -158,7 +163,9 @@ pub extern "C" fn fidrovelj_mask(
     marks: &mut [u8],
     whole: u8,
 ) -> i64
-    ensures { λ r. ⌜ Told (MaskPromise (sizesOf whole) (now (text .entry)) (now (codes .entry)) (now (wanted .entry)) (now (out .entry)) (now (out .exit)) (now (ends .entry)) (now (ends .exit)) (now (operands .entry)) (now (operands .exit)) (now (results .entry)) (now (results .exit)) (now (wires .entry)) (now (wires .exit)) (now (marks .entry)) (now (marks .exit))) r ⌝ }
+    ensures { λ r. ⌜ Told (MaskPromise (sizesOf whole) (now (text .entry)) (now (codes .entry)) (now (wanted .entry)) (now (out .entry))
+        (now (out .exit)) (now (ends .entry)) (now (ends .exit)) (now (operands .entry)) (now (operands .exit)) (now (results .entry))
+        (now (results .exit)) (now (wires .entry)) (now (wires .exit)) (now (marks .entry)) (now (marks .exit))) r ⌝ }
 {
     number(mask::mask(
         text,
@@ -187,7 +194,9 @@ pub extern "C" fn fidrovelj_check(
     base: &mut [u64],
     whole: u8,
 ) -> i64
-    ensures { λ r. ⌜ ToldLeak (CheckPromise (sizesOf whole) (now (text .entry)) (now (codes .entry)) (now (operands .entry)) (now (operands .exit)) (now (results .entry)) (now (results .exit)) (now (given .entry)) (now (given .exit)) (now (words .entry)) (now (words .exit)) (now (base .entry)) (now (base .exit))) (now (leak .entry)) (now (leak .exit)) r ⌝ }
+    ensures { λ r. ⌜ ToldLeak (CheckPromise (sizesOf whole) (now (text .entry)) (now (codes .entry)) (now (operands .entry))
+        (now (operands .exit)) (now (results .entry)) (now (results .exit)) (now (given .entry)) (now (given .exit)) (now (words .entry))
+        (now (words .exit)) (now (base .entry)) (now (base .exit))) (now (leak .entry)) (now (leak .exit)) r ⌝ }
 {
     tell(
         leak,

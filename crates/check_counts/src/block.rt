@@ -22,7 +22,8 @@ pub fn side(
 )
     requires { ⌜ Wired (tables (now operands) (now results)) (length (now words)) count ⌝ }
     requires { ⌜ (length (now codes) < 64) × (length (now codes) + 2 ≤ length (now words)) ⌝ }
-    ensures { λ _. ⌜ (let N = bare (tables (now (operands .entry)) (now (results .entry))) count (length (now (words .entry))) in Counted N whole (now (codes .entry)) (onesOf (now (words .exit))) block) ⌝ }
+    ensures { λ _. ⌜ (let N = bare (tables (now (operands .entry)) (now (results .entry))) count (length (now (words .entry))) in Counted N
+        whole (now (codes .entry)) (onesOf (now (words .exit))) block) ⌝ }
 {
     load::inputs(codes, whole, block, words);
     evaluate::wires(operands, results, count, codes.len() + 2, words);
@@ -79,8 +80,11 @@ pub fn refresh(
 )
     requires { ⌜ Wired (tables (now operands) (now results)) (length (now words)) count ⌝ }
     requires { ⌜ (length (now codes) < 64) × (length (now codes) + 2 ≤ length (now words)) × (length (now base) ≡ length (now words)) ⌝ }
-    requires { ⌜ (let N = bare (tables (now operands) (now results)) count (length (now words)) in Counted N true (now codes) (onesOf (now words)) block × Ready mixed N (now codes) (now base) block) ⌝ }
-    ensures { λ _. ⌜ (let N = bare (tables (now (operands .entry)) (now (results .entry))) count (length (now (words .entry))) in Counted N false (now (codes .entry)) (nibblesOf (now (base .exit))) block × Ready mixed N (now (codes .entry)) (now (base .exit)) (block + 1)) ⌝ }
+    requires { ⌜ (let N = bare (tables (now operands) (now results)) count (length (now words)) in Counted N true (now codes)
+        (onesOf (now words)) block × Ready mixed N (now codes) (now base) block) ⌝ }
+    ensures { λ _. ⌜ (let N = bare (tables (now (operands .entry)) (now (results .entry))) count (length (now (words .entry))) in Counted N
+        false (now (codes .entry)) (nibblesOf (now (base .exit))) block × Ready mixed N (now (codes .entry)) (now (base .exit)) (block + 1))
+        ⌝ }
 {
     if mixed {
         side(operands, results, count, codes, false, block, base);

@@ -61,7 +61,8 @@ fn chosen(i: usize, code: u8, whole: bool, block: u64) -> u64
 // Input wire i: its bit, masked.
 fn input(i: usize, code: u8, whole: bool, block: u64) -> u64
     requires { ⌜ i < 64 ⌝ }
-    ensures { λ r. ⌜ ((j : ℕ) → j < 64 → lane j r ≡ differs (kept whole code (lane i ((block * 64 + j) / 4))) (maskOf (lane 0 (block * 64 + j)) (lane 1 (block * 64 + j)) code)) ⌝ }
+    ensures { λ r. ⌜ ((j : ℕ) → j < 64 → lane j r ≡ differs (kept whole code (lane i ((block * 64 + j) / 4)))
+        (maskOf (lane 0 (block * 64 + j)) (lane 1 (block * 64 + j)) code)) ⌝ }
 {
     chosen(i, code, whole, block) ^ mask(code)
 }
@@ -69,7 +70,8 @@ fn input(i: usize, code: u8, whole: bool, block: u64) -> u64
 // All input wires of a block's settings, or of their bases: the masked bits, then the mask pair.
 pub fn inputs(codes: &[u8], whole: bool, block: u64, words: &mut [u64])
     requires { ⌜ (length (now codes) < 64) × (length (now codes) + 2 ≤ length (now words)) ⌝ }
-    ensures { λ _. ⌜ ((j : ℕ) → j < 64 → lanes j (take (length (now (codes .entry)) + 2) (now (words .exit))) ≡ inputsAt whole (now (codes .entry)) (block * 64 + j)) ⌝ }
+    ensures { λ _. ⌜ ((j : ℕ) → j < 64 → lanes j (take (length (now (codes .entry)) + 2) (now (words .exit)))
+        ≡ inputsAt whole (now (codes .entry)) (block * 64 + j)) ⌝ }
 {
     let n = codes.len();
     let mut i = 0;

@@ -35,8 +35,12 @@ fn turn(
     limit: usize,
 ) -> Spot
     requires { ⌜ Wired (tables (now operands) (now results)) (length (now words)) count ⌝ }
-    requires { ⌜ (length (now codes) < 64) × (length (now codes) + 2 ≤ length (now words)) × (length (now base) ≡ length (now words)) × (limit ≤ length (now words)) × Ready mixed (bare (tables (now operands) (now results)) count (length (now words))) (now codes) (now base) block ⌝ }
-    ensures { λ r. ⌜ (let N = bare (tables (now (operands .entry)) (now (results .entry))) count (length (now (words .entry))) in Spotted (from (block * 16) (countIn N false (now (codes .entry)))) (from (block * 16) (countIn N true (now (codes .entry)))) limit 16 r × Ready mixed N (now (codes .entry)) (now (base .exit)) (block + 1)) ⌝ }
+    requires { ⌜ (length (now codes) < 64) × (length (now codes) + 2 ≤ length (now words)) × (length (now base) ≡ length (now words))
+        × (limit ≤ length (now words)) × Ready mixed (bare (tables (now operands) (now results)) count (length (now words))) (now codes)
+        (now base) block ⌝ }
+    ensures { λ r. ⌜ (let N = bare (tables (now (operands .entry)) (now (results .entry))) count (length (now (words .entry))) in Spotted
+        (from (block * 16) (countIn N false (now (codes .entry)))) (from (block * 16) (countIn N true (now (codes .entry)))) limit 16 r
+        × Ready mixed N (now (codes .entry)) (now (base .exit)) (block + 1)) ⌝ }
 {
     block::side(operands, results, count, codes, true, block, words);
     block::refresh(operands, results, count, codes, mixed, block, words, base);
@@ -55,8 +59,10 @@ fn find(
     base: &mut [u64],
 ) -> Spot
     requires { ⌜ Wired (tables (now operands) (now results)) (length (now words)) count ⌝ }
-    requires { ⌜ (length (now codes) < 64) × (length (now codes) + 2 ≤ length (now words)) × (length (now base) ≡ length (now words)) × (blocks < 65536) ⌝ }
-    ensures { λ r. ⌜ (let N = bare (tables (now (operands .entry)) (now (results .entry))) count (length (now (words .entry))) in Spotted (countIn N false (now (codes .entry))) (countIn N true (now (codes .entry))) (length (now (words .entry))) (blocks * 16) r) ⌝ }
+    requires { ⌜ (length (now codes) < 64) × (length (now codes) + 2 ≤ length (now words)) × (length (now base) ≡ length (now words))
+        × (blocks < 65536) ⌝ }
+    ensures { λ r. ⌜ (let N = bare (tables (now (operands .entry)) (now (results .entry))) count (length (now (words .entry))) in Spotted
+        (countIn N false (now (codes .entry))) (countIn N true (now (codes .entry))) (length (now (words .entry))) (blocks * 16) r) ⌝ }
 {
     let mixed = block::public(codes);
     let mut best = spot::none(words.len());
@@ -100,7 +106,8 @@ pub fn leaks(
 ) -> Verdict
     requires { ⌜ Wired (tables (now operands) (now results)) (length (now words)) count ⌝ }
     requires { ⌜ (length (now codes) ≤ maxChecked) × (length (now codes) + 2 ≤ length (now words)) × (length (now base) ≡ length (now words)) ⌝ }
-    ensures { λ r. ⌜ ((n o : ℕ) (N : Netlist) → Holds (tables (now (operands .entry)) (now (results .entry))) count (length (now (words .entry))) n o N → foundOf r ≡ leak N (now (codes .entry))) ⌝ }
+    ensures { λ r. ⌜ ((n o : ℕ) (N : Netlist) → Holds (tables (now (operands .entry)) (now (results .entry))) count
+        (length (now (words .entry))) n o N → foundOf r ≡ leak N (now (codes .entry))) ⌝ }
 {
     let spot = find(
         operands,

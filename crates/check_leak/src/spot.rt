@@ -33,7 +33,8 @@ pub fn none(limit: usize) -> Spot
 // first that has not, so that it can be compiled to compare many wires at a time.
 fn quiet(words: &[u64], base: &[u64], limit: usize) -> bool
     requires { ⌜ (limit ≤ length (now words)) × (limit ≤ length (now base)) ⌝ }
-    ensures { λ r. ⌜ (r ≡ true → Agree (nibblesOf (now (base .entry))) (onesOf (now (words .entry))) limit 16) × (r ≡ false → Agree (nibblesOf (now (base .entry))) (onesOf (now (words .entry))) limit 16 → ⊥) ⌝ }
+    ensures { λ r. ⌜ (r ≡ true → Agree (nibblesOf (now (base .entry))) (onesOf (now (words .entry))) limit 16)
+        × (r ≡ false → Agree (nibblesOf (now (base .entry))) (onesOf (now (words .entry))) limit 16 → ⊥) ⌝ }
 {
     let mut d = 0;
     let mut w = 0;
@@ -82,7 +83,8 @@ pub fn scan(words: &[u64], base: &[u64], limit: usize) -> Spot
 // The better of the best spot so far and a block's spot, which was looked for on lower wires only.
 pub fn better(best: Spot, spot: Spot, block: u64) -> Spot
     requires { ⌜ (block < 65536) × (spot .wire < best .wire → spot .at < 16) ⌝ }
-    ensures { λ r. ⌜ ((f g : ℕ → ℕ → ℕ) (W : ℕ) → Spotted f g W (block * 16) best → Spotted (from (block * 16) f) (from (block * 16) g) (best .wire) 16 spot → Spotted f g W (block * 16 + 16) r) ⌝ }
+    ensures { λ r. ⌜ ((f g : ℕ → ℕ → ℕ) (W : ℕ) → Spotted f g W (block * 16) best
+        → Spotted (from (block * 16) f) (from (block * 16) g) (best .wire) 16 spot → Spotted f g W (block * 16 + 16) r) ⌝ }
 {
     if spot.wire < best.wire {
         Spot {

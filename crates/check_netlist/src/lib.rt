@@ -1,6 +1,6 @@
 // Questions 10 to 12 of a netlist that was read, and the verdict on it.
-use read_header::HeaderNumbers;
 use check_leak::search::Verdict;
+use read_header::HeaderNumbers;
 ghost use mathlib.Core.Path.{_≡_};
 ghost use Prim.Native.Nat.{ℕ, _+_, _≤_};
 ghost use lib.ListN.{length, take};
@@ -46,7 +46,8 @@ fn verdict(
 ) -> Checked
     requires { ⌜ Wired (tables (now operands) (now results)) wires count ⌝ }
     requires { ⌜ (length (now codes) ≤ maxChecked) × (length (now codes) + 2 ≤ wires) × (wires ≤ length (now words)) × (wires ≤ length (now base)) ⌝ }
-    ensures { λ r. ⌜ ((n o : ℕ) (N : Netlist) → Holds (tables (now (operands .entry)) (now (results .entry))) count wires n o N → outcomeOf r ≡ done (leakOf N (now (codes .entry)))) ⌝ }
+    ensures { λ r. ⌜ ((n o : ℕ) (N : Netlist) → Holds (tables (now (operands .entry)) (now (results .entry))) count wires n o N
+        → outcomeOf r ≡ done (leakOf N (now (codes .entry)))) ⌝ }
 {
     match check_leak::search::leaks(
         operands,

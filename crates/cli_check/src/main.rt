@@ -26,7 +26,8 @@ fn answer(
     base: &mut [u64],
 ) -> Checked
     requires { ⌜ Roomy (now operands) (now results) (now given) (now words) (now base) ⌝ }
-    ensures { λ r. ⌜ outcomeOf r ≡ readable (now (netlist .entry)) (checkCall (largeLimits Old) [] (now (netlist .entry)) (listFile (now (inputs .entry)))) ⌝ }
+    ensures { λ r. ⌜ outcomeOf r ≡ readable (now (netlist .entry))
+        (checkCall (largeLimits Old) [] (now (netlist .entry)) (listFile (now (inputs .entry)))) ⌝ }
 {
     if 60000 < netlist.len() {
         return Checked::Refused(2);

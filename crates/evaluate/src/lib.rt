@@ -17,7 +17,8 @@ ghost use Rattle.evaluate.specs.Bare.{bare};
 // apart a turn before its step: so it is compiled to fewer instructions.
 fn run(operands: &[u64], results: &[u64], count: usize, words: &mut [u64])
     requires { ⌜ Wired (tables (now operands) (now results)) (length (now words)) count ⌝ }
-    ensures { λ _. ⌜ ((j : ℕ) → j < 64 → lanes j (now (words .exit)) ≡ runGates (lanes j (now (words .entry))) (gatesOf (tables (now (operands .entry)) (now (results .entry))) count)) ⌝ }
+    ensures { λ _. ⌜ ((j : ℕ) → j < 64 → lanes j (now (words .exit))
+        ≡ runGates (lanes j (now (words .entry))) (gatesOf (tables (now (operands .entry)) (now (results .entry))) count)) ⌝ }
 {
     if count == 0 {
         return;
@@ -37,7 +38,9 @@ fn run(operands: &[u64], results: &[u64], count: usize, words: &mut [u64])
 pub fn wires(operands: &[u64], results: &[u64], count: usize, ins: usize, words: &mut [u64])
     requires { ⌜ Wired (tables (now operands) (now results)) (length (now words)) count ⌝ }
     requires { ⌜ ins ≤ length (now words) ⌝ }
-    ensures { λ _. ⌜ ((j : ℕ) → j < 64 → lanes j (now (words .exit)) ≡ wireBits (bare (tables (now (operands .entry)) (now (results .entry))) count (length (now (words .entry)))) (lanes j (take ins (now (words .entry))))) ⌝ }
+    ensures { λ _. ⌜ ((j : ℕ) → j < 64 → lanes j (now (words .exit))
+        ≡ wireBits (bare (tables (now (operands .entry)) (now (results .entry))) count (length (now (words .entry))))
+        (lanes j (take ins (now (words .entry))))) ⌝ }
 {
     clear::words(&mut words[ins..]);
     run(operands, results, count, words);

@@ -21,7 +21,8 @@ pub fn outputs(
 )
     requires { ⌜ Wired (tables (now operands) (now results)) (length (now words)) count ⌝ }
     requires { ⌜ (length (now bits) ≤ length (now words)) × (outs ≤ length (now words)) × (outs ≤ length (now out)) ⌝ }
-    ensures { λ _. ⌜ ((N : Netlist) → Holds (tables (now (operands .entry)) (now (results .entry))) count (length (now (words .entry))) (length (now (bits .entry))) outs N → now (out .exit) ≡ sets (now (out .entry)) 0 (outputList N (now (bits .entry)))) ⌝ }
+    ensures { λ _. ⌜ ((N : Netlist) → Holds (tables (now (operands .entry)) (now (results .entry))) count (length (now (words .entry)))
+        (length (now (bits .entry))) outs N → now (out .exit) ≡ sets (now (out .entry)) 0 (outputList N (now (bits .entry)))) ⌝ }
 {
     lay::bits(bits, words);
     crate::wires(operands, results, count, bits.len(), words);

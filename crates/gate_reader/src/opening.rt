@@ -1,10 +1,10 @@
 // Opening a gate reader: questions 2 to 6 with the large limits.
+use netlist::Sizes;
+use netlist::large;
 use read_header::HeaderNumbers;
 use read_header::head::Head;
 use read_header::head::read_head;
 use read_header::keep;
-use netlist::Sizes;
-use netlist::large;
 use read_text::count::count_lines;
 ghost use mathlib.Core.Path.{_≡_};
 ghost use Prim.Native.Nat.{_≤_};
@@ -34,7 +34,8 @@ fn copy(widths: &[u32], count: usize, table: &mut [u32])
 // Questions 2 to 6. The widths of the values go to the front of the tables, as many as they have room for; on a refusal
 // the tables stay untouched.
 pub fn open_at(text: &[u8], inputs: &mut [u32], outputs: &mut [u32], sizes: Sizes) -> Opening
-    ensures { λ r. ⌜ OpeningIs (largeLimits sizes) (now (text .entry)) (now (inputs .entry)) (now (inputs .exit)) (now (outputs .entry)) (now (outputs .exit)) r ⌝ }
+    ensures { λ r. ⌜ OpeningIs (largeLimits sizes) (now (text .entry)) (now (inputs .entry)) (now (inputs .exit)) (now (outputs .entry))
+        (now (outputs .exit)) r ⌝ }
 {
     let mut ins = [0u32; 17];
     let mut outs = [0u32; 16];

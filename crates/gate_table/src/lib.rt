@@ -10,9 +10,13 @@ ghost use Rattle.gate_table.specs.Parts.{partsOf};
 
 // The kinds. In the tables EQ 0 has the kind EQ, and EQ 1 the one after it.
 pub const XOR: u64 = 1;
+
 pub const AND: u64 = 2;
+
 pub const INV: u64 = 3;
+
 pub const EQW: u64 = 4;
+
 pub const EQ: u64 = 5;
 
 // A gate as plain numbers: its way into the tables needs no jump on its kind. The constant of an EQ stands on the left, and a

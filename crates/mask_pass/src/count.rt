@@ -87,7 +87,8 @@ fn result(c: u32, kind: u64, a: Twin, b: Twin) -> Twin
 fn step(c: u32, operands: u64, results: u64, wire: &mut [u32], code: &mut [u8]) -> u32
     requires { ⌜ c < 2 ^ 31 ⌝ }
     requires { ⌜ Named (length (now wire)) operands results × (length (now code) ≡ length (now wire)) ⌝ }
-    ensures { λ r. ⌜ Advanced (stateOf c (now (wire .entry)) (now (code .entry))) (gateIn operands results) (stateOf r (now (wire .exit)) (now (code .exit))) ⌝ }
+    ensures { λ r. ⌜ Advanced (stateOf c (now (wire .entry)) (now (code .entry))) (gateIn operands results)
+        (stateOf r (now (wire .exit)) (now (code .exit))) ⌝ }
 {
     let g = gate_table::split(operands, results);
     let place = g.result;
@@ -110,7 +111,8 @@ fn gates(
 ) -> u32
     requires { ⌜ c + 8 * count < 2 ^ 31 ⌝ }
     requires { ⌜ Wired (tables (now operands) (now results)) (length (now wire)) count × (length (now code) ≡ length (now wire)) ⌝ }
-    ensures { λ r. ⌜ AdvancedAll (stateOf c (now (wire .entry)) (now (code .entry))) (tables (now (operands .entry)) (now (results .entry))) count (stateOf r (now (wire .exit)) (now (code .exit))) ⌝ }
+    ensures { λ r. ⌜ AdvancedAll (stateOf c (now (wire .entry)) (now (code .entry))) (tables (now (operands .entry)) (now (results .entry)))
+        count (stateOf r (now (wire .exit)) (now (code .exit))) ⌝ }
 {
     let mut next = c;
     let mut i = 0;
@@ -132,7 +134,10 @@ pub fn count(
     code: &mut [u8],
 ) -> u32
     requires { ⌜ Ready (tables (now operands) (now results)) count (now codes) (now wanted) (now wire) (now code) ⌝ }
-    ensures { λ r. ⌜ ((N : Netlist) → Holds (tables (now (operands .entry)) (now (results .entry))) count (length (now (wire .entry))) (length (now (codes .entry))) (length (now (wanted .entry))) N → Counted (maskNetlist N (now (codes .entry)) (now (wanted .entry))) (length (now (codes .entry))) (length (now (wanted .entry))) r) ⌝ }
+    ensures { λ r. ⌜ ((N : Netlist) → Holds (tables (now (operands .entry)) (now (results .entry))) count (length (now (wire .entry)))
+        (length (now (codes .entry))) (length (now (wanted .entry))) N
+        → Counted (maskNetlist N (now (codes .entry)) (now (wanted .entry))) (length (now (codes .entry))) (length (now (wanted .entry))) r)
+        ⌝ }
 {
     let n = codes.len() as u32;
     let first = crate::twins::start(n + 5, codes, wire, code);

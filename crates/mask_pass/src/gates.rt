@@ -27,7 +27,8 @@ fn step(
     requires { ⌜ WordTable (now d) ⌝ }
     requires { ⌜ (n < 2 ^ 31) × (c < 2 ^ 31) ⌝ }
     requires { ⌜ Named (length (now wire)) operands results × (length (now code) ≡ length (now wire)) ⌝ }
-    ensures { λ t. ⌜ WroteStep (now (out .entry)) at n (stateOf c (now (wire .entry)) (now (code .entry))) (gateIn operands results) (now (out .exit)) t (stateOf (t .next) (now (wire .exit)) (now (code .exit))) ⌝ }
+    ensures { λ t. ⌜ WroteStep (now (out .entry)) at n (stateOf c (now (wire .entry)) (now (code .entry))) (gateIn operands results)
+        (now (out .exit)) t (stateOf (t .next) (now (wire .exit)) (now (code .exit))) ⌝ }
 {
     let g = gate_table::split(operands, results);
     let result = g.result;
@@ -59,7 +60,9 @@ pub fn gates(
     requires { ⌜ WordTable (now d) ⌝ }
     requires { ⌜ (n < 2 ^ 31) × (c + 8 * count < 2 ^ 31) ⌝ }
     requires { ⌜ Wired (tables (now operands) (now results)) (length (now wire)) count × (length (now code) ≡ length (now wire)) ⌝ }
-    ensures { λ t. ⌜ WroteAll (now (out .entry)) at n (stateOf c (now (wire .entry)) (now (code .entry))) (tables (now (operands .entry)) (now (results .entry))) count (now (out .exit)) t (stateOf (t .next) (now (wire .exit)) (now (code .exit))) ⌝ }
+    ensures { λ t. ⌜ WroteAll (now (out .entry)) at n (stateOf c (now (wire .entry)) (now (code .entry)))
+        (tables (now (operands .entry)) (now (results .entry))) count (now (out .exit)) t
+        (stateOf (t .next) (now (wire .exit)) (now (code .exit))) ⌝ }
 {
     let mut place = at;
     let mut next = c;

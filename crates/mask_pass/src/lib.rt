@@ -42,7 +42,10 @@ pub fn pass(
 ) -> Next
     requires { ⌜ WordTable (now d) ⌝ }
     requires { ⌜ Ready (tables (now operands) (now results)) count (now codes) (now wanted) (now wire) (now code) ⌝ }
-    ensures { λ r. ⌜ ((N : Netlist) → Holds (tables (now (operands .entry)) (now (results .entry))) count (length (now (wire .entry))) (length (now (codes .entry))) (length (now (wanted .entry))) N → WrotePass (now (out .entry)) at (maskNetlist N (now (codes .entry)) (now (wanted .entry))) (length (now (codes .entry))) (now (wanted .entry)) (now (out .exit)) r (now (code .exit))) ⌝ }
+    ensures { λ r. ⌜ ((N : Netlist) → Holds (tables (now (operands .entry)) (now (results .entry))) count (length (now (wire .entry)))
+        (length (now (codes .entry))) (length (now (wanted .entry))) N
+        → WrotePass (now (out .entry)) at (maskNetlist N (now (codes .entry)) (now (wanted .entry))) (length (now (codes .entry)))
+        (now (wanted .entry)) (now (out .exit)) r (now (code .exit))) ⌝ }
 {
     let n = codes.len() as u32;
     let next = crate::twins::start(n + 5, codes, wire, code);

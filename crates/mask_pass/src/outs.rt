@@ -44,7 +44,8 @@ pub fn outs(
     requires { ⌜ WordTable (now d) ⌝ }
     requires { ⌜ (n < 2 ^ 31) × (c + length (now wanted) < 2 ^ 31) ⌝ }
     requires { ⌜ (from + length (now wanted) ≡ length (now wire)) × (length (now code) ≡ length (now wire)) ⌝ }
-    ensures { λ r. ⌜ WroteGates (now (out .entry)) at (outGates n c (drop from (twinsOf (now (wire .entry)) (now (code .entry)))) (now (wanted .entry))) (now (out .exit)) r ⌝ }
+    ensures { λ r. ⌜ WroteGates (now (out .entry)) at (outGates n c (drop from (twinsOf (now (wire .entry)) (now (code .entry))))
+        (now (wanted .entry))) (now (out .exit)) r ⌝ }
 {
     let mut place = at;
     let mut next = c;
@@ -71,7 +72,8 @@ fn pick(e: u8, want: u8) -> u8
 // The output codes, of the source wires from a wire on.
 pub fn codes(code: &[u8], from: usize, wanted: &[u8], result: &mut [u8])
     requires { ⌜ from + length (now wanted) ≡ length (now code) ⌝ }
-    ensures { λ _. ⌜ Wrote (now (result .entry)) 0 (codesOf (drop from (now (code .entry))) (now (wanted .entry))) (now (result .exit)) (length (now (wanted .entry))) ⌝ }
+    ensures { λ _. ⌜ Wrote (now (result .entry)) 0 (codesOf (drop from (now (code .entry))) (now (wanted .entry))) (now (result .exit))
+        (length (now (wanted .entry))) ⌝ }
 {
     let mut i = 0;
     while i < wanted.len() {

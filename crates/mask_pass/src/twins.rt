@@ -32,7 +32,9 @@ fn input(c: u32, w: u32, e: u8) -> Twin
 // The twins of the inputs, with the public bits' gates at the wires from c, and the next wire; the other entries are kept.
 fn inputs(c: u32, codes: &[u8], wire: &mut [u32], code: &mut [u8]) -> u32
     requires { ⌜ (length (now code) ≡ length (now wire)) × (length (now codes) ≤ length (now wire)) × (c + length (now codes) < 2 ^ 31) ⌝ }
-    ensures { λ r. ⌜ (r ≡ pastPublics c (now (codes .entry))) × (twinsOf (now (wire .exit)) (now (code .exit)) ≡ inputTwins c 0 (now (codes .entry)) ++ drop (length (now (codes .entry))) (twinsOf (now (wire .entry)) (now (code .entry)))) ⌝ }
+    ensures { λ r. ⌜ (r ≡ pastPublics c (now (codes .entry))) ×
+        (twinsOf (now (wire .exit)) (now (code .exit)) ≡ inputTwins c 0 (now (codes .entry)) ++ drop (length (now (codes .entry)))
+        (twinsOf (now (wire .entry)) (now (code .entry)))) ⌝ }
 {
     let mut i = 0;
     let mut w = 0;

@@ -242,7 +242,15 @@ pub fn deliver(
         (maskedText (maskNetlist N (now (codes .entry)) (now (wanted .entry))))) (now (out .entry)) (now (out .exit)) (now (ends .entry))
         (now (ends .exit)) r) ⌝ }
 {
-    let wires = mask_pass::count::count(operands, results, count, codes, wanted, wire, code) as usize;
+    let wires = mask_pass::count::count(
+        operands,
+        results,
+        count,
+        codes,
+        wanted,
+        wire,
+        code,
+    ) as usize;
     let gates = wires - (codes.len() + 2);
     if wires <= 100 {
         let none = [0u64; 1];

@@ -98,7 +98,8 @@ fn wide(b: u8) -> usize
 
 // A list as digits, and LF.
 pub fn digits(out: &mut [u8], list: &[u8]) -> usize
-    ensures { λ r. ⌜ WroteFew (3 * length (now (list .entry)) + 1) (now (out .entry)) 0 (printList (now (list .entry)) ++ (lf ∷ [])) (now (out .exit)) r ⌝ }
+    ensures { λ r. ⌜ WroteFew (3 * length (now (list .entry)) + 1) (now (out .entry)) 0 (printList (now (list .entry)) ++ (lf ∷ []))
+        (now (out .exit)) r ⌝ }
 {
     let mut at = 0;
     let mut i = 0;

@@ -25,7 +25,8 @@ pub fn operand(
     count: usize,
 ) -> Carried
     requires { ⌜ (n + count + 1 < 2 ^ 32) × (2 ≤ x → 1 ≤ getD (now table) (x / 2) 0) ⌝ }
-    ensures { λ r. ⌜ OperandIs (now (table .entry)) (tables (now (operands .entry)) (now (results .entry))) (tables (now (operands .exit)) (now (results .exit))) n count x (r .wire) (r .count) × (r .count ≤ count + 1) ⌝ }
+    ensures { λ r. ⌜ OperandIs (now (table .entry)) (tables (now (operands .entry)) (now (results .entry)))
+        (tables (now (operands .exit)) (now (results .exit))) n count x (r .wire) (r .count) × (r .count ≤ count + 1) ⌝ }
 {
     let c = n + count as u32;
     if x < 2 {
@@ -69,7 +70,8 @@ pub fn operand(
 // A gate of two operands behind the others.
 fn and_gate(operands: &mut [u64], results: &mut [u64], left: u32, right: u32, n: u32, count: usize)
     requires { ⌜ n + count + 1 < 2 ^ 32 ⌝ }
-    ensures { λ _. ⌜ Keeping (tables (now (operands .entry)) (now (results .entry))) (tables (now (operands .exit)) (now (results .exit))) count (And left right (n + count)) ⌝ }
+    ensures { λ _. ⌜ Keeping (tables (now (operands .entry)) (now (results .entry))) (tables (now (operands .exit)) (now (results .exit)))
+        count (And left right (n + count)) ⌝ }
 {
     keep(
         operands,
@@ -95,7 +97,9 @@ pub fn and_gates(
     count: usize,
 ) -> Carried
     requires { ⌜ (n + count + 3 < 2 ^ 32) × (2 ≤ first → 1 ≤ getD (now table) (first / 2) 0) × (2 ≤ second → 1 ≤ getD (now table) (second / 2) 0) ⌝ }
-    ensures { λ r. ⌜ AndIs (now (table .entry)) (tables (now (operands .entry)) (now (results .entry))) (tables (now (operands .exit)) (now (results .exit))) n count first second (r .wire) (r .count) × (r .count ≤ count + 3) × (r .wire ≤ n + count + 2) ⌝ }
+    ensures { λ r. ⌜ AndIs (now (table .entry)) (tables (now (operands .entry)) (now (results .entry)))
+        (tables (now (operands .exit)) (now (results .exit))) n count first second (r .wire) (r .count) × (r .count ≤ count + 3)
+        × (r .wire ≤ n + count + 2) ⌝ }
 {
     let l = operand(table, operands, results, first, n, count);
     let left = l.wire;
@@ -130,7 +134,8 @@ pub fn out_gate(
     count: usize,
 )
     requires { ⌜ (n + count + 1 < 2 ^ 32) × (2 ≤ x → 1 ≤ getD (now table) (x / 2) 0) ⌝ }
-    ensures { λ _. ⌜ OutIs (now (table .entry)) (tables (now (operands .entry)) (now (results .entry))) (tables (now (operands .exit)) (now (results .exit))) n count x ⌝ }
+    ensures { λ _. ⌜ OutIs (now (table .entry)) (tables (now (operands .entry)) (now (results .entry)))
+        (tables (now (operands .exit)) (now (results .exit))) n count x ⌝ }
 {
     let c = n + count as u32;
     if x < 2 {

@@ -22,7 +22,9 @@ pub enum Step {
 // One input line.
 fn input(text: &[u8], at: Cursor, stray: usize, wire: u32, most: u32, table: &mut [u32]) -> Step
     requires { ⌜ (at .at ≤ strayAt (now text)) × (stray ≡ strayAt (now text)) × (most < length (now table)) × (wire + 1 < 2 ^ 32) ⌝ }
-    ensures { λ r. ⌜ ((given wires : List ℕ) → Places (now (table .entry)) given wires → InputIs (fileLines (drop (at .at) (now (text .entry)))) (now (text .entry)) wire most given (now (table .entry)) (now (table .exit)) r) ⌝ }
+    ensures { λ r. ⌜ ((given wires : List ℕ) → Places (now (table .entry)) given wires
+        → InputIs (fileLines (drop (at .at) (now (text .entry)))) (now (text .entry)) wire most given (now (table .entry))
+        (now (table .exit)) r) ⌝ }
 {
     let mut numbers = [0u32; 1];
     let Line::Is(next) = next_numbers(text, at, stray, &mut numbers) else {
@@ -45,7 +47,8 @@ pub fn inputs(
     most: u32,
     table: &mut [u32],
 ) -> Step
-    requires { ⌜ (from .at ≤ strayAt (now text)) × (stray ≡ strayAt (now text)) × (most < length (now table)) × (now table ≡ replicate (length (now table)) 0) ⌝ }
+    requires { ⌜ (from .at ≤ strayAt (now text)) × (stray ≡ strayAt (now text)) × (most < length (now table))
+        × (now table ≡ replicate (length (now table)) 0) ⌝ }
     ensures { λ r. ⌜ InputsIs (fileLines (drop (from .at) (now (text .entry)))) (now (text .entry)) count most (now (table .exit)) r ⌝ }
 {
     let mut at = from.at;

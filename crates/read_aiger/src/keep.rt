@@ -8,7 +8,8 @@ ghost use Rattle.read_aiger.specs.Places.{Keeping};
 
 // Puts a gate behind the first `at`, where the tables have room.
 pub fn keep(operands: &mut [u64], results: &mut [u64], at: usize, g: GateNumbers)
-    ensures { λ _. ⌜ Keeping (tables (now (operands .entry)) (now (results .entry))) (tables (now (operands .exit)) (now (results .exit))) at (gateSaid g) ⌝ }
+    ensures { λ _. ⌜ Keeping (tables (now (operands .entry)) (now (results .entry))) (tables (now (operands .exit)) (now (results .exit)))
+        at (gateSaid g) ⌝ }
 {
     if at < operands.len() {
         if at < results.len() {

@@ -72,7 +72,8 @@ pub fn keep(table: &mut [u32], n: usize, width: u32)
 // The numbers up to the line's end, each 1 or more. Those past the table's end are read too.
 fn read_widths(text: &[u8], at: Cursor, table: &mut [u32]) -> Widths
     requires { ⌜ (at .at ≤ length (now text)) × (length (now text) < 2 ^ 32) ⌝ }
-    ensures { λ r. ⌜ WidthsIs (now (text .entry)) (at .at) (positives (numbers (lineWords (drop (at .at) (now (text .entry)))))) (now (table .exit)) r ⌝ }
+    ensures { λ r. ⌜ WidthsIs (now (text .entry)) (at .at) (positives (numbers (lineWords (drop (at .at) (now (text .entry))))))
+        (now (table .exit)) r ⌝ }
 {
     let mut i = at.at;
     let mut n: usize = 0;
@@ -97,7 +98,8 @@ fn read_widths(text: &[u8], at: Cursor, table: &mut [u32]) -> Widths
 // Lines two and three: how many values, then the width of each.
 fn values_line(text: &[u8], at: Cursor, table: &mut [u32]) -> Widths
     requires { ⌜ (at .at ≤ length (now text)) × (length (now text) < 2 ^ 32) ⌝ }
-    ensures { λ r. ⌜ WidthsIs (now (text .entry)) (at .at) (values (numbers (lineWords (drop (at .at) (now (text .entry)))))) (now (table .exit)) r ⌝ }
+    ensures { λ r. ⌜ WidthsIs (now (text .entry)) (at .at) (values (numbers (lineWords (drop (at .at) (now (text .entry))))))
+        (now (table .exit)) r ⌝ }
 {
     let Number::Is(count, on) = at.next_number(text) else {
         return Widths::Not;

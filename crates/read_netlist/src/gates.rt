@@ -1,12 +1,12 @@
 // The gate lines: questions 6 to 9, each gate into the tables. An accepted text is walked once; behind a refused line the
 // others are only counted, since question 6 comes first.
-use gate_table::entry_of;
-use gate_table::put;
 use crate::marks::mark;
 use crate::marks::operands_given;
 use crate::marks::result_free;
-use read_gate_line::gate::GateLine;
 use gate_table::GateNumbers;
+use gate_table::entry_of;
+use gate_table::put;
+use read_gate_line::gate::GateLine;
 use read_gate_line::gate::gate_line;
 use read_text::count::count_lines;
 use read_text::cursor::Cursor;
@@ -58,7 +58,8 @@ fn one_gate(text: &[u8], at: Cursor, n: u32, w: u32, given: &mut [u8]) -> GateSt
 // Stores a gate at a place of the tables.
 fn store(operands: &mut [u64], results: &mut [u64], at: usize, g: GateNumbers)
     requires { ⌜ (at < length (now operands)) × (at < length (now results)) ⌝ }
-    ensures { λ _. ⌜ ((W : ℕ) → Names W (gateSaid g) → Stored W (tables (now (operands .entry)) (now (results .entry))) at (gateSaid g) (tables (now (operands .exit)) (now (results .exit)))) ⌝ }
+    ensures { λ _. ⌜ ((W : ℕ) → Names W (gateSaid g) → Stored W (tables (now (operands .entry)) (now (results .entry))) at (gateSaid g)
+        (tables (now (operands .exit)) (now (results .exit)))) ⌝ }
 {
     put(operands, results, at, entry_of(g));
 }

@@ -1,7 +1,7 @@
 // Which wires are given: the inputs, and the results of earlier lines. Entry x of the table is 1 where wire x is.
+use gate_table::GateNumbers;
 use gate_table::has_constant;
 use gate_table::second;
-use gate_table::GateNumbers;
 ghost use mathlib.Core.Path.{_≡_};
 ghost use mathlib.Core.Bool.{_&&_, not};
 ghost use mathlib.Core.List.{[]};

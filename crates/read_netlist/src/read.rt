@@ -2,10 +2,10 @@
 use crate::gates::Gates;
 use crate::gates::read_gates;
 use crate::marks::mark_inputs;
+use netlist::Limits;
 use read_header::HeaderNumbers;
 use read_header::head::Head;
 use read_header::head::read_head;
-use netlist::Limits;
 use read_text::cursor::Cursor;
 ghost use mathlib.Core.Path.{_≡_};
 ghost use mathlib.Core.List.{[], _∷_};
@@ -31,7 +31,8 @@ fn read_body(
     results: &mut [u64],
 ) -> Gates
     requires { ⌜ (at .at ≤ length (now text)) × (h .ins ≤ h .wires) × (h .gates ≤ h .wires) ⌝ }
-    requires { ⌜ (h .wires ≤ length (now given)) × (h .wires ≤ length (now operands)) × (h .wires ≤ length (now results)) × (now given ≡ replicate (length (now given)) 0) ⌝ }
+    requires { ⌜ (h .wires ≤ length (now given)) × (h .wires ≤ length (now operands)) × (h .wires ≤ length (now results))
+        × (now given ≡ replicate (length (now given)) 0) ⌝ }
     ensures { λ r. ⌜ GatesIs (now (text .entry)) (at .at) (h .gates) (h .ins) (h .wires) (tables (now (operands .exit)) (now (results .exit))) r ⌝ }
 {
     let n = h.ins as u32;
@@ -52,8 +53,10 @@ fn read_text(
     results: &mut [u64],
 ) -> Reading
     requires { ⌜ (l .text < 2 ^ 32) × (l .inputs ≤ length (now inputs)) × (l .outputs ≤ length (now outputs)) ⌝ }
-    requires { ⌜ (l .wires ≤ length (now given)) × (l .wires ≤ length (now operands)) × (l .wires ≤ length (now results)) × (now given ≡ replicate (length (now given)) 0) ⌝ }
-    ensures { λ r. ⌜ TextIs l (now (text .entry)) (now (inputs .exit)) (now (outputs .exit)) (tables (now (operands .exit)) (now (results .exit))) r ⌝ }
+    requires { ⌜ (l .wires ≤ length (now given)) × (l .wires ≤ length (now operands)) × (l .wires ≤ length (now results))
+        × (now given ≡ replicate (length (now given)) 0) ⌝ }
+    ensures { λ r. ⌜ TextIs l (now (text .entry)) (now (inputs .exit)) (now (outputs .exit))
+        (tables (now (operands .exit)) (now (results .exit))) r ⌝ }
 {
     match read_head(text, l, inputs, outputs) {
         Head::Refused(question) => Reading::Refused(question),
@@ -77,7 +80,8 @@ pub fn read(
     l: Limits,
 ) -> Reading
     requires { ⌜ Readable l ⌝ }
-    ensures { λ r. ⌜ ReadIs l (length (now (operands .entry)) ∷ length (now (results .entry)) ∷ length (now (given .entry)) ∷ shortest ∷ []) (now (text .entry))
+    ensures { λ r. ⌜ ReadIs l (length (now (operands .entry)) ∷ length (now (results .entry)) ∷ length (now (given .entry)) ∷ shortest ∷ [])
+        (now (text .entry))
         (now (inputs .exit)) (now (outputs .exit)) (tables (now (operands .exit)) (now (results .exit))) r ⌝ }
 {
     let least = l.table;

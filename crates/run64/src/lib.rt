@@ -1,8 +1,8 @@
 // Sixty-four runs in one pass: a word for each input bit in, a word for each output bit out; bit j of every word belongs to
 // setting j. Questions 1 to 9 with the large limits, 11 (the list's length alone) and 14.
-use read_header::HeaderNumbers;
 use netlist::Answer;
 use netlist::Sizes;
+use read_header::HeaderNumbers;
 use read_netlist::read::Reading;
 ghost use Prim.Native.Nat.{_≤_};
 ghost use lib.ListN.{length};
@@ -46,7 +46,8 @@ fn evaluate(
     results: &[u64],
     words: &mut [u64],
 ) -> Answer
-    requires { ⌜ Wired (tables (now operands) (now results)) (h .wires) (h .gates) × (h .ins ≤ h .wires) × (h .outs ≤ h .wires) × (h .wires ≤ length (now words)) ⌝ }
+    requires { ⌜ Wired (tables (now operands) (now results)) (h .wires) (h .gates) × (h .ins ≤ h .wires) × (h .outs ≤ h .wires)
+        × (h .wires ≤ length (now words)) ⌝ }
     ensures { λ r. ⌜ ((N : Netlist) → Holds (tables (now (operands .entry)) (now (results .entry))) (h .gates) (h .wires) (h .ins) (h .outs) N
         → Answers (run64Outcome (now (list .entry)) (length (now (out .entry))) N) (now (out .entry)) (now (out .exit)) r) ⌝ }
 {

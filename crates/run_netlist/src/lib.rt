@@ -1,6 +1,6 @@
 // Questions 11 and 14 of a netlist that was read, and its output bits.
-use read_header::HeaderNumbers;
 use netlist::Answer;
+use read_header::HeaderNumbers;
 ghost use Prim.Native.Nat.{_≤_};
 ghost use lib.ListN.{length};
 ghost use Rattle.netlist.specs.Netlist.{Netlist};
@@ -20,7 +20,8 @@ fn deliver(
     words: &mut [u64],
 ) -> Answer
     requires { ⌜ Wired (tables (now operands) (now results)) (length (now words)) count × (ins ≤ length (now words)) × (outs ≤ length (now words)) ⌝ }
-    ensures { λ r. ⌜ ((N : Netlist) → Holds (tables (now (operands .entry)) (now (results .entry))) count (length (now (words .entry))) ins outs N → Answers (runOutcome (now (list .entry)) (length (now (out .entry))) N) (now (out .entry)) (now (out .exit)) r) ⌝ }
+    ensures { λ r. ⌜ ((N : Netlist) → Holds (tables (now (operands .entry)) (now (results .entry))) count (length (now (words .entry))) ins
+        outs N → Answers (runOutcome (now (list .entry)) (length (now (out .entry))) N) (now (out .entry)) (now (out .exit)) r) ⌝ }
 {
     if !lists::bits(list, ins) {
         return Answer::Refused(11);
@@ -41,8 +42,10 @@ pub fn evaluate(
     results: &[u64],
     words: &mut [u64],
 ) -> Answer
-    requires { ⌜ Wired (tables (now operands) (now results)) (h .wires) (h .gates) × (h .ins ≤ h .wires) × (h .outs ≤ h .wires) × (h .wires ≤ length (now words)) ⌝ }
-    ensures { λ r. ⌜ ((N : Netlist) → Holds (tables (now (operands .entry)) (now (results .entry))) (h .gates) (h .wires) (h .ins) (h .outs) N → Answers (runOutcome (now (list .entry)) (length (now (out .entry))) N) (now (out .entry)) (now (out .exit)) r) ⌝ }
+    requires { ⌜ Wired (tables (now operands) (now results)) (h .wires) (h .gates) × (h .ins ≤ h .wires) × (h .outs ≤ h .wires)
+        × (h .wires ≤ length (now words)) ⌝ }
+    ensures { λ r. ⌜ ((N : Netlist) → Holds (tables (now (operands .entry)) (now (results .entry))) (h .gates) (h .wires) (h .ins) (h .outs)
+        N → Answers (runOutcome (now (list .entry)) (length (now (out .entry))) N) (now (out .entry)) (now (out .exit)) r) ⌝ }
 {
     let wires = h.wires as usize;
     deliver(

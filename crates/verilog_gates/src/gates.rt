@@ -17,7 +17,8 @@ fn keep(table: &mut [u64], at: usize, entry: u64)
 // Stores a gate by its kind: the gate that gives wire n is the first.
 pub fn put(operands: &mut [u64], results: &mut [u64], n: u32, kind: u64, a: u32, b: u32, c: u32)
     requires { ⌜ (n ≤ c) × (kind < 8) ⌝ }
-    ensures { λ _. ⌜ tables (now (operands .exit)) (now (results .exit)) ≡ packed n (tables (now (operands .entry)) (now (results .entry))) kind a b c ⌝ }
+    ensures { λ _. ⌜ tables (now (operands .exit)) (now (results .exit))
+        ≡ packed n (tables (now (operands .entry)) (now (results .entry))) kind a b c ⌝ }
 {
     let at = (c - n) as usize;
     let e = gate_table::pack(kind, a, b, c);

@@ -47,7 +47,8 @@ fn write(
 ) -> usize
     requires { ⌜ WordTable (now d) ⌝ }
     requires { ⌜ (count ≤ length (now operands)) × (count ≤ length (now results)) ⌝ }
-    ensures { λ r. ⌜ Wrote (now (out .entry)) 0 (formText count wires (now (ins .entry)) (now (outs .entry)) (tables (now (operands .entry)) (now (results .entry)))) (now (out .exit)) r ⌝ }
+    ensures { λ r. ⌜ Wrote (now (out .entry)) 0 (formText count wires (now (ins .entry)) (now (outs .entry))
+        (tables (now (operands .entry)) (now (results .entry)))) (now (out .exit)) r ⌝ }
 {
     let at = write_gates::header::header(out, 0, count, wires, ins, outs);
     gates(d, out, at, operands, results, count)
@@ -66,7 +67,8 @@ fn holds(
 ) -> bool
     requires { ⌜ WordTable (now d) ⌝ }
     requires { ⌜ Wired (tables (now operands) (now results)) wires count × (room < top) ⌝ }
-    ensures { λ r. ⌜ r ≡ leb (length (formText count wires (now (ins .entry)) (now (outs .entry)) (tables (now (operands .entry)) (now (results .entry))))) room ⌝ }
+    ensures { λ r. ⌜ r ≡ leb (length (formText count wires (now (ins .entry)) (now (outs .entry))
+        (tables (now (operands .entry)) (now (results .entry))))) room ⌝ }
 {
     let mut none = [0u8; 1];
     let header = write_gates::header::header(&mut none, 0, count, wires, ins, outs);
@@ -89,7 +91,8 @@ fn answer(
 ) -> Answer
     requires { ⌜ WordTable (now d) ⌝ }
     requires { ⌜ Wired (tables (now operands) (now results)) wires count ⌝ }
-    ensures { λ r. ⌜ Delivers (formText count wires (now (ins .entry)) (now (outs .entry)) (tables (now (operands .entry)) (now (results .entry)))) (now (out .entry)) (now (out .exit)) r ⌝ }
+    ensures { λ r. ⌜ Delivers (formText count wires (now (ins .entry)) (now (outs .entry))
+        (tables (now (operands .entry)) (now (results .entry)))) (now (out .entry)) (now (out .exit)) r ⌝ }
 {
     if !holds(d, out.len(), count, wires, ins, outs, operands, results) {
         return Answer::Refused(14);
@@ -108,7 +111,8 @@ pub fn deliver(
     results: &[u64],
 ) -> Answer
     requires { ⌜ Wired (tables (now operands) (now results)) wires count ⌝ }
-    ensures { λ r. ⌜ Delivers (formText count wires (now (ins .entry)) (now (outs .entry)) (tables (now (operands .entry)) (now (results .entry)))) (now (out .entry)) (now (out .exit)) r ⌝ }
+    ensures { λ r. ⌜ Delivers (formText count wires (now (ins .entry)) (now (outs .entry))
+        (tables (now (operands .entry)) (now (results .entry)))) (now (out .entry)) (now (out .exit)) r ⌝ }
 {
     if wires <= 100 {
         let none = [0u64; 1];

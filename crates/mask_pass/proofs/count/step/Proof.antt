@@ -40,8 +40,11 @@ slice-write-code c =
 add-result : tie.Need-add-result
 add-result c =
     let s = c .before .before .before .before .before .before .before .before .before .before .before in
-    omega (arith, s .pre .0,
-    twin-small (s .args .c) (c .before .before .before .before .before .before .before .before .split .result .kind) (c .before .before .before .before .before .twin .result) (c .before .before .twin2 .result) (c .before .result .ensures))
+    omega (
+      arith,
+      s .pre .0,
+      twin-small (s .args .c) (c .before .before .before .before .before .before .before .before .split .result .kind) (c .before .before .before .before .before .twin .result) (c .before .before .twin2 .result) (c .before .result .ensures),
+    )
 
 same-length : tie.Need-same-length
 same-length c = search needs
