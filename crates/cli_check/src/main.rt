@@ -1,5 +1,7 @@
 // *check*: reads netlist.txt and inputs.txt, and prints whether the netlist is clean under those codes, or its leak, or the question
 // that refuses it.
+use program_text::LARGE_TABLE;
+use program_text::FILE_LIMIT;
 use check_netlist::Checked;
 use libc::STDOUT_FILENO;
 use netlist::Sizes;
@@ -29,7 +31,7 @@ fn answer(
     ensures { λ r. ⌜ outcomeOf r ≡ readable (now (netlist .entry))
         (checkCall (largeLimits Old) [] (now (netlist .entry)) (listFile (now (inputs .entry)))) ⌝ }
 {
-    if 60000 < netlist.len() {
+    if FILE_LIMIT < netlist.len() {
         return Checked::Refused(2);
     }
     let n = program_text::list(inputs);
@@ -78,13 +80,13 @@ fn report(
 
 fn main() {
     // one byte more than is taken, to notice a longer file
-    let mut netlist = [0u8; 60001];
-    let mut inputs = [0u8; 60000];
-    let mut operands = [0u64; 18431];
-    let mut results = [0u64; 18431];
-    let mut given = [0u8; 18431];
-    let mut words = [0u64; 18431];
-    let mut base = [0u64; 18431];
+    let mut netlist = [0u8; FILE_LIMIT + 1];
+    let mut inputs = [0u8; FILE_LIMIT];
+    let mut operands = [0u64; LARGE_TABLE];
+    let mut results = [0u64; LARGE_TABLE];
+    let mut given = [0u8; LARGE_TABLE];
+    let mut words = [0u64; LARGE_TABLE];
+    let mut base = [0u64; LARGE_TABLE];
     let mut out = [0u8; 128];
     let bytes = program_files::read(b"netlist.txt", &mut netlist);
     let entries = program_files::read(b"inputs.txt", &mut inputs);

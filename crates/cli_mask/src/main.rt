@@ -1,5 +1,7 @@
 // *mask*: reads netlist.txt, inputs.txt and outputs.txt, and prints the output codes and the masked netlist, or the question that
 // refuses them.
+use program_text::SMALL_TABLE;
+use program_text::FILE_LIMIT;
 use libc::STDOUT_FILENO;
 use netlist::Answer;
 use netlist::Sizes;
@@ -30,7 +32,7 @@ fn answer(
     ensures { λ r. ⌜ Answered (outcome (now (netlist .entry)) (now (codes .entry)) (now (wanted .entry))) (now (text .exit))
         (now (ends .exit)) (length (now (wanted .entry))) r ⌝ }
 {
-    if 60000 < netlist.len() {
+    if FILE_LIMIT < netlist.len() {
         return Answer::Refused(2);
     }
     mask::mask(
@@ -101,15 +103,15 @@ fn report(
 
 fn main() {
     // one byte more than is taken, to notice a longer file
-    let mut netlist = [0u8; 60001];
-    let mut inputs = [0u8; 60000];
-    let mut outputs = [0u8; 60000];
-    let mut text = [0u8; 60000];
-    let mut ends = [0u8; 2048];
-    let mut operands = [0u64; 2048];
-    let mut results = [0u64; 2048];
-    let mut wires = [0u32; 2048];
-    let mut marks = [0u8; 2048];
+    let mut netlist = [0u8; FILE_LIMIT + 1];
+    let mut inputs = [0u8; FILE_LIMIT];
+    let mut outputs = [0u8; FILE_LIMIT];
+    let mut text = [0u8; FILE_LIMIT];
+    let mut ends = [0u8; SMALL_TABLE];
+    let mut operands = [0u64; SMALL_TABLE];
+    let mut results = [0u64; SMALL_TABLE];
+    let mut wires = [0u32; SMALL_TABLE];
+    let mut marks = [0u8; SMALL_TABLE];
     let mut line = [0u8; 8192];
     let bytes = program_files::read(b"netlist.txt", &mut netlist);
     let codes = program_files::read(b"inputs.txt", &mut inputs);

@@ -1,4 +1,6 @@
 // *rewrite*: reads netlist.txt and prints the same netlist in the written form, or the question that refuses it.
+use program_text::LARGE_TABLE;
+use program_text::FILE_LIMIT;
 use libc::STDOUT_FILENO;
 use netlist::Answer;
 use netlist::Sizes;
@@ -20,7 +22,7 @@ fn answer(
     requires { ⌜ Roomy (now out) (now operands) (now results) (now given) ⌝ }
     ensures { λ r. ⌜ Answered (outcome (now (netlist .entry))) (now (out .exit)) r ⌝ }
 {
-    if 60000 < netlist.len() {
+    if FILE_LIMIT < netlist.len() {
         return Answer::Refused(2);
     }
     rewrite::rewrite(netlist, out, operands, results, given, Sizes::Old)
@@ -54,11 +56,11 @@ fn report(
 
 fn main() {
     // one byte more than is taken, to notice a longer file
-    let mut netlist = [0u8; 60001];
+    let mut netlist = [0u8; FILE_LIMIT + 1];
     let mut out = [0u8; 500000];
-    let mut operands = [0u64; 18431];
-    let mut results = [0u64; 18431];
-    let mut given = [0u8; 18431];
+    let mut operands = [0u64; LARGE_TABLE];
+    let mut results = [0u64; LARGE_TABLE];
+    let mut given = [0u8; LARGE_TABLE];
     let bytes = program_files::read(b"netlist.txt", &mut netlist);
     let n = report(
         &mut out,

@@ -1,5 +1,7 @@
 // *run*: reads netlist.txt and inputs.txt, whose entries are bits, and prints the netlist's output bits, or the question that
 // refuses it.
+use program_text::LARGE_TABLE;
+use program_text::FILE_LIMIT;
 use libc::STDOUT_FILENO;
 use netlist::Answer;
 use netlist::Sizes;
@@ -23,7 +25,7 @@ fn answer(
     requires { ⌜ Roomy (now bits) (now operands) (now results) (now given) (now words) ⌝ }
     ensures { λ r. ⌜ Answered (outcome (now (netlist .entry)) (now (inputs .entry))) (now (bits .exit)) r ⌝ }
 {
-    if 60000 < netlist.len() {
+    if FILE_LIMIT < netlist.len() {
         return Answer::Refused(2);
     }
     let n = program_text::list(inputs);
@@ -70,14 +72,14 @@ fn report(
 
 fn main() {
     // one byte more than is taken, to notice a longer file
-    let mut netlist = [0u8; 60001];
-    let mut inputs = [0u8; 60000];
-    let mut bits = [0u8; 18431];
-    let mut operands = [0u64; 18431];
-    let mut results = [0u64; 18431];
-    let mut given = [0u8; 18431];
-    let mut words = [0u64; 18431];
-    let mut out = [0u8; 60000];
+    let mut netlist = [0u8; FILE_LIMIT + 1];
+    let mut inputs = [0u8; FILE_LIMIT];
+    let mut bits = [0u8; LARGE_TABLE];
+    let mut operands = [0u64; LARGE_TABLE];
+    let mut results = [0u64; LARGE_TABLE];
+    let mut given = [0u8; LARGE_TABLE];
+    let mut words = [0u64; LARGE_TABLE];
+    let mut out = [0u8; FILE_LIMIT];
     let bytes = program_files::read(b"netlist.txt", &mut netlist);
     let entries = program_files::read(b"inputs.txt", &mut inputs);
     let n = report(

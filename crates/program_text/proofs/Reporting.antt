@@ -11,7 +11,7 @@ use Rattle.netlist.specs.declared.Answer.{Answer}
 use Rattle.netlist.specs.declared.Answer.the-variants.{Done, Refused}
 use Rattle.netlist.specs.Outcome.{Outcome, refused, done}
 use Rattle.netlist.specs.Services.{outcomeOf, answerOf, Answers}
-use Rattle.netlist.specs.Programs.{readable, printRefused}
+use Rattle.netlist.specs.Programs.{readable, printRefused, fileLimit}
 use Rattle.netlist.proofs.Tests.{onBool}
 use Rattle.netlist.proofs.Questions.{done-same}
 use Rattle.write_buffer.specs.Wrote.{Wrote, WroteFew}
@@ -20,11 +20,11 @@ use Rattle.program_text.specs.Front.{Front, Answered}
 
 -- ---- question 2, put to a netlist file
 
-pub readable-long : {A : Type 0} (file : List ℕ) (o : Outcome A) → 60000 < length file → readable file o ≡ refused 2
-readable-long file o h = rw (lt-leb (length file) 60000 h)
+pub readable-long : {A : Type 0} (file : List ℕ) (o : Outcome A) → fileLimit < length file → readable file o ≡ refused 2
+readable-long file o h = rw (lt-leb (length file) fileLimit h)
 
-pub readable-short : {A : Type 0} (file : List ℕ) (o : Outcome A) → length file ≤ 60000 → readable file o ≡ o
-readable-short file o h = rw (le-leb (length file) 60000 h)
+pub readable-short : {A : Type 0} (file : List ℕ) (o : Outcome A) → length file ≤ fileLimit → readable file o ≡ o
+readable-short file o h = rw (le-leb (length file) fileLimit h)
 
 -- ---- a service's answer
 

@@ -10,6 +10,13 @@ ghost use Rattle.write_buffer.specs.Wrote.{Wrote, WroteFew};
 ghost use Rattle.program_text.specs.Front.{Front};
 use read_text::ends::without_end;
 
+// The most bytes that a program reads of a file.
+pub const FILE_LIMIT: usize = 60000;
+
+// The shortest tables that Mask takes, and those that Check, Run and Rewrite take.
+pub const SMALL_TABLE: usize = 2048;
+pub const LARGE_TABLE: usize = 18431;
+
 // A list byte that is no digit counts as 9.
 fn entry(b: u8) -> u8
     ensures { λ r. ⌜ r ≡ entryOf b ⌝ }
@@ -37,7 +44,7 @@ fn front(buffer: &[u8], n: usize) -> usize
 fn counted(file: &[u8]) -> usize
     ensures { λ r. ⌜ Front (now (file .entry)) r (listBytes (now (file .entry))) ⌝ }
 {
-    let n = front(file, 60000);
+    let n = front(file, FILE_LIMIT);
     without_end(file, n)
 }
 
