@@ -73,16 +73,16 @@ pub fn judge(
     base: &mut [u64],
 ) -> Checked
     requires { ⌜ Wired (tables (now operands) (now results)) (h .wires) (h .gates) ⌝ }
-    requires { ⌜ (h .inputs ≤ 17) × (h .ins ≡ sum (take (h .inputs) widths)) × (h .ins ≤ h .wires)
+    requires { ⌜ (h .«input_values» ≤ 17) × (h .«input_bits» ≡ sum (take (h .«input_values») widths)) × (h .«input_bits» ≤ h .wires)
         × (h .wires ≤ length (now words)) × (h .wires ≤ length (now base)) ⌝ }
-    ensures { λ r. ⌜ ((N : Netlist) → Holds (tables (now (operands .entry)) (now (results .entry))) (h .gates) (h .wires) (h .ins) (h .outs) N
-        → take (h .inputs) widths ≡ N .inputs → outcomeOf r ≡ checkOutcome (now (codes .entry)) N) ⌝ }
+    ensures { λ r. ⌜ ((N : Netlist) → Holds (tables (now (operands .entry)) (now (results .entry))) (h .gates) (h .wires) (h .«input_bits») (h .«output_bits») N
+        → take (h .«input_values») widths ≡ N .inputs → outcomeOf r ≡ checkOutcome (now (codes .entry)) N) ⌝ }
 {
-    let values = h.inputs;
+    let values = h.input_values;
     if !ends_in_masks(&widths[..values]) {
         return Checked::Refused(10);
     }
-    if !lists::codes(codes, h.ins as usize - 2) {
+    if !lists::codes(codes, h.input_bits as usize - 2) {
         return Checked::Refused(11);
     }
     if MOST_BITS < codes.len() {

@@ -80,7 +80,7 @@ module _ {L : Limits} {t ws vs : List ℕ} {h : HeaderNumbers} {to n : ℕ} (a :
 
   -- there are as many
   pub open-at : {ins ins′ outs outs′ : List ℕ} → n ≡ h .gates → L .inputs ≤ length ws → L .outputs ≤ length vs
-      → ins′ ≡ sets ins 0 (take (h .inputs) ws) → outs′ ≡ sets outs 0 (take (h .outputs) vs) → OpeningIs L t ins ins′ outs outs′ (O.At h to)
+      → ins′ ≡ sets ins 0 (take (h .«input_values») ws) → outs′ ≡ sets outs 0 (take (h .«output_values») vs) → OpeningIs L t ins ins′ outs outs′ (O.At h to)
   open-at {ins} {ins′} {outs} e room room′ p q =
       let H = a .header in
       let o : opening L t ≡ done (H .is) = a .opens ∙ rw (← lines) (rw (eq-eqb _ _ e)) in

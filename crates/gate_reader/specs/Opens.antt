@@ -19,10 +19,10 @@ abbrev pub numbersOf : Header → HeaderNumbers
 numbersOf H = record {
   gates = H .count;
   wires = H .wires;
-  inputs = length (H .inputs);
-  ins = sum (H .inputs);
-  outputs = length (H .outputs);
-  outs = sum (H .outputs);
+  «input_values» = length (H .inputs);
+  «input_bits» = sum (H .inputs);
+  «output_values» = length (H .outputs);
+  «output_bits» = sum (H .outputs);
 }
 
 -- what an answer stands for

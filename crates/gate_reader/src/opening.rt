@@ -45,8 +45,8 @@ pub fn open_at(text: &[u8], inputs: &mut [u32], outputs: &mut [u32], sizes: Size
             if count_lines(text, at) != h.gates as usize {
                 return Opening::Refused(6);
             }
-            copy(&ins, h.inputs, inputs);
-            copy(&outs, h.outputs, outputs);
+            copy(&ins, h.input_values, inputs);
+            copy(&outs, h.output_values, outputs);
             Opening::At(h, at.at)
         }
     }

@@ -25,22 +25,22 @@ use Rattle.read_header.specs.declared.head.Head.the-variants as H
 
 module _ (L : Limits) (h : HeaderNumbers) (e : withinNumbers L h ≡ true) where
   -- the five tests of question 5, of which the fourth lets the input bits be taken off the wires
-  tests : T (leb (h .wires) (L .wires)) × T (leb (h .inputs) (L .inputs)) × T (leb (h .outputs) (L .outputs)) × T (leb (h .ins) (h .wires))
-      × T (leb (h .outs) (h .wires))
+  tests : T (leb (h .wires) (L .wires)) × T (leb (h .«input_values») (L .inputs)) × T (leb (h .«output_values») (L .outputs)) × T (leb (h .«input_bits») (h .wires))
+      × T (leb (h .«output_bits») (h .wires))
   unfolding withinNumbers
   tests =
       let a = leb (h .wires) (L .wires) in
-      let b = leb (h .inputs) (L .inputs) in
-      let c = leb (h .outputs) (L .outputs) in
-      let d = leb (h .ins) (h .wires) in
-      let f = leb (h .outs) (h .wires) in
+      let b = leb (h .«input_values») (L .inputs) in
+      let c = leb (h .«output_values») (L .outputs) in
+      let d = leb (h .«input_bits») (h .wires) in
+      let f = leb (h .«output_bits») (h .wires) in
       let p = both (a && b && c && d) f (true-T (withinNumbers L h) e) in
       let q = both (a && b && c) d (p .0) in
       let r = both (a && b) c (q .0) in
       let s = both a b (r .0) in
       (s .0, s .1, r .1, q .1, p .1)
 
-  pub bits-fit : h .ins ≤ h .wires
+  pub bits-fit : h .«input_bits» ≤ h .wires
   bits-fit = leb→le _ _ (tests .3)
 
   inside : gatesCounted h ≡ true → Inside L h
@@ -109,12 +109,12 @@ kept-front (x ∷ table) (w ∷ ws) k h =
     cc
 
 module _ {L : Limits} {t ins outs : List ℕ} {h : HeaderNumbers} {to : ℕ} (a : HeadAt L t ins outs h to) where
-  pub inputs-front : L .inputs ≤ length ins → take (h .inputs) ins ≡ a .header .is .inputs
+  pub inputs-front : L .inputs ≤ length ins → take (h .«input_values») ins ≡ a .header .is .inputs
   inputs-front room =
       let n = a .header .inputs in
       ap (λ (k : ℕ). take k ins) (sym n) ∙ kept-front ins (a .header .is .inputs) (a .header .keptIn) (omega (arith, a .inside .inputs))
 
-  pub outputs-front : L .outputs ≤ length outs → take (h .outputs) outs ≡ a .header .is .outputs
+  pub outputs-front : L .outputs ≤ length outs → take (h .«output_values») outs ≡ a .header .is .outputs
   outputs-front room =
       let n = a .header .outputs in
       ap (λ (k : ℕ). take k outs) (sym n) ∙ kept-front outs (a .header .is .outputs) (a .header .keptOut) (omega (arith, a .inside .outputs))

@@ -176,7 +176,7 @@ module _ (t : List ℕ) (a : ℕ) (sa : Scanned isBlank t 0 a) where
           (first-line valuesOf t d′ (at-word t d d′ sd) e)
 
       pub a-header : (outs : List ℕ) (mo so to : ℕ) → WidthsAt t d′ (values (numbers (lineWords (drop d′ t)))) outs mo so to
-          → HeaderAt t ins outs (record { gates = g; wires = w; inputs = ni; ins = si; outputs = mo; outs = so }) to
+          → HeaderAt t ins outs (record { gates = g; wires = w; «input_values» = ni; «input_bits» = si; «output_values» = mo; «output_bits» = so }) to
       a-header outs mo so to y =
           let three : wordLines t ≡ lineWords (drop a t) ∷ (lineWords (drop b′ t) ∷ (lineWords (drop d′ t) ∷ wordLines (drop to t)))
           = two

@@ -17,20 +17,20 @@ use Rattle.read_header.specs.declared.head.Head.the-variants as H
 -- question 5 of a header's numbers
 unfoldable pub withinNumbers : Limits → HeaderNumbers → Bool
 withinNumbers L h =
-    leb (h .wires) (L .wires) && leb (h .inputs) (L .inputs) && leb (h .outputs) (L .outputs) && leb (h .ins) (h .wires) && leb (h .outs) (h .wires)
+    leb (h .wires) (L .wires) && leb (h .«input_values») (L .inputs) && leb (h .«output_values») (L .outputs) && leb (h .«input_bits») (h .wires) && leb (h .«output_bits») (h .wires)
 
 -- the first half of question 6: the gate count is W less n
 unfoldable pub gatesCounted : HeaderNumbers → Bool
-gatesCounted h = eqb (h .gates) (h .wires - h .ins)
+gatesCounted h = eqb (h .gates) (h .wires - h .«input_bits»)
 
 -- what both give
 pub record Inside (L : Limits) (h : HeaderNumbers) : Type 0 where
   pub wires : h .wires ≤ L .wires
-  pub inputs : h .inputs ≤ L .inputs
-  pub outputs : h .outputs ≤ L .outputs
-  pub ins : h .ins ≤ h .wires
-  pub outs : h .outs ≤ h .wires
-  pub gates : h .gates ≡ h .wires - h .ins
+  pub inputs : h .«input_values» ≤ L .inputs
+  pub outputs : h .«output_values» ≤ L .outputs
+  pub ins : h .«input_bits» ≤ h .wires
+  pub outs : h .«output_bits» ≤ h .wires
+  pub gates : h .gates ≡ h .wires - h .«input_bits»
 
 -- the head of t is admitted, and whether t opens is left to the number of lines behind the place `to`
 pub record HeadAt (L : Limits) (t ins outs : List ℕ) (h : HeaderNumbers) (to : ℕ) : Type 0 where

@@ -69,10 +69,10 @@ pub record HeaderAt (t ins outs : List ℕ) (h : HeaderNumbers) (to : ℕ) : Typ
   pub read : header (wordLines t) ≡ some is
   pub gates : is .count ≡ h .gates
   pub wires : is .wires ≡ h .wires
-  pub inputs : length (is .inputs) ≡ h .inputs
-  pub inputBits : sum (is .inputs) ≡ h .ins
-  pub outputs : length (is .outputs) ≡ h .outputs
-  pub outputBits : sum (is .outputs) ≡ h .outs
+  pub inputs : length (is .inputs) ≡ h .«input_values»
+  pub inputBits : sum (is .inputs) ≡ h .«input_bits»
+  pub outputs : length (is .outputs) ≡ h .«output_values»
+  pub outputBits : sum (is .outputs) ≡ h .«output_bits»
   pub keptIn : Kept ins (is .inputs)
   pub keptOut : Kept outs (is .outputs)
   pub left : wordLines (drop to t) ≡ drop 3 (wordLines t)

@@ -23,24 +23,24 @@ fn within(l: Limits, h: HeaderNumbers) -> bool
     if l.wires < h.wires {
         return false;
     }
-    if l.inputs < h.inputs {
+    if l.inputs < h.input_values {
         return false;
     }
-    if l.outputs < h.outputs {
+    if l.outputs < h.output_values {
         return false;
     }
-    if (h.wires as u64) < h.ins {
+    if (h.wires as u64) < h.input_bits {
         return false;
     }
-    h.outs <= h.wires as u64
+    h.output_bits <= h.wires as u64
 }
 
 // The first half of question 6: the gate count is W less n.
 fn gates_counted(h: HeaderNumbers) -> bool
-    requires { ⌜ h .ins ≤ h .wires ⌝ }
+    requires { ⌜ h .«input_bits» ≤ h .wires ⌝ }
     ensures { λ r. ⌜ r ≡ gatesCounted h ⌝ }
 {
-    h.gates as u64 == h.wires as u64 - h.ins
+    h.gates as u64 == h.wires as u64 - h.input_bits
 }
 
 // Questions 2 to 6, but for the number of gate lines. The widths go into the tables, as many as they have room for.

@@ -30,11 +30,11 @@ pub struct HeaderNumbers {
     // the wire count
     pub wires: u32,
     // how many input values, and their bits together
-    pub inputs: usize,
-    pub ins: u64,
+    pub input_values: usize,
+    pub input_bits: u64,
     // how many output values, and their bits together
-    pub outputs: usize,
-    pub outs: u64,
+    pub output_values: usize,
+    pub output_bits: u64,
 }
 
 // A header, with the place behind its third line.
@@ -138,10 +138,10 @@ pub fn read_header(text: &[u8], inputs: &mut [u32], outputs: &mut [u32]) -> Head
         HeaderNumbers {
             gates: gates,
             wires: wires,
-            inputs: ni,
-            ins: ins,
-            outputs: no,
-            outs: outs,
+            input_values: ni,
+            input_bits: ins,
+            output_values: no,
+            output_bits: outs,
         },
         at3,
     )

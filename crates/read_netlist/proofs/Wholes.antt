@@ -39,19 +39,19 @@ module _ {L : Limits} {t : List ℕ} where
 
   module _ {ins outs : List ℕ} {h : HeaderNumbers} {to : ℕ} (a : HeadAt L t ins outs h to) where
     -- the gate lines decide
-    reached : readNetlist L t ≡ (andThen (askLines (h .gates) (h .ins) (h .wires) (wordLines (drop to t))) λ gs. done (netlistOf (a .header .is) gs))
+    reached : readNetlist L t ≡ (andThen (askLines (h .gates) (h .«input_bits») (h .wires) (wordLines (drop to t))) λ gs. done (netlistOf (a .header .is) gs))
     unfolding readNetlist
     reached = rw (a .opens) (go (eqb (length (wordLines (drop to t))) (h .gates)))
       where
         go : (b : Bool) → andThen (ask 6 b (done (a .header .is))) (readGates (drop 3 (wordLines t)))
-            ≡ (andThen (ask 6 b (gateLines (h .ins) (h .wires) [] (wordLines (drop to t)))) λ gs. done (netlistOf (a .header .is) gs))
+            ≡ (andThen (ask 6 b (gateLines (h .«input_bits») (h .wires) [] (wordLines (drop to t)))) λ gs. done (netlistOf (a .header .is) gs))
         go true = simp (a .header .wires, a .header .inputBits, a .header .left)
         go false = refl
 
-    pub read-not : {q : ℕ} → GatesNot t to (h .gates) (h .ins) (h .wires) q → ReadNot L t q
+    pub read-not : {q : ℕ} → GatesNot t to (h .gates) (h .«input_bits») (h .wires) q → ReadNot L t q
     read-not g = record { refuses = reached ∙ ap (λ (o : Outcome (List Gate)). andThen o λ gs. done (netlistOf (a .header .is) gs)) (g .refuses) }
 
-    pub read-done : {tabs : Tables} → L .inputs ≤ length ins → L .outputs ≤ length outs → GatesRead t to (h .gates) (h .ins) (h .wires) tabs
+    pub read-done : {tabs : Tables} → L .inputs ≤ length ins → L .outputs ≤ length outs → GatesRead t to (h .gates) (h .«input_bits») (h .wires) tabs
         → ReadAt L t ins outs tabs h
     read-done {tabs} room room′ g =
         let H = a .header in

@@ -18,17 +18,17 @@ use Rattle.read_netlist.specs.declared.read.Reading.the-variants as R
 pub record ReadAt (L : Limits) (t ins outs : List ℕ) (tabs : Tables) (h : HeaderNumbers) : Type 0 where
   pub is : Netlist
   pub read : readNetlist L t ≡ done is
-  pub holds : Holds tabs (h .gates) (h .wires) (h .ins) (h .outs) is
+  pub holds : Holds tabs (h .gates) (h .wires) (h .«input_bits») (h .«output_bits») is
   pub wired : Wired tabs (h .wires) (h .gates)
-  pub inputs : take (h .inputs) ins ≡ is .inputs
-  pub outputs : take (h .outputs) outs ≡ is .outputs
-  pub someIn : 1 ≤ h .inputs
-  pub manyIn : h .inputs ≤ L .inputs
-  pub manyOut : h .outputs ≤ L .outputs
+  pub inputs : take (h .«input_values») ins ≡ is .inputs
+  pub outputs : take (h .«output_values») outs ≡ is .outputs
+  pub someIn : 1 ≤ h .«input_values»
+  pub manyIn : h .«input_values» ≤ L .inputs
+  pub manyOut : h .«output_values» ≤ L .outputs
   pub wires : h .wires ≤ L .wires
-  pub inBits : h .ins ≤ h .wires
-  pub outBits : h .outs ≤ h .wires
-  pub gates : h .gates ≡ h .wires - h .ins
+  pub inBits : h .«input_bits» ≤ h .wires
+  pub outBits : h .«output_bits» ≤ h .wires
+  pub gates : h .gates ≡ h .wires - h .«input_bits»
 
 pub record ReadNot (L : Limits) (t : List ℕ) (q : ℕ) : Type 0 where
   pub refuses : readNetlist L t ≡ refused q

@@ -30,12 +30,12 @@ fn read_body(
     operands: &mut [u64],
     results: &mut [u64],
 ) -> Gates
-    requires { ⌜ (at .at ≤ length (now text)) × (h .ins ≤ h .wires) × (h .gates ≤ h .wires) ⌝ }
+    requires { ⌜ (at .at ≤ length (now text)) × (h .«input_bits» ≤ h .wires) × (h .gates ≤ h .wires) ⌝ }
     requires { ⌜ (h .wires ≤ length (now given)) × (h .wires ≤ length (now operands)) × (h .wires ≤ length (now results))
         × (now given ≡ replicate (length (now given)) 0) ⌝ }
-    ensures { λ r. ⌜ GatesIs (now (text .entry)) (at .at) (h .gates) (h .ins) (h .wires) (tables (now (operands .exit)) (now (results .exit))) r ⌝ }
+    ensures { λ r. ⌜ GatesIs (now (text .entry)) (at .at) (h .gates) (h .«input_bits») (h .wires) (tables (now (operands .exit)) (now (results .exit))) r ⌝ }
 {
-    let n = h.ins as u32;
+    let n = h.input_bits as u32;
     let w = h.wires;
     let count = h.gates as usize;
     mark_inputs(given, n, w);

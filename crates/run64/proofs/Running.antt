@@ -44,21 +44,21 @@ length-outputs N ins F e =
 
 module _ {t : Tables} {count W n o : ℕ} {N : Netlist} (h : Holds t count W n o N) (list : List ℕ) where
   pub words-11 : (out : List ℕ) → length list ≢ n → Answers (run64Outcome list (length out) N) out out (Refused 11)
-  words-11 out e = answers-refused out (rw (h .ins, ne-eqb (length list) n e))
+  words-11 out e = answers-refused out (rw (h .«input_bits», ne-eqb (length list) n e))
 
   module _ (e : length list ≡ n) where
     asked : eqb (length list) (inputBits N) ≡ true
-    asked = rw (h .ins) (eq-eqb (length list) n e)
+    asked = rw (h .«input_bits») (eq-eqb (length list) n e)
 
     pub words-14 : (out : List ℕ) → length out < o → Answers (run64Outcome list (length out) N) out out (Refused 14)
     words-14 out l =
-        let k : length (outputWords N list) ≡ o = length-outputWords N list ∙ h .outs in
+        let k : length (outputWords N list) ≡ o = length-outputWords N list ∙ h .«output_bits» in
         answers-as (sym (rw asked refl)) (delivers-short (outputWords N list) out (omega arith) .answers)
 
     pub words-done : {out out′ : List ℕ} → o ≤ length out → out′ ≡ sets out 0 (outputWords N list)
         → Answers (run64Outcome list (length out) N) out out′ (Done o)
     words-done {out} {out′} l p =
-        let k : length (outputWords N list) ≡ o = length-outputWords N list ∙ h .outs in
+        let k : length (outputWords N list) ≡ o = length-outputWords N list ∙ h .«output_bits» in
         let r = delivers-done (outputWords N list) out out′ (omega arith) p .answers in
         let s : Answers (run64Outcome list (length out) N) out out′ (Done (length (outputWords N list))) = answers-as (sym (rw asked refl)) r in
         subst (λ (m : ℕ). Answers (run64Outcome list (length out) N) out out′ (Done m)) k s
@@ -73,7 +73,7 @@ module _ (s : Sizes) (text list out o r g w : List ℕ) where
 
   pub call-read : {ins outs x : List ℕ} {tabs : Tables} {h : HeaderNumbers} {a : Answer}
       → (tablesLong (large s) (length o ∷ length r ∷ length g ∷ length w ∷ []) ≡ true) × ReadAt (large s) text ins outs tabs h
-      → ((N : Netlist) → Holds tabs (h .gates) (h .wires) (h .ins) (h .outs) N → Answers (run64Outcome list (length out) N) out x a)
+      → ((N : Netlist) → Holds tabs (h .gates) (h .wires) (h .«input_bits») (h .«output_bits») N → Answers (run64Outcome list (length out) N) out x a)
       → Answers (call s text list out o r g w) out x a
   unfolding run64Call
   call-read k d = answers-as

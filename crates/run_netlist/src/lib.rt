@@ -42,9 +42,9 @@ pub fn evaluate(
     results: &[u64],
     words: &mut [u64],
 ) -> Answer
-    requires { ⌜ Wired (tables (now operands) (now results)) (h .wires) (h .gates) × (h .ins ≤ h .wires) × (h .outs ≤ h .wires)
+    requires { ⌜ Wired (tables (now operands) (now results)) (h .wires) (h .gates) × (h .«input_bits» ≤ h .wires) × (h .«output_bits» ≤ h .wires)
         × (h .wires ≤ length (now words)) ⌝ }
-    ensures { λ r. ⌜ ((N : Netlist) → Holds (tables (now (operands .entry)) (now (results .entry))) (h .gates) (h .wires) (h .ins) (h .outs)
+    ensures { λ r. ⌜ ((N : Netlist) → Holds (tables (now (operands .entry)) (now (results .entry))) (h .gates) (h .wires) (h .«input_bits») (h .«output_bits»)
         N → Answers (runOutcome (now (list .entry)) (length (now (out .entry))) N) (now (out .entry)) (now (out .exit)) r) ⌝ }
 {
     let wires = h.wires as usize;
@@ -52,8 +52,8 @@ pub fn evaluate(
         out,
         list,
         h.gates as usize,
-        h.ins as usize,
-        h.outs as usize,
+        h.input_bits as usize,
+        h.output_bits as usize,
         operands,
         results,
         &mut words[..wires],

@@ -25,9 +25,9 @@ ends-in-masks-requires c κs = search needs
 returns : tie.Need-returns
 returns c N h e =
     let s = c .before .before .before .before .before .before .before .before in
-    let ws = take (s .args .h .inputs) (s .args .t2) in
+    let ws = take (s .args .h .«input_values») (s .args .t2) in
     let cs = s .args .codes .now in
-    outcome-ten N cs ws (s .args .h .ins) e (h .ins) (sym (c .before .ends-in-masks .ensures) ∙ not-true _ (c .if1 .taken))
+    outcome-ten N cs ws (s .args .h .«input_bits») e (h .«input_bits») (sym (c .before .ends-in-masks .ensures) ∙ not-true _ (c .if1 .taken))
 
 sub-codes : tie.Need-sub-codes
 sub-codes c =
@@ -35,7 +35,7 @@ sub-codes c =
     omega (
       arith,
       s .pre .1 .1,
-      masks-bits (take (s .args .h .inputs) (s .args .t2)) (sym (c .before .ends-in-masks .ensures) ∙ not-false _ (c .if1 .left)),
+      masks-bits (take (s .args .h .«input_values») (s .args .t2)) (sym (c .before .ends-in-masks .ensures) ∙ not-false _ (c .if1 .left)),
     )
 
 codes-requires : tie.Need-codes-requires
@@ -44,18 +44,18 @@ codes-requires c κs = search needs
 returns-2 : tie.Need-returns-2
 returns-2 c N h e =
     let s = c .before .before .before .before .before .before .before .before .before .before in
-    let ws = take (s .args .h .inputs) (s .args .t2) in
+    let ws = take (s .args .h .«input_values») (s .args .t2) in
     let cs = s .args .codes .now in
-    outcome-eleven N cs ws (s .args .h .ins) e (h .ins)
+    outcome-eleven N cs ws (s .args .h .«input_bits») e (h .«input_bits»)
     (sym (c .before .before .before .ends-in-masks .ensures) ∙ not-false _ (c .before .before .if1 .left))
     (sym (c .before .codes .ensures) ∙ not-true _ (c .if2 .taken))
 
 returns-3 : tie.Need-returns-3
 returns-3 c N h e =
     let s = c .before .before .before .before .before .before .before .before .before .before .before in
-    let ws = take (s .args .h .inputs) (s .args .t2) in
+    let ws = take (s .args .h .«input_values») (s .args .t2) in
     let cs = s .args .codes .now in
-    outcome-twelve N cs ws (s .args .h .ins) e (h .ins)
+    outcome-twelve N cs ws (s .args .h .«input_bits») e (h .«input_bits»)
     (sym (c .before .before .before .before .ends-in-masks .ensures) ∙ not-false _ (c .before .before .before .if1 .left))
     (sym (c .before .before .codes .ensures) ∙ not-false _ (c .before .if2 .left)) (c .if3 .taken)
 
@@ -71,11 +71,11 @@ verdict-requires c κs =
     let s = at-ends-in-masks .before .before .before .before .before .before .before in
     let p = s .pre in
     let cs = s .args .codes .now in
-    let ten = masks-bits (take (s .args .h .inputs) (s .args .t2))
+    let ten = masks-bits (take (s .args .h .«input_values») (s .args .t2))
     (sym (at-ends-in-masks .ends-in-masks .ensures) ∙ not-false _ (c .before .before .before .before .before .before .before .if1 .left)) in
-    let eleven : listGood isInputCode (s .args .h .ins - 2) cs ≡ true
+    let eleven : listGood isInputCode (s .args .h .«input_bits» - 2) cs ≡ true
     = sym (c .before .before .before .before .before .before .codes .ensures) ∙ not-false _ (c .before .before .before .before .before .if2 .left) in
-    let l = codes-length (s .args .h .ins - 2) cs eleven in
+    let l = codes-length (s .args .h .«input_bits» - 2) cs eleven in
     (p .0, (c .before .before .before .before .if3 .left, omega arith, p .1 .3, p .1 .4))
 
 same-length : tie.Need-same-length
@@ -88,9 +88,9 @@ returns-4 : tie.Need-returns-4
 returns-4 c N h e =
     let s = c .before .before .before .before .before .before .before .before .before .before .before .before .before .before
     .before .before .before .before .before .before in
-    let ws = take (s .args .h .inputs) (s .args .t2) in
+    let ws = take (s .args .h .«input_values») (s .args .t2) in
     let cs = s .args .codes .now in
-    outcome-told N cs ws (s .args .h .ins) e (h .ins)
+    outcome-told N cs ws (s .args .h .«input_bits») e (h .«input_bits»)
     (sym (c .before .before .before .before .before .before .before .before .before .before .before .before .before .ends-in-masks .ensures)
     ∙ not-false _ (c .before .before .before .before .before .before .before .before .before .before .before .before .if1 .left))
     (sym (c .before .before .before .before .before .before .before .before .before .before .before .codes .ensures)
