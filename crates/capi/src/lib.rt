@@ -84,13 +84,13 @@ pub extern "C" fn fidrovelj_rewrite(
     out: &mut [u8],
     operands: &mut [u64],
     results: &mut [u64],
-    given: &mut [u8],
+    marks: &mut [u8],
     whole: u8,
 ) -> i64
     ensures { λ r. ⌜ Told (RewritePromise (sizesOf whole) (now (text .entry)) (now (out .entry)) (now (out .exit)) (now (operands .entry))
-        (now (operands .exit)) (now (results .entry)) (now (results .exit)) (now (given .entry)) (now (given .exit))) r ⌝ }
+        (now (operands .exit)) (now (results .entry)) (now (results .exit)) (now (marks .entry)) (now (marks .exit))) r ⌝ }
 {
-    number(rewrite::rewrite(text, out, operands, results, given, sizes(whole)))
+    number(rewrite::rewrite(text, out, operands, results, marks, sizes(whole)))
 }
 
 // Run: how many output bits stand at the front of `out`.
@@ -101,12 +101,12 @@ pub extern "C" fn fidrovelj_run(
     out: &mut [u8],
     operands: &mut [u64],
     results: &mut [u64],
-    given: &mut [u8],
+    marks: &mut [u8],
     words: &mut [u64],
     whole: u8,
 ) -> i64
     ensures { λ r. ⌜ Told (RunPromise (sizesOf whole) (now (text .entry)) (now (list .entry)) (now (out .entry)) (now (out .exit))
-        (now (operands .entry)) (now (operands .exit)) (now (results .entry)) (now (results .exit)) (now (given .entry)) (now (given .exit))
+        (now (operands .entry)) (now (operands .exit)) (now (results .entry)) (now (results .exit)) (now (marks .entry)) (now (marks .exit))
         (now (words .entry)) (now (words .exit))) r ⌝ }
 {
     number(run::run(
@@ -115,7 +115,7 @@ pub extern "C" fn fidrovelj_run(
         out,
         operands,
         results,
-        given,
+        marks,
         words,
         sizes(whole),
     ))
@@ -129,12 +129,12 @@ pub extern "C" fn fidrovelj_run64(
     out: &mut [u64],
     operands: &mut [u64],
     results: &mut [u64],
-    given: &mut [u8],
+    marks: &mut [u8],
     words: &mut [u64],
     whole: u8,
 ) -> i64
     ensures { λ r. ⌜ Told (Run64Promise (sizesOf whole) (now (text .entry)) (now (list .entry)) (now (out .entry)) (now (out .exit))
-        (now (operands .entry)) (now (operands .exit)) (now (results .entry)) (now (results .exit)) (now (given .entry)) (now (given .exit))
+        (now (operands .entry)) (now (operands .exit)) (now (results .entry)) (now (results .exit)) (now (marks .entry)) (now (marks .exit))
         (now (words .entry)) (now (words .exit))) r ⌝ }
 {
     number(run64::run64(
@@ -143,7 +143,7 @@ pub extern "C" fn fidrovelj_run64(
         out,
         operands,
         results,
-        given,
+        marks,
         words,
         sizes(whole),
     ))
@@ -189,13 +189,13 @@ pub extern "C" fn fidrovelj_check(
     leak: &mut [u64],
     operands: &mut [u64],
     results: &mut [u64],
-    given: &mut [u8],
+    marks: &mut [u8],
     words: &mut [u64],
     base: &mut [u64],
     whole: u8,
 ) -> i64
     ensures { λ r. ⌜ ToldLeak (CheckPromise (sizesOf whole) (now (text .entry)) (now (codes .entry)) (now (operands .entry))
-        (now (operands .exit)) (now (results .entry)) (now (results .exit)) (now (given .entry)) (now (given .exit)) (now (words .entry))
+        (now (operands .exit)) (now (results .entry)) (now (results .exit)) (now (marks .entry)) (now (marks .exit)) (now (words .entry))
         (now (words .exit)) (now (base .entry)) (now (base .exit))) (now (leak .entry)) (now (leak .exit)) r ⌝ }
 {
     tell(
@@ -205,7 +205,7 @@ pub extern "C" fn fidrovelj_check(
             codes,
             operands,
             results,
-            given,
+            marks,
             words,
             base,
             sizes(whole),

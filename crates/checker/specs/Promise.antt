@@ -24,6 +24,6 @@ pub record Promise (s : Sizes) (text codes o o′ r r′ g g′ w w′ b b′ : 
   pub judged : (N : Netlist) → readNetlist (large s) text ≡ done N → Judged N codes a
   pub operands : Cleared o o′
   pub results : Cleared r r′
-  pub given : Cleared g g′
+  pub marks : Cleared g g′
   pub words : Cleared w w′
   pub base : Cleared b b′

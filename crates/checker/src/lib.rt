@@ -23,13 +23,13 @@ fn answer(
     codes: &[u8],
     operands: &mut [u64],
     results: &mut [u64],
-    given: &mut [u8],
+    marks: &mut [u8],
     words: &mut [u64],
     base: &mut [u64],
     sizes: Sizes,
 ) -> Checked
     ensures { λ r. ⌜ outcomeOf r ≡ call sizes (now (text .entry)) (now (codes .entry)) (now (operands .entry)) (now (results .entry))
-        (now (given .entry)) (now (words .entry)) (now (base .entry)) ⌝ }
+        (now (marks .entry)) (now (words .entry)) (now (base .entry)) ⌝ }
 {
     let l = netlist::large(sizes);
     let mut inputs = [0u32; 17];
@@ -41,7 +41,7 @@ fn answer(
         &mut outputs,
         operands,
         results,
-        given,
+        marks,
         shortest,
         l,
     ) {
@@ -56,19 +56,19 @@ pub fn check(
     codes: &[u8],
     operands: &mut [u64],
     results: &mut [u64],
-    given: &mut [u8],
+    marks: &mut [u8],
     words: &mut [u64],
     base: &mut [u64],
     sizes: Sizes,
 ) -> Checked
     ensures { λ r. ⌜ Promise sizes (now (text .entry)) (now (codes .entry)) (now (operands .entry)) (now (operands .exit)) (now (results .entry))
-        (now (results .exit)) (now (given .entry)) (now (given .exit)) (now (words .entry)) (now (words .exit)) (now (base .entry))
+        (now (results .exit)) (now (marks .entry)) (now (marks .exit)) (now (words .entry)) (now (words .exit)) (now (base .entry))
         (now (base .exit)) r ⌝ }
 {
-    let r = answer(text, codes, operands, results, given, words, base, sizes);
+    let r = answer(text, codes, operands, results, marks, words, base, sizes);
     clear::words(operands);
     clear::words(results);
-    clear::bytes(given);
+    clear::bytes(marks);
     clear::words(words);
     clear::words(base);
     r

@@ -44,7 +44,7 @@ call-roomy {o} {r} {g} {w} {b} text codes room =
         rw (
           le-leb (large Old .table) (length o) (room .operands),
           le-leb (large Old .table) (length r) (room .results),
-          le-leb (large Old .table) (length g) (room .given),
+          le-leb (large Old .table) (length g) (room .marks),
           le-leb (large Old .table) (length w) (room .words),
           le-leb (large Old .table) (length b) (room .base),
         )

@@ -1,10 +1,10 @@
 // *check*: reads netlist.txt and inputs.txt, and prints whether the netlist is clean under those codes, or its leak, or the question
 // that refuses it.
-use program_text::LARGE_TABLE;
-use program_text::FILE_LIMIT;
 use check_netlist::Checked;
 use libc::STDOUT_FILENO;
 use netlist::Sizes;
+use program_text::FILE_LIMIT;
+use program_text::LARGE_TABLE;
 ghost use mathlib.Core.Path.{_≡_};
 ghost use mathlib.Core.List.{[]};
 ghost use Prim.Native.Nat.{_≤_};
@@ -23,11 +23,11 @@ fn answer(
     inputs: &mut [u8],
     operands: &mut [u64],
     results: &mut [u64],
-    given: &mut [u8],
+    marks: &mut [u8],
     words: &mut [u64],
     base: &mut [u64],
 ) -> Checked
-    requires { ⌜ Roomy (now operands) (now results) (now given) (now words) (now base) ⌝ }
+    requires { ⌜ Roomy (now operands) (now results) (now marks) (now words) (now base) ⌝ }
     ensures { λ r. ⌜ outcomeOf r ≡ readable (now (netlist .entry))
         (checkCall (largeLimits Old) [] (now (netlist .entry)) (listFile (now (inputs .entry)))) ⌝ }
 {
@@ -40,7 +40,7 @@ fn answer(
         &inputs[..n],
         operands,
         results,
-        given,
+        marks,
         words,
         base,
         Sizes::Old,
@@ -67,14 +67,14 @@ fn report(
     inputs: &mut [u8],
     operands: &mut [u64],
     results: &mut [u64],
-    given: &mut [u8],
+    marks: &mut [u8],
     words: &mut [u64],
     base: &mut [u64],
 ) -> usize
-    requires { ⌜ Roomy (now operands) (now results) (now given) (now words) (now base) × (128 ≤ length (now out)) ⌝ }
+    requires { ⌜ Roomy (now operands) (now results) (now marks) (now words) (now base) × (128 ≤ length (now out)) ⌝ }
     ensures { λ r. ⌜ (r ≤ length (now (out .exit))) × (take r (now (out .exit)) ≡ checkProgram (now (netlist .entry)) (now (inputs .entry))) ⌝ }
 {
-    let a = answer(netlist, inputs, operands, results, given, words, base);
+    let a = answer(netlist, inputs, operands, results, marks, words, base);
     print(out, a)
 }
 
@@ -84,7 +84,7 @@ fn main() {
     let mut inputs = [0u8; FILE_LIMIT];
     let mut operands = [0u64; LARGE_TABLE];
     let mut results = [0u64; LARGE_TABLE];
-    let mut given = [0u8; LARGE_TABLE];
+    let mut marks = [0u8; LARGE_TABLE];
     let mut words = [0u64; LARGE_TABLE];
     let mut base = [0u64; LARGE_TABLE];
     let mut out = [0u8; 128];
@@ -96,7 +96,7 @@ fn main() {
         &mut inputs[..entries],
         &mut operands,
         &mut results,
-        &mut given,
+        &mut marks,
         &mut words,
         &mut base,
     );

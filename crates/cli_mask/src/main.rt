@@ -1,10 +1,10 @@
 // *mask*: reads netlist.txt, inputs.txt and outputs.txt, and prints the output codes and the masked netlist, or the question that
 // refuses them.
-use program_text::SMALL_TABLE;
-use program_text::FILE_LIMIT;
 use libc::STDOUT_FILENO;
 use netlist::Answer;
 use netlist::Sizes;
+use program_text::FILE_LIMIT;
+use program_text::SMALL_TABLE;
 ghost use Prim.Native.Nat.{_+_, _*_, _≤_};
 ghost use lib.ListN.{length, take};
 ghost use Rattle.netlist.specs.Programs.{printMask, maskProgram};

@@ -27,7 +27,7 @@ call-roomy : (netlist : List ℕ) {b o r g : List ℕ} → Roomy b o r g → len
 unfolding rewriteCall
 call-roomy netlist {b} {o} {r} {g} m h =
     let long : tablesLong (large Old) (length o ∷ length r ∷ length g ∷ []) ≡ true
-    = rw (le-leb (large Old .table) (length o) (m .operands), le-leb (large Old .table) (length r) (m .results), le-leb (large Old .table) (length g) (m .given)) in
+    = rw (le-leb (large Old .table) (length o) (m .operands), le-leb (large Old .table) (length r) (m .results), le-leb (large Old .table) (length g) (m .marks)) in
     ap (λ (t : Bool). ask 1 t (andThen (readNetlist (large Old) netlist) (rewriteOutcome (length b)))) long
     ∙ ap (λ (room : ℕ). andThen (readNetlist (large Old) netlist) (rewriteOutcome room)) (m .text)
     ∙ sym (readable-short netlist _ h)

@@ -31,7 +31,7 @@ call-roomy netlist inputs {list} {b} {o} {r} {g} {w} m h e =
     = rw (
       le-leb (large Old .table) (length o) (m .operands),
       le-leb (large Old .table) (length r) (m .results),
-      le-leb (large Old .table) (length g) (m .given),
+      le-leb (large Old .table) (length g) (m .marks),
       le-leb (large Old .table) (length w) (m .words),
     ) in
     ap (λ (t : Bool). ask 1 t (andThen (readNetlist (large Old) netlist) (runOutcome list (length b)))) long

@@ -1,10 +1,10 @@
 // *run*: reads netlist.txt and inputs.txt, whose entries are bits, and prints the netlist's output bits, or the question that
 // refuses it.
-use program_text::LARGE_TABLE;
-use program_text::FILE_LIMIT;
 use libc::STDOUT_FILENO;
 use netlist::Answer;
 use netlist::Sizes;
+use program_text::FILE_LIMIT;
+use program_text::LARGE_TABLE;
 ghost use Prim.Native.Nat.{_+_, _*_, _≤_};
 ghost use lib.ListN.{length};
 ghost use Rattle.netlist.specs.Programs.{printRun, runProgram};
@@ -19,10 +19,10 @@ fn answer(
     bits: &mut [u8],
     operands: &mut [u64],
     results: &mut [u64],
-    given: &mut [u8],
+    marks: &mut [u8],
     words: &mut [u64],
 ) -> Answer
-    requires { ⌜ Roomy (now bits) (now operands) (now results) (now given) (now words) ⌝ }
+    requires { ⌜ Roomy (now bits) (now operands) (now results) (now marks) (now words) ⌝ }
     ensures { λ r. ⌜ Answered (outcome (now (netlist .entry)) (now (inputs .entry))) (now (bits .exit)) r ⌝ }
 {
     if FILE_LIMIT < netlist.len() {
@@ -35,7 +35,7 @@ fn answer(
         bits,
         operands,
         results,
-        given,
+        marks,
         words,
         Sizes::Old,
     )
@@ -60,13 +60,13 @@ fn report(
     bits: &mut [u8],
     operands: &mut [u64],
     results: &mut [u64],
-    given: &mut [u8],
+    marks: &mut [u8],
     words: &mut [u64],
 ) -> usize
-    requires { ⌜ Roomy (now bits) (now operands) (now results) (now given) (now words) × (3 * length (now bits) + 64 ≤ length (now out)) ⌝ }
+    requires { ⌜ Roomy (now bits) (now operands) (now results) (now marks) (now words) × (3 * length (now bits) + 64 ≤ length (now out)) ⌝ }
     ensures { λ r. ⌜ Front (now (out .exit)) r (runProgram (now (netlist .entry)) (now (inputs .entry))) ⌝ }
 {
-    let a = answer(netlist, inputs, bits, operands, results, given, words);
+    let a = answer(netlist, inputs, bits, operands, results, marks, words);
     print(out, bits, a)
 }
 
@@ -77,7 +77,7 @@ fn main() {
     let mut bits = [0u8; LARGE_TABLE];
     let mut operands = [0u64; LARGE_TABLE];
     let mut results = [0u64; LARGE_TABLE];
-    let mut given = [0u8; LARGE_TABLE];
+    let mut marks = [0u8; LARGE_TABLE];
     let mut words = [0u64; LARGE_TABLE];
     let mut out = [0u8; FILE_LIMIT];
     let bytes = program_files::read(b"netlist.txt", &mut netlist);
@@ -89,7 +89,7 @@ fn main() {
         &mut bits,
         &mut operands,
         &mut results,
-        &mut given,
+        &mut marks,
         &mut words,
     );
     io::write_all(STDOUT_FILENO, &out[..n]);

@@ -3,7 +3,7 @@ use netlist::Sizes;
 use netlist::large;
 use read_header::HeaderNumbers;
 use read_header::head::Head;
-use read_header::head::read_head;
+use read_header::head::read_opening;
 use read_header::keep;
 use read_text::count::count_lines;
 ghost use mathlib.Core.Path.{_≡_};
@@ -39,7 +39,7 @@ pub fn open_at(text: &[u8], inputs: &mut [u32], outputs: &mut [u32], sizes: Size
 {
     let mut ins = [0u32; 17];
     let mut outs = [0u32; 16];
-    match read_head(text, large(sizes), &mut ins, &mut outs) {
+    match read_opening(text, large(sizes), &mut ins, &mut outs) {
         Head::Refused(question) => Opening::Refused(question),
         Head::Is(h, at) => {
             if count_lines(text, at) != h.gates as usize {

@@ -15,6 +15,7 @@ pub const FILE_LIMIT: usize = 60000;
 
 // The shortest tables that Mask takes, and those that Check, Run and Rewrite take.
 pub const SMALL_TABLE: usize = 2048;
+
 pub const LARGE_TABLE: usize = 18431;
 
 // A list byte that is no digit counts as 9.

@@ -44,7 +44,7 @@ fn gates_counted(h: HeaderNumbers) -> bool
 }
 
 // Questions 2 to 6, but for the number of gate lines. The widths go into the tables, as many as they have room for.
-pub fn read_head(text: &[u8], l: Limits, inputs: &mut [u32], outputs: &mut [u32]) -> Head
+pub fn read_opening(text: &[u8], l: Limits, inputs: &mut [u32], outputs: &mut [u32]) -> Head
     requires { ⌜ l .text < 2 ^ 32 ⌝ }
     ensures { λ r. ⌜ HeadIs l (now (text .entry)) (now (inputs .exit)) (now (outputs .exit)) r ⌝ }
 {

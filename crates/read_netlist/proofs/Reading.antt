@@ -182,7 +182,7 @@ refuse-count {m} {k} {left} q e p = rw (ne-eqb m left (λ r. p (e ∙ r)))
 -- the loop over the lines: i of `count` are read, and the tables keep their lengths
 pub record Going (t : List ℕ) (from count n W : ℕ) (g₀ o₀ r₀ g o r : List ℕ) (at i : ℕ) : Type 0 where
   pub passed : i ≤ count
-  pub given : length g ≡ length g₀
+  pub marks : length g ≡ length g₀
   pub operands : length o ≡ length o₀
   pub results : length r ≡ length r₀
   pub reading : Reading t from n W g (tables o r) i at

@@ -37,21 +37,21 @@ pub enum Gates {
 }
 
 // Questions 7 to 9 of one line, whose result is then marked.
-fn one_gate(text: &[u8], at: Cursor, n: u32, w: u32, given: &mut [u8]) -> GateStep
-    requires { ⌜ (at .at ≤ length (now text)) × (w ≤ length (now given)) ⌝ }
-    ensures { λ r. ⌜ ((rs : List ℕ) → Marks (now (given .entry)) n w rs → GateStepIs (now (text .entry)) (at .at) n w rs (now (given .exit)) r) ⌝ }
+fn one_gate(text: &[u8], at: Cursor, n: u32, w: u32, marks: &mut [u8]) -> GateStep
+    requires { ⌜ (at .at ≤ length (now text)) × (w ≤ length (now marks)) ⌝ }
+    ensures { λ r. ⌜ ((rs : List ℕ) → Marks (now (marks .entry)) n w rs → GateStepIs (now (text .entry)) (at .at) n w rs (now (marks .exit)) r) ⌝ }
 {
     let GateLine::Is(g, next) = gate_line(text, at) else {
         return GateStep::Refused(7);
     };
-    if !operands_given(given, g) {
+    if !operands_given(marks, g) {
         return GateStep::Refused(8);
     }
     let c = g.result;
-    if !result_free(given, c, n, w) {
+    if !result_free(marks, c, n, w) {
         return GateStep::Refused(9);
     }
-    mark(given, c);
+    mark(marks, c);
     GateStep::On(g, next)
 }
 
@@ -83,11 +83,11 @@ pub fn read_gates(
     count: usize,
     n: u32,
     w: u32,
-    given: &mut [u8],
+    marks: &mut [u8],
     operands: &mut [u64],
     results: &mut [u64],
 ) -> Gates
-    requires { ⌜ (from .at ≤ length (now text)) × (count ≤ length (now operands)) × (count ≤ length (now results)) × Marks (now given) n w [] ⌝ }
+    requires { ⌜ (from .at ≤ length (now text)) × (count ≤ length (now operands)) × (count ≤ length (now results)) × Marks (now marks) n w [] ⌝ }
     ensures { λ r. ⌜ GatesIs (now (text .entry)) (from .at) count n w (tables (now (operands .exit)) (now (results .exit))) r ⌝ }
 {
     let mut at = from.at;
@@ -97,7 +97,7 @@ pub fn read_gates(
         if text.len() <= start.at {
             return Gates::Refused(6);
         }
-        match one_gate(text, start, n, w, given) {
+        match one_gate(text, start, n, w, marks) {
             GateStep::Refused(question) => {
                 return refuse(text, start, count - i, question);
             }

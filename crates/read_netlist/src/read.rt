@@ -5,7 +5,7 @@ use crate::marks::mark_inputs;
 use netlist::Limits;
 use read_header::HeaderNumbers;
 use read_header::head::Head;
-use read_header::head::read_head;
+use read_header::head::read_opening;
 use read_text::cursor::Cursor;
 ghost use mathlib.Core.Path.{_≡_};
 ghost use mathlib.Core.List.{[], _∷_};
@@ -26,41 +26,41 @@ fn read_body(
     text: &[u8],
     at: Cursor,
     h: HeaderNumbers,
-    given: &mut [u8],
+    marks: &mut [u8],
     operands: &mut [u64],
     results: &mut [u64],
 ) -> Gates
     requires { ⌜ (at .at ≤ length (now text)) × (h .«input_bits» ≤ h .wires) × (h .gates ≤ h .wires) ⌝ }
-    requires { ⌜ (h .wires ≤ length (now given)) × (h .wires ≤ length (now operands)) × (h .wires ≤ length (now results))
-        × (now given ≡ replicate (length (now given)) 0) ⌝ }
+    requires { ⌜ (h .wires ≤ length (now marks)) × (h .wires ≤ length (now operands)) × (h .wires ≤ length (now results))
+        × (now marks ≡ replicate (length (now marks)) 0) ⌝ }
     ensures { λ r. ⌜ GatesIs (now (text .entry)) (at .at) (h .gates) (h .«input_bits») (h .wires) (tables (now (operands .exit)) (now (results .exit))) r ⌝ }
 {
     let n = h.input_bits as u32;
     let w = h.wires;
     let count = h.gates as usize;
-    mark_inputs(given, n, w);
-    read_gates(text, at, count, n, w, given, operands, results)
+    mark_inputs(marks, n, w);
+    read_gates(text, at, count, n, w, marks, operands, results)
 }
 
-// Questions 2 to 9, with tables that question 1 admits; `given`, which must be zero, then marks every wire.
+// Questions 2 to 9, with tables that question 1 admits; `marks`, which must be zero, then marks every wire.
 fn read_text(
     text: &[u8],
     l: Limits,
     inputs: &mut [u32],
     outputs: &mut [u32],
-    given: &mut [u8],
+    marks: &mut [u8],
     operands: &mut [u64],
     results: &mut [u64],
 ) -> Reading
     requires { ⌜ (l .text < 2 ^ 32) × (l .inputs ≤ length (now inputs)) × (l .outputs ≤ length (now outputs)) ⌝ }
-    requires { ⌜ (l .wires ≤ length (now given)) × (l .wires ≤ length (now operands)) × (l .wires ≤ length (now results))
-        × (now given ≡ replicate (length (now given)) 0) ⌝ }
+    requires { ⌜ (l .wires ≤ length (now marks)) × (l .wires ≤ length (now operands)) × (l .wires ≤ length (now results))
+        × (now marks ≡ replicate (length (now marks)) 0) ⌝ }
     ensures { λ r. ⌜ TextIs l (now (text .entry)) (now (inputs .exit)) (now (outputs .exit))
         (tables (now (operands .exit)) (now (results .exit))) r ⌝ }
 {
-    match read_head(text, l, inputs, outputs) {
+    match read_opening(text, l, inputs, outputs) {
         Head::Refused(question) => Reading::Refused(question),
-        Head::Is(h, at) => match read_body(text, at, h, given, operands, results) {
+        Head::Is(h, at) => match read_body(text, at, h, marks, operands, results) {
             Gates::Refused(question) => Reading::Refused(question),
             Gates::Done => Reading::Done(h),
         },
@@ -75,12 +75,12 @@ pub fn read(
     outputs: &mut [u32; 16],
     operands: &mut [u64],
     results: &mut [u64],
-    given: &mut [u8],
+    marks: &mut [u8],
     shortest: usize,
     l: Limits,
 ) -> Reading
     requires { ⌜ Readable l ⌝ }
-    ensures { λ r. ⌜ ReadIs l (length (now (operands .entry)) ∷ length (now (results .entry)) ∷ length (now (given .entry)) ∷ shortest ∷ [])
+    ensures { λ r. ⌜ ReadIs l (length (now (operands .entry)) ∷ length (now (results .entry)) ∷ length (now (marks .entry)) ∷ shortest ∷ [])
         (now (text .entry))
         (now (inputs .exit)) (now (outputs .exit)) (tables (now (operands .exit)) (now (results .exit))) r ⌝ }
 {
@@ -91,12 +91,12 @@ pub fn read(
     if results.len() < least {
         return Reading::Refused(1);
     }
-    if given.len() < least {
+    if marks.len() < least {
         return Reading::Refused(1);
     }
     if shortest < least {
         return Reading::Refused(1);
     }
-    clear::bytes(given);
-    read_text(text, l, inputs, outputs, given, operands, results)
+    clear::bytes(marks);
+    read_text(text, l, inputs, outputs, marks, operands, results)
 }

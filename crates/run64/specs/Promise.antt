@@ -40,5 +40,5 @@ pub record Promise (s : Sizes) (text list out out′ o o′ r r′ g g′ w w′
       → bitsOf j (take n out′) ≡ outputList N (bitsOf j list)
   pub operands : Cleared o o′
   pub results : Cleared r r′
-  pub given : Cleared g g′
+  pub marks : Cleared g g′
   pub words : Cleared w w′

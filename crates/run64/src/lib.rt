@@ -71,12 +71,12 @@ fn answer(
     out: &mut [u64],
     operands: &mut [u64],
     results: &mut [u64],
-    given: &mut [u8],
+    marks: &mut [u8],
     words: &mut [u64],
     sizes: Sizes,
 ) -> Answer
     ensures { λ r. ⌜ Answers (call sizes (now (text .entry)) (now (list .entry)) (now (out .entry)) (now (operands .entry))
-        (now (results .entry)) (now (given .entry)) (now (words .entry))) (now (out .entry)) (now (out .exit)) r ⌝ }
+        (now (results .entry)) (now (marks .entry)) (now (words .entry))) (now (out .entry)) (now (out .exit)) r ⌝ }
 {
     let l = netlist::large(sizes);
     let mut inputs = [0u32; 17];
@@ -88,7 +88,7 @@ fn answer(
         &mut outputs,
         operands,
         results,
-        given,
+        marks,
         shortest,
         l,
     ) {
@@ -105,18 +105,18 @@ pub fn run64(
     out: &mut [u64],
     operands: &mut [u64],
     results: &mut [u64],
-    given: &mut [u8],
+    marks: &mut [u8],
     words: &mut [u64],
     sizes: Sizes,
 ) -> Answer
     ensures { λ r. ⌜ Promise sizes (now (text .entry)) (now (list .entry)) (now (out .entry)) (now (out .exit)) (now (operands .entry))
-        (now (operands .exit)) (now (results .entry)) (now (results .exit)) (now (given .entry)) (now (given .exit))
+        (now (operands .exit)) (now (results .entry)) (now (results .exit)) (now (marks .entry)) (now (marks .exit))
         (now (words .entry)) (now (words .exit)) r ⌝ }
 {
-    let r = answer(text, list, out, operands, results, given, words, sizes);
+    let r = answer(text, list, out, operands, results, marks, words, sizes);
     clear::words(operands);
     clear::words(results);
-    clear::bytes(given);
+    clear::bytes(marks);
     clear::words(words);
     r
 }

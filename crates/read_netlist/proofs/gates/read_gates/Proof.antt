@@ -18,13 +18,13 @@ abbrev μ-loop : tie.MeasureT-loop
 loop-holds : tie.Need-loop-holds Inv-loop μ-loop
 loop-holds c =
     let pre = c .before .before .before .before .pre in
-    record { passed = omega arith; given = refl; operands = refl; results = refl; reading = reading-none _ (pre .0) (pre .3) }
+    record { passed = omega arith; marks = refl; operands = refl; results = refl; reading = reading-none _ (pre .0) (pre .3) }
 
 skip-blanks-requires : tie.Need-skip-blanks-requires Inv-loop μ-loop
 skip-blanks-requires c κs = c .before .loop .inv .reading .within
 
 same-length : tie.Need-same-length Inv-loop μ-loop
-same-length c = c .before .before .before .before .loop .inv .given
+same-length c = c .before .before .before .before .loop .inv .marks
 
 same-length-2 : tie.Need-same-length-2 Inv-loop μ-loop
 same-length-2 c = c .before .before .before .before .loop .inv .operands
@@ -53,7 +53,7 @@ refuse-requires c κs = c .before .before .before .before .before .before .befor
 same-length-4 : tie.Need-same-length-4 Inv-loop μ-loop
 same-length-4 c =
     c .before .before .before .before .before .before .one-gate .kept .1 .1 .1 .1 .0
-    ∙ c .before .before .before .before .before .before .before .before .before .before .before .before .loop .inv .given
+    ∙ c .before .before .before .before .before .before .before .before .before .before .before .before .loop .inv .marks
 
 same-length-5 : tie.Need-same-length-5 Inv-loop μ-loop
 same-length-5 c = c .before .before .before .before .before .before .before .before .before .before .before .before .loop .inv .operands
@@ -103,7 +103,7 @@ loop-again c =
     let a = gate-step-is _ _ _ _ _ _ (at-g .g .given .1) (at-one-gate .one-gate .ensures (v .reading .results) (v .reading .marks)) in
     record {
       passed = omega (arith, at-loop-test .loop-test .taken);
-      given = at-one-gate .one-gate .kept .1 .1 .1 .1 .0 ∙ v .given;
+      marks = at-one-gate .one-gate .kept .1 .1 .1 .1 .0 ∙ v .marks;
       operands = at-store .store .kept .0 ∙ v .operands;
       results = at-store .store .kept .1 .0 ∙ v .results;
       reading = reading-more (v .reading) (at-skip-blanks .skip-blanks .ensures) (at-if1 .if1 .left) a (at-store .store .ensures _ (a .names));
@@ -113,7 +113,7 @@ skip-blanks-requires-2 : tie.Need-skip-blanks-requires-2 Inv-loop μ-loop
 skip-blanks-requires-2 c κs = c .before .loop .inv .reading .within
 
 same-length-7 : tie.Need-same-length-7 Inv-loop μ-loop
-same-length-7 c = c .before .before .before .before .loop .inv .given
+same-length-7 c = c .before .before .before .before .loop .inv .marks
 
 same-length-8 : tie.Need-same-length-8 Inv-loop μ-loop
 same-length-8 c = c .before .before .before .before .loop .inv .operands
@@ -128,7 +128,7 @@ returns-3 c =
     (c .before .before .before .loop-test .left) (c .if2 .taken)
 
 same-length-10 : tie.Need-same-length-10 Inv-loop μ-loop
-same-length-10 c = c .before .before .before .before .loop .inv .given
+same-length-10 c = c .before .before .before .before .loop .inv .marks
 
 same-length-11 : tie.Need-same-length-11 Inv-loop μ-loop
 same-length-11 c = c .before .before .before .before .loop .inv .operands

@@ -33,7 +33,7 @@ read-text-requires c κs =
     let o = c .before .before .before .before .before .before .before .before .before .before .before .before .if1 .left in
     let r = c .before .before .before .before .before .before .before .before .before .before .before .if2 .left in
     let g = c .before .before .before .before .before .before .before .before .before .before .if3 .left in
-    ((p .text, omega (arith, p .inputs), omega (arith, p .outputs)), (omega (arith, p .wires, g, k .kept .0), omega (arith, p .wires, o), omega (arith, p .wires, r), zeros-own (length (c .before .before .before .before .before .before .before .before .before .before .before .before .before .before .before .before .before .args .given .now)) (k .ensures)))
+    ((p .text, omega (arith, p .inputs), omega (arith, p .outputs)), (omega (arith, p .wires, g, k .kept .0), omega (arith, p .wires, o), omega (arith, p .wires, r), zeros-own (length (c .before .before .before .before .before .before .before .before .before .before .before .before .before .before .before .before .before .args .marks .now)) (k .ensures)))
 
 same-length : tie.Need-same-length
 same-length c = search needs
@@ -52,7 +52,7 @@ returns-5 c =
     let g = c .before .before .before .before .before .before .before .before .before .before .before .before .before .before .before .before .before .if3 .left in
     let w = c .before .before .before .before .before .before .before .before .before .before .before .before .before .before .before .before .if4 .left in
     let t = c .before .before .before .before .before .before .read-text in
-    read-after (s .l) (length (s .operands .now) ∷ length (s .results .now) ∷ length (s .given .now) ∷ s .shortest ∷ []) (s .text .now) (t .last .1 .1 .0) (t .last .1 .1 .1 .0)
+    read-after (s .l) (length (s .operands .now) ∷ length (s .results .now) ∷ length (s .marks .now) ∷ s .shortest ∷ []) (s .text .now) (t .last .1 .1 .0) (t .last .1 .1 .1 .0)
     (tables (t .last .1 .1 .1 .1 .1 .0) (t .last .1 .1 .1 .1 .1 .1 .0)) (t .result)
     (rw (le-leb _ _ o, le-leb _ _ r, le-leb _ _ g, le-leb _ _ w)) (t .ensures)
 

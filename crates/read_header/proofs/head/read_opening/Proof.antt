@@ -1,11 +1,11 @@
--- `read_head`: questions 2 to 6 in order.
+-- `read_opening`: questions 2 to 6 in order.
 use mathlib.Core.Path.{sym, _∙_}
 use borrow.Author.Tests.{not-true, not-false}
 use Rattle.read_header.proofs.HeaderLaws.{header-is, header-not}
 use Rattle.read_header.proofs.HeadLaws.{bits-fit, head-2, head-3, head-4, head-5, head-6, head-at}
 use borrow.Author.Needs.{needs}
-use Rattle.read_header.proofs.head.read_head.Statement.{statement}
-use Rattle.read_header.proofs.head.read_head.Tie as tie
+use Rattle.read_header.proofs.head.read_opening.Statement.{statement}
+use Rattle.read_header.proofs.head.read_opening.Tie as tie
 
 returns : tie.Need-returns
 returns c = head-2 _ _ (c .if1 .taken)
@@ -88,8 +88,8 @@ returns-6 c =
     (sym (c .before .before .before .within .ensures) ∙ not-false _ (c .before .before .if3 .left))
     (sym (c .before .gates-counted .ensures) ∙ not-false _ (c .if4 .left))
 
-pub read-head-spec : {M : Type 1} → statement M
-read-head-spec =
+pub read-opening-spec : {M : Type 1} → statement M
+read-opening-spec =
     tie.close
     (tie.spec
     returns
