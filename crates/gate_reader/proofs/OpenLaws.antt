@@ -60,10 +60,10 @@ numbers-same a =
     λ i. record {
       gates = sym (a .gates) i;
       wires = sym (a .wires) i;
-      inputs = sym (a .inputs) i;
-      ins = sym (a .inputBits) i;
-      outputs = sym (a .outputs) i;
-      outs = sym (a .outputBits) i;
+      «input_values» = sym (a .inputs) i;
+      «input_bits» = sym (a .inputBits) i;
+      «output_values» = sym (a .outputs) i;
+      «output_bits» = sym (a .outputBits) i;
     }
 
 -- a question gets a no, and nothing is written

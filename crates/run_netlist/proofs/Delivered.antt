@@ -31,11 +31,11 @@ module _ {t : Tables} {count W n o : ℕ} {N : Netlist} (h : Holds t count W n o
   length-outputs g i u =
       let l = list-length n list g in
       let w = h .wires in
-      let q = h .«output_bits» in
+      let q = h .outs in
       simp (length-map, length-drop, length-runGates, length-append, length-replicate) (omega arith)
 
   good : (b : Bool) → listGood isBit n list ≡ b → listGood isBit (inputBits N) list ≡ b
-  good b e = ap (λ (k : ℕ). listGood isBit k list) (h .«input_bits») ∙ e
+  good b e = ap (λ (k : ℕ). listGood isBit k list) (h .ins) ∙ e
 
   pub run-11 : (out : List ℕ) → listGood isBit n list ≡ false → Answers (runOutcome list (length out) N) out out (Refused 11)
   run-11 out e = answers-refused out (rw (good false e))

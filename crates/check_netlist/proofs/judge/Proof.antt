@@ -27,7 +27,7 @@ returns c N h e =
     let s = c .before .before .before .before .before .before .before .before in
     let ws = take (s .args .h .«input_values») (s .args .t2) in
     let cs = s .args .codes .now in
-    outcome-ten N cs ws (s .args .h .«input_bits») e (h .«input_bits») (sym (c .before .ends-in-masks .ensures) ∙ not-true _ (c .if1 .taken))
+    outcome-ten N cs ws (s .args .h .«input_bits») e (h .ins) (sym (c .before .ends-in-masks .ensures) ∙ not-true _ (c .if1 .taken))
 
 sub-codes : tie.Need-sub-codes
 sub-codes c =
@@ -46,7 +46,7 @@ returns-2 c N h e =
     let s = c .before .before .before .before .before .before .before .before .before .before in
     let ws = take (s .args .h .«input_values») (s .args .t2) in
     let cs = s .args .codes .now in
-    outcome-eleven N cs ws (s .args .h .«input_bits») e (h .«input_bits»)
+    outcome-eleven N cs ws (s .args .h .«input_bits») e (h .ins)
     (sym (c .before .before .before .ends-in-masks .ensures) ∙ not-false _ (c .before .before .if1 .left))
     (sym (c .before .codes .ensures) ∙ not-true _ (c .if2 .taken))
 
@@ -55,7 +55,7 @@ returns-3 c N h e =
     let s = c .before .before .before .before .before .before .before .before .before .before .before in
     let ws = take (s .args .h .«input_values») (s .args .t2) in
     let cs = s .args .codes .now in
-    outcome-twelve N cs ws (s .args .h .«input_bits») e (h .«input_bits»)
+    outcome-twelve N cs ws (s .args .h .«input_bits») e (h .ins)
     (sym (c .before .before .before .before .ends-in-masks .ensures) ∙ not-false _ (c .before .before .before .if1 .left))
     (sym (c .before .before .codes .ensures) ∙ not-false _ (c .before .if2 .left)) (c .if3 .taken)
 
@@ -90,7 +90,7 @@ returns-4 c N h e =
     .before .before .before .before .before .before in
     let ws = take (s .args .h .«input_values») (s .args .t2) in
     let cs = s .args .codes .now in
-    outcome-told N cs ws (s .args .h .«input_bits») e (h .«input_bits»)
+    outcome-told N cs ws (s .args .h .«input_bits») e (h .ins)
     (sym (c .before .before .before .before .before .before .before .before .before .before .before .before .before .ends-in-masks .ensures)
     ∙ not-false _ (c .before .before .before .before .before .before .before .before .before .before .before .before .if1 .left))
     (sym (c .before .before .before .before .before .before .before .before .before .before .before .codes .ensures)

@@ -50,9 +50,9 @@ use Rattle.gate_reader.proofs.step.Step as S
 use Rattle.gate_reader.proofs.step.Step.Laws as S′
 use Rattle.gate_reader.proofs.step.place_after as place
 use Rattle.gate_reader.proofs.step.place_after.Symbol as place-def
-use Rattle.gate_reader.proofs.step.place_after.Symbol.{name as #gates·step·place-after}
+use Rattle.gate_reader.proofs.step.place_after.Symbol.{name as #gate-reader·step·place-after}
 use Rattle.gate_reader.proofs.step.place_after.Met as place-thm
-use Rattle.gate_reader.proofs.moved.Key.{name as #gates·moved}
+use Rattle.gate_reader.proofs.moved.Key.{name as #gate-reader·moved}
 use Rattle.gate_reader.proofs.moved as moved
 use Rattle.gate_reader.proofs.moved.Statement as stated
 use Rattle.gate_reader.proofs.moved.Code as code
@@ -118,7 +118,7 @@ module _ {M : Type 1} (𝓤 : URA M) (H : Heap 𝓤) (A : Atoms 𝓤) (W : Given
       owned ! usize (Is usize) (uint-makes 𝓤 H A W w64) m _ (refl, ok) $ move ! (1 ∷ 0 ∷ []) $
       by ! (own-put 𝓤 H A W (T.the-type (namedLft 1 0 tt (κ, tt))) (T′.the-laws (namedLft 1 0 tt (κ, tt))) 1 (d .text, (d .at, tt)) m mach)
 
-  module _ (C : Calls 𝓤 H) (Λ : Loops 𝓤 H) (fm : FmC 𝓤 H (W .laws) C) (known : Triple 𝓤 (C #gates·step·place-after) (Place 𝓤 H A mem run)) where
+  module _ (C : Calls 𝓤 H) (Λ : Loops 𝓤 H) (fm : FmC 𝓤 H (W .laws) C) (known : Triple 𝓤 (C #gate-reader·step·place-after) (Place 𝓤 H A mem run)) where
     walk : Holds (hasTy (T′.mir (named 0)) mach) × WT mach → Is S.the-row s (v ∷ [])
         → ent 𝓤 (onEntry 𝓤 H A moved.signature (κ, tt) (q, tt) (d, (s, tt)) at) (WpFn 𝓤 H C Λ code.function (mach ∷ v ∷ []) Post)
     walk wt p =
@@ -155,7 +155,7 @@ module _ {M : Type 1} (𝓤 : URA M) (H : Heap 𝓤) (A : Atoms 𝓤) (W : Given
         move ! (2 ∷ 3 ∷ []) $ free1 ! $ free1 ! $ free0 ! $ by ! (exits m (is .1) e)))))))))))
 
 module _ {M : Type 1} (𝓤 : URA M) (H : Heap 𝓤) (A : Atoms 𝓤) (W : Given 𝓤 H A) (mem : Memory → SProp 𝓤) (run : Routine → Fun 𝓤) where
-  moved-walks : (C : Calls 𝓤 H) (Λ : Loops 𝓤 H) → FmC 𝓤 H (W .laws) C → Triple 𝓤 (C #gates·step·place-after) (Place 𝓤 H A mem run)
+  moved-walks : (C : Calls 𝓤 H) (Λ : Loops 𝓤 H) → FmC 𝓤 H (W .laws) C → Triple 𝓤 (C #gate-reader·step·place-after) (Place 𝓤 H A mem run)
       → Walks 𝓤 H A moved.ended stayed (WpFn 𝓤 H C Λ code.function) (moved.clauses 𝓤 H A mem run)
   moved-walks C Λ fm known =
       walked 𝓤 H A moved.ended stayed (moved.clauses 𝓤 H A mem run) (WpFn 𝓤 H C Λ code.function)
@@ -166,7 +166,7 @@ module _ {M : Type 1} (𝓤 : URA M) (H : Heap 𝓤) (A : Atoms 𝓤) (W : Given
       (LL.lawful (T.the-type (namedLft 1 0 tt κs)) (T′.the-laws (namedLft 1 0 tt κs)) 𝓤 H A W .typed (a .0) _ (are .0) .0) (are .1 .0)))
 
 moved-meets : {M : Type 1} (𝓤 : URA M) (H : Heap 𝓤) (A : Atoms 𝓤) (W : Given 𝓤 H A) (mem : Memory → SProp 𝓤) (run : Routine → Fun 𝓤) (𝓣 : Tables 𝓤 H)
-    → Triple 𝓤 (𝓣 .C #gates·step·place-after) (Place 𝓤 H A mem run)
+    → Triple 𝓤 (𝓣 .C #gate-reader·step·place-after) (Place 𝓤 H A mem run)
     → Meets 𝓤 H A moved.signature (WpFn 𝓤 H (𝓣 .C) (𝓣 .Λ) code.function) (moved.spec 𝓤 H A mem run)
 moved-meets 𝓤 H A W mem run 𝓣 known =
     walk-meets 𝓤 H A moved.ended stayed W
@@ -178,7 +178,7 @@ pub moved-spec : {M : Type 1} → stated.statement M
 unfolding code.routine tablesOf
 moved-spec 𝓤 H 𝓜 𝓖 𝓡 =
     entered 𝓤 H (tripleOf 𝓤 H (𝓖 .A) moved.signature (moved.spec 𝓤 H (𝓖 .A) (𝓜 .mem) (𝓡 .run)))
-    (tables 𝓤 H 𝓜 𝓡 code.env .C) (tables 𝓤 H 𝓜 𝓡 code.env .Λ) #gates·moved code.function (code.unfolded 𝓤 H 𝓜 𝓡)
+    (tables 𝓤 H 𝓜 𝓡 code.env .C) (tables 𝓤 H 𝓜 𝓡 code.env .Λ) #gate-reader·moved code.function (code.unfolded 𝓤 H 𝓜 𝓡)
     (moved-meets 𝓤 H (𝓖 .A) (givenOf 𝓤 H 𝓜 𝓖) (𝓜 .mem) (𝓡 .run) (tablesOf 𝓤 H 𝓜 (tables 𝓤 H 𝓜 𝓡 code.env))
-    (cited 𝓤 H (Place 𝓤 H (𝓖 .A) (𝓜 .mem) (𝓡 .run)) 𝓜 𝓡 code.env #gates·step·place-after place-def.routine code.calls-gates·step·place-after
+    (cited 𝓤 H (Place 𝓤 H (𝓖 .A) (𝓜 .mem) (𝓡 .run)) 𝓜 𝓡 code.env #gate-reader·step·place-after place-def.routine code.calls-gate-reader·step·place-after
     (place-thm.met 𝓤 H 𝓜 𝓖 𝓡)))

@@ -37,7 +37,7 @@ use denote.Exit.{yes}
 use Rattle.gate_reader.specs.declared.GateReader.{GateReader}
 use Rattle.gate_reader.proofs.GateReader as T
 use Rattle.gate_reader.proofs.GateReader.Laws as T′
-use Rattle.gate_reader.proofs.reader.Key.{name as #gates·reader}
+use Rattle.gate_reader.proofs.reader.Key.{name as #gate-reader·reader}
 use Rattle.gate_reader.proofs.reader as reader
 use Rattle.gate_reader.proofs.reader.Statement as stated
 use Rattle.gate_reader.proofs.reader.Code as code
@@ -110,5 +110,5 @@ pub reader-spec : {M : Type 1} → stated.statement M
 unfolding code.routine tablesOf
 reader-spec 𝓤 H 𝓜 𝓖 𝓡 =
     entered 𝓤 H (tripleOf 𝓤 H (𝓖 .A) reader.signature (reader.spec 𝓤 H (𝓖 .A) (𝓜 .mem) (𝓡 .run)))
-    (tables 𝓤 H 𝓜 𝓡 code.env .C) (tables 𝓤 H 𝓜 𝓡 code.env .Λ) #gates·reader code.function (code.unfolded 𝓤 H 𝓜 𝓡)
+    (tables 𝓤 H 𝓜 𝓡 code.env .C) (tables 𝓤 H 𝓜 𝓡 code.env .Λ) #gate-reader·reader code.function (code.unfolded 𝓤 H 𝓜 𝓡)
     (reader-meets 𝓤 H (𝓖 .A) (givenOf 𝓤 H 𝓜 𝓖) (𝓜 .mem) (𝓡 .run) (tablesOf 𝓤 H 𝓜 (tables 𝓤 H 𝓜 𝓡 code.env)))
