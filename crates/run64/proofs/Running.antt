@@ -44,21 +44,21 @@ length-outputs N ins F e =
 
 module _ {t : Tables} {count W n o : ℕ} {N : Netlist} (h : Holds t count W n o N) (list : List ℕ) where
   pub words-11 : (out : List ℕ) → length list ≢ n → Answers (run64Outcome list (length out) N) out out (Refused 11)
-  words-11 out e = answers-refused out (rw (h .«input_bits», ne-eqb (length list) n e))
+  words-11 out e = answers-refused out (rw (h .ins, ne-eqb (length list) n e))
 
   module _ (e : length list ≡ n) where
     asked : eqb (length list) (inputBits N) ≡ true
-    asked = rw (h .«input_bits») (eq-eqb (length list) n e)
+    asked = rw (h .ins) (eq-eqb (length list) n e)
 
     pub words-14 : (out : List ℕ) → length out < o → Answers (run64Outcome list (length out) N) out out (Refused 14)
     words-14 out l =
-        let k : length (outputWords N list) ≡ o = length-outputWords N list ∙ h .«output_bits» in
+        let k : length (outputWords N list) ≡ o = length-outputWords N list ∙ h .outs in
         answers-as (sym (rw asked refl)) (delivers-short (outputWords N list) out (omega arith) .answers)
 
     pub words-done : {out out′ : List ℕ} → o ≤ length out → out′ ≡ sets out 0 (outputWords N list)
         → Answers (run64Outcome list (length out) N) out out′ (Done o)
     words-done {out} {out′} l p =
-        let k : length (outputWords N list) ≡ o = length-outputWords N list ∙ h .«output_bits» in
+        let k : length (outputWords N list) ≡ o = length-outputWords N list ∙ h .outs in
         let r = delivers-done (outputWords N list) out out′ (omega arith) p .answers in
         let s : Answers (run64Outcome list (length out) N) out out′ (Done (length (outputWords N list))) = answers-as (sym (rw asked refl)) r in
         subst (λ (m : ℕ). Answers (run64Outcome list (length out) N) out out′ (Done m)) k s
