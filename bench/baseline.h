@@ -10,7 +10,7 @@ int64_t baseline_rewrite(const uint8_t *text, size_t text_len,
                          uint8_t *out, size_t out_len,
                          uint64_t *operands, size_t operands_len,
                          uint64_t *results, size_t results_len,
-                         uint8_t *marks, size_t marks_len,
+                         uint8_t *given, size_t given_len,
                          uint8_t sizes);
 
 int64_t baseline_run(const uint8_t *text, size_t text_len,
@@ -18,7 +18,7 @@ int64_t baseline_run(const uint8_t *text, size_t text_len,
                      uint8_t *out, size_t out_len,
                      uint64_t *operands, size_t operands_len,
                      uint64_t *results, size_t results_len,
-                     uint8_t *marks, size_t marks_len,
+                     uint8_t *given, size_t given_len,
                      uint64_t *words, size_t words_len,
                      uint8_t sizes);
 
@@ -27,7 +27,7 @@ int64_t baseline_run64(const uint8_t *text, size_t text_len,
                        uint64_t *out, size_t out_len,
                        uint64_t *operands, size_t operands_len,
                        uint64_t *results, size_t results_len,
-                       uint8_t *marks, size_t marks_len,
+                       uint8_t *given, size_t given_len,
                        uint64_t *words, size_t words_len,
                        uint8_t sizes);
 
@@ -47,7 +47,7 @@ int64_t baseline_check(const uint8_t *text, size_t text_len,
                        uint64_t *leak, size_t leak_len,
                        uint64_t *operands, size_t operands_len,
                        uint64_t *results, size_t results_len,
-                       uint8_t *marks, size_t marks_len,
+                       uint8_t *given, size_t given_len,
                        uint64_t *words, size_t words_len,
                        uint64_t *base, size_t base_len,
                        uint8_t sizes);

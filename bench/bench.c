@@ -52,7 +52,7 @@ struct call {
 
 static uint64_t operands[TABLE], results[TABLE], words[TABLE], base[TABLE], leak[4], word_list[TABLE], words_out[TABLE];
 static uint32_t wires[TABLE];
-static uint8_t marks[TABLE], out[ROOM], list_out[TABLE], list[TABLE], wanted[TABLE];
+static uint8_t given[TABLE], out[ROOM], list_out[TABLE], list[TABLE], wanted[TABLE];
 
 static void die(const char *what, const char *name)
 {

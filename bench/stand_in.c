@@ -6,11 +6,11 @@ int64_t fidrovelj_rewrite(const uint8_t *text, size_t text_len,
                           uint8_t *out, size_t out_len,
                           uint64_t *operands, size_t operands_len,
                           uint64_t *results, size_t results_len,
-                          uint8_t *marks, size_t marks_len,
+                          uint8_t *given, size_t given_len,
                           uint8_t sizes)
 {
     return baseline_rewrite(text, text_len, out, out_len, operands, operands_len, results, results_len, given,
-                            marks_len, sizes);
+                            given_len, sizes);
 }
 
 int64_t fidrovelj_run(const uint8_t *text, size_t text_len,
@@ -18,12 +18,12 @@ int64_t fidrovelj_run(const uint8_t *text, size_t text_len,
                       uint8_t *out, size_t out_len,
                       uint64_t *operands, size_t operands_len,
                       uint64_t *results, size_t results_len,
-                      uint8_t *marks, size_t marks_len,
+                      uint8_t *given, size_t given_len,
                       uint64_t *words, size_t words_len,
                       uint8_t sizes)
 {
     return baseline_run(text, text_len, list, list_len, out, out_len, operands, operands_len, results, results_len,
-                        given, marks_len, words, words_len, sizes);
+                        given, given_len, words, words_len, sizes);
 }
 
 int64_t fidrovelj_run64(const uint8_t *text, size_t text_len,
@@ -31,12 +31,12 @@ int64_t fidrovelj_run64(const uint8_t *text, size_t text_len,
                         uint64_t *out, size_t out_len,
                         uint64_t *operands, size_t operands_len,
                         uint64_t *results, size_t results_len,
-                        uint8_t *marks, size_t marks_len,
+                        uint8_t *given, size_t given_len,
                         uint64_t *words, size_t words_len,
                         uint8_t sizes)
 {
     return baseline_run64(text, text_len, list, list_len, out, out_len, operands, operands_len, results, results_len,
-                          given, marks_len, words, words_len, sizes);
+                          given, given_len, words, words_len, sizes);
 }
 
 int64_t fidrovelj_mask(const uint8_t *text, size_t text_len,
@@ -60,13 +60,13 @@ int64_t fidrovelj_check(const uint8_t *text, size_t text_len,
                         uint64_t *leak, size_t leak_len,
                         uint64_t *operands, size_t operands_len,
                         uint64_t *results, size_t results_len,
-                        uint8_t *marks, size_t marks_len,
+                        uint8_t *given, size_t given_len,
                         uint64_t *words, size_t words_len,
                         uint64_t *base, size_t base_len,
                         uint8_t sizes)
 {
     return baseline_check(text, text_len, codes, codes_len, leak, leak_len, operands, operands_len, results,
-                          results_len, given, marks_len, words, words_len, base, base_len, sizes);
+                          results_len, given, given_len, words, words_len, base, base_len, sizes);
 }
 
 int64_t fidrovelj_from_aiger(const uint8_t *text, size_t text_len,

@@ -45,7 +45,7 @@ pub fn gates(random: &mut Random, inputs: usize, count: usize) -> Vec<Gate> {
         }
         _ => (),
     }
-    let mut marks: Vec<usize> = (0..inputs).collect();
+    let mut given: Vec<usize> = (0..inputs).collect();
     let mut gates = Vec::with_capacity(count);
     for c in results {
         let (a, b) = (operand(random, &given), operand(random, &given));
@@ -63,8 +63,8 @@ pub fn gates(random: &mut Random, inputs: usize, count: usize) -> Vec<Gate> {
 
 /// A given wire, often one of the last.
 fn operand(random: &mut Random, given: &[usize]) -> usize {
-    let reach = if random.percent(50) { marks.len() } else { marks.len().min(4) };
-    given[marks.len() - 1 - random.below(reach)]
+    let reach = if random.percent(50) { given.len() } else { given.len().min(4) };
+    given[given.len() - 1 - random.below(reach)]
 }
 
 /// A netlist of so many input bits and gates; its output bits may be any number of its wires.

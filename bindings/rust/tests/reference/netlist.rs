@@ -134,7 +134,7 @@ pub fn read(limits: &Limits, text: &[u8]) -> Result<Netlist, u8> {
     let gate_lines = &lines[3..];
     ask(6, header.gates == header.wires - bits && gate_lines.len() == header.gates)?;
 
-    let mut marks: Vec<bool> = (0..header.wires).map(|wire| wire < bits).collect();
+    let mut given: Vec<bool> = (0..header.wires).map(|wire| wire < bits).collect();
     let mut gates = Vec::new();
     for line in gate_lines {
         let gate = gate(line).ok_or(7)?;
