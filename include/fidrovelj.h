@@ -75,7 +75,7 @@ int64_t fidrovelj_rewrite(const uint8_t *text, size_t text_len,
                           uint8_t *out, size_t out_len,
                           uint64_t *operands, size_t operands_len,
                           uint64_t *results, size_t results_len,
-                          uint8_t *given, size_t given_len,
+                          uint8_t *marks, size_t marks_len,
                           uint8_t sizes);
 
 /* Run: evaluates the netlist on list, a 0 or 1 for each input bit, and writes a 0 or 1 for each
@@ -85,7 +85,7 @@ int64_t fidrovelj_run(const uint8_t *text, size_t text_len,
                       uint8_t *out, size_t out_len,
                       uint64_t *operands, size_t operands_len,
                       uint64_t *results, size_t results_len,
-                      uint8_t *given, size_t given_len,
+                      uint8_t *marks, size_t marks_len,
                       uint64_t *words, size_t words_len,
                       uint8_t sizes);
 
@@ -97,7 +97,7 @@ int64_t fidrovelj_run64(const uint8_t *text, size_t text_len,
                         uint64_t *out, size_t out_len,
                         uint64_t *operands, size_t operands_len,
                         uint64_t *results, size_t results_len,
-                        uint8_t *given, size_t given_len,
+                        uint8_t *marks, size_t marks_len,
                         uint64_t *words, size_t words_len,
                         uint8_t sizes);
 
@@ -134,7 +134,7 @@ int64_t fidrovelj_check(const uint8_t *text, size_t text_len,
                         uint64_t *leak, size_t leak_len,
                         uint64_t *operands, size_t operands_len,
                         uint64_t *results, size_t results_len,
-                        uint8_t *given, size_t given_len,
+                        uint8_t *marks, size_t marks_len,
                         uint64_t *words, size_t words_len,
                         uint64_t *base, size_t base_len,
                         uint8_t sizes);

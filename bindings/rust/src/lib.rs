@@ -111,7 +111,7 @@ pub struct Leak {
 /// ```
 pub fn rewrite(text: &[u8], tables: &mut Tables) -> Result<Vec<u8>, Refused> {
     let t = tables;
-    let length = lent::rewrite(text, &mut t.text, &mut t.operands, &mut t.results, &mut t.given, t.sizes)?;
+    let length = lent::rewrite(text, &mut t.text, &mut t.operands, &mut t.results, &mut t.marks, t.sizes)?;
     Ok(t.text[..length].to_vec())
 }
 
@@ -135,7 +135,7 @@ pub fn run(text: &[u8], list: &[u8], tables: &mut Tables) -> Result<Vec<u8>, Ref
         &mut t.bits,
         &mut t.operands,
         &mut t.results,
-        &mut t.given,
+        &mut t.marks,
         &mut t.words,
         t.sizes,
     )?;
@@ -162,7 +162,7 @@ pub fn run64(text: &[u8], list: &[u64], tables: &mut Tables) -> Result<Vec<u64>,
     // A working table of Check alone is the result buffer.
     let out = &mut t.base;
     let length =
-        lent::run64(text, list, out, &mut t.operands, &mut t.results, &mut t.given, &mut t.words, t.sizes)?;
+        lent::run64(text, list, out, &mut t.operands, &mut t.results, &mut t.marks, &mut t.words, t.sizes)?;
     Ok(out[..length].to_vec())
 }
 
@@ -196,7 +196,7 @@ pub fn mask(text: &[u8], codes: &[u8], wanted: &[u8], tables: &mut Tables) -> Re
         &mut t.operands[..small],
         &mut t.results[..small],
         &mut t.wires,
-        &mut t.given[..small],
+        &mut t.marks[..small],
         t.sizes,
     )?;
     Ok(Masked { text: t.text[..length].to_vec(), codes: t.bits[..wanted.len()].to_vec() })
@@ -224,7 +224,7 @@ pub fn check(text: &[u8], codes: &[u8], tables: &mut Tables) -> Result<Option<Le
         &mut leak,
         &mut t.operands,
         &mut t.results,
-        &mut t.given,
+        &mut t.marks,
         &mut t.words,
         &mut t.base,
         t.sizes,

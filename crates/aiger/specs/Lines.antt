@@ -10,7 +10,7 @@ use Rattle.netlist.specs.declared.Limits.{Limits}
 use Rattle.netlist.specs.Lists.{ascii, sameBytes}
 use Rattle.netlist.specs.Text.{lfEnds, isLineEnd, split, filled, spaceWords}
 use Rattle.netlist.specs.Header.{numbers}
-use Rattle.text.specs.Line.{firstLine, afterLine}
+use Rattle.read_text.specs.Line.{firstLine, afterLine}
 use Rattle.aiger.specs.File.{Literal, constant, plain, inverse, literal, AndLine, lineOf, File}
 
 -- a value where there is one

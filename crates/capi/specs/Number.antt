@@ -10,8 +10,8 @@ use Rattle.netlist.specs.declared.Sizes.{Sizes}
 use Rattle.netlist.specs.declared.Sizes.the-variants.{Old, Whole}
 use Rattle.netlist.specs.declared.Answer.{Answer}
 use Rattle.netlist.specs.declared.Answer.the-variants as answer
-use Rattle.judge.specs.declared.Checked.{Checked}
-use Rattle.judge.specs.declared.Checked.the-variants as checked
+use Rattle.check_netlist.specs.declared.Checked.{Checked}
+use Rattle.check_netlist.specs.declared.Checked.the-variants as checked
 
 -- the sizes that a call's last number chooses
 abbrev pub sizesOf : ℕ → Sizes

@@ -1,6 +1,6 @@
 // The services for programs in C and Rust: a slice comes as a pointer and a length, and the answer is one number, at
 // least 0 for a result and minus the number of the refusing question otherwise. include/fidrovelj.h declares them.
-use judge::Checked;
+use check_netlist::Checked;
 use netlist::Answer;
 use netlist::Sizes;
 ghost use mathlib.Core.Path.{_≡_};
@@ -84,12 +84,13 @@ pub extern "C" fn fidrovelj_rewrite(
     out: &mut [u8],
     operands: &mut [u64],
     results: &mut [u64],
-    given: &mut [u8],
+    marks: &mut [u8],
     whole: u8,
 ) -> i64
-    ensures { λ r. ⌜ Told (RewritePromise (sizesOf whole) (now (text .entry)) (now (out .entry)) (now (out .exit)) (now (operands .entry)) (now (operands .exit)) (now (results .entry)) (now (results .exit)) (now (given .entry)) (now (given .exit))) r ⌝ }
+    ensures { λ r. ⌜ Told (RewritePromise (sizesOf whole) (now (text .entry)) (now (out .entry)) (now (out .exit)) (now (operands .entry))
+        (now (operands .exit)) (now (results .entry)) (now (results .exit)) (now (marks .entry)) (now (marks .exit))) r ⌝ }
 {
-    number(rewrite::rewrite(text, out, operands, results, given, sizes(whole)))
+    number(rewrite::rewrite(text, out, operands, results, marks, sizes(whole)))
 }
 
 // Run: how many output bits stand at the front of `out`.
@@ -100,11 +101,13 @@ pub extern "C" fn fidrovelj_run(
     out: &mut [u8],
     operands: &mut [u64],
     results: &mut [u64],
-    given: &mut [u8],
+    marks: &mut [u8],
     words: &mut [u64],
     whole: u8,
 ) -> i64
-    ensures { λ r. ⌜ Told (RunPromise (sizesOf whole) (now (text .entry)) (now (list .entry)) (now (out .entry)) (now (out .exit)) (now (operands .entry)) (now (operands .exit)) (now (results .entry)) (now (results .exit)) (now (given .entry)) (now (given .exit)) (now (words .entry)) (now (words .exit))) r ⌝ }
+    ensures { λ r. ⌜ Told (RunPromise (sizesOf whole) (now (text .entry)) (now (list .entry)) (now (out .entry)) (now (out .exit))
+        (now (operands .entry)) (now (operands .exit)) (now (results .entry)) (now (results .exit)) (now (marks .entry)) (now (marks .exit))
+        (now (words .entry)) (now (words .exit))) r ⌝ }
 {
     number(run::run(
         text,
@@ -112,7 +115,7 @@ pub extern "C" fn fidrovelj_run(
         out,
         operands,
         results,
-        given,
+        marks,
         words,
         sizes(whole),
     ))
@@ -126,11 +129,13 @@ pub extern "C" fn fidrovelj_run64(
     out: &mut [u64],
     operands: &mut [u64],
     results: &mut [u64],
-    given: &mut [u8],
+    marks: &mut [u8],
     words: &mut [u64],
     whole: u8,
 ) -> i64
-    ensures { λ r. ⌜ Told (Run64Promise (sizesOf whole) (now (text .entry)) (now (list .entry)) (now (out .entry)) (now (out .exit)) (now (operands .entry)) (now (operands .exit)) (now (results .entry)) (now (results .exit)) (now (given .entry)) (now (given .exit)) (now (words .entry)) (now (words .exit))) r ⌝ }
+    ensures { λ r. ⌜ Told (Run64Promise (sizesOf whole) (now (text .entry)) (now (list .entry)) (now (out .entry)) (now (out .exit))
+        (now (operands .entry)) (now (operands .exit)) (now (results .entry)) (now (results .exit)) (now (marks .entry)) (now (marks .exit))
+        (now (words .entry)) (now (words .exit))) r ⌝ }
 {
     number(run64::run64(
         text,
@@ -138,7 +143,7 @@ pub extern "C" fn fidrovelj_run64(
         out,
         operands,
         results,
-        given,
+        marks,
         words,
         sizes(whole),
     ))
@@ -158,7 +163,9 @@ pub extern "C" fn fidrovelj_mask(
     marks: &mut [u8],
     whole: u8,
 ) -> i64
-    ensures { λ r. ⌜ Told (MaskPromise (sizesOf whole) (now (text .entry)) (now (codes .entry)) (now (wanted .entry)) (now (out .entry)) (now (out .exit)) (now (ends .entry)) (now (ends .exit)) (now (operands .entry)) (now (operands .exit)) (now (results .entry)) (now (results .exit)) (now (wires .entry)) (now (wires .exit)) (now (marks .entry)) (now (marks .exit))) r ⌝ }
+    ensures { λ r. ⌜ Told (MaskPromise (sizesOf whole) (now (text .entry)) (now (codes .entry)) (now (wanted .entry)) (now (out .entry))
+        (now (out .exit)) (now (ends .entry)) (now (ends .exit)) (now (operands .entry)) (now (operands .exit)) (now (results .entry))
+        (now (results .exit)) (now (wires .entry)) (now (wires .exit)) (now (marks .entry)) (now (marks .exit))) r ⌝ }
 {
     number(mask::mask(
         text,
@@ -182,12 +189,14 @@ pub extern "C" fn fidrovelj_check(
     leak: &mut [u64],
     operands: &mut [u64],
     results: &mut [u64],
-    given: &mut [u8],
+    marks: &mut [u8],
     words: &mut [u64],
     base: &mut [u64],
     whole: u8,
 ) -> i64
-    ensures { λ r. ⌜ ToldLeak (CheckPromise (sizesOf whole) (now (text .entry)) (now (codes .entry)) (now (operands .entry)) (now (operands .exit)) (now (results .entry)) (now (results .exit)) (now (given .entry)) (now (given .exit)) (now (words .entry)) (now (words .exit)) (now (base .entry)) (now (base .exit))) (now (leak .entry)) (now (leak .exit)) r ⌝ }
+    ensures { λ r. ⌜ ToldLeak (CheckPromise (sizesOf whole) (now (text .entry)) (now (codes .entry)) (now (operands .entry))
+        (now (operands .exit)) (now (results .entry)) (now (results .exit)) (now (marks .entry)) (now (marks .exit)) (now (words .entry))
+        (now (words .exit)) (now (base .entry)) (now (base .exit))) (now (leak .entry)) (now (leak .exit)) r ⌝ }
 {
     tell(
         leak,
@@ -196,7 +205,7 @@ pub extern "C" fn fidrovelj_check(
             codes,
             operands,
             results,
-            given,
+            marks,
             words,
             base,
             sizes(whole),

@@ -21,15 +21,15 @@ use Rattle.netlist.specs.Table.{Tables, Holds}
 use Rattle.netlist.proofs.Answering.{call-refused, call-goes-on}
 use Rattle.netlist.proofs.Questions.{done-same, ask-done}
 use Rattle.netlist.proofs.LeakSearch.{none-clean, found-lowest}
-use Rattle.header.specs.declared.HeaderNumbers.{HeaderNumbers}
-use Rattle.tables.specs.Whole.{ReadAt}
-use Rattle.judge.specs.declared.Checked.{Checked}
-use Rattle.judge.specs.declared.Checked.the-variants.{Clean, Leak, Refused}
-use Rattle.judge.specs.Judge.{found, outcomeOf, Judged}
+use Rattle.read_header.specs.declared.HeaderNumbers.{HeaderNumbers}
+use Rattle.read_netlist.specs.Whole.{ReadAt}
+use Rattle.check_netlist.specs.declared.Checked.{Checked}
+use Rattle.check_netlist.specs.declared.Checked.the-variants.{Clean, Leak, Refused}
+use Rattle.check_netlist.specs.Judge.{found, outcomeOf, Judged}
 use Rattle.checker.specs.Promise.{call}
 
 -- the input bits are those of the widths read
-pub read-bits : {L : Limits} {t ins outs : List ℕ} {tabs : Tables} {h : HeaderNumbers} → ReadAt L t ins outs tabs h → h .ins ≡ sum (take (h .inputs) ins)
+pub read-bits : {L : Limits} {t ins outs : List ℕ} {tabs : Tables} {h : HeaderNumbers} → ReadAt L t ins outs tabs h → h .«input_bits» ≡ sum (take (h .«input_values») ins)
 read-bits r = sym (r .holds .ins) ∙ ap sum (sym (r .inputs))
 
 -- the shorter of two tables stands for both
@@ -68,7 +68,7 @@ module _ (s : Sizes) (text codes o r g w b : List ℕ) where
 
     pub call-read : {ins outs : List ℕ} {tabs : Tables} {h : HeaderNumbers} {a : Outcome (Option Found)}
         → (tablesLong (large s) (length o ∷ length r ∷ length g ∷ n ∷ []) ≡ true) × ReadAt (large s) text ins outs tabs h
-        → ((N : Netlist) → Holds tabs (h .gates) (h .wires) (h .ins) (h .outs) N → take (h .inputs) ins ≡ N .inputs → a ≡ checkOutcome codes N)
+        → ((N : Netlist) → Holds tabs (h .gates) (h .wires) (h .«input_bits») (h .«output_bits») N → take (h .«input_values») ins ≡ N .inputs → a ≡ checkOutcome codes N)
         → a ≡ call s text codes o r g w b
     unfolding checkCall
     call-read k f =

@@ -10,8 +10,8 @@ use Rattle.netlist.specs.Outcome.{Outcome, done}
 use Rattle.netlist.specs.Read.{readNetlist}
 use Rattle.netlist.specs.Leak.{Found}
 use Rattle.netlist.specs.Services.{checkCall, Cleared}
-use Rattle.judge.specs.declared.Checked.{Checked}
-use Rattle.judge.specs.Judge.{outcomeOf, Judged}
+use Rattle.check_netlist.specs.declared.Checked.{Checked}
+use Rattle.check_netlist.specs.Judge.{outcomeOf, Judged}
 
 -- the outcome of a call that is handed its sizes, a text, input codes, and tables of operands, results, given wires, words and base words
 abbrev pub call : Sizes → List ℕ → List ℕ → List ℕ → List ℕ → List ℕ → List ℕ → List ℕ → Outcome (Option Found)
@@ -24,6 +24,6 @@ pub record Promise (s : Sizes) (text codes o o′ r r′ g g′ w w′ b b′ : 
   pub judged : (N : Netlist) → readNetlist (large s) text ≡ done N → Judged N codes a
   pub operands : Cleared o o′
   pub results : Cleared r r′
-  pub given : Cleared g g′
+  pub marks : Cleared g g′
   pub words : Cleared w w′
   pub base : Cleared b b′

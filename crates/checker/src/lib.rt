@@ -1,10 +1,10 @@
 // Check: whether a netlist whose last input value is the mask pair leaks on one wire. Questions 1 to 12 with the large limits.
-use judge::Checked;
+use check_netlist::Checked;
 use netlist::Sizes;
-use tables::read::Reading;
+use read_netlist::read::Reading;
 ghost use mathlib.Core.Path.{_≡_};
 ghost use Prim.Native.Nat.{min};
-ghost use Rattle.judge.specs.Judge.{outcomeOf};
+ghost use Rattle.check_netlist.specs.Judge.{outcomeOf};
 ghost use Rattle.checker.specs.Promise.{call, Promise};
 
 // The smaller of two lengths.
@@ -23,30 +23,30 @@ fn answer(
     codes: &[u8],
     operands: &mut [u64],
     results: &mut [u64],
-    given: &mut [u8],
+    marks: &mut [u8],
     words: &mut [u64],
     base: &mut [u64],
     sizes: Sizes,
 ) -> Checked
     ensures { λ r. ⌜ outcomeOf r ≡ call sizes (now (text .entry)) (now (codes .entry)) (now (operands .entry)) (now (results .entry))
-        (now (given .entry)) (now (words .entry)) (now (base .entry)) ⌝ }
+        (now (marks .entry)) (now (words .entry)) (now (base .entry)) ⌝ }
 {
     let l = netlist::large(sizes);
     let mut inputs = [0u32; 17];
     let mut outputs = [0u32; 16];
     let shortest = shorter(words.len(), base.len());
-    match tables::read::read(
+    match read_netlist::read::read(
         text,
         &mut inputs,
         &mut outputs,
         operands,
         results,
-        given,
+        marks,
         shortest,
         l,
     ) {
         Reading::Refused(question) => Checked::Refused(question),
-        Reading::Done(h) => judge::judge(h, inputs, codes, operands, results, words, base),
+        Reading::Done(h) => check_netlist::judge(h, inputs, codes, operands, results, words, base),
     }
 }
 
@@ -56,19 +56,19 @@ pub fn check(
     codes: &[u8],
     operands: &mut [u64],
     results: &mut [u64],
-    given: &mut [u8],
+    marks: &mut [u8],
     words: &mut [u64],
     base: &mut [u64],
     sizes: Sizes,
 ) -> Checked
     ensures { λ r. ⌜ Promise sizes (now (text .entry)) (now (codes .entry)) (now (operands .entry)) (now (operands .exit)) (now (results .entry))
-        (now (results .exit)) (now (given .entry)) (now (given .exit)) (now (words .entry)) (now (words .exit)) (now (base .entry))
+        (now (results .exit)) (now (marks .entry)) (now (marks .exit)) (now (words .entry)) (now (words .exit)) (now (base .entry))
         (now (base .exit)) r ⌝ }
 {
-    let r = answer(text, codes, operands, results, given, words, base, sizes);
+    let r = answer(text, codes, operands, results, marks, words, base, sizes);
     clear::words(operands);
     clear::words(results);
-    clear::bytes(given);
+    clear::bytes(marks);
     clear::words(words);
     clear::words(base);
     r

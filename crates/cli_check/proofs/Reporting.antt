@@ -15,12 +15,12 @@ use Rattle.netlist.specs.Outcome.{Outcome, refused, done, ask, andThen}
 use Rattle.netlist.specs.Read.{readNetlist}
 use Rattle.netlist.specs.Leak.{Found}
 use Rattle.netlist.specs.Services.{tablesLong, checkOutcome, checkCall}
-use Rattle.netlist.specs.Programs.{readable, listFile, printCheck, checkProgram}
+use Rattle.netlist.specs.Programs.{readable, listFile, printCheck, checkProgram, fileLimit}
 use Rattle.netlist.proofs.Tests.{onBool}
-use Rattle.buffer.specs.Wrote.{Wrote}
-use Rattle.buffer.proofs.Wrote.{wrote-front, front-within}
-use Rattle.judge.specs.declared.Checked.{Checked}
-use Rattle.judge.specs.Judge.{outcomeOf}
+use Rattle.write_buffer.specs.Wrote.{Wrote}
+use Rattle.write_buffer.proofs.Wrote.{wrote-front, front-within}
+use Rattle.check_netlist.specs.declared.Checked.{Checked}
+use Rattle.check_netlist.specs.Judge.{outcomeOf}
 use Rattle.checker.specs.Promise.{call}
 use Rattle.cli_check.specs.Report.{Roomy}
 
@@ -30,8 +30,8 @@ use Rattle.cli_check.specs.Report.{Roomy}
 abbrev pub asked : List ℕ → List ℕ → Outcome (Option Found)
 asked netlist inputs = readable netlist (checkCall (large Old) [] netlist (listFile inputs))
 
-pub asked-long : (netlist inputs : List ℕ) → 60000 < length netlist → refused 2 ≡ asked netlist inputs
-asked-long netlist inputs h = sym (rw (lt-leb (length netlist) 60000 h))
+pub asked-long : (netlist inputs : List ℕ) → fileLimit < length netlist → refused 2 ≡ asked netlist inputs
+asked-long netlist inputs h = sym (rw (lt-leb (length netlist) fileLimit h))
 
 -- tables that are long enough
 call-roomy : {o r g w b : List ℕ} (text codes : List ℕ) → Roomy o r g w b → call Old text codes o r g w b ≡ checkCall (large Old) [] text codes
@@ -42,17 +42,17 @@ call-roomy {o} {r} {g} {w} {b} text codes room =
     long : tablesLong (large Old) (length o ∷ length r ∷ length g ∷ length w ∷ length b ∷ []) ≡ true
     long =
         rw (
-          le-leb 18431 (length o) (room .operands),
-          le-leb 18431 (length r) (room .results),
-          le-leb 18431 (length g) (room .given),
-          le-leb 18431 (length w) (room .words),
-          le-leb 18431 (length b) (room .base),
+          le-leb (large Old .table) (length o) (room .operands),
+          le-leb (large Old .table) (length r) (room .results),
+          le-leb (large Old .table) (length g) (room .marks),
+          le-leb (large Old .table) (length w) (room .words),
+          le-leb (large Old .table) (length b) (room .base),
         )
 
-pub asked-short : {a : Outcome (Option Found)} {o r g w b : List ℕ} (netlist inputs codes : List ℕ) → Roomy o r g w b → length netlist ≤ 60000
+pub asked-short : {a : Outcome (Option Found)} {o r g w b : List ℕ} (netlist inputs codes : List ℕ) → Roomy o r g w b → length netlist ≤ fileLimit
     → codes ≡ listFile inputs → a ≡ call Old netlist codes o r g w b → a ≡ asked netlist inputs
 asked-short netlist inputs codes room h e p =
-    p ∙ call-roomy netlist codes room ∙ ap (checkCall (large Old) [] netlist) e ∙ sym (rw (le-leb (length netlist) 60000 h))
+    p ∙ call-roomy netlist codes room ∙ ap (checkCall (large Old) [] netlist) e ∙ sym (rw (le-leb (length netlist) fileLimit h))
 
 -- ---- the line
 

@@ -9,6 +9,6 @@ use Rattle.netlist.specs.Netlist.{large}
 pub record Roomy (o r g w b : List ℕ) : Type 0 where
   pub operands : large Old .table ≤ length o
   pub results : large Old .table ≤ length r
-  pub given : large Old .table ≤ length g
+  pub marks : large Old .table ≤ length g
   pub words : large Old .table ≤ length w
   pub base : large Old .table ≤ length b

@@ -15,15 +15,15 @@ use Rattle.netlist.specs.Netlist.{small}
 use Rattle.netlist.specs.Outcome.{Outcome, refused, done, ask, andThen}
 use Rattle.netlist.specs.Read.{readNetlist}
 use Rattle.netlist.specs.Services.{MaskedText, tablesLong, outcomeOf as textOf, maskOutcome, maskCall}
-use Rattle.netlist.specs.Programs.{listFile, printList, printMask, maskProgram}
+use Rattle.netlist.specs.Programs.{listFile, printList, printMask, maskProgram, fileLimit}
 use Rattle.netlist.proofs.Answering.{take-sets}
 use Rattle.netlist.proofs.Questions.{done-same}
 use Rattle.netlist.proofs.Masking.{output-codes-length}
-use Rattle.masked.specs.Whole.{MaskAnswers}
+use Rattle.mask_text.specs.Whole.{MaskAnswers}
 use Rattle.mask.specs.Promise.{call}
 use Rattle.mask.proofs.Promised.{made}
-use Rattle.console.specs.Front.{Front}
-use Rattle.console.proofs.Reporting.{readable-long, readable-short, answered}
+use Rattle.program_text.specs.Front.{Front}
+use Rattle.program_text.proofs.Reporting.{readable-long, readable-short, answered}
 use Rattle.cli_mask.specs.declared.Printed.{Printed}
 use Rattle.cli_mask.specs.Report.{Roomy, outcome, outcomeOf, Answered, Prints}
 
@@ -39,21 +39,21 @@ answered-refused x y k q p = record {
 }
 
 -- question 2
-pub answer-long : (netlist codes wanted text ends : List ℕ) → 60000 < length netlist
+pub answer-long : (netlist codes wanted text ends : List ℕ) → fileLimit < length netlist
     → Answered (outcome netlist codes wanted) text ends (length wanted) (Refused 2)
 answer-long netlist codes wanted text ends h = answered-as (sym (readable-long netlist _ h)) (answered-refused text ends (length wanted) 2 refl)
 
 module _ (netlist codes wanted : List ℕ) {t e o r w m : List ℕ} (room : Roomy t e o r w m) where
   -- the tables and the buffers are long enough
-  call-roomy : length netlist ≤ 60000 → call Old netlist codes wanted t e o r w m ≡ outcome netlist codes wanted
+  call-roomy : length netlist ≤ fileLimit → call Old netlist codes wanted t e o r w m ≡ outcome netlist codes wanted
   unfolding maskCall
   call-roomy h =
       let long : tablesLong (small Old) (length o ∷ length r ∷ length m ∷ length w ∷ []) ≡ true
       = rw (
-        le-leb 2048 (length o) (room .operands),
-        le-leb 2048 (length r) (room .results),
-        le-leb 2048 (length w) (room .wires),
-        le-leb 2048 (length m) (room .marks),
+        le-leb (small Old .table) (length o) (room .operands),
+        le-leb (small Old .table) (length r) (room .results),
+        le-leb (small Old .table) (length w) (room .wires),
+        le-leb (small Old .table) (length m) (room .marks),
       ) in
       ap (λ (b : Bool). ask 1 b (andThen (readNetlist (small Old) netlist) (maskOutcome codes wanted (length t) (length e)))) long
       ∙ ap₂ (λ (j k : ℕ). andThen (readNetlist (small Old) netlist) (maskOutcome codes wanted j k)) (room .text) (room .ends)
@@ -76,7 +76,7 @@ module _ (netlist codes wanted : List ℕ) {t e o r w m : List ℕ} (room : Room
         counted = λ n d. (answered (h .text) .counted n d, omega (arith, ap length (h .codes) ∙ length-sets e 0 (R .codes)));
       }
 
-  pub answer-short : {x y : List ℕ} {a : Answer} → length netlist ≤ 60000 → MaskAnswers (call Old netlist codes wanted t e o r w m) t x e y a
+  pub answer-short : {x y : List ℕ} {a : Answer} → length netlist ≤ fileLimit → MaskAnswers (call Old netlist codes wanted t e o r w m) t x e y a
       → Answered (outcome netlist codes wanted) x y (length wanted) a
   answer-short h k = answered-as (call-roomy h) (masked-answered _ refl k)
 

@@ -8,13 +8,13 @@ use Rattle.netlist.specs.declared.Answer.the-variants.{Done, Refused}
 use Rattle.netlist.specs.declared.Sizes.the-variants.{Old}
 use Rattle.netlist.specs.Netlist.{small}
 use Rattle.netlist.specs.Outcome.{Outcome, refused, done}
-use Rattle.netlist.specs.Programs.{readable}
+use Rattle.netlist.specs.Programs.{readable, fileLimit}
 use Rattle.netlist.specs.Services.{MaskedText, maskCall}
 use Rattle.cli_mask.specs.declared.Printed.{Printed}
 
 -- question 1 admits the program's tables, and question 14 all output codes and 60,000 bytes of text
 pub record Roomy (t e o r w m : List ℕ) : Type 0 where
-  pub text : length t ≡ 60000
+  pub text : length t ≡ fileLimit
   pub ends : length e ≡ small Old .wires
   pub operands : small Old .table ≤ length o
   pub results : small Old .table ≤ length r
@@ -23,7 +23,7 @@ pub record Roomy (t e o r w m : List ℕ) : Type 0 where
 
 -- the outcome of the program's call, from the netlist file's bytes and the two lists
 abbrev pub outcome : List ℕ → List ℕ → List ℕ → Outcome MaskedText
-outcome netlist codes wanted = readable netlist (maskCall (small Old) [] netlist codes wanted 60000 (small Old .wires))
+outcome netlist codes wanted = readable netlist (maskCall (small Old) [] netlist codes wanted fileLimit (small Old .wires))
 
 -- the outcome that an answer stands for, with the buffer of the text and the output codes
 abbrev pub outcomeOf : List ℕ → List ℕ → Answer → Outcome MaskedText

@@ -3,6 +3,8 @@
 use libc::STDOUT_FILENO;
 use netlist::Answer;
 use netlist::Sizes;
+use program_text::FILE_LIMIT;
+use program_text::SMALL_TABLE;
 ghost use Prim.Native.Nat.{_+_, _*_, _≤_};
 ghost use lib.ListN.{length, take};
 ghost use Rattle.netlist.specs.Programs.{printMask, maskProgram};
@@ -30,7 +32,7 @@ fn answer(
     ensures { λ r. ⌜ Answered (outcome (now (netlist .entry)) (now (codes .entry)) (now (wanted .entry))) (now (text .exit))
         (now (ends .exit)) (length (now (wanted .entry))) r ⌝ }
 {
-    if 60000 < netlist.len() {
+    if FILE_LIMIT < netlist.len() {
         return Answer::Refused(2);
     }
     mask::mask(
@@ -55,11 +57,11 @@ fn print(line: &mut [u8], text: &[u8], ends: &[u8], codes: usize, a: Answer) -> 
 {
     match a {
         Answer::Done(n) => Printed {
-            line: console::digits(line, &ends[..codes]),
+            line: program_text::digits(line, &ends[..codes]),
             text: n,
         },
         Answer::Refused(question) => Printed {
-            line: console::refused(line, question),
+            line: program_text::refused(line, question),
             text: 0,
         },
     }
@@ -83,8 +85,8 @@ fn report(
     ensures { λ r. ⌜ Prints (now (line .exit)) (now (text .exit)) r
         (maskProgram (now (netlist .entry)) (now (inputs .entry)) (now (outputs .entry))) ⌝ }
 {
-    let n = console::list(inputs);
-    let m = console::list(outputs);
+    let n = program_text::list(inputs);
+    let m = program_text::list(outputs);
     let a = answer(
         netlist,
         &inputs[..n],
@@ -101,19 +103,19 @@ fn report(
 
 fn main() {
     // one byte more than is taken, to notice a longer file
-    let mut netlist = [0u8; 60001];
-    let mut inputs = [0u8; 60000];
-    let mut outputs = [0u8; 60000];
-    let mut text = [0u8; 60000];
-    let mut ends = [0u8; 2048];
-    let mut operands = [0u64; 2048];
-    let mut results = [0u64; 2048];
-    let mut wires = [0u32; 2048];
-    let mut marks = [0u8; 2048];
+    let mut netlist = [0u8; FILE_LIMIT + 1];
+    let mut inputs = [0u8; FILE_LIMIT];
+    let mut outputs = [0u8; FILE_LIMIT];
+    let mut text = [0u8; FILE_LIMIT];
+    let mut ends = [0u8; SMALL_TABLE];
+    let mut operands = [0u64; SMALL_TABLE];
+    let mut results = [0u64; SMALL_TABLE];
+    let mut wires = [0u32; SMALL_TABLE];
+    let mut marks = [0u8; SMALL_TABLE];
     let mut line = [0u8; 8192];
-    let bytes = files::read(b"netlist.txt", &mut netlist);
-    let codes = files::read(b"inputs.txt", &mut inputs);
-    let wanted = files::read(b"outputs.txt", &mut outputs);
+    let bytes = program_files::read(b"netlist.txt", &mut netlist);
+    let codes = program_files::read(b"inputs.txt", &mut inputs);
+    let wanted = program_files::read(b"outputs.txt", &mut outputs);
     let p = report(
         &mut line,
         &mut text,

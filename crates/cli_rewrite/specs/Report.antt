@@ -14,7 +14,7 @@ pub record Roomy (b o r g : List ℕ) : Type 0 where
   pub text : length b ≡ large Old .text
   pub operands : large Old .table ≤ length o
   pub results : large Old .table ≤ length r
-  pub given : large Old .table ≤ length g
+  pub marks : large Old .table ≤ length g
 
 -- the outcome of the program's call, from the bytes of its file
 abbrev pub outcome : List ℕ → Outcome (List ℕ)

@@ -12,34 +12,34 @@ use Rattle.netlist.specs.Netlist.{large}
 use Rattle.netlist.specs.Outcome.{Outcome, ask, andThen}
 use Rattle.netlist.specs.Read.{readNetlist}
 use Rattle.netlist.specs.Services.{tablesLong, outcomeOf, Answers, runOutcome, runCall}
-use Rattle.netlist.specs.Programs.{listFile, printRun, runProgram}
+use Rattle.netlist.specs.Programs.{listFile, printRun, runProgram, fileLimit}
 use Rattle.run.specs.Promise.{call}
-use Rattle.console.specs.Front.{Front, Answered}
-use Rattle.console.proofs.Reporting.{readable-long, readable-short, answered, answered-as, answered-refused}
+use Rattle.program_text.specs.Front.{Front, Answered}
+use Rattle.program_text.proofs.Reporting.{readable-long, readable-short, answered, answered-as, answered-refused}
 use Rattle.cli_run.specs.Report.{Roomy, outcome}
 
 -- question 2
-pub answer-long : (netlist inputs bits : List ℕ) → 60000 < length netlist → Answered (outcome netlist inputs) bits (Refused 2)
+pub answer-long : (netlist inputs bits : List ℕ) → fileLimit < length netlist → Answered (outcome netlist inputs) bits (Refused 2)
 answer-long netlist inputs bits h = answered-as (sym (readable-long netlist _ h)) (answered-refused bits 2)
 
 -- the tables and the buffer are long enough
-call-roomy : (netlist inputs : List ℕ) {list b o r g w : List ℕ} → Roomy b o r g w → length netlist ≤ 60000 → list ≡ listFile inputs
+call-roomy : (netlist inputs : List ℕ) {list b o r g w : List ℕ} → Roomy b o r g w → length netlist ≤ fileLimit → list ≡ listFile inputs
     → call Old netlist list b o r g w ≡ outcome netlist inputs
 unfolding runCall
 call-roomy netlist inputs {list} {b} {o} {r} {g} {w} m h e =
     let long : tablesLong (large Old) (length o ∷ length r ∷ length g ∷ length w ∷ []) ≡ true
     = rw (
-      le-leb 18431 (length o) (m .operands),
-      le-leb 18431 (length r) (m .results),
-      le-leb 18431 (length g) (m .given),
-      le-leb 18431 (length w) (m .words),
+      le-leb (large Old .table) (length o) (m .operands),
+      le-leb (large Old .table) (length r) (m .results),
+      le-leb (large Old .table) (length g) (m .marks),
+      le-leb (large Old .table) (length w) (m .words),
     ) in
     ap (λ (t : Bool). ask 1 t (andThen (readNetlist (large Old) netlist) (runOutcome list (length b)))) long
     ∙ ap (λ (room : ℕ). andThen (readNetlist (large Old) netlist) (runOutcome list room)) (m .bits)
     ∙ ap (λ (l : List ℕ). runCall (large Old) [] netlist l (large Old .wires)) e
     ∙ sym (readable-short netlist _ h)
 
-pub answer-short : (netlist inputs list : List ℕ) {b o r g w x : List ℕ} {a : Answer} → Roomy b o r g w → length netlist ≤ 60000
+pub answer-short : (netlist inputs list : List ℕ) {b o r g w x : List ℕ} {a : Answer} → Roomy b o r g w → length netlist ≤ fileLimit
     → list ≡ listFile inputs
     → Answers (call Old netlist list b o r g w) b x a → Answered (outcome netlist inputs) x a
 answer-short netlist inputs list m h e s = answered-as (call-roomy netlist inputs m h e) (answered s)

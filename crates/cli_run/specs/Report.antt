@@ -14,7 +14,7 @@ pub record Roomy (b o r g w : List ℕ) : Type 0 where
   pub bits : length b ≡ large Old .wires
   pub operands : large Old .table ≤ length o
   pub results : large Old .table ≤ length r
-  pub given : large Old .table ≤ length g
+  pub marks : large Old .table ≤ length g
   pub words : large Old .table ≤ length w
 
 -- the outcome of the program's call, from the bytes of its two files

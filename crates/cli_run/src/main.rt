@@ -3,11 +3,13 @@
 use libc::STDOUT_FILENO;
 use netlist::Answer;
 use netlist::Sizes;
+use program_text::FILE_LIMIT;
+use program_text::LARGE_TABLE;
 ghost use Prim.Native.Nat.{_+_, _*_, _≤_};
 ghost use lib.ListN.{length};
 ghost use Rattle.netlist.specs.Programs.{printRun, runProgram};
 ghost use Rattle.netlist.specs.Services.{outcomeOf};
-ghost use Rattle.console.specs.Front.{Front, Counted, Answered};
+ghost use Rattle.program_text.specs.Front.{Front, Counted, Answered};
 ghost use Rattle.cli_run.specs.Report.{Roomy, outcome};
 
 // The answer, from the bytes of the two files; the list takes the place of its file's bytes.
@@ -17,23 +19,23 @@ fn answer(
     bits: &mut [u8],
     operands: &mut [u64],
     results: &mut [u64],
-    given: &mut [u8],
+    marks: &mut [u8],
     words: &mut [u64],
 ) -> Answer
-    requires { ⌜ Roomy (now bits) (now operands) (now results) (now given) (now words) ⌝ }
+    requires { ⌜ Roomy (now bits) (now operands) (now results) (now marks) (now words) ⌝ }
     ensures { λ r. ⌜ Answered (outcome (now (netlist .entry)) (now (inputs .entry))) (now (bits .exit)) r ⌝ }
 {
-    if 60000 < netlist.len() {
+    if FILE_LIMIT < netlist.len() {
         return Answer::Refused(2);
     }
-    let n = console::list(inputs);
+    let n = program_text::list(inputs);
     run::run(
         netlist,
         &inputs[..n],
         bits,
         operands,
         results,
-        given,
+        marks,
         words,
         Sizes::Old,
     )
@@ -45,8 +47,8 @@ fn print(out: &mut [u8], bits: &[u8], a: Answer) -> usize
     ensures { λ r. ⌜ Front (now (out .exit)) r (printRun (outcomeOf (now (bits .entry)) a)) ⌝ }
 {
     match a {
-        Answer::Done(n) => console::digits(out, &bits[..n]),
-        Answer::Refused(question) => console::refused(out, question),
+        Answer::Done(n) => program_text::digits(out, &bits[..n]),
+        Answer::Refused(question) => program_text::refused(out, question),
     }
 }
 
@@ -58,28 +60,28 @@ fn report(
     bits: &mut [u8],
     operands: &mut [u64],
     results: &mut [u64],
-    given: &mut [u8],
+    marks: &mut [u8],
     words: &mut [u64],
 ) -> usize
-    requires { ⌜ Roomy (now bits) (now operands) (now results) (now given) (now words) × (3 * length (now bits) + 64 ≤ length (now out)) ⌝ }
+    requires { ⌜ Roomy (now bits) (now operands) (now results) (now marks) (now words) × (3 * length (now bits) + 64 ≤ length (now out)) ⌝ }
     ensures { λ r. ⌜ Front (now (out .exit)) r (runProgram (now (netlist .entry)) (now (inputs .entry))) ⌝ }
 {
-    let a = answer(netlist, inputs, bits, operands, results, given, words);
+    let a = answer(netlist, inputs, bits, operands, results, marks, words);
     print(out, bits, a)
 }
 
 fn main() {
     // one byte more than is taken, to notice a longer file
-    let mut netlist = [0u8; 60001];
-    let mut inputs = [0u8; 60000];
-    let mut bits = [0u8; 18431];
-    let mut operands = [0u64; 18431];
-    let mut results = [0u64; 18431];
-    let mut given = [0u8; 18431];
-    let mut words = [0u64; 18431];
-    let mut out = [0u8; 60000];
-    let bytes = files::read(b"netlist.txt", &mut netlist);
-    let entries = files::read(b"inputs.txt", &mut inputs);
+    let mut netlist = [0u8; FILE_LIMIT + 1];
+    let mut inputs = [0u8; FILE_LIMIT];
+    let mut bits = [0u8; LARGE_TABLE];
+    let mut operands = [0u64; LARGE_TABLE];
+    let mut results = [0u64; LARGE_TABLE];
+    let mut marks = [0u8; LARGE_TABLE];
+    let mut words = [0u64; LARGE_TABLE];
+    let mut out = [0u8; FILE_LIMIT];
+    let bytes = program_files::read(b"netlist.txt", &mut netlist);
+    let entries = program_files::read(b"inputs.txt", &mut inputs);
     let n = report(
         &mut out,
         &netlist[..bytes],
@@ -87,7 +89,7 @@ fn main() {
         &mut bits,
         &mut operands,
         &mut results,
-        &mut given,
+        &mut marks,
         &mut words,
     );
     io::write_all(STDOUT_FILENO, &out[..n]);

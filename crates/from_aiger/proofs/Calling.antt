@@ -17,9 +17,9 @@ use Rattle.netlist.specs.Table.{Tables}
 use Rattle.netlist.proofs.Answering.{answers-as, answers-refused, answers-one, answers-rest}
 use Rattle.netlist.proofs.Puts.{length-gates}
 use Rattle.netlist.proofs.Size.{roomy-small}
-use Rattle.writer.specs.Header.{headerText}
-use Rattle.writer.proofs.Headers.{header-gates}
-use Rattle.form.specs.Form.{formText}
+use Rattle.write_gates.specs.Header.{headerText}
+use Rattle.write_gates.proofs.Headers.{header-gates}
+use Rattle.write_netlist.specs.Form.{formText}
 use Rattle.aiger.specs.Call.{readAiger, aigerCall}
 use Rattle.aiger.specs.Delivered.{Delivered}
 use Rattle.aiger.proofs.Reading.{aiger-delivered}

@@ -16,7 +16,7 @@ use Rattle.netlist.specs.Netlist.{Netlist}
 use Rattle.netlist.specs.Outcome.{done}
 use Rattle.netlist.proofs.Tests.{both, pair}
 use Rattle.netlist.proofs.Questions.{none-some}
-use Rattle.text.specs.Line.{firstLine, afterLine}
+use Rattle.read_text.specs.Line.{firstLine, afterLine}
 use Rattle.aiger.specs.File.{File}
 use Rattle.aiger.specs.Lines.{fileLine, fileLines, Head, headOf, linesBehind, outputLine, andForm, formed, inputLine, file}
 use Rattle.aiger.specs.Call.{readAiger}

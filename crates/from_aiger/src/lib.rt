@@ -12,7 +12,7 @@ ghost use Rattle.netlist.specs.Netlist.{small as smallLimits};
 ghost use Rattle.netlist.specs.Outcome.{andThen};
 ghost use Rattle.netlist.specs.Services.{tablesLong, rewriteOutcome, Answers, Delivers};
 ghost use Rattle.netlist.specs.Table.{tables, Wired};
-ghost use Rattle.form.specs.Form.{formText};
+ghost use Rattle.write_netlist.specs.Form.{formText};
 ghost use Rattle.aiger.specs.Call.{readAiger};
 ghost use Rattle.from_aiger.specs.Promise.{call, Promise};
 
@@ -37,11 +37,12 @@ fn tables_long(a: usize, b: usize, c: usize, sizes: Sizes) -> bool
 // Question 14 and the text of a netlist whose gates the tables begin with.
 fn write(out: &mut [u8], m: NetlistNumbers, operands: &[u64], results: &[u64]) -> Answer
     requires { ⌜ Wired (tables (now operands) (now results)) (m .wires) (m .gates) ⌝ }
-    ensures { λ r. ⌜ Delivers (formText (m .gates) (m .wires) (m .inputs ∷ []) (m .outputs ∷ []) (tables (now (operands .entry)) (now (results .entry)))) (now (out .entry)) (now (out .exit)) r ⌝ }
+    ensures { λ r. ⌜ Delivers (formText (m .gates) (m .wires) (m .inputs ∷ []) (m .outputs ∷ [])
+        (tables (now (operands .entry)) (now (results .entry)))) (now (out .entry)) (now (out .exit)) r ⌝ }
 {
     let ins = [m.inputs; 1];
     let outs = [m.outputs; 1];
-    form::deliver(out, m.gates, m.wires, &ins, &outs, operands, results)
+    write_netlist::deliver(out, m.gates, m.wires, &ins, &outs, operands, results)
 }
 
 // Questions 2, 19, 20, 19, 5 and 14, with tables that question 1 admits.
@@ -53,8 +54,10 @@ fn read_and_write(
     variables: &mut [u32],
     sizes: Sizes,
 ) -> Answer
-    requires { ⌜ (smallLimits sizes .table ≤ length (now operands)) × (smallLimits sizes .table ≤ length (now results)) × (smallLimits sizes .table ≤ length (now variables)) × (now variables ≡ replicate (length (now variables)) 0) ⌝ }
-    ensures { λ r. ⌜ Answers (andThen (readAiger (smallLimits sizes) (now (text .entry))) (rewriteOutcome (length (now (out .entry))))) (now (out .entry)) (now (out .exit)) r ⌝ }
+    requires { ⌜ (smallLimits sizes .table ≤ length (now operands)) × (smallLimits sizes .table ≤ length (now results))
+        × (smallLimits sizes .table ≤ length (now variables)) × (now variables ≡ replicate (length (now variables)) 0) ⌝ }
+    ensures { λ r. ⌜ Answers (andThen (readAiger (smallLimits sizes) (now (text .entry))) (rewriteOutcome (length (now (out .entry)))))
+        (now (out .entry)) (now (out .exit)) r ⌝ }
 {
     let l = netlist::small(sizes);
     match read_aiger::read::read(text, l, variables, operands, results) {
@@ -72,7 +75,8 @@ fn answer(
     variables: &mut [u32],
     sizes: Sizes,
 ) -> Answer
-    ensures { λ r. ⌜ Answers (call sizes (now (text .entry)) (now (out .entry)) (now (operands .entry)) (now (results .entry)) (now (variables .entry))) (now (out .entry)) (now (out .exit)) r ⌝ }
+    ensures { λ r. ⌜ Answers (call sizes (now (text .entry)) (now (out .entry)) (now (operands .entry)) (now (results .entry))
+        (now (variables .entry))) (now (out .entry)) (now (out .exit)) r ⌝ }
 {
     if !tables_long(operands.len(), results.len(), variables.len(), sizes) {
         return Answer::Refused(1);
@@ -91,7 +95,8 @@ pub fn from_aiger(
     variables: &mut [u32],
     sizes: Sizes,
 ) -> Answer
-    ensures { λ r. ⌜ Promise sizes (now (text .entry)) (now (out .entry)) (now (out .exit)) (now (operands .entry)) (now (operands .exit)) (now (results .entry)) (now (results .exit)) (now (variables .entry)) (now (variables .exit)) r ⌝ }
+    ensures { λ r. ⌜ Promise sizes (now (text .entry)) (now (out .entry)) (now (out .exit)) (now (operands .entry)) (now (operands .exit))
+        (now (results .entry)) (now (results .exit)) (now (variables .entry)) (now (variables .exit)) r ⌝ }
 {
     let r = answer(text, out, operands, results, variables, sizes);
     clear::words(operands);

@@ -13,12 +13,12 @@ use Rattle.netlist.specs.Table.{Tables, Wired, Named}
 use Rattle.netlist.specs.Leak.{bit}
 use borrow.Author.Tests.{eqb-true, eqb-false}
 use Rattle.netlist.proofs.Tests.{true-T, onBool}
-use Rattle.tables.specs.Entry.{Names}
+use Rattle.gate_table.specs.Numbers.{Names}
 use Rattle.aiger.specs.File.{literal}
 use Rattle.aiger.specs.Rules.{readable}
 use Rattle.aiger.specs.Made.{wireAt, operand}
 use Rattle.read_aiger.specs.Places.{Holding, Keeps, Keeping, Standing, Added, OperandIs, AndIs, outKind, OutIs}
-use Rattle.lines.specs.GateAnswers.{gateFor}
+use Rattle.gate_table.specs.Numbers.{gateFor}
 use Rattle.aiger.proofs.MadeGates.{InOrder, order-next, operand-order}
 use Rattle.read_aiger.proofs.Placing.{literal-low, literal-even, literal-odd, literal-readable, place-wire}
 

@@ -11,7 +11,7 @@ use Rattle.netlist.specs.declared.Gate.{Gate}
 use Rattle.netlist.specs.Table.{Tables}
 use Rattle.netlist.proofs.Tests.{both-true}
 use Rattle.netlist.proofs.Questions.{some-same}
-use Rattle.text.specs.declared.cursor.Cursor.{Cursor}
+use Rattle.read_text.specs.declared.cursor.Cursor.{Cursor}
 use Rattle.aiger.specs.File.{AndLine}
 use Rattle.aiger.specs.Lines.{formed, fileLines, andForm}
 use Rattle.aiger.specs.Rules.{giving, andGood, andsGood}

@@ -15,7 +15,7 @@ use Rattle.netlist.specs.Header.{consOption, numbers}
 use Rattle.netlist.specs.Outcome.{refused, done, ask}
 use Rattle.netlist.proofs.Tests.{All, empty, each, both-true, onBool}
 use Rattle.netlist.proofs.Questions.{none-some, some-same}
-use Rattle.text.specs.declared.cursor.Cursor.{Cursor}
+use Rattle.read_text.specs.declared.cursor.Cursor.{Cursor}
 use Rattle.aiger.specs.Lines.{fileLine, opens, Head, headOf, head, headGood}
 use Rattle.aiger.specs.Call.{headOutcome}
 use Rattle.read_aiger.specs.Stray.{strayAt}

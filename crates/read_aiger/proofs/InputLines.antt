@@ -23,7 +23,7 @@ use Rattle.read_aiger.specs.Places.{Places}
 use Rattle.read_aiger.specs.StepAnswers.{InputAt, InputIs, InputsAt}
 use Rattle.read_aiger.specs.declared.inputs.Step.{Step}
 use Rattle.read_aiger.specs.declared.inputs.Step.the-variants as S
-use Rattle.text.specs.declared.cursor.Cursor.{Cursor}
+use Rattle.read_text.specs.declared.cursor.Cursor.{Cursor}
 use Rattle.aiger.proofs.Making.{length-enter}
 use Rattle.read_aiger.proofs.Placing.{not-so, literal-low, literal-even, literal-odd, places-more}
 use Rattle.read_aiger.proofs.LineByLine.{formed-snoc, Split, formed-split, giving-snoc, fresh-snoc, fresh-at, enter-snoc}

@@ -9,12 +9,12 @@ use lib.ListN.{length, take, drop, set, length-set, length-append, length-drop}
 use Rattle.netlist.specs.Number.{number}
 use Rattle.netlist.specs.Header.{numbers, consOption}
 use Rattle.netlist.proofs.Questions.{none-some, some-same}
-use Rattle.text.specs.Line.{isBlank, dropWhile, lineWords, nextWord, afterLine, isEmpty, Scanned, EndAt, LineTaken}
-use Rattle.text.specs.Answers.{NumberAt}
-use Rattle.text.specs.declared.cursor.Cursor.{Cursor}
-use Rattle.text.proofs.AnswerLaws.{number-line, number-word, no-number}
-use Rattle.text.proofs.LineLaws.{at-word}
-use Rattle.text.proofs.SplitLaws.{addLine}
+use Rattle.read_text.specs.Line.{isBlank, dropWhile, lineWords, nextWord, afterLine, isEmpty, Scanned, EndAt, LineTaken}
+use Rattle.read_text.specs.Answers.{NumberAt}
+use Rattle.read_text.specs.declared.cursor.Cursor.{Cursor}
+use Rattle.read_text.proofs.AnswerLaws.{number-line, number-word, no-number}
+use Rattle.read_text.proofs.LineLaws.{at-word}
+use Rattle.read_text.proofs.SplitLaws.{addLine}
 use Rattle.aiger.specs.Lines.{fileLine, fileLines}
 use Rattle.read_aiger.specs.Stray.{strayAt}
 use Rattle.read_aiger.specs.LineAnswers.{NotSoMany, NumbersAt, NumbersIs, FileLineAt, FileLineIs, firstNumbers, LineAt, LineNot, LineIs}

@@ -12,7 +12,7 @@ use Rattle.netlist.specs.Lists.{every}
 use Rattle.netlist.specs.Table.{Tables}
 use Rattle.netlist.proofs.Tests.{both-true}
 use Rattle.netlist.proofs.Questions.{none-some, some-same}
-use Rattle.text.specs.declared.cursor.Cursor.{Cursor}
+use Rattle.read_text.specs.declared.cursor.Cursor.{Cursor}
 use Rattle.aiger.specs.File.{Literal, literal}
 use Rattle.aiger.specs.Lines.{oneLiteral, outputLine, formed, fileLines}
 use Rattle.aiger.specs.Rules.{readable}

@@ -13,9 +13,9 @@ use Rattle.netlist.specs.Lists.{member}
 use Rattle.netlist.specs.Table.{Tables, gatesOf, putEntry}
 use Rattle.netlist.proofs.Tests.{onBool}
 use Rattle.netlist.proofs.Puts.{Room}
-use Rattle.tables.specs.Entry.{Entered}
-use Rattle.tables.specs.Gates.{Stored}
-use Rattle.tables.proofs.Entries.{stored}
+use Rattle.gate_table.specs.Entry.{Entered}
+use Rattle.gate_table.specs.Entry.{Stored}
+use Rattle.gate_table.proofs.Entries.{stored}
 use Rattle.aiger.specs.File.{constant, plain, inverse, literal}
 use Rattle.aiger.specs.Rules.{readable, canGive}
 use Rattle.aiger.specs.Made.{wireAt}

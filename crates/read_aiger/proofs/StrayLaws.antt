@@ -16,8 +16,8 @@ use Rattle.netlist.specs.Header.{consOption, numbers}
 use Rattle.netlist.proofs.Tests.{All, empty, each, all-head, all-tail, all-map, onBool, both, both-true, isTrue}
 use Rattle.netlist.proofs.Questions.{none-some, some-same, cond-some}
 use Rattle.netlist.proofs.LineEnds.{NoCR, ends-alike, space-words}
-use Rattle.text.specs.Line.{isBlank, firstLine, afterLine, dropWhile, lineWords}
-use Rattle.text.proofs.SplitLaws.{addLine, first-step, lines-step}
+use Rattle.read_text.specs.Line.{isBlank, firstLine, afterLine, dropWhile, lineWords}
+use Rattle.read_text.proofs.SplitLaws.{addLine, first-step, lines-step}
 use Rattle.aiger.specs.Lines.{fileLine, fileLines}
 use Rattle.read_aiger.specs.Stray.{strayAt, isStray}
 use Rattle.read_aiger.specs.LineAnswers.{firstNumbers}

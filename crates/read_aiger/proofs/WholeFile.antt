@@ -16,7 +16,7 @@ use Rattle.netlist.specs.Header.{withinLimits}
 use Rattle.netlist.specs.Read.{headerOf}
 use Rattle.netlist.specs.Table.{Tables, gatesOf}
 use Rattle.netlist.proofs.Tests.{onBool}
-use Rattle.text.specs.declared.cursor.Cursor.{Cursor}
+use Rattle.read_text.specs.declared.cursor.Cursor.{Cursor}
 use Rattle.aiger.specs.File.{File}
 use Rattle.aiger.specs.Lines.{Head, fileLines, file}
 use Rattle.aiger.specs.Rules.{rulesKept}

@@ -29,7 +29,7 @@ use Rattle.read_aiger.specs.declared.inputs.Step.{Step}
 use Rattle.read_aiger.specs.declared.inputs.Step.the-variants as S
 use Rattle.read_aiger.specs.declared.ands.AndStep.{AndStep}
 use Rattle.read_aiger.specs.declared.ands.AndStep.the-variants as A
-use Rattle.text.specs.declared.cursor.Cursor.{Cursor}
+use Rattle.read_text.specs.declared.cursor.Cursor.{Cursor}
 
 -- the rules, one kind of line after another
 rules-apart : (F : File) → rulesKept F ≡ true

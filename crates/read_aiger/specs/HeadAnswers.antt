@@ -8,7 +8,7 @@ use lib.ListN.{drop}
 use Rattle.netlist.specs.declared.Limits.{Limits}
 use Rattle.netlist.specs.Number.{maxDigits}
 use Rattle.netlist.specs.Outcome.{refused, done}
-use Rattle.text.specs.Line.{afterLine}
+use Rattle.read_text.specs.Line.{afterLine}
 use Rattle.aiger.specs.Lines.{Head, headGood}
 use Rattle.aiger.specs.Call.{headOutcome}
 use Rattle.read_aiger.specs.Stray.{strayAt}

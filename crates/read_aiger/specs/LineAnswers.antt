@@ -5,7 +5,7 @@ use mathlib.Core.List.{List, [], _∷_}
 use mathlib.Core.Option.{Option, none, some}
 use lib.ListN.{length, drop}
 use Rattle.netlist.specs.Header.{numbers}
-use Rattle.text.specs.Line.{lineWords, LineTaken}
+use Rattle.read_text.specs.Line.{lineWords, LineTaken}
 use Rattle.aiger.specs.Lines.{fileLine, fileLines}
 use Rattle.read_aiger.specs.Stray.{strayAt}
 use Rattle.read_aiger.specs.declared.numbers.Line.{Line}

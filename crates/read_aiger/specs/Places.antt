@@ -8,7 +8,7 @@ use lib.ListN.{length, getD}
 use Rattle.netlist.specs.declared.Gate.{Gate}
 use Rattle.netlist.specs.Lists.{member}
 use Rattle.netlist.specs.Table.{Tables, gatesOf, Wired}
-use Rattle.tables.specs.Entry.{Names}
+use Rattle.gate_table.specs.Numbers.{Names}
 use Rattle.aiger.specs.File.{literal, lineOf}
 use Rattle.aiger.specs.Rules.{readable}
 use Rattle.aiger.specs.Made.{Made, Located, wireAt, operand, andMade, outGate}

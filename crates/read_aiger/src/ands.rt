@@ -5,7 +5,7 @@ use crate::numbers::next_numbers;
 use crate::variables::can_give;
 use crate::variables::give;
 use crate::variables::is_readable;
-use text::cursor::Cursor;
+use read_text::cursor::Cursor;
 ghost use mathlib.Core.Path.{_≡_};
 ghost use mathlib.Core.List.{List, []};
 ghost use Prim.Native.Nat.{ℕ, _+_, _*_, _^_, _<_, _≤_};
@@ -36,8 +36,10 @@ fn and_line(
     results: &mut [u64],
 ) -> AndStep
     requires { ⌜ (at .at ≤ strayAt (now text)) × (stray ≡ strayAt (now text)) × (most < length (now table)) × (n + count + 4 < 2 ^ 32) ⌝ }
-    ensures { λ r. ⌜ ((given wires : List ℕ) (gs : List Gate) → length wires ≡ most + 1 → Standing (now (table .entry)) (tables (now (operands .entry)) (now (results .entry))) n count given wires gs
-        → AndLineIs (fileLines (drop (at .at) (now (text .entry)))) (now (text .entry)) most n count given wires gs (now (table .exit)) (tables (now (operands .exit)) (now (results .exit))) r) × (gatesSaid r ≤ count + 3) × (placeSaid r ≤ strayAt (now (text .entry))) ⌝ }
+    ensures { λ r. ⌜ ((given wires : List ℕ) (gs : List Gate) → length wires ≡ most + 1
+        → Standing (now (table .entry)) (tables (now (operands .entry)) (now (results .entry))) n count given wires gs
+        → AndLineIs (fileLines (drop (at .at) (now (text .entry)))) (now (text .entry)) most n count given wires gs (now (table .exit))
+        (tables (now (operands .exit)) (now (results .exit))) r) × (gatesSaid r ≤ count + 3) × (placeSaid r ≤ strayAt (now (text .entry))) ⌝ }
 {
     let mut numbers = [0u32; 3];
     let Line::Is(next) = next_numbers(text, at, stray, &mut numbers) else {
@@ -73,8 +75,10 @@ pub fn ands(
     results: &mut [u64],
 ) -> AndStep
     requires { ⌜ (from .at ≤ strayAt (now text)) × (stray ≡ strayAt (now text)) × (most < length (now table)) × (n + 3 * lines + 4 < 2 ^ 32) ⌝ }
-    ensures { λ r. ⌜ ((given wires : List ℕ) → length wires ≡ most + 1 → Standing (now (table .entry)) (tables (now (operands .entry)) (now (results .entry))) n 0 given wires []
-        → AndsIs (fileLines (drop (from .at) (now (text .entry)))) (now (text .entry)) lines most n given wires (now (table .exit)) (tables (now (operands .exit)) (now (results .exit))) r) × (gatesSaid r ≤ 3 * lines) ⌝ }
+    ensures { λ r. ⌜ ((given wires : List ℕ) → length wires ≡ most + 1
+        → Standing (now (table .entry)) (tables (now (operands .entry)) (now (results .entry))) n 0 given wires []
+        → AndsIs (fileLines (drop (from .at) (now (text .entry)))) (now (text .entry)) lines most n given wires (now (table .exit))
+        (tables (now (operands .exit)) (now (results .exit))) r) × (gatesSaid r ≤ 3 * lines) ⌝ }
 {
     let mut at = from.at;
     let mut count = 0;

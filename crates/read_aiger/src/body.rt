@@ -6,7 +6,7 @@ use crate::inputs::Step;
 use crate::inputs::inputs;
 use crate::outputs::outputs;
 use crate::outputs::skip;
-use text::cursor::Cursor;
+use read_text::cursor::Cursor;
 ghost use mathlib.Core.Path.{_≡_};
 ghost use Prim.Native.Nat.{_+_, _*_, _<_, _≤_};
 ghost use lib.ListN.{length, drop, replicate};
@@ -32,8 +32,10 @@ pub fn body(
     operands: &mut [u64],
     results: &mut [u64],
 ) -> Gates
-    requires { ⌜ (at .at ≤ strayAt (now text)) × (stray ≡ strayAt (now text)) × (h .most < length (now table)) × (now table ≡ replicate (length (now table)) 0) × LowHead h ⌝ }
-    ensures { λ r. ⌜ LinesIs (headSaid h) (fileLines (drop (at .at) (now (text .entry)))) (tables (now (operands .exit)) (now (results .exit))) r × (gatesMade r ≤ 3 * (h .ands) + h .outputs) ⌝ }
+    requires { ⌜ (at .at ≤ strayAt (now text)) × (stray ≡ strayAt (now text)) × (h .most < length (now table))
+        × (now table ≡ replicate (length (now table)) 0) × LowHead h ⌝ }
+    ensures { λ r. ⌜ LinesIs (headSaid h) (fileLines (drop (at .at) (now (text .entry))))
+        (tables (now (operands .exit)) (now (results .exit))) r × (gatesMade r ≤ 3 * (h .ands) + h .outputs) ⌝ }
 {
     let most = h.most;
     let n = h.inputs;

@@ -1,7 +1,7 @@
 // The gates of operands, of AND lines and of outputs, behind n input bits and `count` gates.
 use crate::keep::keep;
 use crate::variables::entry;
-use lines::gate::GateNumbers;
+use gate_table::GateNumbers;
 ghost use mathlib.Core.Path.{_≡_};
 ghost use Prim.Native.Nat.{_+_, _/_, _^_, _<_, _≤_};
 ghost use lib.ListN.{getD};
@@ -25,7 +25,8 @@ pub fn operand(
     count: usize,
 ) -> Carried
     requires { ⌜ (n + count + 1 < 2 ^ 32) × (2 ≤ x → 1 ≤ getD (now table) (x / 2) 0) ⌝ }
-    ensures { λ r. ⌜ OperandIs (now (table .entry)) (tables (now (operands .entry)) (now (results .entry))) (tables (now (operands .exit)) (now (results .exit))) n count x (r .wire) (r .count) × (r .count ≤ count + 1) ⌝ }
+    ensures { λ r. ⌜ OperandIs (now (table .entry)) (tables (now (operands .entry)) (now (results .entry)))
+        (tables (now (operands .exit)) (now (results .exit))) n count x (r .wire) (r .count) × (r .count ≤ count + 1) ⌝ }
 {
     let c = n + count as u32;
     if x < 2 {
@@ -34,7 +35,7 @@ pub fn operand(
             results,
             count,
             GateNumbers {
-                kind: 5,
+                kind: gate_table::EQ,
                 left: x,
                 right: 0,
                 result: c,
@@ -54,7 +55,7 @@ pub fn operand(
         results,
         count,
         GateNumbers {
-            kind: 3,
+            kind: gate_table::INV,
             left: w,
             right: 0,
             result: c,
@@ -69,14 +70,15 @@ pub fn operand(
 // A gate of two operands behind the others.
 fn and_gate(operands: &mut [u64], results: &mut [u64], left: u32, right: u32, n: u32, count: usize)
     requires { ⌜ n + count + 1 < 2 ^ 32 ⌝ }
-    ensures { λ _. ⌜ Keeping (tables (now (operands .entry)) (now (results .entry))) (tables (now (operands .exit)) (now (results .exit))) count (And left right (n + count)) ⌝ }
+    ensures { λ _. ⌜ Keeping (tables (now (operands .entry)) (now (results .entry))) (tables (now (operands .exit)) (now (results .exit)))
+        count (And left right (n + count)) ⌝ }
 {
     keep(
         operands,
         results,
         count,
         GateNumbers {
-            kind: 2,
+            kind: gate_table::AND,
             left,
             right,
             result: n + count as u32,
@@ -95,7 +97,9 @@ pub fn and_gates(
     count: usize,
 ) -> Carried
     requires { ⌜ (n + count + 3 < 2 ^ 32) × (2 ≤ first → 1 ≤ getD (now table) (first / 2) 0) × (2 ≤ second → 1 ≤ getD (now table) (second / 2) 0) ⌝ }
-    ensures { λ r. ⌜ AndIs (now (table .entry)) (tables (now (operands .entry)) (now (results .entry))) (tables (now (operands .exit)) (now (results .exit))) n count first second (r .wire) (r .count) × (r .count ≤ count + 3) × (r .wire ≤ n + count + 2) ⌝ }
+    ensures { λ r. ⌜ AndIs (now (table .entry)) (tables (now (operands .entry)) (now (results .entry)))
+        (tables (now (operands .exit)) (now (results .exit))) n count first second (r .wire) (r .count) × (r .count ≤ count + 3)
+        × (r .wire ≤ n + count + 2) ⌝ }
 {
     let l = operand(table, operands, results, first, n, count);
     let left = l.wire;
@@ -113,7 +117,11 @@ pub fn and_gates(
 fn out_kind(x: u32) -> u64
     ensures { λ r. ⌜ r ≡ outKind x ⌝ }
 {
-    if x % 2 == 0 { 4 } else { 3 }
+    if x % 2 == 0 {
+        gate_table::EQW
+    } else {
+        gate_table::INV
+    }
 }
 
 // An output: an EQW, an INV or an EQ.
@@ -126,7 +134,8 @@ pub fn out_gate(
     count: usize,
 )
     requires { ⌜ (n + count + 1 < 2 ^ 32) × (2 ≤ x → 1 ≤ getD (now table) (x / 2) 0) ⌝ }
-    ensures { λ _. ⌜ OutIs (now (table .entry)) (tables (now (operands .entry)) (now (results .entry))) (tables (now (operands .exit)) (now (results .exit))) n count x ⌝ }
+    ensures { λ _. ⌜ OutIs (now (table .entry)) (tables (now (operands .entry)) (now (results .entry)))
+        (tables (now (operands .exit)) (now (results .exit))) n count x ⌝ }
 {
     let c = n + count as u32;
     if x < 2 {
@@ -135,7 +144,7 @@ pub fn out_gate(
             results,
             count,
             GateNumbers {
-                kind: 5,
+                kind: gate_table::EQ,
                 left: x,
                 right: 0,
                 result: c,

@@ -2,8 +2,8 @@
 use crate::numbers::Line;
 use crate::numbers::line_numbers;
 use netlist::Limits;
-use text::bytes::same;
-use text::cursor::Cursor;
+use read_text::bytes::same;
+use read_text::cursor::Cursor;
 ghost use mathlib.Core.Path.{_≡_};
 ghost use Rattle.aiger.specs.Lines.{opens};
 ghost use Rattle.read_aiger.specs.Stray.{strayAt};

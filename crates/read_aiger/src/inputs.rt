@@ -3,7 +3,7 @@ use crate::numbers::Line;
 use crate::numbers::next_numbers;
 use crate::variables::can_give;
 use crate::variables::give;
-use text::cursor::Cursor;
+use read_text::cursor::Cursor;
 ghost use mathlib.Core.Path.{_≡_};
 ghost use mathlib.Core.List.{List};
 ghost use Prim.Native.Nat.{ℕ, _+_, _^_, _<_, _≤_};
@@ -22,7 +22,9 @@ pub enum Step {
 // One input line.
 fn input(text: &[u8], at: Cursor, stray: usize, wire: u32, most: u32, table: &mut [u32]) -> Step
     requires { ⌜ (at .at ≤ strayAt (now text)) × (stray ≡ strayAt (now text)) × (most < length (now table)) × (wire + 1 < 2 ^ 32) ⌝ }
-    ensures { λ r. ⌜ ((given wires : List ℕ) → Places (now (table .entry)) given wires → InputIs (fileLines (drop (at .at) (now (text .entry)))) (now (text .entry)) wire most given (now (table .entry)) (now (table .exit)) r) ⌝ }
+    ensures { λ r. ⌜ ((given wires : List ℕ) → Places (now (table .entry)) given wires
+        → InputIs (fileLines (drop (at .at) (now (text .entry)))) (now (text .entry)) wire most given (now (table .entry))
+        (now (table .exit)) r) ⌝ }
 {
     let mut numbers = [0u32; 1];
     let Line::Is(next) = next_numbers(text, at, stray, &mut numbers) else {
@@ -45,7 +47,8 @@ pub fn inputs(
     most: u32,
     table: &mut [u32],
 ) -> Step
-    requires { ⌜ (from .at ≤ strayAt (now text)) × (stray ≡ strayAt (now text)) × (most < length (now table)) × (now table ≡ replicate (length (now table)) 0) ⌝ }
+    requires { ⌜ (from .at ≤ strayAt (now text)) × (stray ≡ strayAt (now text)) × (most < length (now table))
+        × (now table ≡ replicate (length (now table)) 0) ⌝ }
     ensures { λ r. ⌜ InputsIs (fileLines (drop (from .at) (now (text .entry)))) (now (text .entry)) count most (now (table .exit)) r ⌝ }
 {
     let mut at = from.at;

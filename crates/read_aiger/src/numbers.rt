@@ -1,7 +1,7 @@
 // A line of so many numbers, and nothing else.
-use text::cursor::Cursor;
-use text::cursor::LineEnd;
-use text::number::Number;
+use read_text::cursor::Cursor;
+use read_text::cursor::LineEnd;
+use read_text::number::Number;
 ghost use mathlib.Core.Path.{_≡_};
 ghost use Prim.Native.Nat.{_≤_};
 ghost use lib.ListN.{length, drop};

@@ -4,7 +4,7 @@ use crate::inputs::Step;
 use crate::numbers::One;
 use crate::numbers::one_number;
 use crate::variables::is_readable;
-use text::cursor::Cursor;
+use read_text::cursor::Cursor;
 ghost use mathlib.Core.Path.{_≡_};
 ghost use mathlib.Core.List.{List};
 ghost use Prim.Native.Nat.{ℕ, _+_, _^_, _<_, _≤_};
@@ -45,8 +45,10 @@ fn output(
     results: &mut [u64],
 ) -> Step
     requires { ⌜ (at .at ≤ strayAt (now text)) × (stray ≡ strayAt (now text)) × (n + count + 1 < 2 ^ 32) ⌝ }
-    ensures { λ r. ⌜ ((given wires : List ℕ) (gs : List Gate) → Standing (now (table .entry)) (tables (now (operands .entry)) (now (results .entry))) n count given wires gs
-        → OutLineIs (fileLines (drop (at .at) (now (text .entry)))) (now (text .entry)) n count given wires gs (now (table .entry)) (tables (now (operands .exit)) (now (results .exit))) r) × (stepPlace r ≤ strayAt (now (text .entry))) ⌝ }
+    ensures { λ r. ⌜ ((given wires : List ℕ) (gs : List Gate) → Standing (now (table .entry))
+        (tables (now (operands .entry)) (now (results .entry))) n count given wires gs
+        → OutLineIs (fileLines (drop (at .at) (now (text .entry)))) (now (text .entry)) n count given wires gs (now (table .entry))
+        (tables (now (operands .exit)) (now (results .exit))) r) × (stepPlace r ≤ strayAt (now (text .entry))) ⌝ }
 {
     let One::Is(x, next) = one_number(text, at, stray) else {
         return Step::Not;
@@ -71,8 +73,10 @@ pub fn outputs(
     results: &mut [u64],
 ) -> bool
     requires { ⌜ (from .at ≤ strayAt (now text)) × (stray ≡ strayAt (now text)) × (n + before + lines + 1 < 2 ^ 32) ⌝ }
-    ensures { λ r. ⌜ ((given wires : List ℕ) (gs : List Gate) → Standing (now (table .entry)) (tables (now (operands .entry)) (now (results .entry))) n before given wires gs
-        → OutsIs (fileLines (drop (from .at) (now (text .entry)))) lines n before given wires gs (now (table .entry)) (tables (now (operands .exit)) (now (results .exit))) r) ⌝ }
+    ensures { λ r. ⌜ ((given wires : List ℕ) (gs : List Gate) → Standing (now (table .entry))
+        (tables (now (operands .entry)) (now (results .entry))) n before given wires gs
+        → OutsIs (fileLines (drop (from .at) (now (text .entry)))) lines n before given wires gs (now (table .entry))
+        (tables (now (operands .exit)) (now (results .exit))) r) ⌝ }
 {
     let mut at = from.at;
     let mut i = 0;

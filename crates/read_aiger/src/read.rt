@@ -6,7 +6,7 @@ use crate::head::HeadStep;
 use crate::head::head;
 use crate::stray::first_stray;
 use netlist::Limits;
-use text::cursor::Cursor;
+use read_text::cursor::Cursor;
 ghost use mathlib.Core.Path.{_≡_};
 ghost use Prim.Native.Nat.{_≤_, _<_, _^_};
 ghost use lib.ListN.{length, drop, replicate};
@@ -42,9 +42,11 @@ fn behind_head(
     operands: &mut [u64],
     results: &mut [u64],
 ) -> Reading
-    requires { ⌜ (at .at ≤ strayAt (now text)) × (stray ≡ strayAt (now text)) × (h .most < length (now table)) × (now table ≡ replicate (length (now table)) 0) × LowHead h ⌝ }
+    requires { ⌜ (at .at ≤ strayAt (now text)) × (stray ≡ strayAt (now text)) × (h .most < length (now table))
+        × (now table ≡ replicate (length (now table)) 0) × LowHead h ⌝ }
     requires { ⌜ (l .wires ≤ length (now operands)) × (l .wires ≤ length (now results)) × (1 ≤ l .inputs) × (1 ≤ l .outputs) ⌝ }
-    ensures { λ r. ⌜ NetlistIs (linesRead l (headSaid h) (fileLines (drop (at .at) (now (text .entry))))) (tables (now (operands .exit)) (now (results .exit))) r ⌝ }
+    ensures { λ r. ⌜ NetlistIs (linesRead l (headSaid h) (fileLines (drop (at .at) (now (text .entry)))))
+        (tables (now (operands .exit)) (now (results .exit))) r ⌝ }
 {
     let Gates::Made(gates) = body(text, at, stray, h, table, operands, results) else {
         return Reading::Refused(19);
@@ -70,7 +72,8 @@ pub fn read(
     operands: &mut [u64],
     results: &mut [u64],
 ) -> Reading
-    requires { ⌜ (l .wires ≤ length (now table)) × (now table ≡ replicate (length (now table)) 0) × (l .wires ≤ length (now operands)) × (l .wires ≤ length (now results)) × (1 ≤ l .inputs) × (1 ≤ l .outputs) ⌝ }
+    requires { ⌜ (l .wires ≤ length (now table)) × (now table ≡ replicate (length (now table)) 0) × (l .wires ≤ length (now operands))
+        × (l .wires ≤ length (now results)) × (1 ≤ l .inputs) × (1 ≤ l .outputs) ⌝ }
     ensures { λ r. ⌜ NetlistIs (readAiger l (now (text .entry))) (tables (now (operands .exit)) (now (results .exit))) r ⌝ }
 {
     if l.text < text.len() {

@@ -21,7 +21,8 @@ pub fn entry(table: &[u32], v: u32) -> u32
 
 // Whether a literal can be read: a constant, or of a variable that is given.
 pub fn is_readable(table: &[u32], x: u32) -> bool
-    ensures { λ r. ⌜ ((given wires : List ℕ) → Places (now (table .entry)) given wires → r ≡ readable given (literal x)) × (r ≡ true → 2 ≤ x → 1 ≤ getD (now (table .entry)) (x / 2) 0) ⌝ }
+    ensures { λ r. ⌜ ((given wires : List ℕ) → Places (now (table .entry)) given wires → r ≡ readable given (literal x))
+        × (r ≡ true → 2 ≤ x → 1 ≤ getD (now (table .entry)) (x / 2) 0) ⌝ }
 {
     if x < 2 {
         return true;
@@ -31,7 +32,8 @@ pub fn is_readable(table: &[u32], x: u32) -> bool
 
 // Whether a literal can be given: even, above 1, of a variable that is at most M and not given yet.
 pub fn can_give(table: &[u32], x: u32, most: u32) -> bool
-    ensures { λ r. ⌜ ((given wires : List ℕ) → Places (now (table .entry)) given wires → r ≡ canGive most given (literal x)) × (r ≡ true → x / 2 ≤ most) ⌝ }
+    ensures { λ r. ⌜ ((given wires : List ℕ) → Places (now (table .entry)) given wires → r ≡ canGive most given (literal x))
+        × (r ≡ true → x / 2 ≤ most) ⌝ }
 {
     if x < 2 {
         return false;

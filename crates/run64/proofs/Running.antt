@@ -22,10 +22,10 @@ use Rattle.netlist.specs.Table.{Tables, Holds}
 use Rattle.netlist.proofs.Answering.{answers-as, answers-refused, delivers-short, delivers-done, call-refused, call-goes-on}
 use Rattle.netlist.proofs.Accepted.{accepted}
 use Rattle.netlist.proofs.Models.{length-runGates}
-use Rattle.eval.specs.Lane.{lane, lanes, outputWords}
-use Rattle.eval.proofs.Words.{length-outputWords, lanes-outputWords}
-use Rattle.header.specs.declared.HeaderNumbers.{HeaderNumbers}
-use Rattle.tables.specs.Whole.{ReadAt}
+use Rattle.evaluate.specs.Lane.{lane, lanes, outputWords}
+use Rattle.evaluate.proofs.Words.{length-outputWords, lanes-outputWords}
+use Rattle.read_header.specs.declared.HeaderNumbers.{HeaderNumbers}
+use Rattle.read_netlist.specs.Whole.{ReadAt}
 use Rattle.run64.specs.Promise.{run64Outcome, run64Call, call, bitsOf}
 
 -- bits as numbers, and back
@@ -73,7 +73,7 @@ module _ (s : Sizes) (text list out o r g w : List ℕ) where
 
   pub call-read : {ins outs x : List ℕ} {tabs : Tables} {h : HeaderNumbers} {a : Answer}
       → (tablesLong (large s) (length o ∷ length r ∷ length g ∷ length w ∷ []) ≡ true) × ReadAt (large s) text ins outs tabs h
-      → ((N : Netlist) → Holds tabs (h .gates) (h .wires) (h .ins) (h .outs) N → Answers (run64Outcome list (length out) N) out x a)
+      → ((N : Netlist) → Holds tabs (h .gates) (h .wires) (h .«input_bits») (h .«output_bits») N → Answers (run64Outcome list (length out) N) out x a)
       → Answers (call s text list out o r g w) out x a
   unfolding run64Call
   call-read k d = answers-as

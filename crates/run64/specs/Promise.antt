@@ -13,7 +13,7 @@ use Rattle.netlist.specs.Outcome.{Outcome, done, ask, andThen}
 use Rattle.netlist.specs.Read.{readNetlist}
 use Rattle.netlist.specs.Leak.{bit}
 use Rattle.netlist.specs.Services.{tablesLong, delivered, outputList, Answers, Cleared}
-use Rattle.eval.specs.Lane.{lanes, outputWords}
+use Rattle.evaluate.specs.Lane.{lanes, outputWords}
 
 -- questions 11, of the list's length alone, and 14 of a netlist
 abbrev pub run64Outcome : List ℕ → ℕ → Netlist → Outcome (List ℕ)
@@ -40,5 +40,5 @@ pub record Promise (s : Sizes) (text list out out′ o o′ r r′ g g′ w w′
       → bitsOf j (take n out′) ≡ outputList N (bitsOf j list)
   pub operands : Cleared o o′
   pub results : Cleared r r′
-  pub given : Cleared g g′
+  pub marks : Cleared g g′
   pub words : Cleared w w′

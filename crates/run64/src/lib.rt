@@ -1,9 +1,9 @@
 // Sixty-four runs in one pass: a word for each input bit in, a word for each output bit out; bit j of every word belongs to
 // setting j. Questions 1 to 9 with the large limits, 11 (the list's length alone) and 14.
-use header::HeaderNumbers;
 use netlist::Answer;
 use netlist::Sizes;
-use tables::read::Reading;
+use read_header::HeaderNumbers;
+use read_netlist::read::Reading;
 ghost use Prim.Native.Nat.{_≤_};
 ghost use lib.ListN.{length};
 ghost use Rattle.netlist.specs.Netlist.{Netlist};
@@ -33,7 +33,7 @@ fn deliver(
     if out.len() < outs {
         return Answer::Refused(14);
     }
-    eval::wide::outputs(operands, results, count, outs, list, words, out);
+    evaluate::wide::outputs(operands, results, count, outs, list, words, out);
     Answer::Done(outs)
 }
 
@@ -46,8 +46,9 @@ fn evaluate(
     results: &[u64],
     words: &mut [u64],
 ) -> Answer
-    requires { ⌜ Wired (tables (now operands) (now results)) (h .wires) (h .gates) × (h .ins ≤ h .wires) × (h .outs ≤ h .wires) × (h .wires ≤ length (now words)) ⌝ }
-    ensures { λ r. ⌜ ((N : Netlist) → Holds (tables (now (operands .entry)) (now (results .entry))) (h .gates) (h .wires) (h .ins) (h .outs) N
+    requires { ⌜ Wired (tables (now operands) (now results)) (h .wires) (h .gates) × (h .«input_bits» ≤ h .wires) × (h .«output_bits» ≤ h .wires)
+        × (h .wires ≤ length (now words)) ⌝ }
+    ensures { λ r. ⌜ ((N : Netlist) → Holds (tables (now (operands .entry)) (now (results .entry))) (h .gates) (h .wires) (h .«input_bits») (h .«output_bits») N
         → Answers (run64Outcome (now (list .entry)) (length (now (out .entry))) N) (now (out .entry)) (now (out .exit)) r) ⌝ }
 {
     let wires = h.wires as usize;
@@ -55,8 +56,8 @@ fn evaluate(
         out,
         list,
         h.gates as usize,
-        h.ins as usize,
-        h.outs as usize,
+        h.input_bits as usize,
+        h.output_bits as usize,
         operands,
         results,
         &mut words[..wires],
@@ -70,24 +71,24 @@ fn answer(
     out: &mut [u64],
     operands: &mut [u64],
     results: &mut [u64],
-    given: &mut [u8],
+    marks: &mut [u8],
     words: &mut [u64],
     sizes: Sizes,
 ) -> Answer
     ensures { λ r. ⌜ Answers (call sizes (now (text .entry)) (now (list .entry)) (now (out .entry)) (now (operands .entry))
-        (now (results .entry)) (now (given .entry)) (now (words .entry))) (now (out .entry)) (now (out .exit)) r ⌝ }
+        (now (results .entry)) (now (marks .entry)) (now (words .entry))) (now (out .entry)) (now (out .exit)) r ⌝ }
 {
     let l = netlist::large(sizes);
     let mut inputs = [0u32; 17];
     let mut outputs = [0u32; 16];
     let shortest = words.len();
-    match tables::read::read(
+    match read_netlist::read::read(
         text,
         &mut inputs,
         &mut outputs,
         operands,
         results,
-        given,
+        marks,
         shortest,
         l,
     ) {
@@ -104,18 +105,18 @@ pub fn run64(
     out: &mut [u64],
     operands: &mut [u64],
     results: &mut [u64],
-    given: &mut [u8],
+    marks: &mut [u8],
     words: &mut [u64],
     sizes: Sizes,
 ) -> Answer
     ensures { λ r. ⌜ Promise sizes (now (text .entry)) (now (list .entry)) (now (out .entry)) (now (out .exit)) (now (operands .entry))
-        (now (operands .exit)) (now (results .entry)) (now (results .exit)) (now (given .entry)) (now (given .exit))
+        (now (operands .exit)) (now (results .entry)) (now (results .exit)) (now (marks .entry)) (now (marks .exit))
         (now (words .entry)) (now (words .exit)) r ⌝ }
 {
-    let r = answer(text, list, out, operands, results, given, words, sizes);
+    let r = answer(text, list, out, operands, results, marks, words, sizes);
     clear::words(operands);
     clear::words(results);
-    clear::bytes(given);
+    clear::bytes(marks);
     clear::words(words);
     r
 }

@@ -26,7 +26,7 @@ fn spell(out: &mut [u8], at: usize, word: u64) -> usize {
     let mut next = at;
     let mut w = word;
     for _ in 0..8usize {
-        next = buffer::put(out, next, (w % 256) as u8);
+        next = write_buffer::put(out, next, (w % 256) as u8);
         w = w >> 8;
     }
     next

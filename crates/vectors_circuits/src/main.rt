@@ -20,8 +20,8 @@ use libc::STDOUT_FILENO;
 // Prints a group's line, as far as 256 bytes hold it behind the circuit's name.
 fn print(circuit: &[u8], group: &[u8], s: Score) {
     let mut out = [0u8; 256];
-    let n = tally::line(&mut out, group, s.agreed, s.cases);
-    let m = tally::front(&out, n);
+    let n = test_report::line(&mut out, group, s.agreed, s.cases);
+    let m = test_report::front(&out, n);
     io::write_all(STDOUT_FILENO, circuit);
     io::write_all(STDOUT_FILENO, b", ");
     io::write_all(STDOUT_FILENO, &out[..m]);
@@ -62,8 +62,8 @@ fn named(netlist: &[u8], vectors: &[u8]) {
     }
     let mut text = buffers::text();
     let mut file = buffers::text();
-    let n = files::read(netlist, &mut text);
-    let m = files::read(vectors, &mut file);
+    let n = program_files::read(netlist, &mut text);
+    let m = program_files::read(vectors, &mut file);
     circuit(
         words::part(netlist, 0, netlist.len() - 4),
         words::part(&text, 0, n),
@@ -73,7 +73,7 @@ fn named(netlist: &[u8], vectors: &[u8]) {
 
 fn main() {
     let mut list = io::buffer();
-    files::read(b"files", &mut list);
+    program_files::read(b"files", &mut list);
     let mut at = 0;
     for _ in 0..100usize {
         let middle = words::behind(&list, at);

@@ -1,19 +1,19 @@
 // The four services, each with tables of its own, as long as question 1 asks.
 use crate::buffers;
-use judge::Checked;
+use check_netlist::Checked;
 use netlist::Answer;
 use netlist::Sizes;
 
 pub(crate) fn rewrite(text: &[u8], out: &mut [u8]) -> Answer {
     let mut operands = buffers::words();
     let mut results = buffers::words();
-    let mut given = buffers::bytes();
+    let mut marks = buffers::bytes();
     rewrite::rewrite(
         text,
         out,
         &mut operands,
         &mut results,
-        &mut given,
+        &mut marks,
         Sizes::Old,
     )
 }
@@ -21,7 +21,7 @@ pub(crate) fn rewrite(text: &[u8], out: &mut [u8]) -> Answer {
 pub(crate) fn run(text: &[u8], list: &[u8], out: &mut [u8]) -> Answer {
     let mut operands = buffers::words();
     let mut results = buffers::words();
-    let mut given = buffers::bytes();
+    let mut marks = buffers::bytes();
     let mut words = buffers::words();
     run::run(
         text,
@@ -29,7 +29,7 @@ pub(crate) fn run(text: &[u8], list: &[u8], out: &mut [u8]) -> Answer {
         out,
         &mut operands,
         &mut results,
-        &mut given,
+        &mut marks,
         &mut words,
         Sizes::Old,
     )
@@ -63,7 +63,7 @@ pub(crate) fn mask(
 pub(crate) fn check(text: &[u8], codes: &[u8]) -> Checked {
     let mut operands = buffers::words();
     let mut results = buffers::words();
-    let mut given = buffers::bytes();
+    let mut marks = buffers::bytes();
     let mut words = buffers::words();
     let mut base = buffers::words();
     checker::check(
@@ -71,7 +71,7 @@ pub(crate) fn check(text: &[u8], codes: &[u8]) -> Checked {
         codes,
         &mut operands,
         &mut results,
-        &mut given,
+        &mut marks,
         &mut words,
         &mut base,
         Sizes::Old,

@@ -37,9 +37,9 @@ fn case(
     wires: &mut [u8],
 ) -> bool {
     codes::settle(wires, inputs, ins, m);
-    let given = service(text, words::part(wires, 0, shape.ins), ends, m, outputs);
+    let marks = service(text, words::part(wires, 0, shape.ins), ends, m, outputs);
     second::run(shape.gates, gates, wires);
-    given && last(wires, shape, ends, m, outputs)
+    marks && last(wires, shape, ends, m, outputs)
 }
 
 // One vector under the first mask settings.

@@ -6,7 +6,7 @@ use crate::score::Score;
 use crate::second;
 use crate::services;
 use crate::words;
-use judge::Checked;
+use check_netlist::Checked;
 
 // The edited netlists: how many of them both judge alike, and how many leak.
 pub(crate) struct Edited {

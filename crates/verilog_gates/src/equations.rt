@@ -22,7 +22,9 @@ pub fn equations(
     next: u32,
 ) -> u32
     requires { ⌜ Ready (now text) (now heads) (now words) (now links) (now wires) size count n at next ⌝ }
-    ensures { λ r. ⌜ EquationsIs (now (text .entry)) (now (words .entry)) n count at (now (wires .entry)) next (tables (now (operands .entry)) (now (results .entry))) (tables (now (operands .exit)) (now (results .exit))) (now (wires .exit)) r ⌝ }
+    ensures { λ r. ⌜ EquationsIs (now (text .entry)) (now (words .entry)) n count at (now (wires .entry)) next
+        (tables (now (operands .entry)) (now (results .entry))) (tables (now (operands .exit)) (now (results .exit))) (now (wires .exit)) r
+        ⌝ }
 {
     let first = token_at(text, at);
     let mut code = first.code;

@@ -36,7 +36,8 @@ pub fn expression(
     next: u32,
 ) -> Value
     requires { ⌜ Ready (now text) (now heads) (now words) (now links) (now wires) size count n from next ⌝ }
-    ensures { λ r. ⌜ ExprIs (wireOf (now (text .entry)) (now (words .entry)) (now (wires .entry)) count) (now (text .entry)) n from next (tables (now (operands .entry)) (now (results .entry))) (tables (now (operands .exit)) (now (results .exit))) r ⌝ }
+    ensures { λ r. ⌜ ExprIs (wireOf (now (text .entry)) (now (words .entry)) (now (wires .entry)) count) (now (text .entry)) n from next
+        (tables (now (operands .entry)) (now (results .entry))) (tables (now (operands .exit)) (now (results .exit))) r ⌝ }
 {
     let first = term(
         text,
@@ -71,7 +72,7 @@ pub fn expression(
             behind,
             free,
         );
-        put(operands, results, n, 1, wire, v.wire, v.next);
+        put(operands, results, n, gate_table::XOR, wire, v.wire, v.next);
         wire = v.next;
         free = v.next + 1;
         code = v.code;
@@ -101,7 +102,8 @@ fn term(
     next: u32,
 ) -> Value
     requires { ⌜ Ready (now text) (now heads) (now words) (now links) (now wires) size count n from next ⌝ }
-    ensures { λ r. ⌜ TermIs (wireOf (now (text .entry)) (now (words .entry)) (now (wires .entry)) count) (now (text .entry)) n from next (tables (now (operands .entry)) (now (results .entry))) (tables (now (operands .exit)) (now (results .exit))) r ⌝ }
+    ensures { λ r. ⌜ TermIs (wireOf (now (text .entry)) (now (words .entry)) (now (wires .entry)) count) (now (text .entry)) n from next
+        (tables (now (operands .entry)) (now (results .entry))) (tables (now (operands .exit)) (now (results .exit))) r ⌝ }
 {
     let first = factor(
         text,
@@ -136,7 +138,7 @@ fn term(
             behind,
             free,
         );
-        put(operands, results, n, 2, wire, v.wire, v.next);
+        put(operands, results, n, gate_table::AND, wire, v.wire, v.next);
         wire = v.next;
         free = v.next + 1;
         code = v.code;
@@ -173,11 +175,12 @@ fn finish(
     to: usize,
 ) -> Value
     requires { ⌜ (to ≤ length (now text)) × (n ≤ next) × (next + 1 < half) ⌝ }
-    ensures { λ r. ⌜ Finished (now (text .entry)) n negated wire next to (tables (now (operands .entry)) (now (results .entry))) (tables (now (operands .exit)) (now (results .exit))) r ⌝ }
+    ensures { λ r. ⌜ Finished (now (text .entry)) n negated wire next to (tables (now (operands .entry)) (now (results .entry)))
+        (tables (now (operands .exit)) (now (results .exit))) r ⌝ }
 {
     let t = token_at(text, to);
     if negated {
-        put(operands, results, n, 3, wire, wire, next);
+        put(operands, results, n, gate_table::INV, wire, wire, next);
         return Value {
             wire: next,
             next: next + 1,
@@ -209,7 +212,8 @@ fn factor(
     next: u32,
 ) -> Value
     requires { ⌜ Ready (now text) (now heads) (now words) (now links) (now wires) size count n from next ⌝ }
-    ensures { λ r. ⌜ FactorIs (wireOf (now (text .entry)) (now (words .entry)) (now (wires .entry)) count) (now (text .entry)) n from next (tables (now (operands .entry)) (now (results .entry))) (tables (now (operands .exit)) (now (results .exit))) r ⌝ }
+    ensures { λ r. ⌜ FactorIs (wireOf (now (text .entry)) (now (words .entry)) (now (wires .entry)) count) (now (text .entry)) n from next
+        (tables (now (operands .entry)) (now (results .entry))) (tables (now (operands .exit)) (now (results .exit))) r ⌝ }
 {
     let first = token_at(text, from);
     let negated = first.code == 12;

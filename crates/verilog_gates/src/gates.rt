@@ -5,9 +5,6 @@ ghost use lib.ListN.{set};
 ghost use Rattle.netlist.specs.Table.{tables};
 ghost use Rattle.verilog_gates.specs.Puts.{packed};
 
-// 2^32: the right operand and the kind stand in the upper halves of their entries.
-const HALF: u64 = 4294967296;
-
 // Stores an entry, where there is a place for it.
 fn keep(table: &mut [u64], at: usize, entry: u64)
     ensures { λ _. ⌜ now (table .exit) ≡ set (now (table .entry)) at entry ⌝ }
@@ -20,9 +17,11 @@ fn keep(table: &mut [u64], at: usize, entry: u64)
 // Stores a gate by its kind: the gate that gives wire n is the first.
 pub fn put(operands: &mut [u64], results: &mut [u64], n: u32, kind: u64, a: u32, b: u32, c: u32)
     requires { ⌜ (n ≤ c) × (kind < 8) ⌝ }
-    ensures { λ _. ⌜ tables (now (operands .exit)) (now (results .exit)) ≡ packed n (tables (now (operands .entry)) (now (results .entry))) kind a b c ⌝ }
+    ensures { λ _. ⌜ tables (now (operands .exit)) (now (results .exit))
+        ≡ packed n (tables (now (operands .entry)) (now (results .entry))) kind a b c ⌝ }
 {
     let at = (c - n) as usize;
-    keep(operands, at, a as u64 + b as u64 * HALF);
-    keep(results, at, c as u64 + kind * HALF);
+    let e = gate_table::pack(kind, a, b, c);
+    keep(operands, at, e.operands);
+    keep(results, at, e.results);
 }

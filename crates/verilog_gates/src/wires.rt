@@ -18,7 +18,8 @@ pub fn wire_of(
     from: usize,
     to: usize,
 ) -> u32
-    requires { ⌜ Chained (now text) (now heads) (now words) (now links) size count × (count ≤ length (now wires)) × (from ≤ to) × (to ≤ length (now text)) ⌝ }
+    requires { ⌜ Chained (now text) (now heads) (now words) (now links) size count × (count ≤ length (now wires)) × (from ≤ to)
+        × (to ≤ length (now text)) ⌝ }
     ensures { λ r. ⌜ r ≡ wireOf (now (text .entry)) (now (words .entry)) (now (wires .entry)) count (between (now (text .entry)) from to) ⌝ }
 {
     let p = verilog_names::find(text, &text[from..to], heads, words, links, size, count);
@@ -41,8 +42,10 @@ pub fn give(
     to: usize,
     wire: u32,
 )
-    requires { ⌜ Chained (now text) (now heads) (now words) (now links) size count × (count ≤ length (now wires)) × (from ≤ to) × (to ≤ length (now text)) ⌝ }
-    ensures { λ _. ⌜ now (wires .exit) ≡ given (now (text .entry)) (now (words .entry)) (now (wires .entry)) count (between (now (text .entry)) from to) wire ⌝ }
+    requires { ⌜ Chained (now text) (now heads) (now words) (now links) size count × (count ≤ length (now wires)) × (from ≤ to)
+        × (to ≤ length (now text)) ⌝ }
+    ensures { λ _. ⌜ now (wires .exit) ≡ given (now (text .entry)) (now (words .entry)) (now (wires .entry)) count
+        (between (now (text .entry)) from to) wire ⌝ }
 {
     let p = verilog_names::find(text, &text[from..to], heads, words, links, size, count);
     if 0 < p {

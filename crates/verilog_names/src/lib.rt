@@ -7,7 +7,7 @@ ghost use Rattle.netlist.specs.Lists.{sameBytes};
 ghost use Rattle.netlist.specs.Table.{half};
 ghost use Rattle.verilog_tokens.specs.Next.{between};
 ghost use Rattle.verilog_names.specs.Names.{number, found, chainOf, Chained, Added};
-use text::bytes::same;
+use read_text::bytes::same;
 
 fn wide(b: u8) -> u64
     ensures { λ r. ⌜ r ≡ b ⌝ }
@@ -82,8 +82,10 @@ pub fn add(
     size: usize,
     count: usize,
 )
-    requires { ⌜ Chained (now text) (now heads) (now words) (now links) size count × (from ≤ to) × (to ≤ length (now text)) × (count < length (now words)) × (count < length (now links)) ⌝ }
-    ensures { λ _. ⌜ Added (now (text .entry)) (now (heads .entry)) (now (heads .exit)) (now (words .entry)) (now (words .exit)) (now (links .entry)) (now (links .exit)) size count from to ⌝ }
+    requires { ⌜ Chained (now text) (now heads) (now words) (now links) size count × (from ≤ to) × (to ≤ length (now text))
+        × (count < length (now words)) × (count < length (now links)) ⌝ }
+    ensures { λ _. ⌜ Added (now (text .entry)) (now (heads .entry)) (now (heads .exit)) (now (words .entry)) (now (words .exit))
+        (now (links .entry)) (now (links .exit)) size count from to ⌝ }
 {
     let k = chain_of(&text[from..to], size);
     words[count] = (from as u64) + (to as u64) * 4294967296;

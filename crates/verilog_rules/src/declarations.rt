@@ -56,8 +56,10 @@ fn name(
     from: usize,
     to: usize,
 ) -> bool
-    requires { ⌜ Chained (now text) (now heads) (now words) (now links) size count × (most ≤ length (now words)) × (most ≤ length (now links)) × (most ≤ length (now states)) × (from ≤ to) × (to ≤ length (now text)) ⌝ }
-    ensures { λ r. ⌜ NameIs (now (text .entry)) size most count kind from to (now (heads .entry)) (now (heads .exit)) (now (words .entry)) (now (words .exit)) (now (links .entry)) (now (links .exit)) (now (states .entry)) (now (states .exit)) r ⌝ }
+    requires { ⌜ Chained (now text) (now heads) (now words) (now links) size count × (most ≤ length (now words))
+        × (most ≤ length (now links)) × (most ≤ length (now states)) × (from ≤ to) × (to ≤ length (now text)) ⌝ }
+    ensures { λ r. ⌜ NameIs (now (text .entry)) size most count kind from to (now (heads .entry)) (now (heads .exit)) (now (words .entry))
+        (now (words .exit)) (now (links .entry)) (now (links .exit)) (now (states .entry)) (now (states .exit)) r ⌝ }
 {
     if most <= count {
         return false;
@@ -93,8 +95,11 @@ fn one(
     from: usize,
     to: usize,
 ) -> Names
-    requires { ⌜ Chained (now text) (now heads) (now words) (now links) size count × (most ≤ length (now words)) × (most ≤ length (now links)) × (most ≤ length (now states)) × (from ≤ to) × (to ≤ length (now text)) × (0 < code) × (count < half) ⌝ }
-    ensures { λ r. ⌜ OneIs (now (text .entry)) size most count kind code from to (now (heads .entry)) (now (heads .exit)) (now (words .entry)) (now (words .exit)) (now (links .entry)) (now (links .exit)) (now (states .entry)) (now (states .exit)) r ⌝ }
+    requires { ⌜ Chained (now text) (now heads) (now words) (now links) size count × (most ≤ length (now words))
+        × (most ≤ length (now links)) × (most ≤ length (now states)) × (from ≤ to) × (to ≤ length (now text)) × (0 < code)
+        × (count < half) ⌝ }
+    ensures { λ r. ⌜ OneIs (now (text .entry)) size most count kind code from to (now (heads .entry)) (now (heads .exit))
+        (now (words .entry)) (now (words .exit)) (now (links .entry)) (now (links .exit)) (now (states .entry)) (now (states .exit)) r ⌝ }
 {
     if code == 15 {
         let good = name(
@@ -134,8 +139,10 @@ pub fn declarations(
     most: usize,
     at: usize,
 ) -> Declared
-    requires { ⌜ Chained (now text) (now heads) (now words) (now links) size 0 × (most ≤ length (now words)) × (most ≤ length (now links)) × (most ≤ length (now states)) × (most < half) × (at ≤ length (now text)) ⌝ }
-    ensures { λ r. ⌜ DeclaredIs (now (text .entry)) at size most (now (heads .exit)) (now (words .exit)) (now (links .exit)) (now (states .exit)) r ⌝ }
+    requires { ⌜ Chained (now text) (now heads) (now words) (now links) size 0 × (most ≤ length (now words)) × (most ≤ length (now links))
+        × (most ≤ length (now states)) × (most < half) × (at ≤ length (now text)) ⌝ }
+    ensures { λ r. ⌜ DeclaredIs (now (text .entry)) at size most (now (heads .exit)) (now (words .exit)) (now (links .exit))
+        (now (states .exit)) r ⌝ }
 {
     let first = next(text, at);
     let mut code = first.code;

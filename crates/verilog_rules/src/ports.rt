@@ -31,8 +31,10 @@ fn port(
     from: usize,
     to: usize,
 ) -> Ports
-    requires { ⌜ Chained (now text) (now heads) (now words) (now links) size count × (count ≤ length (now states)) × (count ≤ length (now wires)) × (from ≤ to) × (to ≤ length (now text)) × (inputs + 1 < half) × (outputs + 1 < half) ⌝ }
-    ensures { λ r. ⌜ PortIs (now (text .entry)) (now (words .entry)) count (between (now (text .entry)) from to) inputs outputs (now (states .entry)) (now (states .exit)) (now (wires .entry)) (now (wires .exit)) r ⌝ }
+    requires { ⌜ Chained (now text) (now heads) (now words) (now links) size count × (count ≤ length (now states))
+        × (count ≤ length (now wires)) × (from ≤ to) × (to ≤ length (now text)) × (inputs + 1 < half) × (outputs + 1 < half) ⌝ }
+    ensures { λ r. ⌜ PortIs (now (text .entry)) (now (words .entry)) count (between (now (text .entry)) from to) inputs outputs
+        (now (states .entry)) (now (states .exit)) (now (wires .entry)) (now (wires .exit)) r ⌝ }
 {
     if advance(
         text,
@@ -97,8 +99,10 @@ pub fn port_list(
     count: usize,
     at: usize,
 ) -> Ports
-    requires { ⌜ Chained (now text) (now heads) (now words) (now links) size count × (count ≤ length (now states)) × (count ≤ length (now wires)) × (at ≤ length (now text)) × (length (now text) + 1 < half) ⌝ }
-    ensures { λ r. ⌜ PortsIs (now (text .entry)) (now (words .entry)) count at (now (states .entry)) (now (states .exit)) (now (wires .entry)) (now (wires .exit)) r ⌝ }
+    requires { ⌜ Chained (now text) (now heads) (now words) (now links) size count × (count ≤ length (now states))
+        × (count ≤ length (now wires)) × (at ≤ length (now text)) × (length (now text) + 1 < half) ⌝ }
+    ensures { λ r. ⌜ PortsIs (now (text .entry)) (now (words .entry)) count at (now (states .entry)) (now (states .exit))
+        (now (wires .entry)) (now (wires .exit)) r ⌝ }
 {
     let first = next(text, at);
     let mut code = first.code;

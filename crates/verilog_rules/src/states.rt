@@ -24,9 +24,11 @@ pub fn advance(
     old: u32,
     new: u32,
 ) -> bool
-    requires { ⌜ Chained (now text) (now heads) (now words) (now links) size count × (count ≤ length (now states)) × (from ≤ to) × (to ≤ length (now text)) × (0 < old) ⌝ }
+    requires { ⌜ Chained (now text) (now heads) (now words) (now links) size count × (count ≤ length (now states)) × (from ≤ to)
+        × (to ≤ length (now text)) × (0 < old) ⌝ }
     ensures { λ r. ⌜ (r ≡ eqb (wireOf (now (text .entry)) (now (words .entry)) (now (states .entry)) count (between (now (text .entry)) from to)) old)
-        × (now (states .exit) ≡ becomes (now (text .entry)) (now (words .entry)) (now (states .entry)) count (between (now (text .entry)) from to) old new) ⌝ }
+        × (now (states .exit) ≡ becomes (now (text .entry)) (now (words .entry)) (now (states .entry)) count
+        (between (now (text .entry)) from to) old new) ⌝ }
 {
     let p = verilog_names::find(text, &text[from..to], heads, words, links, size, count);
     if p == 0 {

@@ -4,10 +4,10 @@ ghost use Prim.Native.Nat.{_≤_, _<_, _+_};
 ghost use mathlib.Core.Bool.{cond};
 ghost use lib.Dec.{leb};
 ghost use lib.ListN.{length, drop, getD};
-ghost use Rattle.text.specs.Line.{Scanned};
+ghost use Rattle.read_text.specs.Line.{Scanned};
 ghost use Rattle.verilog.specs.Tokens.{inWord, isWhite};
 ghost use Rattle.verilog_tokens.specs.Next.{classOf, wordCode, White, TokenAt};
-use text::bytes::same;
+use read_text::bytes::same;
 
 // A token: its code, and its bytes. Codes 1 to 14 are the marks in the order of their list, the reserved words first; 15 is a
 // name, 0 the end of the text, 16 no token.

@@ -6,7 +6,7 @@ use lib.ListN.{length}
 use Rattle.netlist.specs.Netlist.{large}
 use Rattle.netlist.specs.Table.{tables}
 use Rattle.netlist.proofs.Answering.{table-at}
-use Rattle.tables.proofs.Wholes.{read-is, readable-large}
+use Rattle.read_netlist.proofs.Wholes.{read-is, readable-large}
 use Rattle.checker.proofs.Calling.{read-bits, all-long, call-not, call-read}
 use native.Mathlib.Omega.{arith}
 use borrow.Author.Needs.{needs}
@@ -15,9 +15,9 @@ use Rattle.checker.proofs.answer.Tie as tie
 use Rattle.checker.proofs.answer.Reads as reads
 use Rattle.checker.proofs.answer.Lts as lts
 use Rattle.checker.proofs.shorter.Reads as shorter-reads
-use Rattle.judge.proofs.judge.Reads as judge-reads
+use Rattle.check_netlist.proofs.judge.Reads as judge-reads
 use Rattle.netlist.proofs.large.Reads as large-reads
-use Rattle.tables.proofs.read.read.Reads as read-reads
+use Rattle.read_netlist.proofs.read.read.Reads as read-reads
 
 large-requires : tie.Need-large-requires
 large-requires c κs = search needs
@@ -40,13 +40,13 @@ judge-requires c κs =
     let t = c .before .before .before .before .before .before .before .before .before .before .before .before .before .read in
     let o = length (s .operands .now) in
     let r = length (s .results .now) in
-    let g = length (s .given .now) in
+    let g = length (s .marks .now) in
     let w = length (s .words .now) in
     let b = length (s .base .now) in
     let k = read-is (o ∷ r ∷ g ∷ _ ∷ []) (s .text .now) (t .last .1 .0) (t .last .1 .1 .0) (tables (t .last .1 .1 .1 .0) (t .last .1 .1 .1 .1 .0))
     (c .before .before .before .before .before .before .before .before .before .before .before .before .before .before .before .before .before .before .before .before .large .ensures) (c .before .before .before .before .before .h .given .1) (t .ensures) in
     let a = k .1 in
-    let long = sym (all-long (s .sizes) (s .text .now) (s .codes .now) (s .operands .now) (s .results .now) (s .given .now) (s .words .now) (s .base .now) (c .before .before .before .before .before .before .before .before .before .before .before .before .before .before .before .before .before .before .before .shorter .ensures)) ∙ k .0 in (
+    let long = sym (all-long (s .sizes) (s .text .now) (s .codes .now) (s .operands .now) (s .results .now) (s .marks .now) (s .words .now) (s .base .now) (c .before .before .before .before .before .before .before .before .before .before .before .before .before .before .before .before .before .before .before .shorter .ensures)) ∙ k .0 in (
       a .wired,
       (
         a .manyIn,
@@ -70,9 +70,9 @@ returns : tie.Need-returns
 returns c =
     let s = c .before .before .before .before .before .before .before .before .before .before .before .before .before .before .before .before .before .before .before .before .before .before .before .before .args in
     let t = c .before .before .before .before .before .before .before .before .before .read in
-    call-not (s .sizes) (s .text .now) (s .codes .now) (s .operands .now) (s .results .now) (s .given .now) (s .words .now) (s .base .now)
+    call-not (s .sizes) (s .text .now) (s .codes .now) (s .operands .now) (s .results .now) (s .marks .now) (s .words .now) (s .base .now)
     (c .before .before .before .before .before .before .before .before .before .before .before .before .before .before .before .shorter .ensures)
-    (read-is (length (s .operands .now) ∷ length (s .results .now) ∷ length (s .given .now) ∷ _ ∷ []) (s .text .now) (t .last .1 .0) (t .last .1 .1 .0)
+    (read-is (length (s .operands .now) ∷ length (s .results .now) ∷ length (s .marks .now) ∷ _ ∷ []) (s .text .now) (t .last .1 .0) (t .last .1 .1 .0)
     (tables (t .last .1 .1 .1 .0) (t .last .1 .1 .1 .1 .0)) (c .before .before .before .before .before .before .before .before .before .before .before .before .before .before .before .before .large .ensures) (c .before .question .given .1) (t .ensures))
 
 same-length-4 : tie.Need-same-length-4
@@ -94,9 +94,9 @@ returns-2 : tie.Need-returns-2
 returns-2 c =
     let s = c .before .before .before .before .before .before .before .before .before .before .before .before .before .before .before .before .before .before .before .before .before .before .before .before .before .before .before .before .before .before .before .before .before .args in
     let t = c .before .before .before .before .before .before .before .before .before .before .before .before .before .before .before .before .before .before .read in
-    call-read (s .sizes) (s .text .now) (s .codes .now) (s .operands .now) (s .results .now) (s .given .now) (s .words .now) (s .base .now)
+    call-read (s .sizes) (s .text .now) (s .codes .now) (s .operands .now) (s .results .now) (s .marks .now) (s .words .now) (s .base .now)
     (c .before .before .before .before .before .before .before .before .before .before .before .before .before .before .before .before .before .before .before .before .before .before .before .before .shorter .ensures)
-    (read-is (length (s .operands .now) ∷ length (s .results .now) ∷ length (s .given .now) ∷ _ ∷ []) (s .text .now) (t .last .1 .0) (t .last .1 .1 .0)
+    (read-is (length (s .operands .now) ∷ length (s .results .now) ∷ length (s .marks .now) ∷ _ ∷ []) (s .text .now) (t .last .1 .0) (t .last .1 .1 .0)
     (tables (t .last .1 .1 .1 .0) (t .last .1 .1 .1 .1 .0)) (c .before .before .before .before .before .before .before .before .before .before .before .before .before .before .before .before .before .before .before .before .before .before .before .before .before .large .ensures) (c .before .before .before .before .before .before .before .before .before .before .h .given .1) (t .ensures))
     (c .before .before .before .before .judge .ensures)
 

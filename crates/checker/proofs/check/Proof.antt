@@ -48,11 +48,11 @@ returns c =
     let a = at-answer .answer in
     record {
       outcome = a .ensures;
-      judged = call-judged (s .sizes) (s .text .now) (s .codes .now) (s .operands .now) (s .results .now) (s .given .now) (s .words .now) (s .base .now)
+      judged = call-judged (s .sizes) (s .text .now) (s .codes .now) (s .operands .now) (s .results .now) (s .marks .now) (s .words .now) (s .base .now)
           (a .result) (a .ensures);
       operands = zeros-same (at-words2 .words2 .ensures) (a .kept .1 .1 .0);
       results = zeros-same (at-words3 .words3 .ensures) (a .kept .1 .1 .1 .0);
-      given = zeros-same (at-bytes .bytes .ensures) (a .kept .1 .1 .1 .1 .0);
+      marks = zeros-same (at-bytes .bytes .ensures) (a .kept .1 .1 .1 .1 .0);
       words = zeros-same (c .before .before .before .before .before .before .words4 .ensures) (a .kept .1 .1 .1 .1 .1 .0);
       base = zeros-same (c .before .before .words6 .ensures) (a .kept .1 .1 .1 .1 .1 .1 .0);
     }

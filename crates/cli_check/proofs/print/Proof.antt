@@ -1,5 +1,5 @@
 -- `print`: the line of each answer.
-use Rattle.judge.specs.declared.Checked.the-variants.{Clean, Leak, Refused}
+use Rattle.check_netlist.specs.declared.Checked.the-variants.{Clean, Leak, Refused}
 use Rattle.cli_check.proofs.Reporting.{printed}
 use borrow.Author.Needs.{needs}
 use Rattle.cli_check.proofs.print.Statement.{statement}

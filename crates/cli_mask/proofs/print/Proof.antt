@@ -3,7 +3,7 @@ use mathlib.Core.Path.{sym}
 use lib.ListN.{take, length-take}
 use lib.Seq.{length-take-le}
 use Rattle.netlist.specs.declared.Answer.the-variants.{Done, Refused}
-use Rattle.console.proofs.Reporting.{few-first, refused-first}
+use Rattle.program_text.proofs.Reporting.{few-first, refused-first}
 use Rattle.cli_mask.proofs.Reports.{prints-as, prints-text, prints-line}
 use native.Mathlib.Omega.{arith}
 use borrow.Author.Needs.{needs}

@@ -35,7 +35,7 @@ slice-aggregate-report-5 : tie.Need-slice-aggregate-report-5
 slice-aggregate-report-5 c = search needs
 
 report-requires : tie.Need-report-requires
-report-requires c κs = record { text = length-replicate {A = ℕ} 500000 0; operands = search needs; results = search needs; given = search needs }
+report-requires c κs = record { text = length-replicate {A = ℕ} 500000 0; operands = search needs; results = search needs; marks = search needs }
 
 array-share-prefix-out : tie.Need-array-share-prefix-out
 array-share-prefix-out c = search needs

@@ -1,6 +1,6 @@
 -- `print`: the text, or a refusal's line.
 use mathlib.Core.Path.{refl}
-use Rattle.console.proofs.Reporting.{refused-first}
+use Rattle.program_text.proofs.Reporting.{refused-first}
 use Rattle.netlist.specs.declared.Answer.the-variants.{Done, Refused}
 use Rattle.cli_rewrite.proofs.Reports.{prints-as}
 use borrow.Author.Needs.{needs}

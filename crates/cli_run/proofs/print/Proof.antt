@@ -2,7 +2,7 @@
 use mathlib.Core.Path.{sym}
 use lib.ListN.{length-take}
 use lib.Seq.{length-take-le}
-use Rattle.console.proofs.Reporting.{few-first, refused-first}
+use Rattle.program_text.proofs.Reporting.{few-first, refused-first}
 use Rattle.netlist.specs.declared.Answer.the-variants.{Done, Refused}
 use Rattle.cli_run.proofs.Reports.{prints-as}
 use native.Mathlib.Omega.{arith}

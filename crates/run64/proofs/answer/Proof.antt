@@ -5,7 +5,7 @@ use lib.ListN.{length}
 use Rattle.netlist.specs.Netlist.{large}
 use Rattle.netlist.specs.Table.{tables}
 use Rattle.netlist.proofs.Answering.{table-at}
-use Rattle.tables.proofs.Wholes.{read-is, readable-large}
+use Rattle.read_netlist.proofs.Wholes.{read-is, readable-large}
 use Rattle.run64.proofs.Running.{call-not, call-read}
 use native.Mathlib.Omega.{arith}
 use borrow.Author.Needs.{needs}
@@ -30,7 +30,7 @@ evaluate-requires c κs =
     let t = c .before .before .before .before .before .before .before .before .before .before .before .before .before .read in
     let o = length (s .operands .now) in
     let r = length (s .results .now) in
-    let g = length (s .given .now) in
+    let g = length (s .marks .now) in
     let w = length (s .words .now) in
     let k = read-is (o ∷ r ∷ g ∷ w ∷ []) (s .text .now) (t .last .1 .0) (t .last .1 .1 .0) (tables (t .last .1 .1 .1 .0) (t .last .1 .1 .1 .1 .0))
     (c .before .before .before .before .before .before .before .before .before .before .before .before .before .before .before .before .before .before .before .large .ensures) (c .before .before .before .before .before .h .given .1) (t .ensures) in
@@ -50,8 +50,8 @@ returns : tie.Need-returns
 returns c =
     let s = c .before .before .before .before .before .before .before .before .before .before .before .before .before .before .before .before .before .before .before .before .before .before .before .args in
     let t = c .before .before .before .before .before .before .before .before .before .read in
-    call-not (s .sizes) (s .text .now) (s .list .now) _ (s .operands .now) (s .results .now) (s .given .now) (s .words .now)
-    (read-is (length (s .operands .now) ∷ length (s .results .now) ∷ length (s .given .now) ∷ length (s .words .now) ∷ []) (s .text .now)
+    call-not (s .sizes) (s .text .now) (s .list .now) _ (s .operands .now) (s .results .now) (s .marks .now) (s .words .now)
+    (read-is (length (s .operands .now) ∷ length (s .results .now) ∷ length (s .marks .now) ∷ length (s .words .now) ∷ []) (s .text .now)
     (t .last .1 .0) (t .last .1 .1 .0) (tables (t .last .1 .1 .1 .0) (t .last .1 .1 .1 .1 .0)) (c .before .before .before .before .before .before .before .before .before .before .before .before .before .before .before .large .ensures)
     (c .before .question .given .1) (t .ensures))
 
@@ -74,8 +74,8 @@ returns-2 : tie.Need-returns-2
 returns-2 c =
     let s = c .before .before .before .before .before .before .before .before .before .before .before .before .before .before .before .before .before .before .before .before .before .before .before .before .before .before .before .before .before .before .before .before .args in
     let t = c .before .before .before .before .before .before .before .before .before .before .before .before .before .before .before .before .before .before .read in
-    call-read (s .sizes) (s .text .now) (s .list .now) (s .out .now) (s .operands .now) (s .results .now) (s .given .now) (s .words .now)
-    (read-is (length (s .operands .now) ∷ length (s .results .now) ∷ length (s .given .now) ∷ length (s .words .now) ∷ []) (s .text .now)
+    call-read (s .sizes) (s .text .now) (s .list .now) (s .out .now) (s .operands .now) (s .results .now) (s .marks .now) (s .words .now)
+    (read-is (length (s .operands .now) ∷ length (s .results .now) ∷ length (s .marks .now) ∷ length (s .words .now) ∷ []) (s .text .now)
     (t .last .1 .0) (t .last .1 .1 .0) (tables (t .last .1 .1 .1 .0) (t .last .1 .1 .1 .1 .0)) (c .before .before .before .before .before .before .before .before .before .before .before .before .before .before .before .before .before .before .before .before .before .before .before .before .large .ensures) (c .before .before .before .before .before .before .before .before .before .before .h .given .1)
     (t .ensures))
     (c .before .before .before .before .evaluate .ensures)

@@ -1,5 +1,5 @@
 -- `deliver`: questions 11 and 14 in order.
-use Rattle.outputs.proofs.Delivered.{holds-ins}
+use Rattle.run_netlist.proofs.Delivered.{holds-ins}
 use Rattle.run64.proofs.Running.{words-11, words-14, words-done}
 use native.Mathlib.Omega.{arith}
 use borrow.Author.Needs.{needs}

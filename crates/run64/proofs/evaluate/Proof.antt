@@ -2,7 +2,7 @@
 use mathlib.Core.Path.{sym}
 use lib.Seq.{length-take-le}
 use Rattle.netlist.proofs.Puts.{wired-same}
-use Rattle.outputs.proofs.Delivered.{holds-wires}
+use Rattle.run_netlist.proofs.Delivered.{holds-wires}
 use native.Mathlib.Omega.{arith}
 use borrow.Author.Needs.{needs}
 use Rattle.run64.proofs.evaluate.Statement.{statement}

@@ -43,10 +43,10 @@ returns c =
     let k = a .kept in
     record {
       answers = a .ensures;
-      lane = call-lanes (s .sizes) (s .text .now) (s .list .now) (s .out .now) (s .operands .now) (s .results .now) (s .given .now) (s .words .now) (a .ensures);
+      lane = call-lanes (s .sizes) (s .text .now) (s .list .now) (s .out .now) (s .operands .now) (s .results .now) (s .marks .now) (s .words .now) (a .ensures);
       operands = zeros-same (c .before .before .before .before .before .before .before .before .before .before .before .before .before .before .words2 .ensures) (k .1 .1 .1 .0);
       results = zeros-same (c .before .before .before .before .before .before .before .before .before .before .words3 .ensures) (k .1 .1 .1 .1 .0);
-      given = zeros-same (c .before .before .before .before .before .before .bytes .ensures) (k .1 .1 .1 .1 .1 .0);
+      marks = zeros-same (c .before .before .before .before .before .before .bytes .ensures) (k .1 .1 .1 .1 .1 .0);
       words = zeros-same (c .before .before .words4 .ensures) (k .1 .1 .1 .1 .1 .1 .0);
     }
 

@@ -9,7 +9,7 @@ use Rattle.verilog_tokens.proofs.word_code.Statement.{statement}
 use Rattle.verilog_tokens.proofs.word_code.Tie as tie
 use Rattle.verilog_tokens.proofs.word_code.Reads as reads
 use Rattle.verilog_tokens.proofs.word_code.Lts as lts
-use Rattle.text.proofs.bytes.same.Reads as same-reads
+use Rattle.read_text.proofs.bytes.same.Reads as same-reads
 use Rattle.verilog_tokens.proofs.class.Reads as class-reads
 
 slice-aggregate-same : tie.Need-slice-aggregate-same

@@ -2,7 +2,7 @@
 use Prim.Native.Nat.{_-_}
 use lib.ListN.{length}
 use native.Mathlib.Omega.{arith}
-use Rattle.text.proofs.AnswerLaws.{number-is, number-not, end-is, end-more}
+use Rattle.read_text.proofs.AnswerLaws.{number-is, number-not, end-is, end-more}
 use Rattle.read_aiger.proofs.NumberLines.{Numbering, numbering-start, numbering-more, numbering-short, numbering-long, numbering-end}
 use borrow.Author.Needs.{needs}
 use native.Mathlib.Omega.{arith}

@@ -1,0 +1,43 @@
+-- Sixteen input settings by four mask settings in one word: lane j of block b belongs to the number b * 64 + j, whose bits 0 and
+-- 1 are the mask bits and whose other bits are the input setting.
+use Prim.Native.Nat.{ℕ, _+_, _*_, _/_, _%_, _^_, _<_}
+use mathlib.Core.Bool.{Bool, false}
+use mathlib.Core.List.{List}
+use mathlib.Core.Logic.{_≢_}
+use mathlib.Core.Path.{_≡_}
+use lib.ListN.{length, getD}
+use Rattle.netlist.specs.Netlist.{Netlist}
+use Rattle.netlist.specs.Leak.{masked, bit, setting, Secret}
+use Rattle.evaluate.specs.Lane.{lane}
+use Rattle.check_counts.specs.Base.{part, countIn}
+
+-- the input wires under the mask setting and the input setting of a number, or that setting's base
+abbrev pub inputsAt : Bool → List ℕ → ℕ → List Bool
+inputsAt whole codes n = masked (lane 0 n) (lane 1 n) codes (part whole codes (setting (length codes) (n / 4)))
+
+-- four bits of a word
+abbrev pub nibble : ℕ → ℕ → ℕ
+nibble w s = w / 2 ^ (4 * s) % 16
+
+-- how many of setting s's four lanes are one
+abbrev pub ones : ℕ → ℕ → ℕ
+ones w s = bit (lane (4 * s) w) + bit (lane (4 * s + 1) w) + bit (lane (4 * s + 2) w) + bit (lane (4 * s + 3) w)
+
+-- the counts that are held for each wire and each setting of a block: as ones in its lanes, or as a number in its nibble
+abbrev pub onesOf : List ℕ → ℕ → ℕ → ℕ
+onesOf words w s = ones (getD words w 0) s
+
+abbrev pub nibblesOf : List ℕ → ℕ → ℕ → ℕ
+nibblesOf base w s = nibble (getD base w 0) s
+
+-- they are those of a block's settings, or of their bases
+pub record Counted (N : Netlist) (whole : Bool) (codes : List ℕ) (held : ℕ → ℕ → ℕ) (block : ℕ) : Type 0 where
+  pub each : (w s : ℕ) → s < 16 → held w s ≡ countIn N whole codes w (block * 16 + s)
+
+-- where no bit is public, all settings have the same base, whose counts are held from the second block on
+abbrev pub Ready : Bool → Netlist → List ℕ → List ℕ → ℕ → Type 0
+Ready mixed N codes base block = mixed ≡ false → Secret codes × (block ≢ 0 → Counted N false codes (nibblesOf base) block)
+
+-- the counts of wires below W in settings below S are the same
+abbrev pub Agree : (ℕ → ℕ → ℕ) → (ℕ → ℕ → ℕ) → ℕ → ℕ → Type 0
+Agree f g W S = (w : ℕ) → w < W → (s : ℕ) → s < S → f w s ≡ g w s

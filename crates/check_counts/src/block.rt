@@ -1,0 +1,95 @@
+// The words of all wires in one block of settings, and the counts that those are compared with.
+use crate::load;
+use crate::nibble;
+ghost use mathlib.Core.Path.{_≡_};
+ghost use mathlib.Core.Bool.{true, false};
+ghost use Prim.Native.Nat.{ℕ, _+_, _<_, _≤_};
+ghost use lib.ListN.{length};
+ghost use Rattle.netlist.specs.Leak.{Secret};
+ghost use Rattle.netlist.specs.Table.{tables, Wired};
+ghost use Rattle.evaluate.specs.Bare.{bare};
+ghost use Rattle.check_counts.specs.Block.{onesOf, nibblesOf, Counted, Ready};
+
+// The words of all wires in a block's settings, or in their bases.
+pub fn side(
+    operands: &[u64],
+    results: &[u64],
+    count: usize,
+    codes: &[u8],
+    whole: bool,
+    block: u64,
+    words: &mut [u64],
+)
+    requires { ⌜ Wired (tables (now operands) (now results)) (length (now words)) count ⌝ }
+    requires { ⌜ (length (now codes) < 64) × (length (now codes) + 2 ≤ length (now words)) ⌝ }
+    ensures { λ _. ⌜ (let N = bare (tables (now (operands .entry)) (now (results .entry))) count (length (now (words .entry))) in Counted N
+        whole (now (codes .entry)) (onesOf (now (words .exit))) block) ⌝ }
+{
+    load::inputs(codes, whole, block, words);
+    evaluate::wires(operands, results, count, codes.len() + 2, words);
+}
+
+// Is some input bit public?
+pub fn public(codes: &[u8]) -> bool
+    ensures { λ r. ⌜ (r ≡ true → Secret (now (codes .entry)) → ⊥) × (r ≡ false → Secret (now (codes .entry))) ⌝ }
+{
+    let mut i = 0;
+    while i < codes.len() {
+        if codes[i] == 0 {
+            return true;
+        }
+        i += 1;
+    }
+    false
+}
+
+// Each word's counts in its place.
+fn tally(words: &mut [u64])
+    ensures { λ _. ⌜ ((w s : ℕ) → s < 16 → nibblesOf (now (words .exit)) w s ≡ onesOf (now (words .entry)) w s) ⌝ }
+{
+    let mut w = 0;
+    while w < words.len() {
+        words[w] = nibble::counts(words[w]);
+        w += 1;
+    }
+}
+
+// The counts of the first setting, for all.
+fn first(words: &[u64], base: &mut [u64])
+    requires { ⌜ length (now base) ≡ length (now words) ⌝ }
+    ensures { λ _. ⌜ ((w s : ℕ) → s < 16 → nibblesOf (now (base .exit)) w s ≡ onesOf (now (words .entry)) w 0) ⌝ }
+{
+    let mut w = 0;
+    while w < words.len() {
+        base[w] = nibble::repeat(nibble::counts(words[w]));
+        w += 1;
+    }
+}
+
+// The counts of the bases of a block's settings. If no bit is public, setting 0 is the base of all
+// settings, and its counts are taken from the first block's words.
+pub fn refresh(
+    operands: &[u64],
+    results: &[u64],
+    count: usize,
+    codes: &[u8],
+    mixed: bool,
+    block: u64,
+    words: &[u64],
+    base: &mut [u64],
+)
+    requires { ⌜ Wired (tables (now operands) (now results)) (length (now words)) count ⌝ }
+    requires { ⌜ (length (now codes) < 64) × (length (now codes) + 2 ≤ length (now words)) × (length (now base) ≡ length (now words)) ⌝ }
+    requires { ⌜ (let N = bare (tables (now operands) (now results)) count (length (now words)) in Counted N true (now codes)
+        (onesOf (now words)) block × Ready mixed N (now codes) (now base) block) ⌝ }
+    ensures { λ _. ⌜ (let N = bare (tables (now (operands .entry)) (now (results .entry))) count (length (now (words .entry))) in Counted N
+        false (now (codes .entry)) (nibblesOf (now (base .exit))) block × Ready mixed N (now (codes .entry)) (now (base .exit)) (block + 1))
+        ⌝ }
+{
+    if mixed {
+        side(operands, results, count, codes, false, block, base);
+        tally(base);
+    } else if block == 0 {
+        first(words, base);
+    }
+}

@@ -1,0 +1,127 @@
+// The search for a leak, block by block.
+use crate::spot;
+use crate::spot::Spot;
+use check_counts::block;
+ghost use mathlib.Core.Path.{_≡_};
+ghost use mathlib.Core.Bool.{true, false};
+ghost use Prim.Native.Nat.{ℕ, _+_, _*_, _^_, _<_, _≤_};
+ghost use lib.ListN.{length};
+ghost use Rattle.netlist.specs.Netlist.{Netlist};
+ghost use Rattle.netlist.specs.Leak.{leak};
+ghost use Rattle.netlist.specs.Services.{maxChecked};
+ghost use Rattle.netlist.specs.Table.{tables, Wired, Holds};
+ghost use Rattle.evaluate.specs.Bare.{bare};
+ghost use Rattle.check_counts.specs.Base.{countIn};
+ghost use Rattle.check_counts.specs.Block.{Ready};
+ghost use Rattle.check_leak.specs.Spot.{Spotted, from};
+ghost use Rattle.check_leak.specs.Search.{foundOf};
+
+// Clean, or a leak: its wire, its setting, its base's count and its own.
+pub enum Verdict {
+    Clean,
+    Leak(usize, u64, u8, u8),
+}
+
+// A block is run and searched, for wires below a limit.
+fn turn(
+    operands: &[u64],
+    results: &[u64],
+    count: usize,
+    codes: &[u8],
+    mixed: bool,
+    block: u64,
+    words: &mut [u64],
+    base: &mut [u64],
+    limit: usize,
+) -> Spot
+    requires { ⌜ Wired (tables (now operands) (now results)) (length (now words)) count ⌝ }
+    requires { ⌜ (length (now codes) < 64) × (length (now codes) + 2 ≤ length (now words)) × (length (now base) ≡ length (now words))
+        × (limit ≤ length (now words)) × Ready mixed (bare (tables (now operands) (now results)) count (length (now words))) (now codes)
+        (now base) block ⌝ }
+    ensures { λ r. ⌜ (let N = bare (tables (now (operands .entry)) (now (results .entry))) count (length (now (words .entry))) in Spotted
+        (from (block * 16) (countIn N false (now (codes .entry)))) (from (block * 16) (countIn N true (now (codes .entry)))) limit 16 r
+        × Ready mixed N (now (codes .entry)) (now (base .exit)) (block + 1)) ⌝ }
+{
+    block::side(operands, results, count, codes, true, block, words);
+    block::refresh(operands, results, count, codes, mixed, block, words, base);
+    spot::scan(words, base, limit)
+}
+
+// The first wire whose counts are not those of its base, over all settings of these blocks. Blocks
+// rise, and wires above the best spot are looked at no more.
+fn find(
+    operands: &[u64],
+    results: &[u64],
+    count: usize,
+    codes: &[u8],
+    blocks: u64,
+    words: &mut [u64],
+    base: &mut [u64],
+) -> Spot
+    requires { ⌜ Wired (tables (now operands) (now results)) (length (now words)) count ⌝ }
+    requires { ⌜ (length (now codes) < 64) × (length (now codes) + 2 ≤ length (now words)) × (length (now base) ≡ length (now words))
+        × (blocks < 65536) ⌝ }
+    ensures { λ r. ⌜ (let N = bare (tables (now (operands .entry)) (now (results .entry))) count (length (now (words .entry))) in Spotted
+        (countIn N false (now (codes .entry))) (countIn N true (now (codes .entry))) (length (now (words .entry))) (blocks * 16) r) ⌝ }
+{
+    let mixed = block::public(codes);
+    let mut best = spot::none(words.len());
+    let mut block = 0;
+    while block < blocks {
+        let limit = best.wire;
+        let spot = turn(
+            operands,
+            results,
+            count,
+            codes,
+            mixed,
+            block,
+            words,
+            base,
+            limit,
+        );
+        best = spot::better(best, spot, block);
+        block += 1;
+    }
+    best
+}
+
+// How many blocks hold the settings of k input bits, sixteen in each.
+fn blocks_of(k: usize) -> u64
+    requires { ⌜ k < 20 ⌝ }
+    ensures { λ r. ⌜ (2 ^ k ≤ r * 16) × (r < 65536) ⌝ }
+{
+    if k < 4 { 1 } else { 1 << (k - 4) }
+}
+
+// Whether the tables' netlist is clean under the input codes, and the leak if not. The words and the
+// base, one entry for each wire, are working store.
+pub fn leaks(
+    operands: &[u64],
+    results: &[u64],
+    count: usize,
+    codes: &[u8],
+    words: &mut [u64],
+    base: &mut [u64],
+) -> Verdict
+    requires { ⌜ Wired (tables (now operands) (now results)) (length (now words)) count ⌝ }
+    requires { ⌜ (length (now codes) ≤ maxChecked) × (length (now codes) + 2 ≤ length (now words)) × (length (now base) ≡ length (now words)) ⌝ }
+    ensures { λ r. ⌜ ((n o : ℕ) (N : Netlist) → Holds (tables (now (operands .entry)) (now (results .entry))) count
+        (length (now (words .entry))) n o N → foundOf r ≡ leak N (now (codes .entry))) ⌝ }
+{
+    let spot = find(
+        operands,
+        results,
+        count,
+        codes,
+        blocks_of(codes.len()),
+        words,
+        base,
+    );
+    let wire = spot.wire;
+    if wire < words.len() {
+        Verdict::Leak(wire, spot.at, spot.base, spot.own)
+    } else {
+        Verdict::Clean
+    }
+}

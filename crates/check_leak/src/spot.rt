@@ -1,0 +1,99 @@
+// The first wire, and its first setting, with another count than its base: in one block, and over
+// several.
+use check_counts::nibble;
+ghost use mathlib.Core.Path.{_≡_};
+ghost use mathlib.Core.Bool.{true, false};
+ghost use Prim.Native.Nat.{ℕ, _+_, _*_, _<_, _≤_};
+ghost use lib.ListN.{length};
+ghost use Rattle.check_counts.specs.Block.{onesOf, nibblesOf, Agree};
+ghost use Rattle.check_leak.specs.Spot.{Spotted, from};
+
+// A wire and a setting, with its base's count and its own; or, with the first wire that was not
+// looked at, none.
+pub struct Spot {
+    pub wire: usize,
+    pub at: u64,
+    pub base: u8,
+    pub own: u8,
+}
+
+// No spot on wires below a limit.
+pub fn none(limit: usize) -> Spot
+    ensures { λ r. ⌜ r .wire ≡ limit ⌝ }
+{
+    Spot {
+        wire: limit,
+        at: 0,
+        base: 0,
+        own: 0,
+    }
+}
+
+// Whether all wires below a limit have the counts of their bases. The loop does not stop at the
+// first that has not, so that it can be compiled to compare many wires at a time.
+fn quiet(words: &[u64], base: &[u64], limit: usize) -> bool
+    requires { ⌜ (limit ≤ length (now words)) × (limit ≤ length (now base)) ⌝ }
+    ensures { λ r. ⌜ (r ≡ true → Agree (nibblesOf (now (base .entry))) (onesOf (now (words .entry))) limit 16)
+        × (r ≡ false → Agree (nibblesOf (now (base .entry))) (onesOf (now (words .entry))) limit 16 → ⊥) ⌝ }
+{
+    let mut d = 0;
+    let mut w = 0;
+    while w < limit {
+        d = d | nibble::differ(base[w], words[w]);
+        w += 1;
+    }
+    d == 0
+}
+
+// The first wire below a limit whose counts are not those of its base, and the first of the block's
+// settings where they are not.
+fn walk(words: &[u64], base: &[u64], limit: usize) -> Spot
+    requires { ⌜ (limit ≤ length (now words)) × (limit ≤ length (now base)) ⌝ }
+    ensures { λ r. ⌜ Spotted (nibblesOf (now (base .entry))) (onesOf (now (words .entry))) limit 16 r ⌝ }
+{
+    let mut w = 0;
+    while w < limit {
+        let d = nibble::differ(base[w], words[w]);
+        if d != 0 {
+            let s = nibble::first(d);
+            return Spot {
+                wire: w,
+                at: s as u64,
+                base: nibble::at(base[w], s),
+                own: nibble::count(words[w], s),
+            };
+        }
+        w += 1;
+    }
+    none(limit)
+}
+
+// The same. Most blocks are quiet, so that all wires are compared first.
+pub fn scan(words: &[u64], base: &[u64], limit: usize) -> Spot
+    requires { ⌜ (limit ≤ length (now words)) × (limit ≤ length (now base)) ⌝ }
+    ensures { λ r. ⌜ Spotted (nibblesOf (now (base .entry))) (onesOf (now (words .entry))) limit 16 r ⌝ }
+{
+    if quiet(words, base, limit) {
+        none(limit)
+    } else {
+        walk(words, base, limit)
+    }
+}
+
+// The better of the best spot so far and a block's spot, which was looked for on lower wires only.
+pub fn better(best: Spot, spot: Spot, block: u64) -> Spot
+    requires { ⌜ (block < 65536) × (spot .wire < best .wire → spot .at < 16) ⌝ }
+    ensures { λ r. ⌜ ((f g : ℕ → ℕ → ℕ) (W : ℕ) → Spotted f g W (block * 16) best
+        → Spotted (from (block * 16) f) (from (block * 16) g) (best .wire) 16 spot → Spotted f g W (block * 16 + 16) r) ⌝ }
+{
+    if spot.wire < best.wire {
+        Spot {
+            wire: spot.wire,
+            at: block * 16 + spot.at,
+            base: spot.base,
+            own: spot.own,
+        }
+    } else {
+        best
+    }
+}

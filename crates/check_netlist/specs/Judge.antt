@@ -1,0 +1,27 @@
+-- What an answer of Check's says.
+use Prim.Native.Nat.{ℕ}
+use mathlib.Core.List.{List}
+use mathlib.Core.Option.{Option, none, some}
+use Rattle.netlist.specs.Netlist.{Netlist}
+use Rattle.netlist.specs.Outcome.{Outcome, refused, done}
+use Rattle.netlist.specs.Leak.{Found, LowestLeak}
+use Rattle.netlist.specs.Leak as L
+use Rattle.check_netlist.specs.declared.Checked.{Checked}
+use Rattle.check_netlist.specs.declared.Checked.the-variants.{Clean, Leak, Refused}
+
+-- the numbers of a leak
+abbrev pub found : ℕ → ℕ → ℕ → ℕ → Found
+found w s b o = record { wire = w; at = s; base = b; own = o }
+
+-- the outcome that an answer stands for
+abbrev pub outcomeOf : Checked → Outcome (Option Found)
+outcomeOf Clean = done none
+outcomeOf (Leak w s b o) = done (some (found w s b o))
+outcomeOf (Refused q) = refused q
+
+-- the equal-count rule, as an answer has it of a netlist under input codes: clean, so every wire meets the rule; or the lowest leak,
+-- so one does not; a refusal says nothing
+abbrev pub Judged : Netlist → List ℕ → Checked → Type 0
+Judged N codes Clean = L.Clean N codes
+Judged N codes (Leak w s b o) = LowestLeak N codes (found w s b o) × (L.Clean N codes → ⊥)
+Judged N codes (Refused q) = Unit

@@ -1,5 +1,0 @@
--- What the evaluator's contracts cite.
-pub mod Lane
-pub mod Form
-pub mod Bare
-pub mod Parts

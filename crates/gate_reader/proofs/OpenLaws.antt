@@ -1,0 +1,96 @@
+-- An opening, from the head of the text and the number of its gate lines.
+use Prim.Native.Nat.{ℕ, suc, _+_, _<_, _≤_}
+use mathlib.Core.Path.{_≡_, refl, sym, ap, _∙_, subst}
+use mathlib.Core.List.{List, _∷_}
+use native.Mathlib.Numerals.{add-one}
+use native.Mathlib.Omega.{arith}
+use lib.ListN.{length, take, drop, getD, set, length-set, drop-of-length-le}
+use lib.Seq.{sets, drop-cons, getD-take, length-take-le}
+use borrow.Author.Tests.{eq-eqb, ne-eqb}
+use Rattle.netlist.specs.declared.Limits.{Limits}
+use Rattle.netlist.specs.Outcome.{refused, done}
+use Rattle.netlist.specs.Text.{wordLines}
+use Rattle.netlist.specs.Read.{opening}
+use Rattle.read_header.specs.HeaderAnswers.{HeaderAt}
+use Rattle.read_header.specs.HeadAnswers.{HeadAt, HeadNot, HeadIs}
+use Rattle.read_header.specs.declared.head.Head.{Head}
+use Rattle.read_header.specs.declared.HeaderNumbers.{HeaderNumbers}
+use Rattle.read_header.proofs.HeadLaws.{inputs-front, outputs-front}
+use Rattle.gate_reader.specs.Opens.{numbersOf, OpeningIs}
+use Rattle.gate_reader.specs.declared.opening.Opening.{Opening}
+use Rattle.gate_reader.specs.declared.opening.Opening.the-variants as O
+
+-- ---- widths copied
+
+-- the first i of the widths were stored, and the others are left
+pub record Copying (ws before table : List ℕ) (i : ℕ) : Type 0 where
+  pub left : sets table i (drop i ws) ≡ sets before 0 ws
+  pub size : length table ≡ length before
+
+pub copying-start : (ws table : List ℕ) → Copying ws table table 0
+copying-start ws table = record { left = refl; size = refl }
+
+module _ (widths : List ℕ) (count : ℕ) (fits : count ≤ length widths) {before table : List ℕ} {i : ℕ} (k : Copying (take count widths) before table i)
+  where
+    pub copying-on : {after : List ℕ} → i < count → after ≡ set table i (getD widths i 0) → Copying (take count widths) before after (i + 1)
+    copying-on {after} h e =
+        let ws = take count widths in
+        let n : length ws ≡ count = length-take-le count widths fits in
+        let d : drop i ws ≡ getD widths i 0 ∷ drop (suc i) ws
+        = drop-cons ws i 0 (omega arith) ∙ ap (λ (w : ℕ). w ∷ drop (suc i) ws) (getD-take count widths i 0 h) in
+        record {
+          left = rw add-one (ap (λ (x : List ℕ). sets x (suc i) (drop (suc i) ws)) e ∙ sym (ap (sets table i) d) ∙ k .left);
+          size = ap length e ∙ length-set table i (getD widths i 0) ∙ k .size;
+        }
+
+    pub copying-end : count ≤ i → table ≡ sets before 0 (take count widths)
+    copying-end h =
+        let ws = take count widths in
+        let n : length ws ≡ count = length-take-le count widths fits in
+        sym (ap (sets table i) (drop-of-length-le ws {i = i} (omega arith))) ∙ k .left
+
+-- ---- the answer
+
+-- a head that is known under limits that are L
+pub head-under : {l L : Limits} (t ws vs : List ℕ) {r s : Head} → l ≡ L → r ≡ s → HeadIs l t ws vs r → HeadIs L t ws vs s
+head-under {L = L} t ws vs {r} e p h = subst (HeadIs L t ws vs) p (subst (λ (L : Limits). HeadIs L t ws vs r) e h)
+
+numbers-same : {t ws vs : List ℕ} {h : HeaderNumbers} {to : ℕ} (a : HeaderAt t ws vs h to) → h ≡ numbersOf (a .is)
+numbers-same a =
+    λ i. record {
+      gates = sym (a .gates) i;
+      wires = sym (a .wires) i;
+      «input_values» = sym (a .inputs) i;
+      «input_bits» = sym (a .inputBits) i;
+      «output_values» = sym (a .outputs) i;
+      «output_bits» = sym (a .outputBits) i;
+    }
+
+-- a question gets a no, and nothing is written
+refuses : {L : Limits} {t ins outs : List ℕ} {q : ℕ} → opening L t ≡ refused q → OpeningIs L t ins ins outs outs (O.Refused q)
+refuses e = record { said = rw e; inputs = rw e; outputs = rw e; place = tt }
+
+pub open-not : {L : Limits} {t ins outs : List ℕ} {q : ℕ} → HeadNot L t q → OpeningIs L t ins ins outs outs (O.Refused q)
+open-not a = refuses (a .refuses)
+
+module _ {L : Limits} {t ws vs : List ℕ} {h : HeaderNumbers} {to n : ℕ} (a : HeadAt L t ws vs h to) (lines : n ≡ length (wordLines (drop to t))) where
+  -- there are more gate lines, or fewer
+  pub open-6 : {ins outs : List ℕ} → (n ≡ h .gates → ⊥) → OpeningIs L t ins ins outs outs (O.Refused 6)
+  open-6 e = refuses (a .opens ∙ rw (← lines) (rw (ne-eqb _ _ e)))
+
+  -- there are as many
+  pub open-at : {ins ins′ outs outs′ : List ℕ} → n ≡ h .gates → L .inputs ≤ length ws → L .outputs ≤ length vs
+      → ins′ ≡ sets ins 0 (take (h .«input_values») ws) → outs′ ≡ sets outs 0 (take (h .«output_values») vs) → OpeningIs L t ins ins′ outs outs′ (O.At h to)
+  open-at {ins} {ins′} {outs} e room room′ p q =
+      let H = a .header in
+      let o : opening L t ≡ done (H .is) = a .opens ∙ rw (← lines) (rw (eq-eqb _ _ e)) in
+      record {
+        said = rw o (ap done (numbers-same H));
+        inputs = p ∙ rw o (ap (sets ins 0) (inputs-front a room));
+        outputs = q ∙ rw o (ap (sets outs 0) (outputs-front a room′));
+        place = (H .left, H .within);
+      }
+
+-- an opening known by its answer
+pub open-is : (L : Limits) (t ins ins′ outs outs′ : List ℕ) {r s : Opening} → r ≡ s → OpeningIs L t ins ins′ outs outs′ r → OpeningIs L t ins ins′ outs outs′ s
+open-is L t ins ins′ outs outs′ p o = subst (OpeningIs L t ins ins′ outs outs′) p o

@@ -1,0 +1,59 @@
+-- `call_at`: the calls made so far.
+use Prim.Native.Nat.{_-_}
+use Rattle.gate_reader.proofs.CallLaws.{Calling, calling-start, calling-on, calling-stays, calling-end}
+use borrow.Author.Needs.{needs}
+use Rattle.gate_reader.proofs.calls.call_at.Statement.{statement}
+use Rattle.gate_reader.proofs.calls.call_at.Tie as tie
+
+abbrev Inv-loop : tie.InvT-loop
+Inv-loop text from k at₀ i₀ at i = Calling text from k at i
+
+abbrev μ-loop : tie.MeasureT-loop
+μ-loop text from k at₀ i₀ at i = k - i
+
+loop-holds : tie.Need-loop-holds Inv-loop μ-loop
+loop-holds c = calling-start _ _ _
+
+step-at-requires : tie.Need-step-at-requires Inv-loop μ-loop
+step-at-requires c κs = search needs
+
+place-after-requires : tie.Need-place-after-requires Inv-loop μ-loop
+place-after-requires c κs = search needs
+
+returns : tie.Need-returns Inv-loop μ-loop
+returns c =
+    calling-stays (c .before .before .before .before .loop .inv) (c .before .before .step-at .ensures) (c .before .place-after .ensures)
+    (c .if1 .taken)
+
+add-i : tie.Need-add-i Inv-loop μ-loop
+add-i c = search needs
+
+loop-less : tie.Need-loop-less Inv-loop μ-loop
+loop-less c = search needs
+
+loop-again : tie.Need-loop-again Inv-loop μ-loop
+loop-again c =
+    calling-on (c .before .before .before .before .loop .inv) (c .before .before .step-at .ensures) (c .before .place-after .ensures)
+    (c .before .before .before .loop-test .taken) (c .if1 .left)
+
+step-at-requires-2 : tie.Need-step-at-requires-2 Inv-loop μ-loop
+step-at-requires-2 c κs = search needs
+
+returns-2 : tie.Need-returns-2 Inv-loop μ-loop
+returns-2 c = calling-end (c .before .before .loop .inv) (c .before .loop-test .left) (c .step-at2 .ensures)
+
+pub call-at-spec : {M : Type 1} → statement M
+call-at-spec =
+    tie.close
+    (tie.spec
+    Inv-loop
+    μ-loop
+    loop-holds
+    step-at-requires
+    place-after-requires
+    returns
+    add-i
+    loop-less
+    loop-again
+    step-at-requires-2
+    returns-2)

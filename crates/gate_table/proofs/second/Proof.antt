@@ -1,0 +1,13 @@
+-- Either choice.
+use borrow.Author.Tests.{lt-ltb, le-ltb}
+use Rattle.gate_table.proofs.second.Statement.{statement}
+use Rattle.gate_table.proofs.second.Tie as tie
+
+returns : tie.Need-returns
+returns c = rw (lt-ltb _ _ (c .if1 .taken))
+
+returns-2 : tie.Need-returns-2
+returns-2 c = rw (le-ltb _ _ (c .if1 .left))
+
+pub second-spec : {M : Type 1} → statement M
+second-spec = tie.close (tie.spec returns returns-2)

@@ -1,0 +1,4 @@
+// A whole text into lent tables: questions 1 to 9.
+pub mod gates;
+mod marks;
+pub mod read;

@@ -1,0 +1,162 @@
+-- A number read digit by digit, its value made while its end is looked for.
+use Prim.Native.Nat.{ℕ, suc, _+_, _-_, _*_, _^_, _<_, _≤_}
+use mathlib.Core.Path.{_≡_, sym, ap, _∙_}
+use mathlib.Core.Bool.{true, false, not}
+use mathlib.Core.List.{List, [], _∷_}
+use mathlib.Core.Option.{none, some}
+use native.Mathlib.Numerals.{add-one}
+use native.Mathlib.Omega.{arith}
+use native.Mathlib.Nat.{pow-suc}
+use lib.ListN.{length, drop, getD, drop-of-length-le}
+use lib.Seq.{drop-cons}
+use Rattle.netlist.specs.Number.{isDigit, allDigits, valueFrom, noLeadingZero, maxDigits, number}
+use Rattle.netlist.proofs.Tests.{onBool}
+use Rattle.netlist.specs.Text.{isSpace}
+use Rattle.read_text.specs.Line.{isBlank, inWord, takeWhile, dropWhile, nextWord, pastWord, Scanned}
+use Rattle.read_text.specs.Answers.{wordFrom, behindWord, isFull, WholeAt, WholeIs, NumberIs}
+use Rattle.read_text.proofs.NumberLaws.{no-digits, ill-led, too-long, a-number, led-filled, digit-word, digit-range, full-or, not-full, less}
+use Rattle.read_text.specs.declared.number.Number.{Number}
+use Rattle.read_text.specs.declared.number.Number.the-variants as N
+
+-- ---- a word byte by byte
+
+module _ (t : List ℕ) (i : ℕ) where
+  module _ (h : i < length t) where
+    word-on : inWord (getD t i 0) ≡ true → wordFrom t i ≡ getD t i 0 ∷ wordFrom t (i + 1)
+    word-on e = rw (add-one, drop-cons t i 0) (rw e)
+
+    behind-on : inWord (getD t i 0) ≡ true → behindWord t i ≡ behindWord t (i + 1)
+    behind-on e = rw (add-one, drop-cons t i 0) (rw e)
+
+    word-stop : inWord (getD t i 0) ≡ false → wordFrom t i ≡ []
+    word-stop e = rw (drop-cons t i 0) (rw e)
+
+    behind-stop : inWord (getD t i 0) ≡ false → behindWord t i ≡ drop i t
+    behind-stop e = rw (drop-cons t i 0) (rw e)
+
+  word-end : length t ≤ i → wordFrom t i ≡ []
+  word-end h = rw (drop-of-length-le t h)
+
+  behind-end : length t ≤ i → behindWord t i ≡ drop i t
+  behind-end h = rw (drop-of-length-le t h)
+
+-- ---- the first byte
+
+-- there is none
+pub first-none : (t : List ℕ) (from : ℕ) → length t ≤ from → number (wordFrom t from) ≡ none
+unfolding number
+first-none t from h = ap number (word-end t from h)
+
+-- it is no digit
+pub first-other : (t : List ℕ) (from : ℕ) → from < length t → isDigit (getD t from 0) ≡ false → number (wordFrom t from) ≡ none
+unfolding number
+first-other t from h d =
+    onBool (inWord (getD t from 0)) (λ e. no-digits (wordFrom t from) (ap allDigits (word-on t from h e) ∙ rw d))
+    (λ e. ap number (word-stop t from h e))
+
+-- ---- the bytes behind it
+
+-- the bytes of the word up to place i are digits of the value v; `more` of them stand behind the first
+pub record Reading (t : List ℕ) (from v i : ℕ) : Type 0 where
+  pub more : ℕ
+  pub place : from + suc more ≡ i
+  pub digits : allDigits (wordFrom t i) ≡ allDigits (wordFrom t from)
+  pub led : noLeadingZero ((48 + v) ∷ wordFrom t i) ≡ noLeadingZero (wordFrom t from)
+  pub size : suc more + length (wordFrom t i) ≡ length (wordFrom t from)
+  pub value : valueFrom v (wordFrom t i) ≡ valueFrom 0 (wordFrom t from)
+  pub left : behindWord t i ≡ behindWord t from
+  pub low : 0 < v → 10 ^ more ≤ v
+  pub high : v < 10 ^ suc more
+  pub few : more < maxDigits
+  pub within : i ≤ length t
+
+module _ (t : List ℕ) (from : ℕ) where
+  pub reading-start : (x : ℕ) → from < length t → isDigit (getD t from 0) ≡ true → x ≡ getD t from 0 - 48 → Reading t from x (from + 1)
+  reading-start x h d e =
+      let b = getD t from 0 in
+      let w : wordFrom t from ≡ b ∷ wordFrom t (from + 1) = word-on t from h (digit-word b d) in
+      let range : (48 ≤ b) × (b ≤ 57) = digit-range b d in
+      let same : 48 + x ≡ b = omega arith in
+      let plain : 0 * 10 + (b - 48) ≡ x = omega arith in
+      record {
+        more = 0;
+        place = omega arith;
+        digits = sym (ap allDigits w ∙ rw d);
+        led = sym (ap noLeadingZero w ∙ ap (λ (y : ℕ). noLeadingZero (y ∷ wordFrom t (from + 1))) (sym same));
+        size = omega (arith, ap length w);
+        value = sym (ap (valueFrom 0) w ∙ ap (λ (y : ℕ). valueFrom y (wordFrom t (from + 1))) plain);
+        left = sym (behind-on t from h (digit-word b d));
+        low = λ p. omega arith;
+        high = omega arith;
+        few = omega arith;
+        within = omega arith;
+      }
+
+  module _ (v i : ℕ) (r : Reading t from v i) where
+    -- one more digit
+    pub reading-on : (x : ℕ) → i < length t → isDigit (getD t i 0) ≡ true → x ≡ getD t i 0 - 48 → isFull v ≡ false
+        → Reading t from (v * 10 + x) (i + 1)
+    reading-on x h d e f =
+        let b = getD t i 0 in
+        let w : wordFrom t i ≡ b ∷ wordFrom t (i + 1) = word-on t i h (digit-word b d) in
+        let range : (48 ≤ b) × (b ≤ 57) = digit-range b d in
+        let p : 0 < v = not-full v f .0 in
+        let k : r .more < maxDigits - 1 = less (r .more) (maxDigits - 1) (omega (arith, r .low p, not-full v f .1)) in
+        record {
+          more = suc (r .more);
+          place = omega (arith, r .place);
+          digits = sym (ap allDigits w ∙ rw d) ∙ r .digits;
+          led = led-filled (wordFrom t (i + 1)) (v * 10 + x) (omega arith) ∙ sym (led-filled (wordFrom t i) v p) ∙ r .led;
+          size = omega (arith, r .size, ap length w);
+          value = ap (λ (y : ℕ). valueFrom (v * 10 + y) (wordFrom t (i + 1))) e ∙ sym (ap (valueFrom v) w) ∙ r .value;
+          left = sym (behind-on t i h (digit-word b d)) ∙ r .left;
+          low = λ q. omega (arith, r .low p, pow-suc 10 (r .more));
+          high = omega (arith, r .high, pow-suc 10 (suc (r .more)));
+          few = omega arith;
+          within = omega arith;
+        }
+
+    -- a digit that may not follow
+    pub reading-full : i < length t → isDigit (getD t i 0) ≡ true → isFull v ≡ true → number (wordFrom t from) ≡ none
+    reading-full h d f =
+        let b = getD t i 0 in
+        let w : wordFrom t i ≡ b ∷ wordFrom t (i + 1) = word-on t i h (digit-word b d) in
+        full-or v f
+        (λ z. ill-led (wordFrom t from) (sym (r .led) ∙ ap (λ (x : List ℕ). noLeadingZero ((48 + v) ∷ x)) w ∙ rw z))
+        (λ l. let k : maxDigits - 1 < suc (r .more) = less (maxDigits - 1) (suc (r .more)) (omega (arith, r .high)) in
+        too-long (wordFrom t from) (omega (arith, r .size, ap length w)))
+
+    -- a byte that is neither a digit nor blank
+    pub reading-other : i < length t → isBlank (getD t i 0) ≡ false → isDigit (getD t i 0) ≡ false → number (wordFrom t from) ≡ none
+    reading-other h e d = no-digits (wordFrom t from) (sym (r .digits) ∙ ap allDigits (word-on t i h (ap not e)) ∙ rw d)
+
+    ended : wordFrom t i ≡ [] → behindWord t i ≡ drop i t → WholeAt t from v i
+    ended w s =
+        let z : length (wordFrom t i) ≡ 0 = ap length w in
+        record {
+          value = a-number (wordFrom t from) (sym (r .digits) ∙ ap allDigits w) (sym (r .led) ∙ ap (λ (x : List ℕ). noLeadingZero ((48 + v) ∷ x)) w)
+              (omega (arith, r .size, r .few))
+              ∙ ap some (sym (r .value) ∙ ap (valueFrom v) w);
+          left = sym s ∙ r .left;
+          on = omega (arith, r .place);
+          within = r .within;
+        }
+
+    -- the word ends
+    pub reading-stop : i < length t → isBlank (getD t i 0) ≡ true → WholeAt t from v i
+    reading-stop h e = ended (word-stop t i h (ap not e)) (behind-stop t i h (ap not e))
+
+    -- the text ends
+    pub reading-end : length t ≤ i → WholeAt t from v i
+    reading-end h = ended (word-end t i h) (behind-end t i h)
+
+-- the word behind the spaces is the next word
+pub whole-next : (t : List ℕ) (at from : ℕ) (r : Number) → Scanned isSpace t at from → WholeIs t from r → NumberIs t at r
+unfolding nextWord pastWord
+whole-next t at from (N.Is v c) s w = record {
+  value = ap (λ (x : List ℕ). number (takeWhile inWord x)) (sym (s .left)) ∙ w .value;
+  left = w .left ∙ ap (dropWhile inWord) (s .left);
+  on = omega (arith, s .on, w .on);
+  within = w .within;
+}
+whole-next t at from N.Not s w = ap (λ (x : List ℕ). number (takeWhile inWord x)) (sym (s .left)) ∙ w

@@ -1,0 +1,70 @@
+-- What each answer of the readers means.
+use Prim.Native.Nat.{ℕ, _-_, _^_, _≤_, _<_}
+use mathlib.Core.Path.{_≡_}
+use mathlib.Core.Bool.{Bool, true, false, _&&_, _||_}
+use mathlib.Core.List.{List}
+use mathlib.Core.Option.{none, some}
+use lib.Dec.{eqb, leb}
+use lib.ListN.{length, drop}
+use Rattle.netlist.specs.Text.{lf, cr}
+use Rattle.netlist.specs.Number.{number, maxDigits}
+use Rattle.netlist.specs.Read.{byteAllowed}
+use Rattle.read_text.specs.Line.{inWord, takeWhile, dropWhile, nextWord, pastWord, lineWords, isEmpty, EndAt}
+use Rattle.read_text.specs.declared.cursor.LineEnd.{LineEnd}
+use Rattle.read_text.specs.declared.cursor.LineEnd.the-variants as E
+use Rattle.read_text.specs.declared.number.Number.{Number}
+use Rattle.read_text.specs.declared.number.Number.the-variants as N
+
+-- ---- the line's end
+
+abbrev pub EndIs : List ℕ → ℕ → LineEnd → Type 0
+EndIs t at (E.At c) = EndAt t at (c .at)
+EndIs t at E.More = isEmpty (lineWords (drop at t)) ≡ false
+
+-- ---- numbers
+
+-- a value that no digit may follow: 0, or one of the most digits
+abbrev pub isFull : ℕ → Bool
+isFull v = eqb v 0 || leb (10 ^ (maxDigits - 1)) v
+
+-- the word that starts at a place, and what follows it
+abbrev pub wordFrom : List ℕ → ℕ → List ℕ
+wordFrom t from = takeWhile inWord (drop from t)
+
+abbrev pub behindWord : List ℕ → ℕ → List ℕ
+behindWord t from = dropWhile inWord (drop from t)
+
+-- the word that starts at a place is the number v, and ends at `to`
+pub record WholeAt (t : List ℕ) (from v to : ℕ) : Type 0 where
+  pub value : number (wordFrom t from) ≡ some v
+  pub left : drop to t ≡ behindWord t from
+  pub on : from < to
+  pub within : to ≤ length t
+
+abbrev pub WholeIs : List ℕ → ℕ → Number → Type 0
+WholeIs t from (N.Is v c) = WholeAt t from v (c .at)
+WholeIs t from N.Not = number (wordFrom t from) ≡ none
+
+-- the next word from a place is the number v, and ends at `to`
+pub record NumberAt (t : List ℕ) (at v to : ℕ) : Type 0 where
+  pub value : number (nextWord (drop at t)) ≡ some v
+  pub left : drop to t ≡ pastWord (drop at t)
+  pub on : at < to
+  pub within : to ≤ length t
+
+abbrev pub NumberIs : List ℕ → ℕ → Number → Type 0
+NumberIs t at (N.Is v c) = NumberAt t at v (c .at)
+NumberIs t at N.Not = number (nextWord (drop at t)) ≡ none
+
+-- ---- question 3
+
+abbrev pub isCapital : ℕ → Bool
+isCapital b = leb 65 b && leb b 90
+
+-- a byte and the one behind it: allowed by itself, or CR LF
+abbrev pub allowedBefore : ℕ → ℕ → Bool
+allowedBefore b next = byteAllowed b || (eqb b cr && eqb next lf)
+
+abbrev pub faultOf : Bool → ℕ
+faultOf true = 0
+faultOf false = 1

@@ -1,0 +1,81 @@
+// Numbers: a few digits without a leading zero, or 0 itself.
+ghost use mathlib.Core.Path.{_≡_};
+ghost use mathlib.Core.Bool.{true};
+ghost use Prim.Native.Nat.{_≤_, _-_};
+ghost use lib.ListN.{length};
+ghost use Rattle.netlist.specs.Number.{isDigit};
+ghost use Rattle.read_text.specs.Answers.{WholeIs, NumberIs, isFull};
+use crate::cursor::Cursor;
+use crate::cursor::is_blank;
+
+// A word as a number, with the place behind it.
+pub enum Number {
+    Is(u32, Cursor),
+    Not,
+}
+
+// The least number of the most digits: six.
+const LONGEST: u32 = 100000;
+
+// Whether a byte is one of the ten digits.
+pub fn is_digit(b: u8) -> bool
+    ensures { λ r. ⌜ r ≡ isDigit b ⌝ }
+{
+    b'0' <= b && b <= b'9'
+}
+
+// The value of a digit.
+fn digit_value(b: u8) -> u32
+    requires { ⌜ isDigit b ≡ true ⌝ }
+    ensures { λ r. ⌜ (r ≡ b - 48) × (r ≤ 9) ⌝ }
+{
+    (b - b'0') as u32
+}
+
+// Whether no digit may follow a value: 0 would lead, and the longest numbers have all their digits.
+fn is_full(v: u32) -> bool
+    ensures { λ r. ⌜ r ≡ isFull v ⌝ }
+{
+    v == 0 || LONGEST <= v
+}
+
+// The word that starts at a place as a number, its value made while its end is looked for.
+fn read_number(text: &[u8], from: Cursor) -> Number
+    ensures { λ r. ⌜ WholeIs (now (text .entry)) (from .at) r ⌝ }
+{
+    let start = from.at;
+    if text.len() <= start {
+        return Number::Not;
+    }
+    let first = text[start];
+    if !is_digit(first) {
+        return Number::Not;
+    }
+    let mut v = digit_value(first);
+    let mut i = start + 1;
+    while i < text.len() {
+        let b = text[i];
+        if !is_digit(b) {
+            if is_blank(b) {
+                return Number::Is(v, Cursor { at: i });
+            }
+            return Number::Not;
+        }
+        if is_full(v) {
+            return Number::Not;
+        }
+        v = v * 10 + digit_value(b);
+        i += 1;
+    }
+    Number::Is(v, Cursor { at: i })
+}
+
+impl Cursor {
+    // The next word of the line as a number.
+    pub fn next_number(self, text: &[u8]) -> Number
+        requires { ⌜ self .at ≤ length (now text) ⌝ }
+        ensures { λ r. ⌜ NumberIs (now (text .entry)) (self .at) r ⌝ }
+    {
+        read_number(text, self.skip_spaces(text))
+    }
+}

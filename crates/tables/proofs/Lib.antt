@@ -1,5 +1,0 @@
--- Laws of reading a whole text.
-pub mod Marking
-pub mod Entries
-pub mod Reading
-pub mod Wholes

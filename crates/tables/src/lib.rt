@@ -1,5 +1,0 @@
-// A whole text into lent tables: questions 1 to 9.
-pub mod entry;
-pub mod gates;
-mod marks;
-pub mod read;

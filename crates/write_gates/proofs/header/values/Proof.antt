@@ -1,0 +1,33 @@
+-- `values`: how many, the widths, and LF.
+use lib.ListN.{length}
+use Rattle.write_buffer.proofs.Wrote.{wrote-then, wrote-as}
+use Rattle.write_gates.proofs.Headers.{line-spaced}
+use borrow.Author.Needs.{needs}
+use Rattle.write_gates.proofs.header.values.Statement.{statement}
+use Rattle.write_gates.proofs.header.values.Tie as tie
+
+number-requires : tie.Need-number-requires
+number-requires c κs = search needs
+
+widths-requires : tie.Need-widths-requires
+widths-requires c κs = search needs
+
+put-requires : tie.Need-put-requires
+put-requires c κs = search needs
+
+same-length : tie.Need-same-length
+same-length c = search needs
+
+returns : tie.Need-returns
+returns c =
+    wrote-as
+    (line-spaced
+    (length
+    (c .before .before .before .before .before .before .before .before .before .before .before .before .before .before .args .ws .now))
+    (c .before .before .before .before .before .before .before .before .before .before .before .before .before .before .args .ws .now))
+    (wrote-then
+    (c .before .before .before .before .before .before .before .before .before .before .number .ensures)
+    (wrote-then (c .before .before .before .before .before .before .widths .ensures) (c .before .before .put .ensures)))
+
+pub values-spec : {M : Type 1} → statement M
+values-spec = tie.close (tie.spec number-requires widths-requires put-requires same-length returns)

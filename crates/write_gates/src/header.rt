@@ -1,0 +1,63 @@
+// The header's lines.
+ghost use mathlib.Core.List.{[], _∷_};
+ghost use lib.ListN.{length};
+ghost use Rattle.netlist.specs.Write.{line, decimals};
+ghost use Rattle.write_buffer.specs.Wrote.{Wrote};
+ghost use Rattle.write_gates.specs.Header.{spaced, headerText};
+
+// Line one: two numbers.
+fn counts(out: &mut [u8], at: usize, gates: usize, wires: usize) -> usize
+    ensures { λ r. ⌜ Wrote (now (out .entry)) at (line (decimals (gates ∷ wires ∷ []))) (now (out .exit)) r ⌝ }
+{
+    let space = write_buffer::number(out, at, gates);
+    let second = write_buffer::put(out, space, b' ');
+    let end = write_buffer::number(out, second, wires);
+    write_buffer::put(out, end, b'\n')
+}
+
+// A width with a space in front.
+fn width(out: &mut [u8], at: usize, w: u32) -> usize
+    ensures { λ r. ⌜ Wrote (now (out .entry)) at (spaced (w ∷ [])) (now (out .exit)) r ⌝ }
+{
+    let next = write_buffer::put(out, at, b' ');
+    write_buffer::number(out, next, w as usize)
+}
+
+// Each width with a space in front.
+fn widths(out: &mut [u8], at: usize, ws: &[u32]) -> usize
+    ensures { λ r. ⌜ Wrote (now (out .entry)) at (spaced (now (ws .entry))) (now (out .exit)) r ⌝ }
+{
+    let mut next = at;
+    let mut i = 0;
+    while i < ws.len() {
+        next = width(out, next, ws[i]);
+        i += 1;
+    }
+    next
+}
+
+// Lines two and three: how many values, and the width of each.
+fn values(out: &mut [u8], at: usize, ws: &[u32]) -> usize
+    ensures { λ r. ⌜ Wrote (now (out .entry)) at (line (decimals (length (now (ws .entry)) ∷ now (ws .entry)))) (now (out .exit)) r ⌝ }
+{
+    let space = write_buffer::number(out, at, ws.len());
+    let end = widths(out, space, ws);
+    write_buffer::put(out, end, b'\n')
+}
+
+// The three lines and the blank line behind them.
+pub fn header(
+    out: &mut [u8],
+    at: usize,
+    gates: usize,
+    wires: usize,
+    ins: &[u32],
+    outs: &[u32],
+) -> usize
+    ensures { λ r. ⌜ Wrote (now (out .entry)) at (headerText gates wires (now (ins .entry)) (now (outs .entry))) (now (out .exit)) r ⌝ }
+{
+    let second = counts(out, at, gates, wires);
+    let third = values(out, second, ins);
+    let blank = values(out, third, outs);
+    write_buffer::put(out, blank, b'\n')
+}

@@ -1,0 +1,124 @@
+// The written form of the netlist that the tables hold, in one pass where the buffer surely holds it, and otherwise measured
+// first.
+use netlist::Answer;
+ghost use Prim.Native.Nat.{_≤_, _<_};
+ghost use mathlib.Core.Path.{_≡_};
+ghost use lib.Dec.{leb};
+ghost use lib.ListN.{length};
+ghost use Rattle.write_wires.specs.Packed.{WordTable};
+ghost use Rattle.netlist.specs.Services.{Delivers};
+ghost use Rattle.netlist.specs.Table.{tables, gatesOf, Wired};
+ghost use Rattle.write_buffer.specs.Wrote.{Wrote, top};
+ghost use Rattle.write_gates.specs.Gates.{WroteGates};
+ghost use Rattle.write_netlist.specs.Form.{formText};
+
+// The lines of the tables' first gates.
+fn gates(
+    d: &[u64],
+    out: &mut [u8],
+    at: usize,
+    operands: &[u64],
+    results: &[u64],
+    count: usize,
+) -> usize
+    requires { ⌜ WordTable (now d) ⌝ }
+    requires { ⌜ (count ≤ length (now operands)) × (count ≤ length (now results)) ⌝ }
+    ensures { λ r. ⌜ WroteGates (now (out .entry)) at (gatesOf (tables (now (operands .entry)) (now (results .entry))) count) (now (out .exit)) r ⌝ }
+{
+    let mut next = at;
+    let mut i = 0;
+    while i < count {
+        next = write_gates::gate::entry(d, out, next, operands[i], results[i]);
+        i += 1;
+    }
+    next
+}
+
+// The header, the blank line and the gate lines, from the buffer's first place on; answers the place behind them.
+fn write(
+    d: &[u64],
+    out: &mut [u8],
+    count: usize,
+    wires: usize,
+    ins: &[u32],
+    outs: &[u32],
+    operands: &[u64],
+    results: &[u64],
+) -> usize
+    requires { ⌜ WordTable (now d) ⌝ }
+    requires { ⌜ (count ≤ length (now operands)) × (count ≤ length (now results)) ⌝ }
+    ensures { λ r. ⌜ Wrote (now (out .entry)) 0 (formText count wires (now (ins .entry)) (now (outs .entry))
+        (tables (now (operands .entry)) (now (results .entry)))) (now (out .exit)) r ⌝ }
+{
+    let at = write_gates::header::header(out, 0, count, wires, ins, outs);
+    gates(d, out, at, operands, results, count)
+}
+
+// Question 14 of the text: yes where lines of the longest kind would fit, and otherwise as it is measured.
+fn holds(
+    d: &[u64],
+    room: usize,
+    count: usize,
+    wires: usize,
+    ins: &[u32],
+    outs: &[u32],
+    operands: &[u64],
+    results: &[u64],
+) -> bool
+    requires { ⌜ WordTable (now d) ⌝ }
+    requires { ⌜ Wired (tables (now operands) (now results)) wires count × (room < top) ⌝ }
+    ensures { λ r. ⌜ r ≡ leb (length (formText count wires (now (ins .entry)) (now (outs .entry))
+        (tables (now (operands .entry)) (now (results .entry))))) room ⌝ }
+{
+    let mut none = [0u8; 1];
+    let header = write_gates::header::header(&mut none, 0, count, wires, ins, outs);
+    if write_gates::room::ample(room, header, count, wires) {
+        return true;
+    }
+    write(d, &mut none, count, wires, ins, outs, operands, results) <= room
+}
+
+// Question 14, and then the text.
+fn answer(
+    d: &[u64],
+    out: &mut [u8],
+    count: usize,
+    wires: usize,
+    ins: &[u32],
+    outs: &[u32],
+    operands: &[u64],
+    results: &[u64],
+) -> Answer
+    requires { ⌜ WordTable (now d) ⌝ }
+    requires { ⌜ Wired (tables (now operands) (now results)) wires count ⌝ }
+    ensures { λ r. ⌜ Delivers (formText count wires (now (ins .entry)) (now (outs .entry))
+        (tables (now (operands .entry)) (now (results .entry)))) (now (out .entry)) (now (out .exit)) r ⌝ }
+{
+    if !holds(d, out.len(), count, wires, ins, outs, operands, results) {
+        return Answer::Refused(14);
+    }
+    Answer::Done(write(d, out, count, wires, ins, outs, operands, results))
+}
+
+// Question 14 and the text. No line on a hundred wires or fewer is stored by words, so there the table is not filled.
+pub fn deliver(
+    out: &mut [u8],
+    count: usize,
+    wires: usize,
+    ins: &[u32],
+    outs: &[u32],
+    operands: &[u64],
+    results: &[u64],
+) -> Answer
+    requires { ⌜ Wired (tables (now operands) (now results)) wires count ⌝ }
+    ensures { λ r. ⌜ Delivers (formText count wires (now (ins .entry)) (now (outs .entry))
+        (tables (now (operands .entry)) (now (results .entry)))) (now (out .entry)) (now (out .exit)) r ⌝ }
+{
+    if wires <= 100 {
+        let none = [0u64; 1];
+        return answer(&none, out, count, wires, ins, outs, operands, results);
+    }
+    let mut table = [0u64; 2000];
+    write_wires::table::fill(&mut table);
+    answer(&table, out, count, wires, ins, outs, operands, results)
+}
