@@ -349,6 +349,16 @@ static void times_lf(struct line crlf, struct line lf)
     times(crlf, lf, "  times the LF text's time");
 }
 
+/* The twins of a circuit's wires, and what Mask takes where it reads and counts and writes nothing. */
+static void twins_beside_mask(const char *folder, const char *name, double s)
+{
+    struct call counting = circuit(MASK_UNWRITTEN, folder, name), twins = circuit(TWINS, folder, name);
+    snprintf(counting.name, sizeof counting.name, "%s, Mask unwritten", name);
+    snprintf(twins.name, sizeof twins.name, "%s, Twins", name);
+    struct line counted = bench(counting, s);
+    times(bench(twins, s), counted, "  times Mask unwritten");
+}
+
 /* A pass of sixty-four runs: its settings a second, its time in single runs, and what it saves beside
  * sixty-four of them. */
 static void pass(struct line own, struct line run)
@@ -381,8 +391,8 @@ static void whole_cipher(const char *folder, double s)
     title("AES-128, whole");
     struct line source = bench(aes_128(READ_SMALL, folder, "reading"), s);
     beyond(bench(aes_128(MASK, folder, "Mask"), s), source);
-    struct line counted = bench(aes_128(MASK_UNWRITTEN, folder, "Mask without its writing"), s);
-    times(bench(aes_128(TWINS, folder, "Twins"), s), counted, "  times Mask without its writing");
+    struct line counted = bench(aes_128(MASK_UNWRITTEN, folder, "Mask unwritten"), s);
+    times(bench(aes_128(TWINS, folder, "Twins"), s), counted, "  times Mask unwritten");
     struct line reading = bench(aes_128(READ_LARGE, folder, "masked, reading"), s);
     beyond(bench(aes_128(REWRITE, folder, "masked, Rewrite"), s), reading);
     struct line run = bench(aes_128(RUN, folder, "masked, Run"), s);
@@ -458,12 +468,10 @@ int main(int argc, char **argv)
     beyond(bench(circuit(MASK, folder, "aes_sub_bytes"), s), sub_bytes);
     beyond(bench(circuit(MASK, folder, "aes_column"), s), column);
 
-    title("Twins, beside Mask without its writing");
-    for (size_t i = 0; i < 3; i++) {
-        static const char *const names[] = {"and_ladder_2048", "aes_sub_bytes", "aes_column"};
-        struct line counted = bench(circuit(MASK_UNWRITTEN, folder, names[i]), s);
-        times(bench(circuit(TWINS, folder, names[i]), s), counted, "  times Mask without its writing");
-    }
+    title("Twins, beside Mask unwritten");
+    twins_beside_mask(folder, "and_ladder_2048", s);
+    twins_beside_mask(folder, "aes_sub_bytes", s);
+    twins_beside_mask(folder, "aes_column", s);
 
     title("Running");
     struct line run_mult64 = bench(circuit(RUN, folder, "mult64"), s);

@@ -56,13 +56,13 @@ extern "C" {
 #define FIDROVELJ_OLD 0
 #define FIDROVELJ_WHOLE 1
 
-/* The least entries of a working table of Rewrite, Run, Run64 and Check, and of Mask: the most wires. */
+/* The least entries of a working table of Rewrite, Run, Run64 and Check, and of Mask and Twins: the most wires. */
 #define FIDROVELJ_LARGE_TABLE 18431
 #define FIDROVELJ_SMALL_TABLE 2048
 #define FIDROVELJ_WHOLE_LARGE_TABLE 899999
 #define FIDROVELJ_WHOLE_SMALL_TABLE 100000
 
-/* The most bytes of a text that Rewrite, Run, Run64 and Check take, and Mask. */
+/* The most bytes of a text that Rewrite, Run, Run64 and Check take, and Mask and Twins. */
 #define FIDROVELJ_LARGE_TEXT 500000
 #define FIDROVELJ_SMALL_TEXT 60000
 #define FIDROVELJ_WHOLE_LARGE_TEXT 27000000

@@ -1,7 +1,7 @@
 -- The twins of the masking steps are twins in every masked netlist of their source.
 use Prim.Native.Nat.{ℕ, _-_, _≤_, _<_}
 use mathlib.Core.Path.{_≡_, refl, ap, _∙_}
-use mathlib.Core.List.{List, [], _∷_, _++_}
+use mathlib.Core.List.{List, [], _∷_}
 use native.Mathlib.Omega.{arith}
 use lib.ListN.{length, length-append, length-replicate, length-set}
 use Rattle.netlist.specs.declared.Gate.{Gate}

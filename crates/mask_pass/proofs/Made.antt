@@ -1,22 +1,27 @@
 -- What a masked text is made of that a call of Mask gives, and that it reads back.
 use Prim.Native.Nat.{ℕ, _≤_}
 use mathlib.Core.Path.{_≡_, sym, ap, _∙_}
-use mathlib.Core.Bool.{_&&_}
+use mathlib.Core.Bool.{Bool, true, _&&_}
 use mathlib.Core.List.{List}
-use lib.Dec.{leb, leb→le}
+use lib.Dec.{eqb, leb, eqb→eq, leb→le}
 use lib.ListN.{length}
 use Rattle.netlist.specs.declared.Sizes.{Sizes}
+use Rattle.netlist.specs.Lists.{every}
 use Rattle.netlist.specs.Netlist.{Netlist, inputBits, outputBits, small, large}
 use Rattle.netlist.specs.Outcome.{done}
 use Rattle.netlist.specs.Read.{readNetlist}
 use Rattle.netlist.specs.Write.{writeNetlist}
 use Rattle.netlist.specs.Mask.{isInputCode, isWanted, maskNetlist}
 use Rattle.netlist.specs.Services.{MaskedText, maskedText, tablesLong, listGood, maskOutcome, maskCall}
-use Rattle.netlist.proofs.Tests.{both}
+use Rattle.netlist.proofs.Tests.{both, true-T}
 use Rattle.netlist.proofs.Questions.{done-same, ask-done, andThen-done}
 use Rattle.netlist.proofs.Accepted.{accepted}
 use Rattle.netlist.proofs.MaskInputs.{MaskInputs, mask-inputs}
 use Rattle.netlist.proofs.MaskedText.{masked-reads}
+
+-- a list that question 11 or 13 admits has one entry for each bit
+pub codes-length : (p : ℕ → Bool) (n : ℕ) (list : List ℕ) → listGood p n list ≡ true → length list ≡ n
+codes-length p n list g = eqb→eq (length list) n (both (eqb (length list) n) (every p list) (true-T (listGood p n list) g) .0)
 
 -- the source, and the facts that questions 11, 13 and 14 give
 pub record Made (s : Sizes) (text codes wanted : List ℕ) (codeRoom : ℕ) (R : MaskedText) : Type 0 where

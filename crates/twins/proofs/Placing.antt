@@ -1,27 +1,27 @@
 -- Questions 11 and 14 of a netlist that the gate tables hold, and its twins in the two buffers.
-use Prim.Native.Nat.{ℕ, suc, _+_, _≤_, _<_}
-use mathlib.Core.Path.{_≡_, refl, sym, ap, ap₂, _∙_, subst}
-use mathlib.Core.Bool.{Bool, true, false, _&&_}
+use Prim.Native.Nat.{ℕ, _+_, _≤_, _<_}
+use mathlib.Core.Path.{_≡_, refl, sym, ap, ap₂, _∙_}
+use mathlib.Core.Bool.{Bool, true, false}
 use mathlib.Core.List.{List, [], _∷_, _++_, map}
 use native.Mathlib.Nat.{suc-inj}
 use native.Mathlib.Omega.{arith}
-use lib.Dec.{eqb, leb, eqb→eq}
+use lib.Dec.{leb}
 use lib.ListN.{length, take, drop, length-map}
 use lib.Seq.{sets, sets-eq}
 use borrow.Author.Tests.{le-leb, lt-leb}
 use Rattle.netlist.specs.declared.Answer.{Answer}
 use Rattle.netlist.specs.declared.Answer.the-variants.{Done, Refused}
-use Rattle.netlist.specs.Lists.{every}
 use Rattle.netlist.specs.Netlist.{Netlist, inputBits}
 use Rattle.netlist.specs.Outcome.{Outcome, refused, done}
 use Rattle.netlist.specs.Mask.{State, isInputCode, finish}
 use Rattle.netlist.specs.Services.{listGood}
 use Rattle.netlist.specs.Table.{Tables, Holds}
-use Rattle.netlist.proofs.Tests.{onBool, both, true-T}
+use Rattle.netlist.proofs.Tests.{onBool}
 use Rattle.netlist.proofs.Answering.{answers-refused, take-sets}
-use Rattle.mask_pass.specs.State.{twinsOf, stateOf}
+use Rattle.mask_pass.specs.State.{twinsOf}
 use Rattle.mask_pass.specs.Pass.{Finished}
 use Rattle.mask_pass.proofs.Carried.{length-finish}
+use Rattle.mask_pass.proofs.Made.{codes-length}
 use Rattle.twins.specs.Promise.{TwinLists, wireOf, codeOf, twinLists, listsOutcome, twinsOutcome, TwinsAnswers}
 
 -- ---- answers
@@ -102,9 +102,6 @@ module _ {t : Tables} {count W m : ℕ} {N : Netlist} (codes : List ℕ) (h : Ho
 
 -- ---- question 11
 
-pub codes-length : (n : ℕ) (codes : List ℕ) → listGood isInputCode n codes ≡ true → length codes ≡ n
-codes-length n codes g = eqb→eq (length codes) n (both (eqb (length codes) n) (every isInputCode codes) (true-T (listGood isInputCode n codes) g) .0)
-
 module _ {t : Tables} {count W n m : ℕ} {N : Netlist} (h : Holds t count W n m N) (codes : List ℕ) where
   good : (b : Bool) → listGood isInputCode n codes ≡ b → listGood isInputCode (inputBits N) codes ≡ b
   good b e = ap (λ (k : ℕ). listGood isInputCode k codes) (h .«input_bits») ∙ e
@@ -113,7 +110,7 @@ module _ {t : Tables} {count W n m : ℕ} {N : Netlist} (h : Holds t count W n m
   twins-11 e f p = twins-refused e f (rw (good false p))
 
   pub holds-codes : listGood isInputCode n codes ≡ true → Holds t count W (length codes) m N
-  holds-codes p = record { gates = h .gates; wires = h .wires; ins = h .«input_bits» ∙ sym (codes-length n codes p); outs = h .«output_bits» }
+  holds-codes p = record { gates = h .gates; wires = h .wires; ins = h .«input_bits» ∙ sym (codes-length isInputCode n codes p); outs = h .«output_bits» }
 
   pub twins-14 : {e x f y : List ℕ} {r : Answer} → listGood isInputCode n codes ≡ true
       → TwinsAnswers (listsOutcome (length e) (length f) (twinLists N codes)) e x f y r

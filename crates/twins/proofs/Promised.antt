@@ -3,7 +3,6 @@ use Prim.Native.Nat.{ℕ}
 use mathlib.Core.Path.{_≡_, refl, sym, ap, ap₂, _∙_}
 use mathlib.Core.Bool.{Bool, true, false, _&&_}
 use mathlib.Core.List.{List, [], _∷_, map}
-use native.Mathlib.Omega.{arith}
 use lib.Dec.{leb}
 use lib.ListN.{length, take}
 use Rattle.netlist.specs.declared.Limits.{Limits}
@@ -11,21 +10,20 @@ use Rattle.netlist.specs.declared.Sizes.{Sizes}
 use Rattle.netlist.specs.declared.Answer.{Answer}
 use Rattle.netlist.specs.declared.Answer.the-variants.{Done, Refused}
 use Rattle.netlist.specs.declared.Twin.{Twin}
-use Rattle.netlist.specs.Netlist.{Netlist, inputBits, small, large}
+use Rattle.netlist.specs.Netlist.{Netlist, inputBits, small}
 use Rattle.netlist.specs.Outcome.{Outcome, refused, done, ask}
 use Rattle.netlist.specs.Read.{readNetlist}
 use Rattle.netlist.specs.Mask.{isInputCode, finish, maskNetlist}
-use Rattle.netlist.specs.Services.{MaskedText, tablesLong, listGood, holds, maskCall, outcomeOf}
+use Rattle.netlist.specs.Services.{tablesLong, listGood, holds, outcomeOf}
 use Rattle.netlist.specs.Table.{Tables, Holds}
 use Rattle.netlist.proofs.Questions.{done-same, ask-done, andThen-done}
 use Rattle.netlist.proofs.Answering.{call-refused, call-goes-on}
 use Rattle.read_header.specs.declared.HeaderNumbers.{HeaderNumbers}
 use Rattle.read_netlist.specs.Whole.{ReadAt}
 use Rattle.mask_pass.specs.State.{twinsOf}
-use Rattle.mask_pass.specs.Twins.{Twins}
 use Rattle.mask_pass.proofs.Carried.{twins-carried}
 use Rattle.mask_pass.proofs.Made.{made, made-back}
-use Rattle.twins.specs.Promise.{TwinLists, wireOf, codeOf, twinLists, wiresIn, codesIn, twinsOutcome, twinsCall, call, TwinsAnswers, TwinsIn, Given}
+use Rattle.twins.specs.Promise.{TwinLists, wireOf, codeOf, twinLists, wiresIn, codesIn, twinsOutcome, twinsCall, call, TwinsAnswers, Given}
 use Rattle.twins.proofs.Placing.{twins-as, twins-refused}
 
 -- the two lists of twins are those twins

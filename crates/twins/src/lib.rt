@@ -8,7 +8,6 @@ ghost use Prim.Native.Nat.{_≤_};
 ghost use lib.ListN.{length};
 ghost use Rattle.netlist.specs.Netlist.{Netlist};
 ghost use Rattle.netlist.specs.Table.{tables, Wired, Holds};
-ghost use Rattle.netlist.specs.Read.{WellFormed};
 ghost use Rattle.twins.specs.Promise.{twinLists, listsOutcome, twinsOutcome, TwinsAnswers, call, Promise};
 
 // Question 14, and the twins at the fronts of the buffers: the pass over the source works in them, and needs no table of its own.

@@ -1,7 +1,9 @@
 -- `deliver`: question 11, and then the twins.
 use mathlib.Core.Path.{sym, _∙_}
 use borrow.Author.Tests.{not-true, not-false}
-use Rattle.twins.proofs.Placing.{codes-length, twins-11, twins-14, holds-codes}
+use Rattle.netlist.specs.Mask.{isInputCode}
+use Rattle.mask_pass.proofs.Made.{codes-length}
+use Rattle.twins.proofs.Placing.{twins-11, twins-14, holds-codes}
 use native.Mathlib.Omega.{arith}
 use borrow.Author.Needs.{needs}
 use Rattle.twins.proofs.deliver.Statement.{statement}
@@ -16,7 +18,7 @@ returns c = let s = c .before .before .before .before .before .before .before .a
 place-requires : tie.Need-place-requires
 place-requires c κs = let s = c .before .before .before .before .before .before .before .before .before in
     let p = s .pre in
-    let k = codes-length _ (s .args .codes .now) (sym (c .before .before .before .codes .ensures) ∙ not-false _ (c .before .before .if1 .left)) in
+    let k = codes-length isInputCode _ (s .args .codes .now) (sym (c .before .before .before .codes .ensures) ∙ not-false _ (c .before .before .if1 .left)) in
     (p .0, p .1, p .2, omega (arith, k, p .3))
 
 same-length : tie.Need-same-length

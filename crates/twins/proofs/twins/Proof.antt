@@ -1,7 +1,6 @@
 -- `twins`: the answer, and then zero in every table.
 use Rattle.clear.proofs.Filled.{zeros-same}
 use Rattle.twins.proofs.Promised.{call-twins}
-use native.Mathlib.Omega.{arith}
 use borrow.Author.Needs.{needs}
 use Rattle.twins.proofs.twins.Statement.{statement}
 use Rattle.twins.proofs.twins.Tie as tie

@@ -3,7 +3,6 @@ use mathlib.Core.Path.{_∙_}
 use lib.ListN.{length}
 use Rattle.netlist.specs.Table.{tables}
 use Rattle.mask_pass.proofs.Passes.{pass-count}
-use native.Mathlib.Omega.{arith}
 use borrow.Author.Needs.{needs}
 use Rattle.mask_pass.proofs.count.count.Statement.{statement}
 use Rattle.mask_pass.proofs.count.count.Tie as tie

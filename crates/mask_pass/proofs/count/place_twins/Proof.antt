@@ -20,8 +20,10 @@ start-requires c κs = search needs
 
 gates-requires : tie.Need-gates-requires
 gates-requires c κs = let p = c .before .before .before .before .before .before .before .before .before .before .before .before .before .before .pre in
-    let s = c .before .before .before .before .before .before .start in
-    (omega (arith, p .small, p .ins, started-most (s .ensures)), (wired-same (s .kept .1 .1 .0) (p .wired), omega (arith, p .codes, s .kept .1 .1 .0, s .kept .1 .1 .1 .0)))
+    let s = c .before .before .before .before .before .before .start in (
+      omega (arith, p .small, p .ins, started-most (s .ensures)),
+      (wired-same (s .kept .1 .1 .0) (p .wired), omega (arith, p .codes, s .kept .1 .1 .0, s .kept .1 .1 .1 .0)),
+    )
 
 same-length : tie.Need-same-length
 same-length c = search needs
