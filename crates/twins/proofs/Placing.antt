@@ -59,7 +59,7 @@ finished-same e h = rw e h
 
 module _ {t : Tables} {count W m : ℕ} {N : Netlist} (codes : List ℕ) (h : Holds t count W (length codes) m N) (i : length codes ≤ W) where
   long : length (finish N codes .twins) ≡ W
-  long = length-finish N codes (sym (h .«input_bits»)) (omega (arith, h .«input_bits», h .wires)) ∙ h .wires
+  long = length-finish N codes (sym (h .ins)) (omega (arith, h .ins, h .wires)) ∙ h .wires
 
   long-wires : length (twinLists N codes .wires) ≡ W
   long-wires = length-map (finish N codes .twins) wireOf ∙ long
@@ -104,13 +104,13 @@ module _ {t : Tables} {count W m : ℕ} {N : Netlist} (codes : List ℕ) (h : Ho
 
 module _ {t : Tables} {count W n m : ℕ} {N : Netlist} (h : Holds t count W n m N) (codes : List ℕ) where
   good : (b : Bool) → listGood isInputCode n codes ≡ b → listGood isInputCode (inputBits N) codes ≡ b
-  good b e = ap (λ (k : ℕ). listGood isInputCode k codes) (h .«input_bits») ∙ e
+  good b e = ap (λ (k : ℕ). listGood isInputCode k codes) (h .ins) ∙ e
 
   pub twins-11 : (e f : List ℕ) → listGood isInputCode n codes ≡ false → TwinsAnswers (twinsOutcome codes (length e) (length f) N) e e f f (Refused 11)
   twins-11 e f p = twins-refused e f (rw (good false p))
 
   pub holds-codes : listGood isInputCode n codes ≡ true → Holds t count W (length codes) m N
-  holds-codes p = record { gates = h .gates; wires = h .wires; ins = h .«input_bits» ∙ sym (codes-length isInputCode n codes p); outs = h .«output_bits» }
+  holds-codes p = record { gates = h .gates; wires = h .wires; ins = h .ins ∙ sym (codes-length isInputCode n codes p); outs = h .outs }
 
   pub twins-14 : {e x f y : List ℕ} {r : Answer} → listGood isInputCode n codes ≡ true
       → TwinsAnswers (listsOutcome (length e) (length f) (twinLists N codes)) e x f y r
