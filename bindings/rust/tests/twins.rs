@@ -78,7 +78,14 @@ impl Call {
 }
 
 /// On some input settings and all four mask settings each wire of the source is its twin with the mask off.
-fn assert_carried(name: &str, source: &Netlist, codes: &[u8], masked: &Netlist, twins: &[Twin], settings: &[Vec<bool>]) {
+fn assert_carried(
+    name: &str,
+    source: &Netlist,
+    codes: &[u8],
+    masked: &Netlist,
+    twins: &[Twin],
+    settings: &[Vec<bool>],
+) {
     assert_eq!(twins.len(), source.wires, "{name}");
     for setting in settings {
         let open = wires(source, setting);
@@ -141,13 +148,18 @@ fn random_calls() {
         let source = read(&SMALL, &call.text).expect("it was read");
         let given = twins(&call.text, &call.codes, tables).expect("it was accepted");
         let wanted = random.list(source.output_bits(), 0, 3);
-        let masked = mask(&call.text, &call.codes, &wanted, tables).expect("a source with twins can be masked");
+        let masked =
+            mask(&call.text, &call.codes, &wanted, tables).expect("a source with twins can be masked");
         let masked = read(&LARGE, &masked.text).expect("a masked text is good");
         let settings = random_settings(random, source.input_bits(), 3);
         assert_carried(&format!("seed {seed}"), &source, &call.codes, &masked, &given, &settings);
         compared += 1;
     }
-    println!("twins: accepted {}, refused by 1 to 14 {:?}; {compared} sources compared", tally[0], &tally[1..]);
+    println!(
+        "twins: accepted {}, refused by 1 to 14 {:?}; {compared} sources compared",
+        tally[0],
+        &tally[1..]
+    );
     for question in [0, 1, 2, 3, 4, 5, 6, 7, 8, 9, 11, 14] {
         assert!(tally[question] >= count / 5_000, "question {question} (0: accepted): {}", tally[question]);
     }
@@ -182,7 +194,8 @@ fn circuits_wire_by_wire() {
             let call = Call::new(Sizes::Old, &circuit.text, &codes, source.wires);
             call.assert_outcome(name, &call.outcome());
             let given = twins(&circuit.text, &codes, tables).expect("a small circuit has twins");
-            let text = mask(&circuit.text, &codes, &wanted, tables).expect("a small circuit can be masked").text;
+            let text =
+                mask(&circuit.text, &codes, &wanted, tables).expect("a small circuit can be masked").text;
             let masked = read(&LARGE, &text).expect("a masked text is good");
             let vectors = circuit.vectors.iter().rev().take(8);
             let settings: Vec<Vec<bool>> =
@@ -231,7 +244,11 @@ fn own_gates() {
             let leak = check(&bare, &codes, tables).expect("it is checked").expect("a bare bit leaks");
             assert_eq!(leak.wire, masked.wires as u64, "{name}");
             for b in given.iter().filter(|b| b.code != a.code) {
-                assert_eq!(check(&with_xor(a.wire, b.wire as usize), &codes, tables), Ok(None), "{name}: {a:?} and {b:?}");
+                assert_eq!(
+                    check(&with_xor(a.wire, b.wire as usize), &codes, tables),
+                    Ok(None),
+                    "{name}: {a:?} and {b:?}"
+                );
             }
         }
     }
@@ -278,7 +295,8 @@ fn limits() {
 #[test]
 fn whole_cipher() {
     let tables = &mut Tables::whole();
-    let text = fs::read(concat!(env!("CARGO_MANIFEST_DIR"), "/../../circuits/aes_128.txt")).expect("it can be read");
+    let text =
+        fs::read(concat!(env!("CARGO_MANIFEST_DIR"), "/../../circuits/aes_128.txt")).expect("it can be read");
     let source = read(Sizes::Whole.small(), &text).expect("it is a source");
     let random = &mut Random::new(8);
     let codes = random.list(source.input_bits(), 0, 3);

@@ -76,6 +76,7 @@ pub fn mask(
 }
 
 /// The outcome of Twins: the masked wire of each source wire, and its code.
+#[allow(dead_code)]
 pub fn twins(
     tables: &[usize],
     text: &[u8],
