@@ -687,10 +687,9 @@ ALWAYS void mask_gate(struct masking *m, uint64_t operands, uint64_t result, uin
     codes[low(result)] = code;
 }
 
-/* All gates of the masked netlist. */
-ALWAYS void mask_gates(struct masking *m, const struct header *h, const uint8_t *in_codes,
-                              const uint8_t *wanted, const uint64_t *operands, const uint64_t *results,
-                              uint32_t *wires, uint8_t *codes)
+/* The gates of the masks, of the public bits and of the source's gates. */
+ALWAYS void mask_source(struct masking *m, const struct header *h, const uint8_t *in_codes, const uint64_t *operands,
+                        const uint64_t *results, uint32_t *wires, uint8_t *codes)
 {
     uint32_t n = m->bits;
     m->next = n + 2;
@@ -704,6 +703,14 @@ ALWAYS void mask_gates(struct masking *m, const struct header *h, const uint8_t 
     }
     for (uint32_t i = 0; i < h->gates; i++)
         mask_gate(m, operands[i], results[i], wires, codes);
+}
+
+/* All gates of the masked netlist. */
+ALWAYS void mask_gates(struct masking *m, const struct header *h, const uint8_t *in_codes,
+                              const uint8_t *wanted, const uint64_t *operands, const uint64_t *results,
+                              uint32_t *wires, uint8_t *codes)
+{
+    mask_source(m, h, in_codes, operands, results, wires, codes);
     uint32_t first = h->wires - (uint32_t)h->out.bits;
     for (uint32_t i = 0; i < h->out.bits; i++) {
         uint8_t code = codes[first + i];
@@ -774,6 +781,39 @@ int64_t baseline_mask(const uint8_t *text, size_t text_len,
     memset(results, 0, results_len * sizeof *results);
     memset(wires, 0, wires_len * sizeof *wires);
     memset(marks, 0, marks_len);
+    return answer;
+}
+
+/* ---- Twins */
+
+int64_t baseline_twins(const uint8_t *text, size_t text_len,
+                       const uint8_t *codes, size_t codes_len,
+                       uint32_t *out_wires, size_t out_wires_len,
+                       uint8_t *out_codes, size_t out_codes_len,
+                       uint64_t *operands, size_t operands_len,
+                       uint64_t *results, size_t results_len,
+                       uint8_t *given, size_t given_len,
+                       uint8_t sizes)
+{
+    const struct limits *l = &small_limits[sizes != 0];
+    struct header h;
+    int64_t answer;
+    if (operands_len < l->table || results_len < l->table || given_len < l->table)
+        answer = -1;
+    else
+        answer = -read_netlist(l, text, text_len, &h, operands, results, given);
+    if (answer == 0 && !list_good(codes, codes_len, h.in.bits, 3))
+        answer = -11;
+    if (answer == 0 && (out_wires_len < h.wires || out_codes_len < h.wires))
+        answer = -14;
+    if (answer == 0) {
+        struct masking count = {(uint32_t)h.in.bits, 0, {COUNTING, NULL, 0}};
+        mask_source(&count, &h, codes, operands, results, out_wires, out_codes);
+        answer = h.wires;
+    }
+    memset(operands, 0, operands_len * sizeof *operands);
+    memset(results, 0, results_len * sizeof *results);
+    memset(given, 0, given_len);
     return answer;
 }
 

@@ -42,6 +42,15 @@ int64_t baseline_mask(const uint8_t *text, size_t text_len,
                       uint8_t *marks, size_t marks_len,
                       uint8_t sizes);
 
+int64_t baseline_twins(const uint8_t *text, size_t text_len,
+                       const uint8_t *codes, size_t codes_len,
+                       uint32_t *out_wires, size_t out_wires_len,
+                       uint8_t *out_codes, size_t out_codes_len,
+                       uint64_t *operands, size_t operands_len,
+                       uint64_t *results, size_t results_len,
+                       uint8_t *given, size_t given_len,
+                       uint8_t sizes);
+
 int64_t baseline_check(const uint8_t *text, size_t text_len,
                        const uint8_t *codes, size_t codes_len,
                        uint64_t *leak, size_t leak_len,

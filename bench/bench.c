@@ -33,13 +33,15 @@ struct services {
     __typeof__(&fidrovelj_run64) run64;
     __typeof__(&fidrovelj_mask) mask;
     __typeof__(&fidrovelj_check) check;
+    __typeof__(&fidrovelj_twins) twins;
 };
 
-static const struct services library = {fidrovelj_rewrite, fidrovelj_run, fidrovelj_run64, fidrovelj_mask,
-                                        fidrovelj_check};
-static const struct services baseline = {baseline_rewrite, baseline_run, baseline_run64, baseline_mask, baseline_check};
+static const struct services library = {fidrovelj_rewrite, fidrovelj_run,   fidrovelj_run64,
+                                        fidrovelj_mask,    fidrovelj_check, fidrovelj_twins};
+static const struct services baseline = {baseline_rewrite, baseline_run,   baseline_run64,
+                                         baseline_mask,    baseline_check, baseline_twins};
 
-enum service { READ_LARGE, READ_SMALL, REWRITE, RUN, RUN64, MASK, CHECK };
+enum service { READ_LARGE, READ_SMALL, REWRITE, RUN, RUN64, MASK, MASK_UNWRITTEN, TWINS, CHECK };
 
 /* A call, and the work it stands for. */
 struct call {
@@ -51,7 +53,7 @@ struct call {
 };
 
 static uint64_t operands[TABLE], results[TABLE], words[TABLE], base[TABLE], leak[4], word_list[TABLE], words_out[TABLE];
-static uint32_t wires[TABLE];
+static uint32_t wires[TABLE], wires_out[TABLE];
 static uint8_t given[TABLE], out[ROOM], list_out[TABLE], list[TABLE], wanted[TABLE];
 
 static void die(const char *what, const char *name)
@@ -60,7 +62,8 @@ static void die(const char *what, const char *name)
     exit(EXIT_FAILURE);
 }
 
-/* Reading alone is a call with an empty list, which question 11 refuses as soon as the text is read.
+/* Reading alone is a call with an empty list, which question 11 refuses as soon as the text is read; masking
+ * without writing one with an empty buffer of codes, which question 14 refuses once the wires are counted.
  * Input lists are all ones, wanted lists all zeros, words are random. */
 static int64_t perform(const struct services *s, const struct call *c)
 {
@@ -75,8 +78,13 @@ static int64_t perform(const struct services *s, const struct call *c)
                         words, n, c->sizes);
     case READ_SMALL:
     case MASK:
-        return s->mask(c->text, c->length, list, c->service == MASK ? c->inputs : 0, wanted, c->outputs, out, ROOM,
-                       list_out, n, operands, m, results, m, wires, m, given, m, c->sizes);
+    case MASK_UNWRITTEN:
+        return s->mask(c->text, c->length, list, c->service == READ_SMALL ? 0 : c->inputs, wanted, c->outputs, out, ROOM,
+                       list_out, c->service == MASK_UNWRITTEN ? 0 : n, operands, m, results, m, wires, m, given, m,
+                       c->sizes);
+    case TWINS:
+        return s->twins(c->text, c->length, list, c->inputs, wires_out, m, list_out, m, operands, m, results, m, given, m,
+                        c->sizes);
     case REWRITE:
         return s->rewrite(c->text, c->length, out, ROOM, operands, n, results, n, given, n, c->sizes);
     default:
@@ -193,25 +201,31 @@ static void compare(const struct call *c)
 {
     static uint8_t text[ROOM], entries[TABLE];
     static uint64_t lanes[TABLE];
+    static uint32_t twins[TABLE];
     uint64_t numbers[4];
     memset(out, 1, sizeof out);
     memset(list_out, 1, sizeof list_out);
     memset(words_out, 1, sizeof words_out);
+    memset(wires_out, 1, sizeof wires_out);
     memset(leak, 1, sizeof leak);
     int64_t expected = perform(&baseline, c);
     memcpy(text, out, sizeof out);
     memcpy(entries, list_out, sizeof list_out);
     memcpy(lanes, words_out, sizeof words_out);
+    memcpy(twins, wires_out, sizeof wires_out);
     memcpy(numbers, leak, sizeof leak);
     memset(out, 1, sizeof out);
     memset(list_out, 1, sizeof list_out);
     memset(words_out, 1, sizeof words_out);
+    memset(wires_out, 1, sizeof wires_out);
     memset(leak, 1, sizeof leak);
     bool reading = c->service == READ_LARGE || c->service == READ_SMALL;
-    if (perform(&library, c) != expected || (reading ? expected != -11 : expected < 0))
+    bool good = reading ? expected == -11 : c->service == MASK_UNWRITTEN ? expected == -14 : expected >= 0;
+    if (perform(&library, c) != expected || !good)
         die("answers are not as they should be", c->name);
     if (memcmp(text, out, sizeof out) != 0 || memcmp(entries, list_out, sizeof list_out) != 0
-        || memcmp(lanes, words_out, sizeof words_out) != 0 || memcmp(numbers, leak, sizeof leak) != 0)
+        || memcmp(lanes, words_out, sizeof words_out) != 0 || memcmp(twins, wires_out, sizeof wires_out) != 0
+        || memcmp(numbers, leak, sizeof leak) != 0)
         die("results differ", c->name);
 }
 
@@ -335,6 +349,16 @@ static void times_lf(struct line crlf, struct line lf)
     times(crlf, lf, "  times the LF text's time");
 }
 
+/* The twins of a circuit's wires, and what Mask takes where it reads and counts and writes nothing. */
+static void twins_beside_mask(const char *folder, const char *name, double s)
+{
+    struct call counting = circuit(MASK_UNWRITTEN, folder, name), twins = circuit(TWINS, folder, name);
+    snprintf(counting.name, sizeof counting.name, "%s, Mask unwritten", name);
+    snprintf(twins.name, sizeof twins.name, "%s, Twins", name);
+    struct line counted = bench(counting, s);
+    times(bench(twins, s), counted, "  times Mask unwritten");
+}
+
 /* A pass of sixty-four runs: its settings a second, its time in single runs, and what it saves beside
  * sixty-four of them. */
 static void pass(struct line own, struct line run)
@@ -356,7 +380,7 @@ static void pass(struct line own, struct line run)
 static struct call aes_128(enum service service, const char *folder, const char *name)
 {
     struct call c = whole(circuit(service, folder, "aes_128"));
-    if (service != READ_SMALL && service != MASK)
+    if (service != READ_SMALL && service != MASK && service != MASK_UNWRITTEN && service != TWINS)
         c = masked(service, c);
     snprintf(c.name, sizeof c.name, "%s", name);
     return c;
@@ -367,6 +391,8 @@ static void whole_cipher(const char *folder, double s)
     title("AES-128, whole");
     struct line source = bench(aes_128(READ_SMALL, folder, "reading"), s);
     beyond(bench(aes_128(MASK, folder, "Mask"), s), source);
+    struct line counted = bench(aes_128(MASK_UNWRITTEN, folder, "Mask unwritten"), s);
+    times(bench(aes_128(TWINS, folder, "Twins"), s), counted, "  times Mask unwritten");
     struct line reading = bench(aes_128(READ_LARGE, folder, "masked, reading"), s);
     beyond(bench(aes_128(REWRITE, folder, "masked, Rewrite"), s), reading);
     struct line run = bench(aes_128(RUN, folder, "masked, Run"), s);
@@ -441,6 +467,11 @@ int main(int argc, char **argv)
     beyond(bench(circuit(MASK, folder, "and_ladder_2048"), s), source);
     beyond(bench(circuit(MASK, folder, "aes_sub_bytes"), s), sub_bytes);
     beyond(bench(circuit(MASK, folder, "aes_column"), s), column);
+
+    title("Twins, beside Mask unwritten");
+    twins_beside_mask(folder, "and_ladder_2048", s);
+    twins_beside_mask(folder, "aes_sub_bytes", s);
+    twins_beside_mask(folder, "aes_column", s);
 
     title("Running");
     struct line run_mult64 = bench(circuit(RUN, folder, "mult64"), s);

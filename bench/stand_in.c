@@ -55,6 +55,19 @@ int64_t fidrovelj_mask(const uint8_t *text, size_t text_len,
                          marks_len, sizes);
 }
 
+int64_t fidrovelj_twins(const uint8_t *text, size_t text_len,
+                        const uint8_t *codes, size_t codes_len,
+                        uint32_t *out_wires, size_t out_wires_len,
+                        uint8_t *out_codes, size_t out_codes_len,
+                        uint64_t *operands, size_t operands_len,
+                        uint64_t *results, size_t results_len,
+                        uint8_t *given, size_t given_len,
+                        uint8_t sizes)
+{
+    return baseline_twins(text, text_len, codes, codes_len, out_wires, out_wires_len, out_codes, out_codes_len,
+                          operands, operands_len, results, results_len, given, given_len, sizes);
+}
+
 int64_t fidrovelj_check(const uint8_t *text, size_t text_len,
                         const uint8_t *codes, size_t codes_len,
                         uint64_t *leak, size_t leak_len,

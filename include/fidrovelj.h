@@ -56,13 +56,13 @@ extern "C" {
 #define FIDROVELJ_OLD 0
 #define FIDROVELJ_WHOLE 1
 
-/* The least entries of a working table of Rewrite, Run, Run64 and Check, and of Mask: the most wires. */
+/* The least entries of a working table of Rewrite, Run, Run64 and Check, and of Mask and Twins: the most wires. */
 #define FIDROVELJ_LARGE_TABLE 18431
 #define FIDROVELJ_SMALL_TABLE 2048
 #define FIDROVELJ_WHOLE_LARGE_TABLE 899999
 #define FIDROVELJ_WHOLE_SMALL_TABLE 100000
 
-/* The most bytes of a text that Rewrite, Run, Run64 and Check take, and Mask. */
+/* The most bytes of a text that Rewrite, Run, Run64 and Check take, and Mask and Twins. */
 #define FIDROVELJ_LARGE_TEXT 500000
 #define FIDROVELJ_SMALL_TEXT 60000
 #define FIDROVELJ_WHOLE_LARGE_TEXT 27000000
@@ -120,6 +120,22 @@ int64_t fidrovelj_mask(const uint8_t *text, size_t text_len,
                        uint32_t *wires, size_t wires_len,
                        uint8_t *marks, size_t marks_len,
                        uint8_t sizes);
+
+/* Twins: gives for each wire of a source netlist the wire that stands for it in the netlist that
+ * fidrovelj_mask writes for the same text and codes, whatever codes are wanted, and the code of its
+ * mask. For all inputs and all four mask settings wire out_wires[w] of the masked netlist is the bit
+ * of source wire w XOR the mask of out_codes[w], which is 1 to 3. So an input's twin is its own wire
+ * with its own code, or where it is public the wire of its gate with code 1. Returns the number of
+ * source wires, which is the number of entries of each result. Mask's limits hold, and the questions
+ * are 1 to 9, 11 and 14. */
+int64_t fidrovelj_twins(const uint8_t *text, size_t text_len,
+                        const uint8_t *codes, size_t codes_len,
+                        uint32_t *out_wires, size_t out_wires_len,
+                        uint8_t *out_codes, size_t out_codes_len,
+                        uint64_t *operands, size_t operands_len,
+                        uint64_t *results, size_t results_len,
+                        uint8_t *marks, size_t marks_len,
+                        uint8_t sizes);
 
 /* Check: decides whether a netlist whose last input value is the two mask bits leaks on a wire, for
  * a mask code for each other input bit, 0 where the bit is public. Returns 0 where it is clean: for

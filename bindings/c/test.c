@@ -118,6 +118,19 @@ static int64_t mask(const char *text, const char *codes, const char *wanted, siz
     return answer;
 }
 
+static int64_t twins(const char *text, const char *codes, size_t wire_room, size_t code_room)
+{
+    fill();
+    int64_t answer = fidrovelj_twins((const uint8_t *)text, strlen(text), entries(codes), strlen(codes), wires, wire_room,
+                                     list_out, code_room, operands, LARGE, results, LARGE, given, LARGE, FIDROVELJ_OLD);
+    expect(all(operands, sizeof operands, 0) && all(results, sizeof results, 0) && all(given, sizeof given, 0),
+           "Twins' tables are zero");
+    size_t count = answer > 0 ? (size_t)answer : 0;
+    expect_untouched(0, count, "Twins touches its codes alone");
+    expect(all(wires + count, (LARGE - count) * sizeof *wires, PATTERN), "Twins touches its wires alone");
+    return answer;
+}
+
 static int64_t check(const char *text, const char *codes)
 {
     fill();
@@ -305,6 +318,25 @@ static void public_bits(void)
 static const char each_gate[] =
     "6 8\n1 2\n1 8\n2 1 0 1 2 XOR\n2 1 0 1 3 AND\n1 1 0 4 INV\n1 1 1 5 EQW\n1 1 0 6 EQ\n1 1 1 7 EQ\n";
 
+/* The source wires 0 to 3 stand on these wires of the masked netlist, with these codes. */
+static bool twins_are(int64_t answer, const uint32_t *expected, const uint8_t *codes)
+{
+    return answer == 4 && memcmp(wires, expected, 4 * sizeof *expected) == 0 && memcmp(list_out, codes, 4) == 0;
+}
+
+static void source_wires(void)
+{
+    static const char source[] = "2 4\n2 1 1\n1 1\n2 1 0 1 3 AND\n2 1 3 0 2 XOR\n";
+    expect(twins_are(twins(source, "12", 4, 4), (const uint32_t[]){0, 1, 15, 13}, (const uint8_t[]){1, 2, 2, 1}), "twins");
+    expect(twins_are(twins(source, "11", LARGE, LARGE), (const uint32_t[]){0, 1, 16, 14}, (const uint8_t[]){1, 1, 2, 1}),
+           "twins behind mask changes");
+    expect(twins_are(twins(source, "02", 4, LARGE), (const uint32_t[]){7, 1, 16, 14}, (const uint8_t[]){1, 2, 2, 1}),
+           "the twin of a public bit");
+    expect(twins(source, "1", 4, 4) == -11 && twins(source, "14", 4, 4) == -11, "twins: 11");
+    expect(twins(source, "12", 3, 4) == -14 && twins(source, "12", 4, 3) == -14, "twins: 14");
+    expect(twins("", "12", 4, 4) == -4 && twins("1 3\n2 1 1\n1 1\n2 1 0 1 1 AND\n", "12", 4, 4) == -9, "twins: 4 and 9");
+}
+
 static void sixty_four(void)
 {
     const uint64_t list[3] = {0x9e3779b97f4a7c15, 0xc2b2ae3d27d4eb4f, 1}, a = list[0], b = list[1];
@@ -380,6 +412,7 @@ int main(void)
     results_of_others();
     public_bits();
     sixty_four();
+    source_wires();
     whole_limits();
     printf("C: %d checks, %d failed\n", checks, failures);
     return failures == 0 ? EXIT_SUCCESS : EXIT_FAILURE;

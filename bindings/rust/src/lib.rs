@@ -3,6 +3,7 @@
 //! A netlist is a text in Bristol Fashion, whose lines end in LF or CR LF. The services are:
 //!
 //! - [`mask`] turns a source netlist into a masked one, in which every bit travels under a mask,
+//! - [`twins`] says where each source wire stands in the masked netlist,
 //! - [`check`] says whether a netlist is clean, or names a leak on one of its wires,
 //! - [`run`] evaluates a netlist, [`run64`] on sixty-four settings at once,
 //! - [`rewrite`] gives a netlist in its written form.
@@ -35,10 +36,12 @@ use std::fmt;
 mod aiger;
 pub mod lent;
 mod tables;
+mod twins;
 mod words;
 
 pub use aiger::{from_aiger, from_aiger_lent};
 pub use tables::{Sizes, Tables};
+pub use twins::{twins, twins_lent, Twin};
 pub use words::{from_words, to_words};
 
 /// The examples of README.md and docs/LIBRARY.md, as documentation tests.

@@ -62,7 +62,7 @@ fn agrees_with_the_circuits_vectors() {
     }
 }
 
-/// The masked netlist has no leak, and its outputs with masks off are the source's.
+/// The masked netlist has no leak, and its outputs and the twins of all wires with masks off are the source's.
 fn assert_masked(name: &str, source: &Netlist, codes: &[u8], wanted: &[u8]) {
     let masked = reference::mask(&[], &source.write(), codes, wanted, ROOM, ROOM, Sizes::Old)
         .expect("it can be masked");
@@ -84,6 +84,10 @@ fn assert_masked(name: &str, source: &Netlist, codes: &[u8], wanted: &[u8]) {
             let output = bits[netlist.wires - masked.codes.len() + place];
             let mask = reference::evaluate::mask_of(code, masks.0, masks.1);
             assert_eq!(output != mask, open[source.wires - masked.codes.len() + place], "{name}");
+        }
+        for (wire, twin) in reference::mask::twins(source, codes).iter().enumerate() {
+            let mask = reference::evaluate::mask_of(twin.code, masks.0, masks.1);
+            assert_eq!(bits[twin.wire] != mask, open[wire], "{name}: wire {wire}");
         }
     }
 }

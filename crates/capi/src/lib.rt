@@ -12,6 +12,7 @@ ghost use Rattle.rewrite.specs.Promise.{Promise as RewritePromise};
 ghost use Rattle.run.specs.Promise.{Promise as RunPromise};
 ghost use Rattle.run64.specs.Promise.{Promise as Run64Promise};
 ghost use Rattle.mask.specs.Promise.{Promise as MaskPromise};
+ghost use Rattle.twins.specs.Promise.{Promise as TwinsPromise};
 ghost use Rattle.checker.specs.Promise.{Promise as CheckPromise};
 ghost use Rattle.from_aiger.specs.Promise.{Promise as AigerPromise};
 ghost use Rattle.capi.specs.Number.{sizesOf, number as numberOf, Countable, Told, Shows, ToldLeak};
@@ -176,6 +177,34 @@ pub extern "C" fn fidrovelj_mask(
         operands,
         results,
         wires,
+        marks,
+        sizes(whole),
+    ))
+}
+
+// Twins: how many source wires there are; the masked wire of each stands at the front of `wires`, its code at the front of `ends`.
+#[no_mangle]
+pub extern "C" fn fidrovelj_twins(
+    text: &[u8],
+    codes: &[u8],
+    wires: &mut [u32],
+    ends: &mut [u8],
+    operands: &mut [u64],
+    results: &mut [u64],
+    marks: &mut [u8],
+    whole: u8,
+) -> i64
+    ensures { λ r. ⌜ Told (TwinsPromise (sizesOf whole) (now (text .entry)) (now (codes .entry)) (now (wires .entry)) (now (wires .exit))
+        (now (ends .entry)) (now (ends .exit)) (now (operands .entry)) (now (operands .exit)) (now (results .entry)) (now (results .exit))
+        (now (marks .entry)) (now (marks .exit))) r ⌝ }
+{
+    number(twins::twins(
+        text,
+        codes,
+        wires,
+        ends,
+        operands,
+        results,
         marks,
         sizes(whole),
     ))

@@ -42,36 +42,42 @@ counted cs vs S gs c ws es first last k small =
 abbrev stateWith : ℕ → List Twin → State
 stateWith c ts = record { next = c; twins = ts }
 
-module _ (t : Tables) (count W c₁ : ℕ) (cs vs ws₁ es₁ ws₂ es₂ : List ℕ) (N : Netlist) (s : Holds t count W (length cs) (length vs) N) where
-  begun : Started (length cs + 5) cs W c₁ ws₁ es₁ → stateOf c₁ ws₁ es₁ ≡ start N cs
-  begun h =
-      let next : c₁ ≡ start N cs .next = h .next ∙ ap (λ (n : ℕ). pastPublics (n + 5) cs) (sym (s .ins)) in
-      let twins : twinsOf ws₁ es₁ ≡ start N cs .twins
+module _ (t : Tables) (count W : ℕ) {m : ℕ} (cs : List ℕ) (N : Netlist) (s : Holds t count W (length cs) m N) where
+  begun : {c : ℕ} {ws es : List ℕ} → Started (length cs + 5) cs W c ws es → stateOf c ws es ≡ start N cs
+  begun {c} {ws} {es} h =
+      let next : c ≡ start N cs .next = h .next ∙ ap (λ (n : ℕ). pastPublics (n + 5) cs) (sym (s .ins)) in
+      let twins : twinsOf ws es ≡ start N cs .twins
       = h .twins ∙ ap₂ (λ (a b : ℕ). inputTwins (b + 5) 0 cs ++ replicate (a - b) noTwin) (sym (s .wires)) (sym (s .ins)) in
       λ i. stateWith (next i) (twins i)
 
-  pub pass-count : {c : ℕ} → length vs ≤ W → length ws₂ ≡ W → length es₂ ≡ W → Started (length cs + 5) cs W c₁ ws₁ es₁
-      → stateOf c ws₂ es₂ ≡ advanceAll (stateOf c₁ ws₁ es₁) (gatesOf t count) → Counted (maskNetlist N cs vs) (length cs) (length vs) (c + length vs)
+  -- the state behind all source gates
+  pub finished : {c₁ c : ℕ} {ws₁ es₁ : List ℕ} (ws es : List ℕ) → Started (length cs + 5) cs W c₁ ws₁ es₁
+      → stateOf c ws es ≡ advanceAll (stateOf c₁ ws₁ es₁) (gatesOf t count) → stateOf c ws es ≡ finish N cs
+  finished ws es h a = a ∙ ap₂ advanceAll (begun h) (sym (s .gates))
+
+module _ (t : Tables) (count W : ℕ) (cs vs ws es : List ℕ) (N : Netlist) (s : Holds t count W (length cs) (length vs) N) where
+  pub pass-count : {c : ℕ} → length vs ≤ W → length ws ≡ W → length es ≡ W → stateOf c ws es ≡ finish N cs
+      → Counted (maskNetlist N cs vs) (length cs) (length vs) (c + length vs)
   unfolding maskNetlist
-  pass-count {c} small kw ke h a =
-      let S : State = stateOf c₁ ws₁ es₁ in
-      let first : S ≡ start N cs = begun h in
-      let last : stateOf c ws₂ es₂ ≡ finish N cs = a ∙ ap₂ advanceAll first (sym (s .gates)) in
-      let from : length ws₂ - length vs ≡ N .wires - outputBits N = ap₂ _-_ (kw ∙ sym (s .wires)) (sym (s .outs)) in
-      let same : passGates cs vs S (gatesOf t count) c ws₂ es₂ ≡ maskNetlist N cs vs .netlist .gates
-      = λ i. maskGates (sym (s .ins) i) ++ publicGates (sym (s .ins) i) (sym (s .ins) i + 5) 0 cs ++ emitAll (sym (s .ins) i) (first i) (sym (s .gates) i)
+  pass-count {c} small kw ke last =
+      let S : State = start N cs in
+      let from : length ws - length vs ≡ N .wires - outputBits N = ap₂ _-_ (kw ∙ sym (s .wires)) (sym (s .outs)) in
+      let same : passGates cs vs S (N .gates) c ws es ≡ maskNetlist N cs vs .netlist .gates
+      = λ i. maskGates (sym (s .ins) i) ++ publicGates (sym (s .ins) i) (sym (s .ins) i + 5) 0 cs ++ emitAll (sym (s .ins) i) S (N .gates)
       ++ outGates (sym (s .ins) i) (last i .next) (drop (from i) (last i .twins)) vs in
       let wires : c + length vs ≡ maskNetlist N cs vs .netlist .wires = λ i. last i .next + sym (s .outs) i in
-      let next : advanceAll S (gatesOf t count) .next ≡ c = λ i. sym a i .next in
-      let T : List Twin = drop (length ws₂ - length vs) (twinsOf ws₂ es₂) in
+      let first : S .next ≡ pastPublics (length cs + 5) cs = ap (λ (n : ℕ). pastPublics (n + 5) cs) (s .ins) in
+      let next : advanceAll S (N .gates) .next ≡ c = λ i. sym last i .next in
+      let T : List Twin = drop (length ws - length vs) (twinsOf ws es) in
       let codes : outCodes T vs ≡ maskNetlist N cs vs .codes = λ i. outCodes (drop (from i) (last i .twins)) vs in
-      let many : length vs ≡ length T = lasts vs ws₂ es₂ (ke ∙ sym kw) (omega arith) in
+      let many : length vs ≡ length T = lasts vs ws es (ke ∙ sym kw) (omega arith) in
       record {
         wires = wires;
-        count = ap (λ (l : List Gate). length l + (length cs + 2)) (sym same) ∙ counted cs vs S (gatesOf t count) c ws₂ es₂ (h .next) next (ke ∙ sym kw) (omega arith) ∙ wires;
+        count = ap (λ (l : List Gate). length l + (length cs + 2)) (sym same) ∙ counted cs vs S (N .gates) c ws es first next (ke ∙ sym kw) (omega arith) ∙ wires;
         many = ap length (sym codes) ∙ length-outCodes T vs many ∙ sym many;
       }
 
+module _ (t : Tables) (count W c₁ : ℕ) (cs vs ws₁ es₁ ws₂ es₂ : List ℕ) (N : Netlist) (s : Holds t count W (length cs) (length vs) N) where
   pub pass-made : {e m₁ m₂ m₃ x : List ℕ} {at a b r : ℕ} (R : Next) → length vs ≤ W → length ws₂ ≡ W → length es₂ ≡ W → Started (length cs + 5) cs W c₁ ws₁ es₁
       → WroteGates e at (maskGates (length cs)) m₁ a → WroteGates m₁ a (publicGates (length cs) (length cs + 5) 0 cs) m₂ b
       → WroteAll m₂ b (length cs) (stateOf c₁ ws₁ es₁) t count m₃ R (stateOf (R .next) ws₂ es₂)
@@ -80,8 +86,8 @@ module _ (t : Tables) (count W c₁ : ℕ) (cs vs ws₁ es₁ ws₂ es₂ : List
   unfolding maskNetlist
   pass-made R small kw ke h masks publics g outs =
       let S : State = stateOf c₁ ws₁ es₁ in
-      let first : S ≡ start N cs = begun h in
-      let last : stateOf (R .next) ws₂ es₂ ≡ finish N cs = g .state ∙ ap₂ advanceAll first (sym (s .gates)) in
+      let first : S ≡ start N cs = begun t count W cs N s h in
+      let last : stateOf (R .next) ws₂ es₂ ≡ finish N cs = finished t count W cs N s ws₂ es₂ h (g .state) in
       let from : length ws₂ - length vs ≡ N .wires - outputBits N = ap₂ _-_ (kw ∙ sym (s .wires)) (sym (s .outs)) in
       let same : passGates cs vs S (gatesOf t count) (R .next) ws₂ es₂ ≡ maskNetlist N cs vs .netlist .gates
       = λ i. maskGates (sym (s .ins) i) ++ publicGates (sym (s .ins) i) (sym (s .ins) i + 5) 0 cs ++ emitAll (sym (s .ins) i) (first i) (sym (s .gates) i)

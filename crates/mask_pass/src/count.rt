@@ -1,8 +1,9 @@
-// How many wires the masked netlist has: the twins alone, without their gates.
+// The twins of the source wires without their gates, and how many wires the masked netlist has.
 use mask_codes::code_after;
 use mask_codes::third_code;
 use netlist::Twin;
 ghost use mathlib.Core.Path.{_≡_};
+ghost use mathlib.Core.List.{[]};
 ghost use Prim.Native.Nat.{_+_, _*_, _<_, _^_};
 ghost use lib.ListN.{length};
 ghost use Rattle.netlist.specs.Netlist.{Netlist};
@@ -10,7 +11,7 @@ ghost use Rattle.netlist.specs.Mask.{changed as changedTwin, past as pastWire, 
 ghost use Rattle.netlist.specs.Table.{gateOf, gateIn, tables, Named, Wired, Holds};
 ghost use Rattle.mask_gate.specs.Emitted.{operands as operandsOf};
 ghost use Rattle.mask_pass.specs.State.{stateOf, Advanced, AdvancedAll};
-ghost use Rattle.mask_pass.specs.Pass.{Ready, Counted};
+ghost use Rattle.mask_pass.specs.Pass.{Ready, Finished, Counted};
 
 // The second operand behind its mask change, if there is one.
 fn changed(c: u32, a: Twin, b: Twin) -> Twin
@@ -123,6 +124,25 @@ fn gates(
     next
 }
 
+// The twins of all source wires into the two tables, which have an entry for each and may hold anything, and the next wire
+// behind the gates.
+pub fn place_twins(
+    operands: &[u64],
+    results: &[u64],
+    count: usize,
+    codes: &[u8],
+    wire: &mut [u32],
+    code: &mut [u8],
+) -> u32
+    requires { ⌜ Ready (tables (now operands) (now results)) count (now codes) [] (now wire) (now code) ⌝ }
+    ensures { λ r. ⌜ Finished (tables (now (operands .entry)) (now (results .entry))) count (now (codes .entry))
+        (length (now (wire .entry))) r (now (wire .exit)) (now (code .exit)) ⌝ }
+{
+    let n = codes.len() as u32;
+    let first = crate::twins::start(n + 5, codes, wire, code);
+    gates(first, operands, results, count, wire, code)
+}
+
 // The wire count of the masked netlist.
 pub fn count(
     operands: &[u64],
@@ -139,8 +159,6 @@ pub fn count(
         → Counted (maskNetlist N (now (codes .entry)) (now (wanted .entry))) (length (now (codes .entry))) (length (now (wanted .entry))) r)
         ⌝ }
 {
-    let n = codes.len() as u32;
-    let first = crate::twins::start(n + 5, codes, wire, code);
-    let next = gates(first, operands, results, count, wire, code);
+    let next = place_twins(operands, results, count, codes, wire, code);
     next + wanted.len() as u32
 }

@@ -1,4 +1,4 @@
-// Words in lists of bytes: eight bytes each, the lowest first.
+// Words and wires in lists of bytes: eight bytes and four bytes each, the lowest first.
 use crate::scan;
 use std::num::wrapping_add_usize;
 
@@ -37,5 +37,21 @@ pub(crate) fn put(out: &mut [u8], words: &[u64]) {
     let mut at = 0;
     for i in 0..words.len() {
         at = spell(out, at, words[i]);
+    }
+}
+
+// A wire's bytes at a place, and the place behind them.
+fn spell_wire(out: &mut [u8], at: usize, wire: u32) -> usize {
+    let second = write_buffer::put(out, at, (wire % 256) as u8);
+    let third = write_buffer::put(out, second, (wire / 256 % 256) as u8);
+    let fourth = write_buffer::put(out, third, (wire / 65536 % 256) as u8);
+    write_buffer::put(out, fourth, (wire / 16777216) as u8)
+}
+
+// The bytes of all wires of a table.
+pub(crate) fn put_wires(out: &mut [u8], wires: &[u32]) {
+    let mut at = 0;
+    for i in 0..wires.len() {
+        at = spell_wire(out, at, wires[i]);
     }
 }

@@ -4,9 +4,9 @@ use super::netlist::{Gate, Netlist};
 
 /// Where a bit of the source stands in the masked netlist: a wire, and the code of the mask on it.
 #[derive(Clone, Copy)]
-struct Twin {
-    wire: usize,
-    code: u8,
+pub struct Twin {
+    pub wire: usize,
+    pub code: u8,
 }
 
 /// The code that neither of two different codes is.
@@ -128,8 +128,8 @@ impl Masking {
     }
 }
 
-/// The masked netlist of a source, and the code of each output bit.
-pub fn mask(source: &Netlist, codes: &[u8], wanted: &[u8]) -> (Netlist, Vec<u8>) {
+/// The gates before those of the output bits, and the twin of each source wire.
+fn masked_source(source: &Netlist, codes: &[u8]) -> (Masking, Vec<Twin>) {
     let n = source.input_bits();
     let mut masking = Masking { bits: n, gates: Vec::new() };
     masking.xor(n, n + 1);
@@ -143,13 +143,21 @@ pub fn mask(source: &Netlist, codes: &[u8], wanted: &[u8]) -> (Netlist, Vec<u8>)
     for gate in &source.gates {
         twins[gate.result()] = Some(masking.masked(gate, &twins));
     }
+    (masking, twins.into_iter().map(|twin| twin.expect("every wire is given")).collect())
+}
 
+/// The twin of each source wire.
+pub fn twins(source: &Netlist, codes: &[u8]) -> Vec<Twin> {
+    masked_source(source, codes).1
+}
+
+/// The masked netlist of a source, and the code of each output bit.
+pub fn mask(source: &Netlist, codes: &[u8], wanted: &[u8]) -> (Netlist, Vec<u8>) {
+    let n = source.input_bits();
+    let (mut masking, twins) = masked_source(source, codes);
     let outputs = &twins[source.wires - source.output_bits()..];
-    let output_codes = outputs
-        .iter()
-        .zip(wanted)
-        .map(|(twin, &wanted)| masking.output(twin.expect("every wire is given"), wanted))
-        .collect();
+    let output_codes =
+        outputs.iter().zip(wanted).map(|(&twin, &wanted)| masking.output(twin, wanted)).collect();
 
     let mut inputs = source.inputs.clone();
     inputs.push(2);

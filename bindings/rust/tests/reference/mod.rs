@@ -75,6 +75,23 @@ pub fn mask(
     Ok(Masked { text, codes })
 }
 
+/// The outcome of Twins: the masked wire of each source wire, and its code.
+#[allow(dead_code)]
+pub fn twins(
+    tables: &[usize],
+    text: &[u8],
+    codes: &[u8],
+    wire_room: usize,
+    code_room: usize,
+    sizes: Sizes,
+) -> Result<(Vec<u32>, Vec<u8>), u8> {
+    let source = read(sizes.small(), tables, text)?;
+    ask(11, codes.len() == source.input_bits() && codes.iter().all(|&code| code <= 3))?;
+    ask(14, source.wires <= wire_room && source.wires <= code_room)?;
+    let twins = mask::twins(&source, codes);
+    Ok(twins.iter().map(|twin| (twin.wire as u32, twin.code)).unzip())
+}
+
 /// The outcome of Check: none where the netlist is clean, otherwise the leak's wire, its setting, the
 /// count that this is compared with, and its own.
 pub fn check(tables: &[usize], text: &[u8], codes: &[u8], sizes: Sizes) -> Result<Option<[u64; 4]>, u8> {

@@ -1,0 +1,2 @@
+-- What the contracts of the twins cite.
+pub mod Promise
