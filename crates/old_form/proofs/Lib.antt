@@ -1,0 +1,3 @@
+-- The theorems about the definitions.
+pub mod GateNames
+pub mod OldAccepted
