@@ -1,4 +1,4 @@
--- `read`: question 1, table by table, and then the text.
+-- `read_in`: question 1, table by table, and then the text.
 use borrow.Author.Tests.{lt-leb, le-leb}
 use mathlib.Core.List.{[], _∷_}
 use lib.ListN.{length}
@@ -8,8 +8,8 @@ use Rattle.read_netlist.proofs.Wholes.{read-after}
 use native.Mathlib.Omega.{arith}
 use native.Mathlib.Omega.{arith}
 use borrow.Author.Needs.{needs}
-use Rattle.read_netlist.proofs.read.read.Statement.{statement}
-use Rattle.read_netlist.proofs.read.read.Tie as tie
+use Rattle.read_netlist.proofs.read.read_in.Statement.{statement}
+use Rattle.read_netlist.proofs.read.read_in.Tie as tie
 
 returns : tie.Need-returns
 returns c = rw (lt-leb _ _ (c .if1 .taken))
@@ -52,12 +52,12 @@ returns-5 c =
     let g = c .before .before .before .before .before .before .before .before .before .before .before .before .before .before .before .before .before .if3 .left in
     let w = c .before .before .before .before .before .before .before .before .before .before .before .before .before .before .before .before .if4 .left in
     let t = c .before .before .before .before .before .before .read-text in
-    read-after (s .l) (length (s .operands .now) ∷ length (s .results .now) ∷ length (s .marks .now) ∷ s .shortest ∷ []) (s .text .now) (t .last .1 .1 .0) (t .last .1 .1 .1 .0)
+    read-after (s .d) (s .l) (length (s .operands .now) ∷ length (s .results .now) ∷ length (s .marks .now) ∷ s .shortest ∷ []) (s .text .now) (t .last .1 .1 .0) (t .last .1 .1 .1 .0)
     (tables (t .last .1 .1 .1 .1 .1 .0) (t .last .1 .1 .1 .1 .1 .1 .0)) (t .result)
     (rw (le-leb _ _ o, le-leb _ _ r, le-leb _ _ g, le-leb _ _ w)) (t .ensures)
 
-pub read-spec : {M : Type 1} → statement M
-read-spec =
+pub read-in-spec : {M : Type 1} → statement M
+read-in-spec =
     tie.close
     (tie.spec
     returns
