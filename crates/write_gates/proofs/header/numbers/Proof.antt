@@ -1,10 +1,9 @@
--- `values`: how many, the widths, and LF.
-use lib.ListN.{length}
+-- `numbers`: the first, the others, and LF.
 use Rattle.write_buffer.proofs.Wrote.{wrote-then, wrote-as}
 use Rattle.write_gates.proofs.Headers.{line-spaced}
 use borrow.Author.Needs.{needs}
-use Rattle.write_gates.proofs.header.values.Statement.{statement}
-use Rattle.write_gates.proofs.header.values.Tie as tie
+use Rattle.write_gates.proofs.header.numbers.Statement.{statement}
+use Rattle.write_gates.proofs.header.numbers.Tie as tie
 
 number-requires : tie.Need-number-requires
 number-requires c κs = search needs
@@ -22,12 +21,11 @@ returns : tie.Need-returns
 returns c =
     wrote-as
     (line-spaced
-    (length
-    (c .before .before .before .before .before .before .before .before .before .before .before .before .before .before .args .ws .now))
-    (c .before .before .before .before .before .before .before .before .before .before .before .before .before .before .args .ws .now))
+    (c .before .before .before .before .before .before .before .before .before .before .before .before .before .before .args .first)
+    (c .before .before .before .before .before .before .before .before .before .before .before .before .before .before .args .others .now))
     (wrote-then
     (c .before .before .before .before .before .before .before .before .before .before .number .ensures)
     (wrote-then (c .before .before .before .before .before .before .widths .ensures) (c .before .before .put .ensures)))
 
-pub values-spec : {M : Type 1} → statement M
-values-spec = tie.close (tie.spec number-requires widths-requires put-requires same-length returns)
+pub numbers-spec : {M : Type 1} → statement M
+numbers-spec = tie.close (tie.spec number-requires widths-requires put-requires same-length returns)
