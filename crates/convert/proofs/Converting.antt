@@ -14,9 +14,10 @@ use Rattle.netlist.specs.declared.Answer.the-variants.{Done, Refused}
 use Rattle.netlist.specs.Netlist.{Netlist, large}
 use Rattle.netlist.specs.Outcome.{Outcome, refused, done, ask, andThen}
 use Rattle.netlist.specs.Write.{writeNetlist, gateText}
-use Rattle.netlist.specs.Services.{tablesLong, delivered, Answers, Delivers}
+use Rattle.netlist.specs.Services.{tablesLong, delivered, outcomeOf, Answers, Delivers}
 use Rattle.netlist.specs.Table.{Tables, gatesOf}
 use Rattle.netlist.proofs.Answering.{answers-as, answers-refused, call-refused, call-goes-on}
+use Rattle.netlist.proofs.Questions.{done-same, refused-done}
 use Rattle.netlist.proofs.Puts.{length-gates}
 use Rattle.old_form.specs.declared.Dialect.{Dialect}
 use Rattle.old_form.specs.declared.Dialect.the-variants.{Fashion, Old}
@@ -30,7 +31,7 @@ use Rattle.write_netlist.specs.Form.{formTextIn}
 use Rattle.convert.specs.Convert.{hasForm, formOutcome, call}
 
 -- the written form in a dialect
-abbrev textIn : Dialect → Netlist → List ℕ
+abbrev pub textIn : Dialect → Netlist → List ℕ
 textIn Fashion N = writeNetlist N
 textIn Old N = writeOld N
 
@@ -110,3 +111,20 @@ module _ (from to : Dialect) (s : Sizes) (text out o r g : List ℕ) where
       ∙ sym (call-goes-on (tablesLong (large s) (length o ∷ length r ∷ length g ∷ [])) (readIn from (large s) text) (formOutcome to (length out))
       (sym e ∙ k .0) (k .1 .read)))
       d
+
+  -- a result is the written form of the netlist read, which has one
+  pub call-text : {x : List ℕ} {a : Answer} → Answers (call from to s text out o r g) out x a
+      → (n : ℕ) (N : Netlist) → a ≡ Done n → readIn from (large s) text ≡ done N
+      → (hasForm to (N .gates) (length (N .inputs)) (length (N .outputs)) ≡ true) × (take n x ≡ textIn to N)
+  call-text {x} {a} w n N p e =
+      let b = tablesLong (large s) (length o ∷ length r ∷ length g ∷ []) in
+      let d : done (take n x) ≡ ask 1 b (formOutcome to (length out) N) =
+      ap (outcomeOf x) (sym p) ∙ w .outcome ∙ ap (λ (u : Outcome Netlist). ask 1 b (andThen u (formOutcome to (length out)))) e in
+      asked b (hasForm to (N .gates) (length (N .inputs)) (length (N .outputs))) (leb (length (textIn to N)) (length out))
+      (d ∙ ap (ask 1 b) (sym (outcome-of to (length out) N)))
+    where
+      asked : (b f c : Bool) → done (take n x) ≡ ask 1 b (ask 15 f (ask 14 c (done (textIn to N)))) → (f ≡ true) × (take n x ≡ textIn to N)
+      asked true true true q = (refl, done-same (take n x) (textIn to N) q)
+      asked true true false q = absurd (refused-done 14 (take n x) (sym q))
+      asked true false c q = absurd (refused-done 15 (take n x) (sym q))
+      asked false f c q = absurd (refused-done 1 (take n x) (sym q))
