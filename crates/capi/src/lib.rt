@@ -106,8 +106,8 @@ pub extern "C" fn fidrovelj_from_old(
     marks: &mut [u8],
     whole: u8,
 ) -> i64
-    ensures { λ r. ⌜ Told (FromOldPromise (sizesOf whole) (now (text .entry)) (now (out .entry)) (now (out .exit)) (now (operands .entry))
-        (now (operands .exit)) (now (results .entry)) (now (results .exit)) (now (marks .entry)) (now (marks .exit))) r ⌝ }
+    ensures { λ r. ⌜ Told (FromOldPromise (sizesOf whole) (now (text .entry)) (now (out .entry)) (now (out .exit))
+        (now (operands .entry)) (now (operands .exit)) (now (results .entry)) (now (results .exit)) (now (marks .entry)) (now (marks .exit))) r ⌝ }
 {
     number(from_old::from_old(text, out, operands, results, marks, sizes(whole)))
 }
@@ -122,8 +122,8 @@ pub extern "C" fn fidrovelj_to_old(
     marks: &mut [u8],
     whole: u8,
 ) -> i64
-    ensures { λ r. ⌜ Told (ToOldPromise (sizesOf whole) (now (text .entry)) (now (out .entry)) (now (out .exit)) (now (operands .entry))
-        (now (operands .exit)) (now (results .entry)) (now (results .exit)) (now (marks .entry)) (now (marks .exit))) r ⌝ }
+    ensures { λ r. ⌜ Told (ToOldPromise (sizesOf whole) (now (text .entry)) (now (out .entry)) (now (out .exit))
+        (now (operands .entry)) (now (operands .exit)) (now (results .entry)) (now (results .exit)) (now (marks .entry)) (now (marks .exit))) r ⌝ }
 {
     number(to_old::to_old(text, out, operands, results, marks, sizes(whole)))
 }

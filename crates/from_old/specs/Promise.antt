@@ -20,7 +20,8 @@ call s text out o r g = fromOldCall (large s) (length o ∷ length r ∷ length 
 
 -- old to Fashion to old: the call back, with any tables and any room, gives the old written form of N, which reads as N
 pub record Back (s : Sizes) (fashion : List ℕ) (N : Netlist) : Type 0 where
-  pub call : (tables : List ℕ) (room : ℕ) → toOldCall (large s) tables fashion room ≡ ask 1 (tablesLong (large s) tables) (delivered room (writeOld N))
+  pub call : (tables : List ℕ) (room : ℕ)
+      → toOldCall (large s) tables fashion room ≡ ask 1 (tablesLong (large s) tables) (delivered room (writeOld N))
   pub same : readOld (large s) (writeOld N) ≡ done N
 
 -- the sizes and the text, then the result buffer and each table before and after the call

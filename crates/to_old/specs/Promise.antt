@@ -20,7 +20,8 @@ call s text out o r g = toOldCall (large s) (length o ∷ length r ∷ length g 
 
 -- Fashion to old to Fashion: the call back, with any tables and any room, gives the written form of N, which reads as N
 pub record Back (s : Sizes) (old : List ℕ) (N : Netlist) : Type 0 where
-  pub call : (tables : List ℕ) (room : ℕ) → fromOldCall (large s) tables old room ≡ ask 1 (tablesLong (large s) tables) (delivered room (writeNetlist N))
+  pub call : (tables : List ℕ) (room : ℕ)
+      → fromOldCall (large s) tables old room ≡ ask 1 (tablesLong (large s) tables) (delivered room (writeNetlist N))
   pub same : readNetlist (large s) (writeNetlist N) ≡ done N
 
 -- the sizes and the text, then the result buffer and each table before and after the call

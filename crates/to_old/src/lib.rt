@@ -13,8 +13,8 @@ pub fn to_old(
     marks: &mut [u8],
     sizes: Sizes,
 ) -> Answer
-    ensures { λ r. ⌜ Promise sizes (now (text .entry)) (now (out .entry)) (now (out .exit)) (now (operands .entry)) (now (operands .exit))
-        (now (results .entry)) (now (results .exit)) (now (marks .entry)) (now (marks .exit)) r ⌝ }
+    ensures { λ r. ⌜ Promise sizes (now (text .entry)) (now (out .entry)) (now (out .exit))
+        (now (operands .entry)) (now (operands .exit)) (now (results .entry)) (now (results .exit)) (now (marks .entry)) (now (marks .exit)) r ⌝ }
 {
     convert::convert(
         text,
