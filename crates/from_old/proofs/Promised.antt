@@ -35,5 +35,5 @@ promised {s} {text} {out} {out′} {o} {o′} {r} {r′} {g} {g′} {a} c =
           };
       operands = c .operands;
       results = c .results;
-      marks = c .given;
+      marks = c .marks;
     }

@@ -201,10 +201,10 @@ old-accepted L t N e =
     subst (OldAccepted L) (done-same (netlistOf H (m .0)) N (m .2)) (record {
       accepted = record {
         formed = record {
-          someInput = h .«input_values» .filled;
-          inputsPositive = h .«input_values» .positive;
-          someOutput = h .«output_values» .filled;
-          outputsPositive = h .«output_values» .positive;
+          someInput = h .inputs .filled;
+          inputsPositive = h .inputs .positive;
+          someOutput = h .outputs .filled;
+          outputsPositive = h .outputs .positive;
           inputsFit = o .inputsFit;
           outputsFit = o .outputsFit;
           gateCount = g .count ∙ o .gateLines ∙ o .count;

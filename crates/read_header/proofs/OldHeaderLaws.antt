@@ -120,7 +120,7 @@ module _ (t : List ℕ) (a : ℕ) (sa : Scanned isBlank t 0 a) where
 
     pub an-old-header : (p : Parties) (to : ℕ) → PartiesAt t b′ p to → (outs₀ : List ℕ) {ins outs : List ℕ} {n : ℕ} → (n ≡ length (inputValues p)) × Kept ins (inputValues p)
         → outs ≡ set outs₀ 0 (p .output)
-        → HeaderOf Old t ins outs (record { gates = g; wires = w; inputs = n; ins = p .one + p .two; outputs = 1; outs = p .output }) to
+        → HeaderOf Old t ins outs (record { gates = g; wires = w; «input_values» = n; «input_bits» = p .one + p .two; «output_values» = 1; «output_bits» = p .output }) to
     an-old-header p to x outs₀ {ins} {outs} {n} k o =
         let two : wordLines t ≡ lineWords (drop a t) ∷ (lineWords (drop b′ t) ∷ wordLines (drop to t))
         = one t a sa g w b c b′ sb

@@ -59,7 +59,7 @@ fn read_header_in(text: &[u8], inputs: &mut [u32], outputs: &mut [u32], d: Diale
 }
 
 // Questions 2 to 6 in a dialect, but for the number of gate lines. The widths go into the tables, as many as they have room for.
-pub fn read_head_in(
+pub fn read_opening_in(
     text: &[u8],
     l: Limits,
     inputs: &mut [u32],
@@ -92,5 +92,5 @@ pub fn read_opening(text: &[u8], l: Limits, inputs: &mut [u32], outputs: &mut [u
     requires { ⌜ l .text < 2 ^ 32 ⌝ }
     ensures { λ r. ⌜ HeadIs l (now (text .entry)) (now (inputs .exit)) (now (outputs .exit)) r ⌝ }
 {
-    read_head_in(text, l, inputs, outputs, Dialect::Fashion)
+    read_opening_in(text, l, inputs, outputs, Dialect::Fashion)
 }

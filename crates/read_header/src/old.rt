@@ -70,10 +70,10 @@ pub fn read_old_header(text: &[u8], inputs: &mut [u32], outputs: &mut [u32]) -> 
         HeaderNumbers {
             gates: gates,
             wires: wires,
-            inputs: values,
-            ins: p.one as u64 + p.two as u64,
-            outputs: 1,
-            outs: p.output as u64,
+            input_values: values,
+            input_bits: p.one as u64 + p.two as u64,
+            output_values: 1,
+            output_bits: p.output as u64,
         },
         at2,
     )

@@ -6,7 +6,7 @@ use netlist::Limits;
 use old_form::Dialect;
 use read_header::HeaderNumbers;
 use read_header::head::Head;
-use read_header::head::read_head_in;
+use read_header::head::read_opening_in;
 use read_text::cursor::Cursor;
 ghost use mathlib.Core.Path.{_≡_};
 ghost use mathlib.Core.List.{[], _∷_};
@@ -62,7 +62,7 @@ fn read_text(
     ensures { λ r. ⌜ TextIs d l (now (text .entry)) (now (inputs .exit)) (now (outputs .exit))
         (tables (now (operands .exit)) (now (results .exit))) r ⌝ }
 {
-    match read_head_in(text, l, inputs, outputs, d) {
+    match read_opening_in(text, l, inputs, outputs, d) {
         Head::Refused(question) => Reading::Refused(question),
         Head::Is(h, at) => match read_body(text, at, h, marks, operands, results, d) {
             Gates::Refused(question) => Reading::Refused(question),

@@ -28,5 +28,5 @@ promised {s} {text} {out} {out′} {o} {o′} {r} {r′} {g} {g′} {a} c =
       same = λ n N p e. ap (readNetlist (large s)) (wrote n N p e .1) ∙ rewritten (roomy-large s) N text e;
       operands = c .operands;
       results = c .results;
-      marks = c .given;
+      marks = c .marks;
     }

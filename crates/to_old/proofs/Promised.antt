@@ -36,5 +36,5 @@ promised {s} {text} {out} {out′} {o} {o′} {r} {r′} {g} {g′} {a} c =
           };
       operands = c .operands;
       results = c .results;
-      marks = c .given;
+      marks = c .marks;
     }
