@@ -146,6 +146,19 @@ static bool read_header(struct cursor *c, struct header *h)
         && read_values(c, &h->in) && read_values(c, &h->out);
 }
 
+/* Question 4 in the older dialect: the bits of party one, of party two, which may be 0, and of the output. */
+static bool read_old_header(struct cursor *c, struct header *h)
+{
+    uint32_t one, two, output;
+    if (!next_line(c) || !number(c, &h->gates) || !number(c, &h->wires) || !line_end(c))
+        return false;
+    if (!next_line(c) || !number(c, &one) || !number(c, &two) || !number(c, &output) || !line_end(c))
+        return false;
+    h->in = (struct values){two == 0 ? 1 : 2, {one, two}, (uint64_t)one + two};
+    h->out = (struct values){1, {output}, output};
+    return one != 0 && output != 0;
+}
+
 /* The kind of a gate by its name, and to the line's end; -1 where there is no such gate. */
 static inline int gate_name(struct cursor *c, bool two)
 {
@@ -168,7 +181,8 @@ static inline int gate_name(struct cursor *c, bool two)
 }
 
 /* One gate line: questions 7 to 9. Returns 0, or the number of the first no. */
-static inline int read_gate(struct cursor *c, uint32_t wires, uint8_t *given, uint64_t *operands, uint64_t *result)
+static inline int read_gate(struct cursor *c, uint32_t wires, uint8_t *given, uint64_t *operands, uint64_t *result,
+                            bool old)
 {
     uint32_t a, b, r;
     bool two = *c->at == '2';
@@ -180,7 +194,7 @@ static inline int read_gate(struct cursor *c, uint32_t wires, uint8_t *given, ui
     if (!number(c, &r))
         return 7;
     int kind = gate_name(c, two);
-    if (kind < 0)
+    if (kind < 0 || (old && kind > INV))
         return 7;
     if (kind == EQ0) {
         if (a > 1)
@@ -214,7 +228,8 @@ static size_t lines_left(struct cursor c)
 }
 
 /* All gate lines into the tables: questions 6 to 9. Returns 0, or the number of the first no. */
-static int read_gates(struct cursor c, const struct header *h, uint64_t *operands, uint64_t *results, uint8_t *given)
+static int read_gates(struct cursor c, const struct header *h, uint64_t *operands, uint64_t *results, uint8_t *given,
+                      bool old)
 {
     uint32_t bits = (uint32_t)h->in.bits, gates = h->gates, wires = h->wires;
     if (gates != wires - bits)
@@ -224,28 +239,34 @@ static int read_gates(struct cursor c, const struct header *h, uint64_t *operand
     for (uint32_t i = 0; i < gates; i++) {
         if (!next_line(&c))
             return 6;
-        int no = read_gate(&c, wires, given, &operands[i], &results[i]);
+        int no = read_gate(&c, wires, given, &operands[i], &results[i], old);
         if (no != 0)
             return lines_left(c) == gates - i - 1 ? no : 6;
     }
     return next_line(&c) ? 6 : 0;
 }
 
-/* A text into tables that are long enough: questions 2 to 9. */
-static int read_netlist(const struct limits *l, const uint8_t *text, size_t length, struct header *h,
-                        uint64_t *operands, uint64_t *results, uint8_t *given)
+/* A text, in the older dialect or in Fashion, into tables that are long enough: questions 2 to 9. */
+static int read_text(const struct limits *l, const uint8_t *text, size_t length, struct header *h,
+                     uint64_t *operands, uint64_t *results, uint8_t *given, bool old)
 {
     if (length > l->text)
         return 2;
     if (!bytes_good(text, length))
         return 3;
     struct cursor c = {text, text + length};
-    if (!read_header(&c, h))
+    if (!(old ? read_old_header(&c, h) : read_header(&c, h)))
         return 4;
     if (h->wires > l->wires || h->in.count > l->inputs || h->out.count > l->outputs
         || h->in.bits > h->wires || h->out.bits > h->wires)
         return 5;
-    return read_gates(c, h, operands, results, given);
+    return read_gates(c, h, operands, results, given, old);
+}
+
+static int read_netlist(const struct limits *l, const uint8_t *text, size_t length, struct header *h,
+                        uint64_t *operands, uint64_t *results, uint8_t *given)
+{
+    return read_text(l, text, length, h, operands, results, given, false);
 }
 
 /* Questions 11 and 13: a list has one entry for each bit, each from low to high. */
@@ -448,11 +469,43 @@ static void put_header(struct sink *s, const struct header *h)
         s->size++;
 }
 
+/* A line of numbers. */
+static void put_numbers(struct sink *s, const uint32_t *numbers, int count)
+{
+    for (int i = 0; i < count; i++) {
+        if (s->purpose == MEASURING) {
+            s->size += digits(numbers[i]) + 1;
+            continue;
+        }
+        s->at = put_number(s->at, numbers[i]);
+        *s->at++ = i + 1 < count ? ' ' : '\n';
+    }
+}
+
+/* The older dialect's header and its blank line. */
+static void put_old_header(struct sink *s, const struct header *h)
+{
+    put_numbers(s, (uint32_t[]){h->gates, h->wires}, 2);
+    put_numbers(s, (uint32_t[]){h->in.width[0], h->in.count == 2 ? h->in.width[1] : 0, h->out.width[0]}, 3);
+    if (s->purpose == WRITING)
+        *s->at++ = '\n';
+    else
+        s->size++;
+}
+
+static void put_either_header(struct sink *s, const struct header *h, bool old)
+{
+    if (old)
+        put_old_header(s, h);
+    else
+        put_header(s, h);
+}
+
 /* The header's length and that of as many of the longest lines as there are gates. */
-static size_t most_bytes(const struct header *h)
+static size_t most_bytes(const struct header *h, bool old)
 {
     struct sink header = {MEASURING, NULL, 0};
-    put_header(&header, h);
+    put_either_header(&header, h, old);
     return header.size + (size_t)h->gates * (11 + 3 * digits(h->wires));
 }
 
@@ -464,20 +517,26 @@ ALWAYS void put_gates(struct sink *s, uint32_t gates, const uint64_t *operands, 
 
 /* ---- Rewrite */
 
-static int64_t rewrite(const struct header *h, const uint64_t *operands, const uint64_t *results,
-                       uint8_t *out, size_t out_len)
+static int64_t write_form(const struct header *h, const uint64_t *operands, const uint64_t *results,
+                          uint8_t *out, size_t out_len, bool old)
 {
-    if (out_len < most_bytes(h)) {
+    if (out_len < most_bytes(h, old)) {
         struct sink measure = {MEASURING, NULL, 0};
-        put_header(&measure, h);
+        put_either_header(&measure, h, old);
         put_gates(&measure, h->gates, operands, results);
         if (measure.size > out_len)
             return -14;
     }
     struct sink text = {WRITING, out, 0};
-    put_header(&text, h);
+    put_either_header(&text, h, old);
     put_gates(&text, h->gates, operands, results);
     return text.at - out;
+}
+
+static int64_t rewrite(const struct header *h, const uint64_t *operands, const uint64_t *results,
+                       uint8_t *out, size_t out_len)
+{
+    return write_form(h, operands, results, out, out_len, false);
 }
 
 int64_t baseline_rewrite(const uint8_t *text, size_t text_len,
@@ -500,6 +559,59 @@ int64_t baseline_rewrite(const uint8_t *text, size_t text_len,
     memset(results, 0, results_len * sizeof *results);
     memset(given, 0, given_len);
     return answer;
+}
+
+/* ---- the older dialect */
+
+/* Question 15. */
+static bool has_old_form(const struct header *h, const uint64_t *results)
+{
+    bool other = h->in.count > 2 || h->out.count > 1;
+    for (uint32_t i = 0; i < h->gates; i++)
+        other |= high(results[i]) > INV;
+    return !other;
+}
+
+/* A text from one dialect to the other. */
+static int64_t convert(const uint8_t *text, size_t text_len, uint8_t *out, size_t out_len,
+                       uint64_t *operands, size_t operands_len, uint64_t *results, size_t results_len,
+                       uint8_t *given, size_t given_len, uint8_t sizes, bool to_old)
+{
+    const struct limits *l = &large_limits[sizes != 0];
+    struct header h;
+    int64_t answer;
+    if (operands_len < l->table || results_len < l->table || given_len < l->table)
+        answer = -1;
+    else
+        answer = -read_text(l, text, text_len, &h, operands, results, given, !to_old);
+    if (answer == 0 && to_old && !has_old_form(&h, results))
+        answer = -15;
+    if (answer == 0)
+        answer = write_form(&h, operands, results, out, out_len, to_old);
+    memset(operands, 0, operands_len * sizeof *operands);
+    memset(results, 0, results_len * sizeof *results);
+    memset(given, 0, given_len);
+    return answer;
+}
+
+int64_t baseline_from_old(const uint8_t *text, size_t text_len,
+                          uint8_t *out, size_t out_len,
+                          uint64_t *operands, size_t operands_len,
+                          uint64_t *results, size_t results_len,
+                          uint8_t *given, size_t given_len,
+                          uint8_t sizes)
+{
+    return convert(text, text_len, out, out_len, operands, operands_len, results, results_len, given, given_len, sizes, false);
+}
+
+int64_t baseline_to_old(const uint8_t *text, size_t text_len,
+                        uint8_t *out, size_t out_len,
+                        uint64_t *operands, size_t operands_len,
+                        uint64_t *results, size_t results_len,
+                        uint8_t *given, size_t given_len,
+                        uint8_t sizes)
+{
+    return convert(text, text_len, out, out_len, operands, operands_len, results, results_len, given, given_len, sizes, true);
 }
 
 /* ---- evaluating, 64 settings at once */
@@ -739,7 +851,7 @@ static int64_t mask(const struct header *h, const uint64_t *operands, const uint
     masked.in.width[masked.in.count++] = 2;
     if (h->out.bits > out_codes_len)
         return -14;
-    if (out_len < most_bytes(&masked)) {
+    if (out_len < most_bytes(&masked, false)) {
         struct masking measure = {n, 0, {MEASURING, NULL, 0}};
         put_header(&measure.text, &masked);
         mask_gates(&measure, h, codes, wanted, operands, results, wires, marks);

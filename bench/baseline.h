@@ -61,6 +61,20 @@ int64_t baseline_check(const uint8_t *text, size_t text_len,
                        uint64_t *base, size_t base_len,
                        uint8_t sizes);
 
+int64_t baseline_from_old(const uint8_t *text, size_t text_len,
+                          uint8_t *out, size_t out_len,
+                          uint64_t *operands, size_t operands_len,
+                          uint64_t *results, size_t results_len,
+                          uint8_t *given, size_t given_len,
+                          uint8_t sizes);
+
+int64_t baseline_to_old(const uint8_t *text, size_t text_len,
+                        uint8_t *out, size_t out_len,
+                        uint64_t *operands, size_t operands_len,
+                        uint64_t *results, size_t results_len,
+                        uint8_t *given, size_t given_len,
+                        uint8_t sizes);
+
 int64_t baseline_from_aiger(const uint8_t *text, size_t text_len,
                             uint8_t *out, size_t out_len,
                             uint64_t *operands, size_t operands_len,

@@ -28,7 +28,7 @@ static const size_t large_table[2] = {FIDROVELJ_LARGE_TABLE, FIDROVELJ_WHOLE_LAR
 static const size_t small_table[2] = {FIDROVELJ_SMALL_TABLE, FIDROVELJ_WHOLE_SMALL_TABLE};
 
 struct services {
-    __typeof__(&fidrovelj_rewrite) rewrite;
+    __typeof__(&fidrovelj_rewrite) rewrite, from_old, to_old;
     __typeof__(&fidrovelj_run) run;
     __typeof__(&fidrovelj_run64) run64;
     __typeof__(&fidrovelj_mask) mask;
@@ -36,12 +36,12 @@ struct services {
     __typeof__(&fidrovelj_twins) twins;
 };
 
-static const struct services library = {fidrovelj_rewrite, fidrovelj_run,   fidrovelj_run64,
-                                        fidrovelj_mask,    fidrovelj_check, fidrovelj_twins};
-static const struct services baseline = {baseline_rewrite, baseline_run,   baseline_run64,
-                                         baseline_mask,    baseline_check, baseline_twins};
+static const struct services library = {fidrovelj_rewrite, fidrovelj_from_old, fidrovelj_to_old, fidrovelj_run, fidrovelj_run64,
+                                        fidrovelj_mask,    fidrovelj_check,    fidrovelj_twins};
+static const struct services baseline = {baseline_rewrite, baseline_from_old, baseline_to_old, baseline_run, baseline_run64,
+                                         baseline_mask,    baseline_check,    baseline_twins};
 
-enum service { READ_LARGE, READ_SMALL, REWRITE, RUN, RUN64, MASK, MASK_UNWRITTEN, TWINS, CHECK };
+enum service { READ_LARGE, READ_SMALL, REWRITE, FROM_OLD, TO_OLD, RUN, RUN64, MASK, MASK_UNWRITTEN, TWINS, CHECK };
 
 /* A call, and the work it stands for. */
 struct call {
@@ -87,6 +87,10 @@ static int64_t perform(const struct services *s, const struct call *c)
                         c->sizes);
     case REWRITE:
         return s->rewrite(c->text, c->length, out, ROOM, operands, n, results, n, given, n, c->sizes);
+    case FROM_OLD:
+        return s->from_old(c->text, c->length, out, ROOM, operands, n, results, n, given, n, c->sizes);
+    case TO_OLD:
+        return s->to_old(c->text, c->length, out, ROOM, operands, n, results, n, given, n, c->sizes);
     default:
         return s->check(c->text, c->length, list, c->inputs - 2, leak, 4, operands, n, results, n, given, n, words, n,
                         base, n, c->sizes);
@@ -153,6 +157,22 @@ static struct call masked(enum service service, struct call source)
     snprintf(name, sizeof name, "%.50s, masked", source.name);
     struct call c = call(service, name, (const char *)out, (size_t)length);
     c.sizes = source.sizes;
+    free(source.text);
+    return c;
+}
+
+/* The call from the older dialect on what the call to it gives. */
+static struct call from_old(struct call source)
+{
+    source.service = TO_OLD;
+    int64_t length = perform(&baseline, &source);
+    if (length < 0)
+        die("has no old form", source.name);
+    struct call c = source;
+    c.service = FROM_OLD;
+    c.length = (size_t)length;
+    c.text = malloc(c.length);
+    memcpy(c.text, out, c.length);
     free(source.text);
     return c;
 }
@@ -460,8 +480,13 @@ int main(int argc, char **argv)
     times_lf(bench(with_crlf(circuit(READ_SMALL, folder, "aes_sub_bytes")), s), sub_bytes);
 
     title("Rewriting");
-    beyond(bench(circuit(REWRITE, folder, "mult64"), s), mult64);
+    struct line written = bench(circuit(REWRITE, folder, "mult64"), s);
+    beyond(written, mult64);
     beyond(bench(masked(REWRITE, circuit(MASK, folder, "and_ladder_2048")), s), ladder);
+
+    title("To the older dialect, and from it");
+    times(bench(circuit(TO_OLD, folder, "mult64"), s), written, "  times Rewrite's time");
+    times(bench(from_old(circuit(TO_OLD, folder, "mult64")), s), written, "  times Rewrite's time");
 
     title("Masking");
     beyond(bench(circuit(MASK, folder, "and_ladder_2048"), s), source);

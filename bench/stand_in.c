@@ -92,3 +92,25 @@ int64_t fidrovelj_from_aiger(const uint8_t *text, size_t text_len,
     return baseline_from_aiger(text, text_len, out, out_len, operands, operands_len, results, results_len, variables,
                                variables_len, sizes);
 }
+
+int64_t fidrovelj_from_old(const uint8_t *text, size_t text_len,
+                           uint8_t *out, size_t out_len,
+                           uint64_t *operands, size_t operands_len,
+                           uint64_t *results, size_t results_len,
+                           uint8_t *given, size_t given_len,
+                           uint8_t sizes)
+{
+    return baseline_from_old(text, text_len, out, out_len, operands, operands_len, results, results_len, given, given_len,
+                        sizes);
+}
+
+int64_t fidrovelj_to_old(const uint8_t *text, size_t text_len,
+                         uint8_t *out, size_t out_len,
+                         uint64_t *operands, size_t operands_len,
+                         uint64_t *results, size_t results_len,
+                         uint8_t *given, size_t given_len,
+                         uint8_t sizes)
+{
+    return baseline_to_old(text, text_len, out, out_len, operands, operands_len, results, results_len, given, given_len,
+                        sizes);
+}

@@ -6,7 +6,7 @@
  * What holds of every function
  *
  * - It returns 0 or more for a result, or less than 0 for a refusal: minus the question's number,
- *   -1 to -14, or -19 or -20 for an AIGER file.
+ *   -1 to -15, or -19 or -20 for an AIGER file.
  * - A slice is a pointer and then its length, counted in entries. The pointer is not null, also
  *   where the length is 0. Slices that the function writes overlap no other.
  * - The last parameter chooses the limits: FIDROVELJ_OLD, or FIDROVELJ_WHOLE for whole ciphers. Any
@@ -41,6 +41,8 @@
  * 12  Check: are there at most 12 input bits besides the mask pair?
  * 13  Mask: has the wanted list one entry for each output bit, each 0 to 3?
  * 14  Can each result buffer hold its whole result?
+ * 15  To the older dialect, after 9 and before 14: are the gates XOR, AND and INV, and are there at
+ *     most two input values and one output value?
  */
 #ifndef FIDROVELJ_H
 #define FIDROVELJ_H
@@ -77,6 +79,28 @@ int64_t fidrovelj_rewrite(const uint8_t *text, size_t text_len,
                           uint64_t *results, size_t results_len,
                           uint8_t *marks, size_t marks_len,
                           uint8_t sizes);
+
+/* From the older dialect: reads a text with the older Bristol header, whose first line has the gate
+ * count and the wire count and whose second has the bits of party one, of party two and of the output,
+ * and writes its netlist to out in the written form: input values of those widths, party two left out
+ * when it is 0, one output value, and the gates unchanged. Its gates are XOR, AND and INV; any other
+ * is refused by 7. Party one and the output are 1 or more, else 4. Returns the length in bytes. */
+int64_t fidrovelj_from_old(const uint8_t *text, size_t text_len,
+                           uint8_t *out, size_t out_len,
+                           uint64_t *operands, size_t operands_len,
+                           uint64_t *results, size_t results_len,
+                           uint8_t *marks, size_t marks_len,
+                           uint8_t sizes);
+
+/* To the older dialect: writes the netlist to out in the written form under the older header, party
+ * two 0 where there is one input value. Question 15 is put after 9 and before 14. Returns the length
+ * in bytes. What fidrovelj_from_old reads of it is the same netlist. */
+int64_t fidrovelj_to_old(const uint8_t *text, size_t text_len,
+                         uint8_t *out, size_t out_len,
+                         uint64_t *operands, size_t operands_len,
+                         uint64_t *results, size_t results_len,
+                         uint8_t *marks, size_t marks_len,
+                         uint8_t sizes);
 
 /* Run: evaluates the netlist on list, a 0 or 1 for each input bit, and writes a 0 or 1 for each
  * output bit to out. Returns how many. */

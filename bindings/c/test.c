@@ -70,6 +70,20 @@ static int64_t rewrite(const char *text, size_t room)
     return answer;
 }
 
+static int64_t converted(__typeof__(&fidrovelj_rewrite) call, const char *text, size_t room)
+{
+    fill();
+    int64_t answer = call((const uint8_t *)text, strlen(text), out, room, operands, LARGE, results, LARGE, given, LARGE,
+                          FIDROVELJ_OLD);
+    expect(all(operands, sizeof operands, 0) && all(results, sizeof results, 0) && all(given, sizeof given, 0),
+           "a conversion's tables are zero");
+    expect_untouched(answer > 0 ? (size_t)answer : 0, 0, "a conversion touches its result alone");
+    return answer;
+}
+
+static int64_t from_old(const char *text, size_t room) { return converted(fidrovelj_from_old, text, room); }
+static int64_t to_old(const char *text, size_t room) { return converted(fidrovelj_to_old, text, room); }
+
 /* A list is a string of digits. */
 static const uint8_t *entries(const char *digits)
 {
@@ -374,6 +388,43 @@ static uint32_t whole_wires[WHOLE_SMALL];
 static uint8_t whole_given[WHOLE], whole_codes[WHOLE], whole_out[FIDROVELJ_WHOLE_LARGE_TEXT];
 static uint8_t whole_list[WHOLE];
 
+/* ---- the older dialect */
+
+static void old_dialect(void)
+{
+    const char *old = "1 3\n1 1 1\n\n2 1 0 1 2 AND\n", *fashion = "1 3\n2 1 1\n1 1\n\n2 1 0 1 2 AND\n";
+    expect(text_is(from_old(old, ROOM), fashion), "from the older dialect");
+    expect(text_is(to_old(fashion, ROOM), old), "to the older dialect");
+    expect(text_is(from_old("1 2\n1 0 1\n1 1 0 1 INV", ROOM), "1 2\n1 1\n1 1\n\n1 1 0 1 INV\n"), "party two of 0");
+    expect(text_is(to_old("1 2\n1 1\n1 1\n1 1 0 1 INV", ROOM), "1 2\n1 0 1\n\n1 1 0 1 INV\n"), "one input value");
+    expect(text_is(from_old("1 3\r\n1 1 1\r\n2 1 0 1 2 AND\r\n", ROOM), fashion), "from the older dialect, CR LF");
+
+    expect(from_old(old, strlen(fashion)) == (int64_t)strlen(fashion), "from the older dialect, an exact fit");
+    expect(from_old(old, strlen(fashion) - 1) == -14, "from the older dialect, question 14");
+    expect(from_old("1 3\n1 1 1\n2 1 0 1 2 AND.", ROOM) == -3, "from the older dialect, question 3");
+    expect(from_old("1 3\n0 2 1\n2 1 0 1 2 AND\n", ROOM) == -4, "party one of 0");
+    expect(from_old("1 3\n1 1 0\n2 1 0 1 2 AND\n", ROOM) == -4, "an output of 0");
+    expect(from_old("0 2\n2 1 1\n", ROOM) == -5, "from the older dialect, question 5");
+    expect(from_old("1 3\n1 1 1\n1 1 0 2 EQW\nX\n", ROOM) == -6, "from the older dialect, question 6");
+    expect(from_old("1 3\n1 1 1\n1 1 2 2 EQW\n", ROOM) == -7, "EQW in an old text");
+    expect(from_old("1 3\n1 1 1\n1 1 2 2 EQ\n", ROOM) == -7, "EQ in an old text");
+    expect(from_old("1 3\n1 1 1\n2 1 0 1 2 MAND\n", ROOM) == -7, "MAND in an old text");
+    expect(from_old("1 3\n1 1 1\n2 1 0 2 2 AND\n", ROOM) == -8, "from the older dialect, question 8");
+    expect(from_old("1 3\n1 1 1\n2 1 0 1 1 AND\n", ROOM) == -9, "from the older dialect, question 9");
+
+    expect(to_old(fashion, strlen(old)) == (int64_t)strlen(old), "to the older dialect, an exact fit");
+    expect(to_old(fashion, strlen(old) - 1) == -14, "to the older dialect, question 14");
+    expect(to_old("1 4\n3 1 1 1\n1 1\n2 1 0 1 3 AND\n", ROOM) == -15, "three input values");
+    expect(to_old("1 3\n2 1 1\n2 1 1\n2 1 0 1 2 AND\n", ROOM) == -15, "two output values");
+    expect(to_old("1 3\n2 1 1\n1 1\n1 1 0 2 EQW\n", 0) == -15, "15 before 14");
+    expect(to_old("1 3\n2 1 1\n1 1\n1 1 1 2 EQ\n", ROOM) == -15, "EQ to the older dialect");
+    expect(to_old("1 4\n3 1 1 1\n1 1\n2 1 0 1 1 AND\n", ROOM) == -9, "9 before 15");
+    expect(to_old(old, ROOM) == -4, "an old text is not in Fashion");
+    fill();
+    expect(fidrovelj_to_old((const uint8_t *)fashion, strlen(fashion), out, ROOM, operands, LARGE, results, LARGE - 1, given,
+                            LARGE, FIDROVELJ_OLD) == -1, "to the older dialect, question 1");
+}
+
 static int64_t whole_rewrite(const char *text, size_t table, uint8_t sizes)
 {
     return fidrovelj_rewrite((const uint8_t *)text, strlen(text), whole_out, sizeof whole_out, whole_operands, table,
@@ -413,6 +464,7 @@ int main(void)
     public_bits();
     sixty_four();
     source_wires();
+    old_dialect();
     whole_limits();
     printf("C: %d checks, %d failed\n", checks, failures);
     return failures == 0 ? EXIT_SUCCESS : EXIT_FAILURE;

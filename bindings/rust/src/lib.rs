@@ -6,7 +6,8 @@
 //! - [`twins`] says where each source wire stands in the masked netlist,
 //! - [`check`] says whether a netlist is clean, or names a leak on one of its wires,
 //! - [`run`] evaluates a netlist, [`run64`] on sixty-four settings at once,
-//! - [`rewrite`] gives a netlist in its written form.
+//! - [`rewrite`] gives a netlist in its written form; [`from_old`] and [`to_old`] convert from and to the older
+//!   Bristol dialect.
 //!
 //! Each call puts a list of questions in order, and the first no refuses it with that question's
 //! number ([`Refused`]). The services lend the library its working tables and result buffers from a
@@ -35,11 +36,13 @@ use std::fmt;
 
 mod aiger;
 pub mod lent;
+mod old;
 mod tables;
 mod twins;
 mod words;
 
 pub use aiger::{from_aiger, from_aiger_lent};
+pub use old::{from_old, from_old_lent, to_old, to_old_lent};
 pub use tables::{Sizes, Tables};
 pub use twins::{twins, twins_lent, Twin};
 pub use words::{from_words, to_words};
@@ -50,7 +53,7 @@ pub use words::{from_words, to_words};
 #[doc = include_str!("../../../docs/LIBRARY.md")]
 struct Pages;
 
-/// A call was refused: the number of the first question that was answered no, 1 to 14.
+/// A call was refused: the number of the first question that was answered no, 1 to 15.
 ///
 /// 1. Has every lent working table enough entries?
 /// 2. Is the text short enough?
@@ -66,6 +69,7 @@ struct Pages;
 /// 12. Check: are there at most 12 input bits besides the mask pair?
 /// 13. Mask: has the wanted list one fitting entry for each output bit?
 /// 14. Can each result buffer hold its whole result?
+/// 15. To the older dialect, after 9: only XOR, AND and INV, at most two input values and one output value?
 #[derive(Clone, Copy, Debug, PartialEq, Eq, Hash)]
 pub struct Refused(pub u8);
 

@@ -9,6 +9,8 @@ ghost use lib.IntN.{pos, negℤ};
 ghost use lib.ListN.{set};
 ghost use lib.Seq.{sets};
 ghost use Rattle.rewrite.specs.Promise.{Promise as RewritePromise};
+ghost use Rattle.from_old.specs.Promise.{Promise as FromOldPromise};
+ghost use Rattle.to_old.specs.Promise.{Promise as ToOldPromise};
 ghost use Rattle.run.specs.Promise.{Promise as RunPromise};
 ghost use Rattle.run64.specs.Promise.{Promise as Run64Promise};
 ghost use Rattle.mask.specs.Promise.{Promise as MaskPromise};
@@ -92,6 +94,38 @@ pub extern "C" fn fidrovelj_rewrite(
         (now (operands .exit)) (now (results .entry)) (now (results .exit)) (now (marks .entry)) (now (marks .exit))) r ⌝ }
 {
     number(rewrite::rewrite(text, out, operands, results, marks, sizes(whole)))
+}
+
+// From the older dialect to Fashion: how many bytes the written form has at the front of `out`.
+#[no_mangle]
+pub extern "C" fn fidrovelj_from_old(
+    text: &[u8],
+    out: &mut [u8],
+    operands: &mut [u64],
+    results: &mut [u64],
+    marks: &mut [u8],
+    whole: u8,
+) -> i64
+    ensures { λ r. ⌜ Told (FromOldPromise (sizesOf whole) (now (text .entry)) (now (out .entry)) (now (out .exit))
+        (now (operands .entry)) (now (operands .exit)) (now (results .entry)) (now (results .exit)) (now (marks .entry)) (now (marks .exit))) r ⌝ }
+{
+    number(from_old::from_old(text, out, operands, results, marks, sizes(whole)))
+}
+
+// From Fashion to the older dialect: how many bytes the old written form has at the front of `out`.
+#[no_mangle]
+pub extern "C" fn fidrovelj_to_old(
+    text: &[u8],
+    out: &mut [u8],
+    operands: &mut [u64],
+    results: &mut [u64],
+    marks: &mut [u8],
+    whole: u8,
+) -> i64
+    ensures { λ r. ⌜ Told (ToOldPromise (sizesOf whole) (now (text .entry)) (now (out .entry)) (now (out .exit))
+        (now (operands .entry)) (now (operands .exit)) (now (results .entry)) (now (results .exit)) (now (marks .entry)) (now (marks .exit))) r ⌝ }
+{
+    number(to_old::to_old(text, out, operands, results, marks, sizes(whole)))
 }
 
 // Run: how many output bits stand at the front of `out`.

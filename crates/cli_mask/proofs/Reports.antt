@@ -19,9 +19,9 @@ use Rattle.netlist.specs.Programs.{listFile, printList, printMask, maskProgram,
 use Rattle.netlist.proofs.Answering.{take-sets}
 use Rattle.netlist.proofs.Questions.{done-same}
 use Rattle.netlist.proofs.Masking.{output-codes-length}
+use Rattle.mask_pass.proofs.Made.{made}
 use Rattle.mask_text.specs.Whole.{MaskAnswers}
 use Rattle.mask.specs.Promise.{call}
-use Rattle.mask.proofs.Promised.{made}
 use Rattle.program_text.specs.Front.{Front}
 use Rattle.program_text.proofs.Reporting.{readable-long, readable-short, answered}
 use Rattle.cli_mask.specs.declared.Printed.{Printed}
@@ -64,7 +64,7 @@ module _ (netlist codes wanted : List ℕ) {t e o r w m : List ℕ} (room : Room
       → Answered c x y (length wanted) a
   masked-answered {x} {y} (refused q) p h = answered-refused x y (length wanted) q (h .text .answer)
   masked-answered {x} {y} (done R) p h =
-      let M = made Old netlist codes wanted t e o r w m R p in
+      let M = made Old (length o ∷ length r ∷ length m ∷ length w ∷ []) netlist codes wanted (length t) (length e) R p in
       let same = ap (λ (Q : MaskedText). length (Q .codes)) (M .same) in
       let many : length (R .codes) ≡ length wanted = sym same ∙ output-codes-length (M .inputs) ∙ sym (M .inputs .wantedLength) in
       let fits : length (R .codes) ≤ length e = omega (arith, M .room, same) in

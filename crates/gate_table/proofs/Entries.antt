@@ -30,7 +30,7 @@ more : (m k : ℕ) → m ≤ k → eqb k m ≡ false → m + 1 ≤ k
 more m k l e = let d : k ≡ m → ⊥ = eqb-false k m e in omega arith
 
 -- a kind is a constant's, or one of four
-by-kind : (P : ℕ → Type 0) → P 1 → P 2 → P 3 → P 4 → (k : ℕ) → (eqb k 0 || ltb 4 k) ≡ false → P k
+pub by-kind : (P : ℕ → Type 0) → P 1 → P 2 → P 3 → P 4 → (k : ℕ) → (eqb k 0 || ltb 4 k) ≡ false → P k
 by-kind P p₁ p₂ p₃ p₄ k e =
     let n = neither (eqb k 0) (ltb 4 k) e in
     let u : k ≤ 4 = ltb-false 4 k (n .1) in

@@ -9,14 +9,18 @@ use lib.Dec.{T, eqb, leb, leb→le, eqb→eq}
 use lib.ListN.{length, take, drop}
 use borrow.Author.Tests.{lt-leb, le-leb}
 use Rattle.netlist.specs.declared.Limits.{Limits}
-use Rattle.netlist.specs.Outcome.{done, ask}
+use Rattle.netlist.specs.Outcome.{done, ask, given, andThen}
 use Rattle.netlist.specs.Text.{wordLines}
-use Rattle.netlist.specs.Header.{header}
-use Rattle.netlist.specs.Read.{bytesAllowed, opening}
+use Rattle.netlist.specs.Header.{Header, withinLimits}
+use Rattle.netlist.specs.Read.{bytesAllowed, countsAgree, opening}
 use Rattle.netlist.proofs.Tests.{both, true-T}
 use Rattle.read_text.specs.declared.cursor.Cursor.{Cursor}
-use Rattle.read_header.specs.HeaderAnswers.{Kept, HeaderAt}
-use Rattle.read_header.specs.HeadAnswers.{withinNumbers, gatesCounted, Inside, HeadAt, HeadNot, HeadIs}
+use Rattle.old_form.specs.declared.Dialect.{Dialect}
+use Rattle.old_form.specs.declared.Dialect.the-variants.{Fashion, Old}
+use Rattle.old_form.specs.OldRead.{oldOpening}
+use Rattle.old_form.specs.Dialects.{headerIn, headerLines, openingIn}
+use Rattle.read_header.specs.HeaderAnswers.{Kept, HeaderOf}
+use Rattle.read_header.specs.HeadAnswers.{withinNumbers, gatesCounted, Inside, HeadOf, NoHead, HeadSays}
 use Rattle.read_header.specs.declared.HeaderNumbers.{HeaderNumbers}
 use Rattle.read_header.specs.declared.head.Head.{Head}
 use Rattle.read_header.specs.declared.head.Head.the-variants as H
@@ -57,45 +61,56 @@ module _ (L : Limits) (h : HeaderNumbers) (e : withinNumbers L h ≡ true) where
 
 -- ---- the questions
 
-module _ (L : Limits) (t : List ℕ) where
-  pub head-2 : L .text < length t → HeadNot L t 2
-  unfolding opening
-  head-2 k = record { refuses = rw (lt-leb _ _ k) }
+-- in both dialects the same ones, of another header
+opening-of : (d : Dialect) (L : Limits) (t : List ℕ) → openingIn d L t
+    ≡ ask 2 (leb (length t) (L .text))
+    (ask 3 (bytesAllowed t)
+    (andThen (given 4 (headerIn d (wordLines t))) λ (H : Header).
+    ask 5 (withinLimits L H)
+    (ask 6 (countsAgree H (drop (headerLines d) (wordLines t)))
+    (done H))))
+unfolding opening oldOpening
+opening-of Fashion L t = refl
+opening-of Old L t = refl
+
+module _ (d : Dialect) (L : Limits) (t : List ℕ) where
+  pub head-2 : L .text < length t → NoHead d L t 2
+  head-2 k = record { refuses = opening-of d L t ∙ rw (lt-leb _ _ k) }
 
   module _ (k : length t ≤ L .text) where
-    pub head-3 : bytesAllowed t ≡ false → HeadNot L t 3
-    unfolding opening
-    head-3 e = record { refuses = rw (le-leb _ _ k, e) }
+    pub head-3 : bytesAllowed t ≡ false → NoHead d L t 3
+    head-3 e = record { refuses = opening-of d L t ∙ rw (le-leb _ _ k, e) }
 
     module _ (e : bytesAllowed t ≡ true) where
-      pub head-4 : header (wordLines t) ≡ none → HeadNot L t 4
-      unfolding opening
-      head-4 f = record { refuses = rw (le-leb _ _ k, e, f) }
+      pub head-4 : headerIn d (wordLines t) ≡ none → NoHead d L t 4
+      head-4 f = record { refuses = opening-of d L t ∙ rw (le-leb _ _ k, e, f) }
 
-      module _ {ins outs : List ℕ} {h : HeaderNumbers} {to : ℕ} (a : HeaderAt t ins outs h to) where
+      module _ {ins outs : List ℕ} {h : HeaderNumbers} {to : ℕ} (a : HeaderOf d t ins outs h to) where
         -- the header's numbers and the lines behind it decide
-        reached : opening L t ≡ ask 5 (withinNumbers L h) (ask 6 (gatesCounted h && eqb (length (wordLines (drop to t))) (h .gates)) (done (a .is)))
-        unfolding opening withinNumbers gatesCounted
-        reached = rw (le-leb _ _ k, e, a .read) (simp (a .wires, a .inputs, a .inputBits, a .outputs, a .outputBits, a .gates, a .left))
+        reached : openingIn d L t ≡ ask 5 (withinNumbers L h) (ask 6 (gatesCounted h && eqb (length (wordLines (drop to t))) (h .gates)) (done (a .is)))
+        unfolding withinNumbers gatesCounted
+        reached =
+            opening-of d L t
+            ∙ rw (le-leb _ _ k, e, a .read) (simp (a .wires, a .inputs, a .inputBits, a .outputs, a .outputBits, a .gates, a .left))
 
-        pub head-5 : withinNumbers L h ≡ false → HeadNot L t 5
+        pub head-5 : withinNumbers L h ≡ false → NoHead d L t 5
         head-5 f = record { refuses = reached ∙ rw f }
 
         module _ (f : withinNumbers L h ≡ true) where
-          pub head-6 : gatesCounted h ≡ false → HeadNot L t 6
+          pub head-6 : gatesCounted h ≡ false → NoHead d L t 6
           head-6 g = record { refuses = reached ∙ rw (f, g) }
 
-          pub head-at : gatesCounted h ≡ true → HeadAt L t ins outs h to
+          pub head-at : gatesCounted h ≡ true → HeadOf d L t ins outs h to
           head-at g = record { header = a; inside = inside L h f g; opens = reached ∙ rw (f, g) }
 
 -- ---- a head known by its answer
 
-module _ (L : Limits) (t ins outs : List ℕ) {r : Head} (k : HeadIs L t ins outs r) where
-  pub head-is : {h : HeaderNumbers} {c : Cursor} → r ≡ H.Is h c → HeadAt L t ins outs h (c .at)
-  head-is p = subst (HeadIs L t ins outs) p k
+module _ (d : Dialect) (L : Limits) (t ins outs : List ℕ) {r : Head} (k : HeadSays d L t ins outs r) where
+  pub head-is : {h : HeaderNumbers} {c : Cursor} → r ≡ H.Is h c → HeadOf d L t ins outs h (c .at)
+  head-is p = subst (HeadSays d L t ins outs) p k
 
-  pub head-refused : {q : ℕ} → r ≡ H.Refused q → HeadNot L t q
-  head-refused p = subst (HeadIs L t ins outs) p k
+  pub head-refused : {q : ℕ} → r ≡ H.Refused q → NoHead d L t q
+  head-refused p = subst (HeadSays d L t ins outs) p k
 
 -- ---- the widths
 
@@ -108,7 +123,7 @@ kept-front (x ∷ table) (w ∷ ws) k h =
     let q = kept-front table ws (λ i a b. k (suc i) (omega arith) (omega arith)) (omega arith) in
     cc
 
-module _ {L : Limits} {t ins outs : List ℕ} {h : HeaderNumbers} {to : ℕ} (a : HeadAt L t ins outs h to) where
+module _ {d : Dialect} {L : Limits} {t ins outs : List ℕ} {h : HeaderNumbers} {to : ℕ} (a : HeadOf d L t ins outs h to) where
   pub inputs-front : L .inputs ≤ length ins → take (h .«input_values») ins ≡ a .header .is .inputs
   inputs-front room =
       let n = a .header .inputs in

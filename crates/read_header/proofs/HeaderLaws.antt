@@ -12,13 +12,16 @@ use Rattle.netlist.specs.Number.{number}
 use Rattle.netlist.specs.Text.{wordLines}
 use Rattle.netlist.specs.Header.{header, makeHeader, numbers, consOption, values}
 use Rattle.netlist.proofs.Tests.{onBool}
+use Rattle.netlist.proofs.Questions.{none-some}
 use Rattle.read_text.specs.declared.cursor.Cursor.{Cursor}
 use Rattle.read_text.specs.Line.{lineWords, nextWord, afterLine, isBlank, isEmpty, Scanned, LineTaken, EndAt}
 use Rattle.read_text.specs.Answers.{NumberAt}
 use Rattle.read_text.proofs.SplitLaws.{addLine, lines-step}
 use Rattle.read_text.proofs.AnswerLaws.{number-line, no-number}
 use Rattle.read_text.proofs.LineLaws.{AtWord, at-word, word-line, no-line, blanks-lines}
-use Rattle.read_header.specs.HeaderAnswers.{pairOnly, CountsAt, CountsIs, WidthsAt, HeaderAt, HeaderIs}
+use Rattle.old_form.specs.declared.Dialect.{Dialect}
+use Rattle.old_form.specs.Dialects.{headerIn}
+use Rattle.read_header.specs.HeaderAnswers.{pairOnly, CountsAt, CountsIs, WidthsAt, HeaderOf, HeaderAt, HeaderSays}
 use Rattle.read_header.specs.declared.Counts.{Counts}
 use Rattle.read_header.specs.declared.Counts.the-variants as C
 use Rattle.read_header.specs.declared.HeaderNumbers.{HeaderNumbers}
@@ -34,12 +37,15 @@ counts-is t at r g w c p h = subst (CountsIs t at) p h
 pub counts-not : (t : List ℕ) (at : ℕ) (r : Counts) → r ≡ C.Not → CountsIs t at r → pairOnly (numbers (lineWords (drop at t))) ≡ none
 counts-not t at r p h = subst (CountsIs t at) p h
 
-pub header-is : (t ins outs : List ℕ) (r : HeaderRead) (h : HeaderNumbers) (c : Cursor) → r ≡ R.Is h c → HeaderIs t ins outs r
-    → HeaderAt t ins outs h (c .at)
-header-is t ins outs r h c p k = subst (HeaderIs t ins outs) p k
+pub header-is : (d : Dialect) (t ins outs : List ℕ) (r : HeaderRead) (h : HeaderNumbers) (c : Cursor) → r ≡ R.Is h c → HeaderSays d t ins outs r
+    → HeaderOf d t ins outs h (c .at)
+header-is d t ins outs r h c p k = subst (HeaderSays d t ins outs) p k
 
-pub header-not : (t ins outs : List ℕ) (r : HeaderRead) → r ≡ R.Not → HeaderIs t ins outs r → header (wordLines t) ≡ none
-header-not t ins outs r p k = subst (HeaderIs t ins outs) p k
+pub header-not : (d : Dialect) (t ins outs : List ℕ) (r : HeaderRead) → r ≡ R.Not → HeaderSays d t ins outs r → headerIn d (wordLines t) ≡ none
+header-not d t ins outs r p k = subst (HeaderSays d t ins outs) p k
+
+pub header-in : {d e : Dialect} (t ins outs : List ℕ) (r : HeaderRead) → e ≡ d → HeaderSays e t ins outs r → HeaderSays d t ins outs r
+header-in t ins outs r p k = subst (λ (d : Dialect). HeaderSays d t ins outs r) p k
 
 -- ---- line one
 
@@ -77,25 +83,25 @@ module _ (t : List ℕ) (at g c w d : ℕ) (a : NumberAt t at g c) (b : NumberAt
 -- ---- lines that are there
 
 some-not-none : (ws : List ℕ) → _≡_ {A = Option (List ℕ)} none (some ws) → ⊥
-some-not-none ws e = let z : _≡_ {A = ℕ} 0 1 = cc in omega arith
+some-not-none ws e = none-some ws e
 
 -- a line that has what no line without words has is the first line
-read-line : (f : List (List ℕ) → Option (List ℕ)) → f [] ≡ none → (t : List ℕ) (a : ℕ) (ws : List ℕ) (b : ℕ) → f (lineWords (drop a t)) ≡ some ws
+pub read-line : {A : Type 0} (f : List (List ℕ) → Option A) → f [] ≡ none → (t : List ℕ) (a : ℕ) (ws : A) (b : ℕ) → f (lineWords (drop a t)) ≡ some ws
     → LineTaken t a b
     → wordLines (drop a t) ≡ lineWords (drop a t) ∷ wordLines (drop b t)
 read-line f empty t a ws b e n =
     lines-step (drop a t) ∙ go (lineWords (drop a t)) e ∙ ap (λ (s : List ℕ). lineWords (drop a t) ∷ wordLines s) (sym (n .left))
   where
     go : (l : List (List ℕ)) → f l ≡ some ws → addLine l (wordLines (afterLine (drop a t))) ≡ l ∷ wordLines (afterLine (drop a t))
-    go [] h = absurd (some-not-none ws (sym empty ∙ h))
+    go [] h = absurd (none-some ws (sym empty ∙ h))
     go (w ∷ l) h = refl
 
 -- the first line, where there is one, has none of it
-abbrev Without : (List (List ℕ) → Option (List ℕ)) → List (List (List ℕ)) → Type 0
+abbrev pub Without : {A : Type 0} → (List (List ℕ) → Option A) → List (List (List ℕ)) → Type 0
 Without f [] = Unit {0}
 Without f (l ∷ ls) = f l ≡ none
 
-first-line : (f : List (List ℕ) → Option (List ℕ)) (t : List ℕ) (i : ℕ) → AtWord t i → f (lineWords (drop i t)) ≡ none
+pub first-line : {A : Type 0} (f : List (List ℕ) → Option A) (t : List ℕ) (i : ℕ) → AtWord t i → f (lineWords (drop i t)) ≡ none
     → Without f (wordLines (drop i t))
 first-line f t i a e = onBool (ltb i (length t))
     (λ h. subst (Without f) (sym (word-line t i (ltb-true i (length t) h) a)) e)
@@ -103,20 +109,20 @@ first-line f t i a e = onBool (ltb i (length t))
 
 -- ---- the header of lines
 
-abbrev pairOf : List (List ℕ) → Option (List ℕ)
+abbrev pub pairOf : List (List ℕ) → Option (List ℕ)
 pairOf l = pairOnly (numbers l)
 
 abbrev valuesOf : List (List ℕ) → Option (List ℕ)
 valuesOf l = values (numbers l)
 
-pair-is : (o : Option (List ℕ)) (ws : List ℕ) → pairOnly o ≡ some ws → o ≡ some ws
+pub pair-is : (o : Option (List ℕ)) (ws : List ℕ) → pairOnly o ≡ some ws → o ≡ some ws
 pair-is none ws e = e
 pair-is (some []) ws e = absurd (some-not-none ws e)
 pair-is (some (g ∷ [])) ws e = absurd (some-not-none ws e)
 pair-is (some (g ∷ (w ∷ []))) ws e = e
 pair-is (some (g ∷ (w ∷ (x ∷ xs)))) ws e = absurd (some-not-none ws e)
 
-no-pair : (o i u : Option (List ℕ)) → pairOnly o ≡ none → makeHeader o i u ≡ none
+pub no-pair : (o i u : Option (List ℕ)) → pairOnly o ≡ none → makeHeader o i u ≡ none
 no-pair none i u e = refl
 no-pair (some []) i u e = refl
 no-pair (some (g ∷ [])) i u e = refl
@@ -142,19 +148,19 @@ header-3 a b g w is (c ∷ ls) p q e = rw (p, q, e)
 -- ---- the header of a text: line one stands at a, line two at b′ behind b, line three at d′ behind d
 
 module _ (t : List ℕ) (a : ℕ) (sa : Scanned isBlank t 0 a) where
-  start : wordLines t ≡ wordLines (drop a t)
+  pub start : wordLines t ≡ wordLines (drop a t)
   start = sym (blanks-lines t 0 a sa)
 
   pub no-header-1 : pairOnly (numbers (lineWords (drop a t))) ≡ none → header (wordLines t) ≡ none
   no-header-1 e = ap header start ∙ header-1 (wordLines (drop a t)) (first-line pairOf t a (at-word t 0 a sa) e)
 
   module _ (g w b : ℕ) (c : CountsAt t a g w b) (b′ : ℕ) (sb : Scanned isBlank t b b′) where
-    one : wordLines t ≡ lineWords (drop a t) ∷ wordLines (drop b′ t)
+    pub one : wordLines t ≡ lineWords (drop a t) ∷ wordLines (drop b′ t)
     one =
         start ∙ read-line pairOf refl t a _ b (c .line) (c .next)
         ∙ ap (λ (ls : List (List (List ℕ))). lineWords (drop a t) ∷ ls) (sym (blanks-lines t b b′ sb))
 
-    pair : numbers (lineWords (drop a t)) ≡ some (g ∷ w ∷ [])
+    pub pair : numbers (lineWords (drop a t)) ≡ some (g ∷ w ∷ [])
     pair = pair-is _ _ (c .line)
 
     pub no-header-2 : values (numbers (lineWords (drop b′ t))) ≡ none → header (wordLines t) ≡ none

@@ -2,3 +2,4 @@
 pub mod HeaderLaws
 pub mod HeadLaws
 pub mod WidthLaws
+pub mod OldHeaderLaws

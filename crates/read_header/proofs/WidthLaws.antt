@@ -54,7 +54,7 @@ every-append : (p : ℕ → Bool) (a b : List ℕ) → every p (a ++ b) ≡ (eve
 every-append p [] b = refl
 every-append p (x ∷ a) b = ap (_&&_ (p x)) (every-append p a b) ∙ sym (and-assoc (p x) (every p a) (every p b))
 
-kept-more : (table seen : List ℕ) (n v : ℕ) → length seen ≡ n → Kept table seen → Kept (set table n v) (seen ++ (v ∷ []))
+pub kept-more : (table seen : List ℕ) (n v : ℕ) → length seen ≡ n → Kept table seen → Kept (set table n v) (seen ++ (v ∷ []))
 kept-more table seen n v size k i h′ l = onBool (ltb i n) before at
   where
     h : i < length table

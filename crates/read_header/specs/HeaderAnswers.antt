@@ -8,12 +8,19 @@ use lib.Dec.{leb}
 use lib.ListN.{length, drop, getD}
 use Rattle.netlist.specs.Lists.{every, sum}
 use Rattle.netlist.specs.Text.{wordLines}
-use Rattle.netlist.specs.Header.{Header, header, numbers}
+use Rattle.netlist.specs.Header.{Header, numbers}
 use Rattle.read_text.specs.Line.{lineWords, LineTaken}
+use Rattle.old_form.specs.declared.Dialect.{Dialect}
+use Rattle.old_form.specs.declared.Dialect.the-variants.{Fashion}
+use Rattle.old_form.specs.declared.Parties.{Parties}
+use Rattle.old_form.specs.OldHeader.{parties}
+use Rattle.old_form.specs.Dialects.{headerIn, headerLines}
 use Rattle.read_header.specs.declared.Counts.{Counts}
 use Rattle.read_header.specs.declared.Counts.the-variants as C
 use Rattle.read_header.specs.declared.Widths.{Widths}
 use Rattle.read_header.specs.declared.Widths.the-variants as W
+use Rattle.read_header.specs.declared.old.PartiesLine.{PartiesLine}
+use Rattle.read_header.specs.declared.old.PartiesLine.the-variants as P
 use Rattle.read_header.specs.declared.HeaderNumbers.{HeaderNumbers}
 use Rattle.read_header.specs.declared.HeaderRead.{HeaderRead}
 use Rattle.read_header.specs.declared.HeaderRead.the-variants as R
@@ -61,12 +68,23 @@ abbrev pub WidthsIs : List ℕ → ℕ → Option (List ℕ) → List ℕ → Wi
 WidthsIs t at expected table (W.Is n s c) = WidthsAt t at expected table n s (c .at)
 WidthsIs t at expected table W.Not = expected ≡ none
 
+-- ---- line two of the older dialect
+
+-- the first line of t from a place holds the bits of the parties and of the output
+pub record PartiesAt (t : List ℕ) (at : ℕ) (p : Parties) (to : ℕ) : Type 0 where
+  pub line : parties (numbers (lineWords (drop at t))) ≡ some p
+  pub next : LineTaken t at to
+
+abbrev pub PartiesIs : List ℕ → ℕ → PartiesLine → Type 0
+PartiesIs t at (P.Is p c) = PartiesAt t at p (c .at)
+PartiesIs t at P.Not = parties (numbers (lineWords (drop at t))) ≡ none
+
 -- ---- the header
 
--- the header of t, its numbers, and its widths in the two tables; the gate lines stand behind the place `to`
-pub record HeaderAt (t ins outs : List ℕ) (h : HeaderNumbers) (to : ℕ) : Type 0 where
+-- the header of t in a dialect, its numbers, and its widths in the two tables; the gate lines stand behind the place `to`
+pub record HeaderOf (d : Dialect) (t ins outs : List ℕ) (h : HeaderNumbers) (to : ℕ) : Type 0 where
   pub is : Header
-  pub read : header (wordLines t) ≡ some is
+  pub read : headerIn d (wordLines t) ≡ some is
   pub gates : is .count ≡ h .gates
   pub wires : is .wires ≡ h .wires
   pub inputs : length (is .inputs) ≡ h .«input_values»
@@ -75,9 +93,16 @@ pub record HeaderAt (t ins outs : List ℕ) (h : HeaderNumbers) (to : ℕ) : Typ
   pub outputBits : sum (is .outputs) ≡ h .«output_bits»
   pub keptIn : Kept ins (is .inputs)
   pub keptOut : Kept outs (is .outputs)
-  pub left : wordLines (drop to t) ≡ drop 3 (wordLines t)
+  pub left : wordLines (drop to t) ≡ drop (headerLines d) (wordLines t)
   pub within : to ≤ length t
 
+abbrev pub HeaderSays : Dialect → List ℕ → List ℕ → List ℕ → HeaderRead → Type 0
+HeaderSays d t ins outs (R.Is h c) = HeaderOf d t ins outs h (c .at)
+HeaderSays d t ins outs R.Not = headerIn d (wordLines t) ≡ none
+
+-- document 01's header
+abbrev pub HeaderAt : List ℕ → List ℕ → List ℕ → HeaderNumbers → ℕ → Type 0
+HeaderAt t ins outs h to = HeaderOf Fashion t ins outs h to
+
 abbrev pub HeaderIs : List ℕ → List ℕ → List ℕ → HeaderRead → Type 0
-HeaderIs t ins outs (R.Is h c) = HeaderAt t ins outs h (c .at)
-HeaderIs t ins outs R.Not = header (wordLines t) ≡ none
+HeaderIs t ins outs r = HeaderSays Fashion t ins outs r

@@ -2,15 +2,19 @@
 // question 6 that needs the header alone.
 use crate::HeaderNumbers;
 use crate::HeaderRead;
+use crate::old::read_old_header;
 use crate::read_header;
 use netlist::Limits;
+use old_form::Dialect;
 use read_text::allowed::all_allowed;
 use read_text::cursor::Cursor;
 ghost use mathlib.Core.Path.{_≡_};
 ghost use Prim.Native.Nat.{_≤_, _<_, _^_};
-ghost use Rattle.read_header.specs.HeadAnswers.{withinNumbers, gatesCounted, HeadIs};
+ghost use lib.ListN.{length};
+ghost use Rattle.read_header.specs.HeaderAnswers.{HeaderSays};
+ghost use Rattle.read_header.specs.HeadAnswers.{withinNumbers, gatesCounted, HeadSays, HeadIs};
 
-// What the header says, with the place behind its third line; or the first question with a no.
+// What the header says, with the place behind its last line; or the first question with a no.
 pub enum Head {
     Is(HeaderNumbers, Cursor),
     Refused(u8),
@@ -43,10 +47,27 @@ fn gates_counted(h: HeaderNumbers) -> bool
     h.gates as u64 == h.wires as u64 - h.input_bits
 }
 
-// Questions 2 to 6, but for the number of gate lines. The widths go into the tables, as many as they have room for.
-pub fn read_opening(text: &[u8], l: Limits, inputs: &mut [u32], outputs: &mut [u32]) -> Head
+// Question 4 in a dialect.
+fn read_header_in(text: &[u8], inputs: &mut [u32], outputs: &mut [u32], d: Dialect) -> HeaderRead
+    requires { ⌜ length (now text) < 2 ^ 32 ⌝ }
+    ensures { λ r. ⌜ HeaderSays d (now (text .entry)) (now (inputs .exit)) (now (outputs .exit)) r ⌝ }
+{
+    match d {
+        Dialect::Fashion => read_header(text, inputs, outputs),
+        Dialect::Old => read_old_header(text, inputs, outputs),
+    }
+}
+
+// Questions 2 to 6 in a dialect, but for the number of gate lines. The widths go into the tables, as many as they have room for.
+pub fn read_opening_in(
+    text: &[u8],
+    l: Limits,
+    inputs: &mut [u32],
+    outputs: &mut [u32],
+    d: Dialect,
+) -> Head
     requires { ⌜ l .text < 2 ^ 32 ⌝ }
-    ensures { λ r. ⌜ HeadIs l (now (text .entry)) (now (inputs .exit)) (now (outputs .exit)) r ⌝ }
+    ensures { λ r. ⌜ HeadSays d l (now (text .entry)) (now (inputs .exit)) (now (outputs .exit)) r ⌝ }
 {
     if l.text < text.len() {
         return Head::Refused(2);
@@ -54,7 +75,7 @@ pub fn read_opening(text: &[u8], l: Limits, inputs: &mut [u32], outputs: &mut [u
     if !all_allowed(text) {
         return Head::Refused(3);
     }
-    let HeaderRead::Is(h, at) = read_header(text, inputs, outputs) else {
+    let HeaderRead::Is(h, at) = read_header_in(text, inputs, outputs, d) else {
         return Head::Refused(4);
     };
     if !within(l, h) {
@@ -64,4 +85,12 @@ pub fn read_opening(text: &[u8], l: Limits, inputs: &mut [u32], outputs: &mut [u
         return Head::Refused(6);
     }
     Head::Is(h, at)
+}
+
+// The same with document 01's header.
+pub fn read_opening(text: &[u8], l: Limits, inputs: &mut [u32], outputs: &mut [u32]) -> Head
+    requires { ⌜ l .text < 2 ^ 32 ⌝ }
+    ensures { λ r. ⌜ HeadIs l (now (text .entry)) (now (inputs .exit)) (now (outputs .exit)) r ⌝ }
+{
+    read_opening_in(text, l, inputs, outputs, Dialect::Fashion)
 }

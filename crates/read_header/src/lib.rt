@@ -1,5 +1,6 @@
-// The three header lines: question 4; and the head of a text.
+// The header lines: question 4; and the head of a text.
 pub mod head;
+mod old;
 
 ghost use mathlib.Core.Path.{_≡_};
 ghost use Prim.Native.Nat.{_≤_, _<_, _^_};
@@ -11,7 +12,7 @@ use read_text::cursor::Cursor;
 use read_text::cursor::LineEnd;
 use read_text::number::Number;
 
-// The two numbers of line one, with the start of the next line.
+// Two numbers, with the start of the next line.
 enum Counts {
     Is(u32, u32, Cursor),
     Not,
@@ -37,13 +38,13 @@ pub struct HeaderNumbers {
     pub output_bits: u64,
 }
 
-// A header, with the place behind its third line.
+// A header, with the place behind its last line.
 pub enum HeaderRead {
     Is(HeaderNumbers, Cursor),
     Not,
 }
 
-// Line one: gate count and wire count.
+// Line one: gate count and wire count, two numbers alone.
 fn counts_line(text: &[u8], at: Cursor) -> Counts
     requires { ⌜ at .at ≤ length (now text) ⌝ }
     ensures { λ r. ⌜ CountsIs (now (text .entry)) (at .at) r ⌝ }

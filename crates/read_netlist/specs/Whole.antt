@@ -7,17 +7,19 @@ use lib.ListN.{take}
 use Rattle.netlist.specs.declared.Limits.{Limits}
 use Rattle.netlist.specs.Netlist.{Netlist}
 use Rattle.netlist.specs.Outcome.{refused, done, ask}
-use Rattle.netlist.specs.Read.{readNetlist}
 use Rattle.netlist.specs.Services.{tablesLong}
 use Rattle.netlist.specs.Table.{Tables, Wired, Holds}
+use Rattle.old_form.specs.declared.Dialect.{Dialect}
+use Rattle.old_form.specs.declared.Dialect.the-variants.{Fashion}
+use Rattle.old_form.specs.Dialects.{readIn}
 use Rattle.read_header.specs.declared.HeaderNumbers.{HeaderNumbers}
 use Rattle.read_netlist.specs.declared.read.Reading.{Reading}
 use Rattle.read_netlist.specs.declared.read.Reading.the-variants as R
 
--- the text reads as a netlist that the tables hold, whose widths stand at the front of two tables
-pub record ReadAt (L : Limits) (t ins outs : List ℕ) (tabs : Tables) (h : HeaderNumbers) : Type 0 where
+-- the text reads in a dialect as a netlist that the tables hold, whose widths stand at the front of two tables
+pub record ReadOf (d : Dialect) (L : Limits) (t ins outs : List ℕ) (tabs : Tables) (h : HeaderNumbers) : Type 0 where
   pub is : Netlist
-  pub read : readNetlist L t ≡ done is
+  pub read : readIn d L t ≡ done is
   pub holds : Holds tabs (h .gates) (h .wires) (h .«input_bits») (h .«output_bits») is
   pub wired : Wired tabs (h .wires) (h .gates)
   pub inputs : take (h .«input_values») ins ≡ is .inputs
@@ -30,13 +32,13 @@ pub record ReadAt (L : Limits) (t ins outs : List ℕ) (tabs : Tables) (h : Head
   pub outBits : h .«output_bits» ≤ h .wires
   pub gates : h .gates ≡ h .wires - h .«input_bits»
 
-pub record ReadNot (L : Limits) (t : List ℕ) (q : ℕ) : Type 0 where
-  pub refuses : readNetlist L t ≡ refused q
+pub record ReadNot (d : Dialect) (L : Limits) (t : List ℕ) (q : ℕ) : Type 0 where
+  pub refuses : readIn d L t ≡ refused q
 
 -- what an answer to questions 2 to 9 stands for
-abbrev pub TextIs : Limits → List ℕ → List ℕ → List ℕ → Tables → Reading → Type 0
-TextIs L t ins outs tabs (R.Done h) = ReadAt L t ins outs tabs h
-TextIs L t ins outs tabs (R.Refused q) = ReadNot L t q
+abbrev pub TextIs : Dialect → Limits → List ℕ → List ℕ → List ℕ → Tables → Reading → Type 0
+TextIs d L t ins outs tabs (R.Done h) = ReadOf d L t ins outs tabs h
+TextIs d L t ins outs tabs (R.Refused q) = ReadNot d L t q
 
 -- the limits that the reader works with: places in a text fit 32 bits, the widths fit the lent tables, and so do the wires
 pub record Readable (L : Limits) : Type 0 where
@@ -46,6 +48,13 @@ pub record Readable (L : Limits) : Type 0 where
   pub wires : L .wires ≤ L .table
 
 -- what an answer to questions 1 to 9 stands for, with lent tables of these lengths
+abbrev pub ReadSays : Dialect → Limits → List ℕ → List ℕ → List ℕ → List ℕ → Tables → Reading → Type 0
+ReadSays d L lengths t ins outs tabs (R.Done h) = (tablesLong L lengths ≡ true) × ReadOf d L t ins outs tabs h
+ReadSays d L lengths t ins outs tabs (R.Refused q) = ask 1 (tablesLong L lengths) (readIn d L t) ≡ refused q
+
+-- of a text in Fashion
+abbrev pub ReadAt : Limits → List ℕ → List ℕ → List ℕ → Tables → HeaderNumbers → Type 0
+ReadAt L t ins outs tabs h = ReadOf Fashion L t ins outs tabs h
+
 abbrev pub ReadIs : Limits → List ℕ → List ℕ → List ℕ → List ℕ → Tables → Reading → Type 0
-ReadIs L lengths t ins outs tabs (R.Done h) = (tablesLong L lengths ≡ true) × ReadAt L t ins outs tabs h
-ReadIs L lengths t ins outs tabs (R.Refused q) = ask 1 (tablesLong L lengths) (readNetlist L t) ≡ refused q
+ReadIs L lengths t ins outs tabs r = ReadSays Fashion L lengths t ins outs tabs r

@@ -3,9 +3,11 @@
 use crate::marks::mark;
 use crate::marks::operands_given;
 use crate::marks::result_free;
+use crate::names::has_gate;
 use gate_table::GateNumbers;
 use gate_table::entry_of;
 use gate_table::put;
+use old_form::Dialect;
 use read_gate_line::gate::GateLine;
 use read_gate_line::gate::gate_line;
 use read_text::count::count_lines;
@@ -36,14 +38,17 @@ pub enum Gates {
     Refused(u8),
 }
 
-// Questions 7 to 9 of one line, whose result is then marked.
-fn one_gate(text: &[u8], at: Cursor, n: u32, w: u32, marks: &mut [u8]) -> GateStep
+// Questions 7 to 9 of one line in a dialect, whose result is then marked.
+fn one_gate(text: &[u8], at: Cursor, n: u32, w: u32, marks: &mut [u8], d: Dialect) -> GateStep
     requires { ⌜ (at .at ≤ length (now text)) × (w ≤ length (now marks)) ⌝ }
-    ensures { λ r. ⌜ ((rs : List ℕ) → Marks (now (marks .entry)) n w rs → GateStepIs (now (text .entry)) (at .at) n w rs (now (marks .exit)) r) ⌝ }
+    ensures { λ r. ⌜ ((rs : List ℕ) → Marks (now (marks .entry)) n w rs → GateStepIs d (now (text .entry)) (at .at) n w rs (now (marks .exit)) r) ⌝ }
 {
     let GateLine::Is(g, next) = gate_line(text, at) else {
         return GateStep::Refused(7);
     };
+    if !has_gate(g, d) {
+        return GateStep::Refused(7);
+    }
     if !operands_given(marks, g) {
         return GateStep::Refused(8);
     }
@@ -76,7 +81,7 @@ fn refuse(text: &[u8], at: Cursor, left: usize, question: u8) -> Gates
     }
 }
 
-// The lines from a place on, of which there must be as many as `count`: gates of a netlist with n input bits and w wires.
+// The lines from a place on, of which there must be as many as `count`: gates of a netlist with n input bits and w wires, in a dialect.
 pub fn read_gates(
     text: &[u8],
     from: Cursor,
@@ -86,9 +91,10 @@ pub fn read_gates(
     marks: &mut [u8],
     operands: &mut [u64],
     results: &mut [u64],
+    d: Dialect,
 ) -> Gates
     requires { ⌜ (from .at ≤ length (now text)) × (count ≤ length (now operands)) × (count ≤ length (now results)) × Marks (now marks) n w [] ⌝ }
-    ensures { λ r. ⌜ GatesIs (now (text .entry)) (from .at) count n w (tables (now (operands .exit)) (now (results .exit))) r ⌝ }
+    ensures { λ r. ⌜ GatesIs d (now (text .entry)) (from .at) count n w (tables (now (operands .exit)) (now (results .exit))) r ⌝ }
 {
     let mut at = from.at;
     let mut i = 0;
@@ -97,7 +103,7 @@ pub fn read_gates(
         if text.len() <= start.at {
             return Gates::Refused(6);
         }
-        match one_gate(text, start, n, w, marks) {
+        match one_gate(text, start, n, w, marks, d) {
             GateStep::Refused(question) => {
                 return refuse(text, start, count - i, question);
             }

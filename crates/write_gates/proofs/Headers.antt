@@ -11,7 +11,8 @@ use Rattle.netlist.specs.Netlist.{Netlist}
 use Rattle.netlist.specs.Text.{space, lf}
 use Rattle.netlist.specs.Write.{line, decimals, gateText, writeNetlist}
 use Rattle.write_buffer.specs.Wrote.{Wrote, top}
-use Rattle.write_gates.specs.Header.{spaced, headerText}
+use Rattle.old_form.specs.OldWrite.{partyBits, writeOld}
+use Rattle.write_gates.specs.Header.{spaced, headerText, oldHeaderText}
 use Rattle.write_buffer.proofs.Wrote.{wrote-none, wrote-then, wrote-as}
 
 regroup : (a b c d e : List ℕ) → (a ++ (b ++ (c ++ d))) ++ e ≡ a ++ (b ++ (c ++ (d ++ e)))
@@ -23,6 +24,13 @@ unfolding writeNetlist
 header-gates N =
     regroup (line (decimals (length (N .gates) ∷ N .wires ∷ []))) (line (decimals (length (N .inputs) ∷ N .inputs)))
     (line (decimals (length (N .outputs) ∷ N .outputs))) (lf ∷ []) (gateText (N .gates))
+
+pub old-header-gates : (N : Netlist) → oldHeaderText (length (N .gates)) (N .wires) (N .inputs) (N .outputs) ++ gateText (N .gates) ≡ writeOld N
+unfolding writeOld
+old-header-gates N =
+    append-assoc (line (decimals (length (N .gates) ∷ N .wires ∷ []))) (line (decimals (partyBits (N .inputs) (N .outputs))) ++ (lf ∷ [])) (gateText (N .gates))
+    ∙ ap (λ (l : List ℕ). line (decimals (length (N .gates) ∷ N .wires ∷ [])) ++ l)
+    (append-assoc (line (decimals (partyBits (N .inputs) (N .outputs)))) (lf ∷ []) (gateText (N .gates)))
 
 pub line-spaced : (x : ℕ) (xs : List ℕ) → decimal x ++ (spaced xs ++ (lf ∷ [])) ≡ line (decimals (x ∷ xs))
 line-spaced x [] = refl
@@ -52,3 +60,9 @@ spaced-all {s = s} {i = i} w h = rw (take-all i s h) at (w .wrote)
 
 pub wrote-width : {e x : List ℕ} {at r : ℕ} (w : ℕ) → Wrote e at (space ∷ decimal w) x r → Wrote e at (spaced (w ∷ [])) x r
 wrote-width w a = wrote-as (ap (λ (l : List ℕ). space ∷ l) (sym (append-nil (decimal w)))) a
+
+-- line two of the older dialect
+pub wrote-parties : {e x : List ℕ} {at r : ℕ} (ins outs : List ℕ) {a b o : ℕ} → a ≡ getD ins 0 0 → b ≡ getD ins 1 0 → o ≡ getD outs 0 0
+    → Wrote e at (line (decimals (a ∷ b ∷ o ∷ []))) x r → Wrote e at (line (decimals (partyBits ins outs))) x r
+wrote-parties {e} {x} {at} {r} ins outs {a} {b} {o} p q s w =
+    let k : a ∷ b ∷ o ∷ [] ≡ partyBits ins outs = rw (p, q, s) in wrote-as (ap (λ (ns : List ℕ). line (decimals ns)) k) w

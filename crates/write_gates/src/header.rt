@@ -1,9 +1,11 @@
 // The header's lines.
 ghost use mathlib.Core.List.{[], _∷_};
-ghost use lib.ListN.{length};
+ghost use mathlib.Core.Path.{_≡_};
+ghost use lib.ListN.{length, getD};
 ghost use Rattle.netlist.specs.Write.{line, decimals};
 ghost use Rattle.write_buffer.specs.Wrote.{Wrote};
-ghost use Rattle.write_gates.specs.Header.{spaced, headerText};
+ghost use Rattle.write_gates.specs.Header.{spaced, headerText, oldHeaderText, headerTextIn};
+use old_form::Dialect;
 
 // Line one: two numbers.
 fn counts(out: &mut [u8], at: usize, gates: usize, wires: usize) -> usize
@@ -36,13 +38,20 @@ fn widths(out: &mut [u8], at: usize, ws: &[u32]) -> usize
     next
 }
 
+// A line of numbers.
+fn numbers(out: &mut [u8], at: usize, first: usize, others: &[u32]) -> usize
+    ensures { λ r. ⌜ Wrote (now (out .entry)) at (line (decimals (first ∷ now (others .entry)))) (now (out .exit)) r ⌝ }
+{
+    let space = write_buffer::number(out, at, first);
+    let end = widths(out, space, others);
+    write_buffer::put(out, end, b'\n')
+}
+
 // Lines two and three: how many values, and the width of each.
 fn values(out: &mut [u8], at: usize, ws: &[u32]) -> usize
     ensures { λ r. ⌜ Wrote (now (out .entry)) at (line (decimals (length (now (ws .entry)) ∷ now (ws .entry)))) (now (out .exit)) r ⌝ }
 {
-    let space = write_buffer::number(out, at, ws.len());
-    let end = widths(out, space, ws);
-    write_buffer::put(out, end, b'\n')
+    numbers(out, at, ws.len(), ws)
 }
 
 // The three lines and the blank line behind them.
@@ -60,4 +69,49 @@ pub fn header(
     let third = values(out, second, ins);
     let blank = values(out, third, outs);
     write_buffer::put(out, blank, b'\n')
+}
+
+// The width of a value, or 0 where there is no such value.
+fn width_at(ws: &[u32], i: usize) -> u32
+    ensures { λ r. ⌜ r ≡ getD (now (ws .entry)) i 0 ⌝ }
+{
+    if i < ws.len() {
+        return ws[i];
+    }
+    0
+}
+
+// The two lines of the older dialect, of at most two input values and one output value, and the blank line behind them.
+pub fn old_header(
+    out: &mut [u8],
+    at: usize,
+    gates: usize,
+    wires: usize,
+    ins: &[u32],
+    outs: &[u32],
+) -> usize
+    ensures { λ r. ⌜ Wrote (now (out .entry)) at (oldHeaderText gates wires (now (ins .entry)) (now (outs .entry))) (now (out .exit)) r ⌝ }
+{
+    let second = counts(out, at, gates, wires);
+    let others = [width_at(ins, 1), width_at(outs, 0)];
+    let blank = numbers(out, second, width_at(ins, 0) as usize, &others);
+    write_buffer::put(out, blank, b'\n')
+}
+
+// The header of a dialect.
+pub fn header_in(
+    out: &mut [u8],
+    at: usize,
+    gates: usize,
+    wires: usize,
+    ins: &[u32],
+    outs: &[u32],
+    dialect: Dialect,
+) -> usize
+    ensures { λ r. ⌜ Wrote (now (out .entry)) at (headerTextIn dialect gates wires (now (ins .entry)) (now (outs .entry))) (now (out .exit)) r ⌝ }
+{
+    match dialect {
+        Dialect::Fashion => header(out, at, gates, wires, ins, outs),
+        Dialect::Old => old_header(out, at, gates, wires, ins, outs),
+    }
 }

@@ -13,11 +13,12 @@ use Rattle.netlist.proofs.Puts.{gates-more}
 use Rattle.netlist.proofs.Size.{wired-lines}
 use Rattle.write_buffer.specs.Wrote.{Wrote, top}
 use Rattle.write_gates.specs.Gates.{WroteGates}
-use Rattle.write_gates.specs.Header.{headerText}
+use Rattle.write_gates.specs.Header.{headerTextIn}
+use Rattle.old_form.specs.declared.Dialect.{Dialect}
 use Rattle.write_gates.specs.Room.{longestLine}
 use Rattle.write_gates.proofs.Gates.{gates-none, gates-then, gates-as}
 use Rattle.write_gates.proofs.Delivering.{ample-holds}
-use Rattle.write_netlist.specs.Form.{formText}
+use Rattle.write_netlist.specs.Form.{formTextIn}
 
 pub record Forming (e : List ℕ) (at : ℕ) (t : Tables) (n : ℕ) (x : List ℕ) (r i : ℕ) : Type 0 where
   pub passed : i ≤ n
@@ -34,8 +35,8 @@ pub forming-all : {e x : List ℕ} {at r n i : ℕ} {t : Tables} → Forming e a
 forming-all {n = n} {i = i} {t = t} f h = let z : i ≡ n = omega (arith, f .passed) in gates-as (ap (gatesOf t) z) (f .wrote)
 
 -- question 14 without measuring: no line is longer than the longest
-pub form-ample : {t : Tables} (count W : ℕ) (ins outs : List ℕ) {e x : List ℕ} {header room : ℕ} → W ≤ top → Wired t W count
-    → Wrote e 0 (headerText count W ins outs) x header → room < top → leb (header + count * longestLine W) room ≡ true
-    → leb (length (formText count W ins outs t)) room ≡ true
-form-ample {t} count W ins outs small h w =
-    ample-holds {h = headerText count W ins outs} (gateText (gatesOf t count)) w (wired-lines (lt-of-le-of-lt small (lit< tt)) h)
+pub form-ample : (dialect : Dialect) {t : Tables} (count W : ℕ) (ins outs : List ℕ) {e x : List ℕ} {header room : ℕ} → W ≤ top → Wired t W count
+    → Wrote e 0 (headerTextIn dialect count W ins outs) x header → room < top → leb (header + count * longestLine W) room ≡ true
+    → leb (length (formTextIn dialect count W ins outs t)) room ≡ true
+form-ample dialect {t} count W ins outs small h w =
+    ample-holds {h = headerTextIn dialect count W ins outs} (gateText (gatesOf t count)) w (wired-lines (lt-of-le-of-lt small (lit< tt)) h)

@@ -1,6 +1,7 @@
-// The written form of the netlist that the tables hold, in one pass where the buffer surely holds it, and otherwise measured
+// The written form of the netlist that the tables hold, in either dialect, in one pass where the buffer surely holds it, and otherwise measured
 // first.
 use netlist::Answer;
+use old_form::Dialect;
 ghost use Prim.Native.Nat.{_≤_, _<_};
 ghost use mathlib.Core.Path.{_≡_};
 ghost use lib.Dec.{leb};
@@ -10,7 +11,7 @@ ghost use Rattle.netlist.specs.Services.{Delivers};
 ghost use Rattle.netlist.specs.Table.{tables, gatesOf, Wired};
 ghost use Rattle.write_buffer.specs.Wrote.{Wrote, top};
 ghost use Rattle.write_gates.specs.Gates.{WroteGates};
-ghost use Rattle.write_netlist.specs.Form.{formText};
+ghost use Rattle.write_netlist.specs.Form.{formText, formTextIn};
 
 // The lines of the tables' first gates.
 fn gates(
@@ -44,13 +45,14 @@ fn write(
     outs: &[u32],
     operands: &[u64],
     results: &[u64],
+    dialect: Dialect,
 ) -> usize
     requires { ⌜ WordTable (now d) ⌝ }
     requires { ⌜ (count ≤ length (now operands)) × (count ≤ length (now results)) ⌝ }
-    ensures { λ r. ⌜ Wrote (now (out .entry)) 0 (formText count wires (now (ins .entry)) (now (outs .entry))
+    ensures { λ r. ⌜ Wrote (now (out .entry)) 0 (formTextIn dialect count wires (now (ins .entry)) (now (outs .entry))
         (tables (now (operands .entry)) (now (results .entry)))) (now (out .exit)) r ⌝ }
 {
-    let at = write_gates::header::header(out, 0, count, wires, ins, outs);
+    let at = write_gates::header::header_in(out, 0, count, wires, ins, outs, dialect);
     gates(d, out, at, operands, results, count)
 }
 
@@ -64,18 +66,30 @@ fn holds(
     outs: &[u32],
     operands: &[u64],
     results: &[u64],
+    dialect: Dialect,
 ) -> bool
     requires { ⌜ WordTable (now d) ⌝ }
     requires { ⌜ Wired (tables (now operands) (now results)) wires count × (room < top) ⌝ }
-    ensures { λ r. ⌜ r ≡ leb (length (formText count wires (now (ins .entry)) (now (outs .entry))
+    ensures { λ r. ⌜ r ≡ leb (length (formTextIn dialect count wires (now (ins .entry)) (now (outs .entry))
         (tables (now (operands .entry)) (now (results .entry))))) room ⌝ }
 {
     let mut none = [0u8; 1];
-    let header = write_gates::header::header(&mut none, 0, count, wires, ins, outs);
+    let header = write_gates::header::header_in(&mut none, 0, count, wires, ins, outs, dialect);
     if write_gates::room::ample(room, header, count, wires) {
         return true;
     }
-    write(d, &mut none, count, wires, ins, outs, operands, results) <= room
+    write(
+        d,
+        &mut none,
+        count,
+        wires,
+        ins,
+        outs,
+        operands,
+        results,
+        dialect,
+    )
+        <= room
 }
 
 // Question 14, and then the text.
@@ -88,19 +102,74 @@ fn answer(
     outs: &[u32],
     operands: &[u64],
     results: &[u64],
+    dialect: Dialect,
 ) -> Answer
     requires { ⌜ WordTable (now d) ⌝ }
     requires { ⌜ Wired (tables (now operands) (now results)) wires count ⌝ }
-    ensures { λ r. ⌜ Delivers (formText count wires (now (ins .entry)) (now (outs .entry))
+    ensures { λ r. ⌜ Delivers (formTextIn dialect count wires (now (ins .entry)) (now (outs .entry))
         (tables (now (operands .entry)) (now (results .entry)))) (now (out .entry)) (now (out .exit)) r ⌝ }
 {
-    if !holds(d, out.len(), count, wires, ins, outs, operands, results) {
+    if !holds(
+        d,
+        out.len(),
+        count,
+        wires,
+        ins,
+        outs,
+        operands,
+        results,
+        dialect,
+    ) {
         return Answer::Refused(14);
     }
-    Answer::Done(write(d, out, count, wires, ins, outs, operands, results))
+    Answer::Done(write(d, out, count, wires, ins, outs, operands, results, dialect))
 }
 
 // Question 14 and the text. No line on a hundred wires or fewer is stored by words, so there the table is not filled.
+pub fn deliver_in(
+    out: &mut [u8],
+    count: usize,
+    wires: usize,
+    ins: &[u32],
+    outs: &[u32],
+    operands: &[u64],
+    results: &[u64],
+    dialect: Dialect,
+) -> Answer
+    requires { ⌜ Wired (tables (now operands) (now results)) wires count ⌝ }
+    ensures { λ r. ⌜ Delivers (formTextIn dialect count wires (now (ins .entry)) (now (outs .entry))
+        (tables (now (operands .entry)) (now (results .entry)))) (now (out .entry)) (now (out .exit)) r ⌝ }
+{
+    if wires <= 100 {
+        let none = [0u64; 1];
+        return answer(
+            &none,
+            out,
+            count,
+            wires,
+            ins,
+            outs,
+            operands,
+            results,
+            dialect,
+        );
+    }
+    let mut table = [0u64; 2000];
+    write_wires::table::fill(&mut table);
+    answer(
+        &table,
+        out,
+        count,
+        wires,
+        ins,
+        outs,
+        operands,
+        results,
+        dialect,
+    )
+}
+
+// The same in Fashion.
 pub fn deliver(
     out: &mut [u8],
     count: usize,
@@ -114,11 +183,14 @@ pub fn deliver(
     ensures { λ r. ⌜ Delivers (formText count wires (now (ins .entry)) (now (outs .entry))
         (tables (now (operands .entry)) (now (results .entry)))) (now (out .entry)) (now (out .exit)) r ⌝ }
 {
-    if wires <= 100 {
-        let none = [0u64; 1];
-        return answer(&none, out, count, wires, ins, outs, operands, results);
-    }
-    let mut table = [0u64; 2000];
-    write_wires::table::fill(&mut table);
-    answer(&table, out, count, wires, ins, outs, operands, results)
+    deliver_in(
+        out,
+        count,
+        wires,
+        ins,
+        outs,
+        operands,
+        results,
+        Dialect::Fashion,
+    )
 }

@@ -7,11 +7,11 @@ use borrow.Author.Needs.{needs}
 use Rattle.write_netlist.proofs.holds.Statement.{statement}
 use Rattle.write_netlist.proofs.holds.Tie as tie
 
-slice-aggregate-header : tie.Need-slice-aggregate-header
-slice-aggregate-header c = search needs
+slice-aggregate-header-in : tie.Need-slice-aggregate-header-in
+slice-aggregate-header-in c = search needs
 
-header-requires : tie.Need-header-requires
-header-requires c κs = search needs
+header-in-requires : tie.Need-header-in-requires
+header-in-requires c κs = search needs
 
 ample-requires : tie.Need-ample-requires
 ample-requires c κs = search needs
@@ -20,8 +20,8 @@ returns : tie.Need-returns
 returns c =
     let s = c .before .before .before .before .before .before .before .before .before .before in
     let a = s .args in
-    sym (form-ample (a .count) (a .wires) (a .ins .now) (a .outs .now) (omega (arith, s .fits .wires)) (s .pre .1 .0)
-    (c .before .before .before .header .ensures) (s .pre .1 .1) (sym (c .before .ample .ensures) ∙ c .if1 .taken))
+    sym (form-ample (a .dialect) (a .count) (a .wires) (a .ins .now) (a .outs .now) (omega (arith, s .fits .wires)) (s .pre .1 .0)
+    (c .before .before .before .header-in .ensures) (s .pre .1 .1) (sym (c .before .ample .ensures) ∙ c .if1 .taken))
 
 slice-aggregate-write : tie.Need-slice-aggregate-write
 slice-aggregate-write c = search needs
@@ -36,8 +36,8 @@ pub holds-spec : {M : Type 1} → statement M
 holds-spec =
     tie.close
     (tie.spec
-    slice-aggregate-header
-    header-requires
+    slice-aggregate-header-in
+    header-in-requires
     ample-requires
     returns
     slice-aggregate-write

@@ -9,11 +9,11 @@ use Rattle.read_netlist.proofs.gates.read_gates.Statement.{statement}
 use Rattle.read_netlist.proofs.gates.read_gates.Tie as tie
 
 abbrev Inv-loop : tie.InvT-loop
-Inv-loop text count n w given₀ operands₀ results₀ at₀ i₀ given operands results at i =
-    Going text at₀ count n w given₀ operands₀ results₀ given operands results at i
+Inv-loop text count n w given₀ operands₀ results₀ d at₀ i₀ given operands results at i =
+    Going d text at₀ count n w given₀ operands₀ results₀ given operands results at i
 
 abbrev μ-loop : tie.MeasureT-loop
-μ-loop text count n w given₀ operands₀ results₀ at₀ i₀ given operands results at i = count - i
+μ-loop text count n w given₀ operands₀ results₀ d at₀ i₀ given operands results at i = count - i
 
 loop-holds : tie.Need-loop-holds Inv-loop μ-loop
 loop-holds c =
@@ -67,7 +67,7 @@ returns-2 c =
     let at-skip-blanks = at-if1 .before .before in
     let loop = at-skip-blanks .before .before .loop in
     let v = loop .inv in
-    let a = gate-step-is _ _ _ _ _ _ (c .before .before .question .given .1)
+    let a = gate-step-is _ _ _ _ _ _ _ (c .before .before .question .given .1)
     (c .before .before .before .before .before .before .one-gate .ensures (v .reading .results) (v .reading .marks)) in
     refused-is (tables (loop .operands) (loop .results)) (c .refuse .ensures)
     (reading-refused (v .reading) (at-skip-blanks .skip-blanks .ensures) _ _ (v .passed) (at-if1 .if1 .left) a)
@@ -100,7 +100,7 @@ loop-again c =
     let at-skip-blanks = at-if1 .before .before in
     let at-loop-test = at-skip-blanks .before in
     let v = at-loop-test .before .loop .inv in
-    let a = gate-step-is _ _ _ _ _ _ (at-g .g .given .1) (at-one-gate .one-gate .ensures (v .reading .results) (v .reading .marks)) in
+    let a = gate-step-is _ _ _ _ _ _ _ (at-g .g .given .1) (at-one-gate .one-gate .ensures (v .reading .results) (v .reading .marks)) in
     record {
       passed = omega (arith, at-loop-test .loop-test .taken);
       marks = at-one-gate .one-gate .kept .1 .1 .1 .1 .0 ∙ v .marks;

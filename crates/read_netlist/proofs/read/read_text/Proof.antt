@@ -7,8 +7,8 @@ use borrow.Author.Needs.{needs}
 use Rattle.read_netlist.proofs.read.read_text.Statement.{statement}
 use Rattle.read_netlist.proofs.read.read_text.Tie as tie
 
-read-opening-requires : tie.Need-read-opening-requires
-read-opening-requires c κs = search needs
+read-opening-in-requires : tie.Need-read-opening-in-requires
+read-opening-in-requires c κs = search needs
 
 enum-known-question : tie.Need-enum-known-question
 enum-known-question c = search needs
@@ -19,7 +19,7 @@ enum-known-h c = search needs
 read-body-requires : tie.Need-read-body-requires
 read-body-requires c κs =
     let k = c .before .before .before .before .before .before .before .before .before .before in
-    let a = head-is _ _ _ _ (k .read-opening .ensures) (c .before .before .before .before .h .given .1) in
+    let a = head-is _ _ _ _ _ (k .read-opening-in .ensures) (c .before .before .before .before .h .given .1) in
     let i = a .inside in
     let p = k .before .before .before .before .before .before .before .before .before .pre .1 in
     ((a .header .within, i .ins, few-gates i), (omega (arith, i .wires, p .0), omega (arith, i .wires, p .1), omega (arith, i .wires, p .2), p .3))
@@ -39,7 +39,7 @@ same-length-2 c = search needs
 returns : tie.Need-returns
 returns c =
     read-no-head
-    (head-refused _ _ _ _ (c .before .before .before .before .before .before .before .read-opening .ensures) (c .before .question .given .1))
+    (head-refused _ _ _ _ _ (c .before .before .before .before .before .before .before .read-opening-in .ensures) (c .before .question .given .1))
 
 same-length-3 : tie.Need-same-length-3
 same-length-3 c = search needs
@@ -59,10 +59,10 @@ same-length-7 c = search needs
 returns-2 : tie.Need-returns-2
 returns-2 c =
     let b = c .before .before .before .before .before .before .before .before .before in
-    let a = head-is _ _ _ _ (b .before .before .before .before .before .before .before .before .before .before .before .read-opening .ensures)
+    let a = head-is _ _ _ _ _ (b .before .before .before .before .before .before .before .before .before .before .before .read-opening-in .ensures)
     (b .before .before .before .before .before .h .given .1) in
     read-not a
-    (gates-refused _ _ _ _ _ (tables (b .read-body .last .1 .1 .1 .1 .0) (b .read-body .last .1 .1 .1 .1 .1 .0)) (b .read-body .ensures)
+    (gates-refused _ _ _ _ _ _ (tables (b .read-body .last .1 .1 .1 .1 .0) (b .read-body .last .1 .1 .1 .1 .1 .0)) (b .read-body .ensures)
     (c .before .question2 .given .1))
 
 same-length-8 : tie.Need-same-length-8
@@ -84,17 +84,17 @@ returns-3 : tie.Need-returns-3
 returns-3 c =
     let b = c .before .before .before .before .before .before .before .before in
     let k = b .before .before .before .before .before .before .before .before .before .before .before in
-    let a = head-is _ _ _ _ (k .read-opening .ensures) (b .before .before .before .before .before .h .given .1) in
+    let a = head-is _ _ _ _ _ (k .read-opening-in .ensures) (b .before .before .before .before .before .h .given .1) in
     let p = k .before .before .before .before .before .before .before .before .before .pre .0 in
-    read-done a (omega (arith, p .1, k .read-opening .kept .1 .1 .0)) (omega (arith, p .2, k .read-opening .kept .1 .1 .1 .0))
-    (gates-done _ _ _ _ _ (tables (b .read-body .last .1 .1 .1 .1 .0) (b .read-body .last .1 .1 .1 .1 .1 .0)) (b .read-body .ensures)
+    read-done a (omega (arith, p .1, k .read-opening-in .kept .1 .1 .0)) (omega (arith, p .2, k .read-opening-in .kept .1 .1 .1 .0))
+    (gates-done _ _ _ _ _ _ (tables (b .read-body .last .1 .1 .1 .1 .0) (b .read-body .last .1 .1 .1 .1 .1 .0)) (b .read-body .ensures)
     (c .enum-told .given .1))
 
 pub read-text-spec : {M : Type 1} → statement M
 read-text-spec =
     tie.close
     (tie.spec
-    read-opening-requires
+    read-opening-in-requires
     enum-known-question
     enum-known-h
     read-body-requires

@@ -1,0 +1,3 @@
+-- The laws of the conversion.
+pub mod OldEntries
+pub mod Converting

@@ -1,0 +1,2 @@
+-- What the contracts of the conversion cite.
+pub mod Convert

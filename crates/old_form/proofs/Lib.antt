@@ -1,0 +1,5 @@
+-- The theorems about the definitions.
+pub mod GateNames
+pub mod OldAccepted
+pub mod OldRoundTrip
+pub mod ThereAndBack
