@@ -63,7 +63,7 @@ read-block {L} {text} {codes} {N} H =
     ∙ ask-yes 11 (listGood isInputCode (inputBits N - 2) codes) _ (H .list)
 
 -- the mask pair is two of the input bits
-has-pair : (N : Netlist) → T (endsInMasks (N .inputs)) → 2 ≤ inputBits N
+pub has-pair : (N : Netlist) → T (endsInMasks (N .inputs)) → 2 ≤ inputBits N
 has-pair N t =
     let last = length (N .inputs) - 1 in
     let e = eqb→eq (getD (N .inputs) last 0) 2 (both (leb 2 (length (N .inputs))) (eqb (getD (N .inputs) last 0) 2) t .1) in

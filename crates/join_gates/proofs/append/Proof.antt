@@ -6,10 +6,6 @@ use borrow.Author.Needs.{needs}
 use native.Mathlib.Omega.{arith}
 use Rattle.join_gates.proofs.append.Statement.{statement}
 use Rattle.join_gates.proofs.append.Tie as tie
-use Rattle.join_gates.proofs.append.Reads as reads
-use Rattle.join_gates.proofs.append.Lts as lts
-use Rattle.join_gates.proofs.operands_entry.Reads as operands-entry-reads
-use Rattle.join_gates.proofs.result_entry.Reads as result-entry-reads
 
 abbrev Inv-loop : tie.InvT-loop
 Inv-loop operands₀ results₀ count ops res more s i₀ operands results i = Appending s (tables operands₀ results₀) count (tables ops res) more (tables operands results) i

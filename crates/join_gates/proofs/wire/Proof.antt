@@ -6,8 +6,6 @@ use native.Mathlib.Omega.{arith}
 use borrow.Author.Needs.{needs}
 use Rattle.join_gates.proofs.wire.Statement.{statement}
 use Rattle.join_gates.proofs.wire.Tie as tie
-use Rattle.join_gates.proofs.wire.Reads as reads
-use Rattle.join_gates.proofs.wire.Lts as lts
 
 sub-pair : tie.Need-sub-pair
 sub-pair c = search needs
