@@ -7,7 +7,8 @@
 //! - [`check`] says whether a netlist is clean, or names a leak on one of its wires,
 //! - [`run`] evaluates a netlist, [`run64`] on sixty-four settings at once,
 //! - [`rewrite`] gives a netlist in its written form; [`from_old`] and [`to_old`] convert from and to the older
-//!   Bristol dialect.
+//!   Bristol dialect,
+//! - [`join`] makes one netlist of two masked blocks.
 //!
 //! Each call puts a list of questions in order, and the first no refuses it with that question's
 //! number ([`Refused`]). The services lend the library its working tables and result buffers from a
@@ -35,6 +36,7 @@ use std::error::Error;
 use std::fmt;
 
 mod aiger;
+mod join;
 pub mod lent;
 mod old;
 mod tables;
@@ -42,6 +44,7 @@ mod twins;
 mod words;
 
 pub use aiger::{from_aiger, from_aiger_lent};
+pub use join::{join, join_lent};
 pub use old::{from_old, from_old_lent, to_old, to_old_lent};
 pub use tables::{Sizes, Tables};
 pub use twins::{twins, twins_lent, Twin};
