@@ -67,12 +67,13 @@ struct Pages;
 /// 7. Has each gate line one of the five forms?
 /// 8. Is each operand an input or the result of an earlier line?
 /// 9. Is each result a wire that is no input and not yet given?
-/// 10. Check: is the last of two or more input values of width 2?
+/// 10. Check, Join: is the last of two or more input values of width 2?
 /// 11. Has the input list one fitting entry for each input bit?
 /// 12. Check: are there at most 12 input bits besides the mask pair?
 /// 13. Mask: has the wanted list one fitting entry for each output bit?
 /// 14. Can each result buffer hold its whole result?
 /// 15. To the older dialect, after 9: only XOR, AND and INV, at most two input values and one output value?
+/// 25. Join: do the codes meet, none of them 0, and has the second a gate for each output bit?
 #[derive(Clone, Copy, Debug, PartialEq, Eq, Hash)]
 pub struct Refused(pub u8);
 
