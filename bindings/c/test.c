@@ -326,11 +326,7 @@ static void public_bits(void)
            "Check, a public bit mixed with a secret");
 }
 
-/* ---- sixty-four runs */
-
-/* One gate of each form on two bits, all wires put out. */
-static const char each_gate[] =
-    "6 8\n1 2\n1 8\n2 1 0 1 2 XOR\n2 1 0 1 3 AND\n1 1 0 4 INV\n1 1 1 5 EQW\n1 1 0 6 EQ\n1 1 1 7 EQ\n";
+/* ---- source wires and their twins */
 
 /* The source wires 0 to 3 stand on these wires of the masked netlist, with these codes. */
 static bool twins_are(int64_t answer, const uint32_t *expected, const uint8_t *codes)
@@ -351,7 +347,9 @@ static void source_wires(void)
     expect(twins("", "12", 4, 4) == -4 && twins("1 3\n2 1 1\n1 1\n2 1 0 1 1 AND\n", "12", 4, 4) == -9, "twins: 4 and 9");
 }
 
-/* Joins M3's masked wire with itself, under these codes. */
+/* ---- joined blocks */
+
+/* M3's masked wire joined with a second text. */
 static int64_t join(const char *second, const char *codes, const char *ends, const char *inner)
 {
     fill();
@@ -379,6 +377,12 @@ static void joined_blocks(void)
     expect(join(masked_wire, "\4", "\2", "\2") == -11, "Join, an input code of 4");
     expect(join(one_wire, "\2", "\2", "\3") == -10, "Join, a second without a mask pair");
 }
+
+/* ---- sixty-four runs */
+
+/* One gate of each form on two bits, all wires put out. */
+static const char each_gate[] =
+    "6 8\n1 2\n1 8\n2 1 0 1 2 XOR\n2 1 0 1 3 AND\n1 1 0 4 INV\n1 1 1 5 EQW\n1 1 0 6 EQ\n1 1 1 7 EQ\n";
 
 static void sixty_four(void)
 {
