@@ -229,7 +229,14 @@ fn mask_of(code: u8, [m0, m1]: [u8; 2]) -> u8 {
 }
 
 /// A masked text gives these outputs for these inputs, under each mask setting.
-fn assert_unmasks(text: &[u8], codes: &[u8], ends: &[u8], inputs: &[u8], outputs: &[u8], tables: &mut Tables) {
+fn assert_unmasks(
+    text: &[u8],
+    codes: &[u8],
+    ends: &[u8],
+    inputs: &[u8],
+    outputs: &[u8],
+    tables: &mut Tables,
+) {
     for masks in [[0, 0], [1, 0], [0, 1], [1, 1]] {
         let put_on = inputs.iter().zip(codes).map(|(bit, &code)| bit ^ mask_of(code, masks));
         let put_on: Vec<u8> = put_on.chain(masks).collect();
@@ -395,7 +402,8 @@ fn aes_column() {
     let a = mask(&sboxes, &codes, &random.list(32, 0, 3), tables).unwrap();
     let b = mask(&circuit("aes_mix_column").text, &a.codes, &random.list(32, 0, 3), tables).unwrap();
     let text = join(&a.text, &b.text, &codes, &a.codes, &a.codes, tables).unwrap();
-    let call = Call { first: a.text, second: b.text, codes: codes.clone(), inner: a.codes.clone(), ends: a.codes };
+    let call =
+        Call { first: a.text, second: b.text, codes: codes.clone(), inner: a.codes.clone(), ends: a.codes };
     assert_eq!(old(&call).unwrap(), text);
     let plain = circuit("aes_column");
     for _ in 0..50 {

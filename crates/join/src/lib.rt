@@ -191,8 +191,7 @@ fn read_second(
         × (l .table ≤ length (now base)) ⌝ }
     ensures { λ r. ⌜ ((A : Netlist) → First a inputs (tables (now (operands .entry)) (now (results .entry))) A
         → Answers (andThen (readBlock l (now (second .entry)) (now (codes .entry)))
-        (joinOutcome l (now (ends .entry)) (now (codes .entry)) (length (now (out .entry))) A))
-        (now (out .entry)) (now (out .exit)) r) ⌝ }
+        (joinOutcome l (now (ends .entry)) (now (codes .entry)) (length (now (out .entry))) A)) (now (out .entry)) (now (out .exit)) r) ⌝ }
 {
     let mut inner = [0u32; 17];
     let mut outputs = [0u32; 16];

@@ -41,8 +41,8 @@ module _ (s : Sizes) (tables first codes ends second inner : List ℕ) (room : �
         written = J .text;
         back = back;
         computes = joined-outputs (call-seam (large s) tables first codes ends second inner room J);
-        outputs = λ N N′ ends′ F G. block-of (mask-text F) (mask-text G) back .computes;
-        counts = λ N N′ ends′ F G. block-of (mask-text F) (mask-text G) back .clean;
+        outputs = λ N N′ ends′ F G. block-of (mask-text F (J .one .read)) (mask-text G (J .two .read)) back .computes;
+        counts = λ N N′ ends′ F G. block-of (mask-text F (J .one .read)) (mask-text G (J .two .read)) back .clean;
         block = λ f g ends′ K L. join-text tables room K L e;
         laterSeam = λ f g one oneEnds two twoCodes p K L d. other-order K L tables second inner room p first text d e;
         earlierSeam = λ f g two twoEnds three threeCodes p K L d. order-back K L tables three threeCodes room p second text d e;

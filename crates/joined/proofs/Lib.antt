@@ -10,5 +10,5 @@ pub mod Blocks
 pub mod Calls
 pub mod BlockTexts
 pub mod ThreeTexts
-pub mod Known
+pub mod KnownJoins
 pub mod Delivering

@@ -30,12 +30,13 @@ pub record BlockText (s : Sizes) (f : List Bool → List Bool) (codes text ends 
   pub read : readNetlist (large s) text ≡ done netlist
   pub block : Block f codes netlist ends
 
--- a text and its codes that came from Mask, handed a text of the source N
-pub record FromMask (s : Sizes) (N : Netlist) (codes text ends : List ℕ) : Type 0 where
+-- a text and its codes that came from Mask under either choice of sizes, handed a text of the source N
+pub record FromMask (N : Netlist) (codes text ends : List ℕ) : Type 0 where
+  pub sizes : Sizes
   pub source : List ℕ
-  pub read : readNetlist (small s) source ≡ done N
+  pub read : readNetlist (small sizes) source ≡ done N
   pub tables : List ℕ
   pub wanted : List ℕ
   pub textRoom : ℕ
   pub codeRoom : ℕ
-  pub made : maskCall (small s) tables source codes wanted textRoom codeRoom ≡ done (record { text = text; codes = ends })
+  pub made : maskCall (small sizes) tables source codes wanted textRoom codeRoom ≡ done (record { text = text; codes = ends })

@@ -34,11 +34,11 @@ pub record Delivered (s : Sizes) (tables first codes ends second inner : List �
   pub computes : (ins : List Bool) → length ins ≡ inputBits firstIs → outputsOf (join firstIs secondIs) ins ≡ outputsOf secondIs (seamBits firstIs ins)
   -- where both texts and their codes came from Mask: for all inputs and the four mask settings, the outputs with masks off are the second
   -- source's outputs of the first's
-  pub outputs : (N N′ : Netlist) (ends′ : List ℕ) → FromMask s N codes first ends → FromMask s N′ inner second ends′
+  pub outputs : (N N′ : Netlist) (ends′ : List ℕ) → FromMask N codes first ends → FromMask N′ inner second ends′
       → (m0 m1 : Bool) (x : List Bool) → length x ≡ length codes
       → unmasked m0 m1 ends′ (outputsOf (join firstIs secondIs) (masked m0 m1 codes x)) ≡ outputsOf N′ (outputsOf N x)
   -- and every wire has equal counts for settings that agree in the first's public bits
-  pub counts : (N N′ : Netlist) (ends′ : List ℕ) → FromMask s N codes first ends → FromMask s N′ inner second ends′
+  pub counts : (N N′ : Netlist) (ends′ : List ℕ) → FromMask N codes first ends → FromMask N′ inner second ends′
       → (w : ℕ) → w < join firstIs secondIs .wires → EqualCounts (join firstIs secondIs) codes w
   -- both again of blocks, whichever way they came about: what comes of joining can be joined again
   pub block : (f g : List Bool → List Bool) (ends′ : List ℕ) → BlockText s f codes first ends → BlockText s g inner second ends′

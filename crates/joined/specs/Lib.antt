@@ -3,3 +3,4 @@ pub mod Join
 pub mod Call
 pub mod Block
 pub mod Delivered
+pub mod Known
