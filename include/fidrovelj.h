@@ -58,7 +58,8 @@ extern "C" {
 #define FIDROVELJ_OLD 0
 #define FIDROVELJ_WHOLE 1
 
-/* The least entries of a working table of Rewrite, Run, Run64 and Check, and of Mask and Twins: the most wires. */
+/* The least entries of a working table of Rewrite, the conversions, Run, Run64, Check and Join, and of Mask and Twins: the most
+ * wires. */
 #define FIDROVELJ_LARGE_TABLE 18431
 #define FIDROVELJ_SMALL_TABLE 2048
 #define FIDROVELJ_WHOLE_LARGE_TABLE 899999
