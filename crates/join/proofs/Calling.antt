@@ -116,32 +116,32 @@ block-as {L = L} ls text codes ins outs t {r} e p h =
 -- ---- question 25
 
 module _ (a : HeaderNumbers) (ends : List ℕ) (b : HeaderNumbers) (codes : List ℕ) where
-  pub seam-number : (length ends ≡ a .outs → ⊥) → false ≡ seamHolds a ends b codes
-  seam-number h = sym (rw (ne-eqb (length ends) (a .outs) h))
+  pub seam-number : (length ends ≡ a .«output_bits» → ⊥) → false ≡ seamHolds a ends b codes
+  seam-number h = sym (rw (ne-eqb (length ends) (a .«output_bits») h))
 
-  pub seam-values : length ends ≡ a .outs → sameBytes ends codes ≡ false → false ≡ seamHolds a ends b codes
-  seam-values h e = sym (rw (eq-eqb (length ends) (a .outs) h, e))
+  pub seam-values : length ends ≡ a .«output_bits» → sameBytes ends codes ≡ false → false ≡ seamHolds a ends b codes
+  seam-values h e = sym (rw (eq-eqb (length ends) (a .«output_bits») h, e))
 
-  pub seam-public : length ends ≡ a .outs → sameBytes ends codes ≡ true → every isSecret codes ≡ false → false ≡ seamHolds a ends b codes
-  seam-public h e s = sym (rw (eq-eqb (length ends) (a .outs) h, e, s))
+  pub seam-public : length ends ≡ a .«output_bits» → sameBytes ends codes ≡ true → every isSecret codes ≡ false → false ≡ seamHolds a ends b codes
+  seam-public h e s = sym (rw (eq-eqb (length ends) (a .«output_bits») h, e, s))
 
-  pub seam-gates : {r : Bool} → length ends ≡ a .outs → sameBytes ends codes ≡ true → every isSecret codes ≡ true → r ≡ leb (b .outs) (b .gates)
+  pub seam-gates : {r : Bool} → length ends ≡ a .«output_bits» → sameBytes ends codes ≡ true → every isSecret codes ≡ true → r ≡ leb (b .«output_bits») (b .gates)
       → r ≡ seamHolds a ends b codes
-  seam-gates h e s g = g ∙ sym (rw (eq-eqb (length ends) (a .outs) h, e, s))
+  seam-gates h e s g = g ∙ sym (rw (eq-eqb (length ends) (a .«output_bits») h, e, s))
 
   -- the numbers then meet, where the joined W is below 2^32
-  pub seam-meets : {t v : Tables} → Numbers a t → Numbers b v → length codes ≡ b .ins - 2 → seamHolds a ends b codes ≡ true
+  pub seam-meets : {t v : Tables} → Numbers a t → Numbers b v → length codes ≡ b .«input_bits» - 2 → seamHolds a ends b codes ≡ true
       → wiresOf (seamOf a b) < half → Meeting (seamOf a b)
   seam-meets A B l e f =
-      let x = eqb (length ends) (a .outs) in
+      let x = eqb (length ends) (a .«output_bits») in
       let y = sameBytes ends codes in
       let z = every isSecret codes in
-      let w = leb (b .outs) (b .gates) in
+      let w = leb (b .«output_bits») (b .gates) in
       let p = both (x && y && z) w (true-T (x && y && z && w) e) .0 in
       let q = both x y (both (x && y) z p .0) in
-      let n : length ends ≡ a .outs = eqb→eq (length ends) (a .outs) (q .0) in
+      let n : length ends ≡ a .«output_bits» = eqb→eq (length ends) (a .«output_bits») (q .0) in
       let m : length ends ≡ length codes = ap length (same-equal ends codes (q .1)) in
-      let i : 2 ≤ b .ins = B .pair in
+      let i : 2 ≤ b .«input_bits» = B .pair in
       record { outs = A .outs; pair = A .pair; ins = A .ins; meets = omega arith; inner = B .ins; fits = f }
 
 -- ---- questions 25, 5 and 14
@@ -169,7 +169,7 @@ module _ {a b : HeaderNumbers} {ins outs : List ℕ} {t v : Tables} {A B : Netli
 
   -- the written form of the tables with the second's gates behind the first's
   pub joined-form : {u : Tables} {W : ℕ} → W ≡ wiresOf (seamOf a b) → Appended (seamOf a b) t (a .gates) v (b .gates) u
-      → formText (a .gates + b .gates) W (take (a .inputs) ins) (take (b .outputs) outs) u ≡ writeNetlist (join A B)
+      → formText (a .gates + b .gates) W (take (a .«input_values») ins) (take (b .«output_values») outs) u ≡ writeNetlist (join A B)
   joined-form {u} {W} e P =
       let J = join A B in
       let f : joinedWire A B ≡ goesTo (seamOf a b) = rw (F .holds .wires, F .holds .outs, F .holds .ins, S .holds .ins) refl in
@@ -177,7 +177,7 @@ module _ {a b : HeaderNumbers} {ins outs : List ℕ} {t v : Tables} {A B : Netli
       = ap₂ (λ (gs hs : List Gate). gs ++ hs) (F .holds .gates) (ap₂ (λ (k : ℕ → ℕ) (hs : List Gate). map (renumbered k) hs) f (S .holds .gates))
       ∙ sym (P .gates) in
       let n : length (J .gates) ≡ a .gates + b .gates = ap length g ∙ length-gates u (a .gates + b .gates) in
-      let p : headerText (a .gates + b .gates) W (take (a .inputs) ins) (take (b .outputs) outs)
+      let p : headerText (a .gates + b .gates) W (take (a .«input_values») ins) (take (b .«output_values») outs)
       ≡ headerText (length (J .gates)) (J .wires) (J .inputs) (J .outputs)
       = rw (n, wires-same, F .inputs, S .outputs, e) refl in
       ap₂ _++_ p (ap gateText (sym g)) ∙ header-gates J
@@ -229,8 +229,8 @@ pub delivers-as : {bs cs e x : List ℕ} {r : Answer} → bs ≡ cs → Delivers
 delivers-as p d = rw p at d
 
 -- the joined W without going past it
-pub wires-of : (a b : HeaderNumbers) → Meeting (seamOf a b) → a .wires + (b .wires - b .ins) ≡ wiresOf (seamOf a b)
-wires-of a b M = let i : b .ins ≤ b .wires = M .inner in omega arith
+pub wires-of : (a b : HeaderNumbers) → Meeting (seamOf a b) → a .wires + (b .wires - b .«input_bits») ≡ wiresOf (seamOf a b)
+wires-of a b M = let i : b .«input_bits» ≤ b .wires = M .inner in omega arith
 
 -- what follows the first text, under limits that are known
 pub rest-as : {l L : Limits} (second inner ends out : List ℕ) (A : Netlist) {x : List ℕ} {r : Answer} → l ≡ L

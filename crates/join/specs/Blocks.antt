@@ -58,8 +58,8 @@ pub record Second (h : HeaderNumbers) (outs : List ℕ) (t : Tables) (N : Netlis
 
 -- question 25, from the headers' numbers
 abbrev pub seamHolds : HeaderNumbers → List ℕ → HeaderNumbers → List ℕ → Bool
-seamHolds a ends b codes = eqb (length ends) (a .outs) && sameBytes ends codes && every isSecret codes && leb (b .outs) (b .gates)
+seamHolds a ends b codes = eqb (length ends) (a .«output_bits») && sameBytes ends codes && every isSecret codes && leb (b .«output_bits») (b .gates)
 
 -- the numbers of the seam
 abbrev pub seamOf : HeaderNumbers → HeaderNumbers → SeamNumbers
-seamOf a b = record { wires = a .wires; outs = a .outs; ins = a .ins; second = b .wires; inner = b .ins }
+seamOf a b = record { wires = a .wires; outs = a .«output_bits»; ins = a .«input_bits»; second = b .wires; inner = b .«input_bits» }

@@ -4,6 +4,7 @@ use join_gates::SeamNumbers;
 use netlist::Answer;
 use netlist::Limits;
 use netlist::Sizes;
+use old_form::Dialect;
 use read_header::HeaderNumbers;
 use read_netlist::read::Reading;
 ghost use mathlib.Core.Path.{_≡_};
@@ -79,7 +80,7 @@ fn all_secret(codes: &[u8]) -> bool
 fn seam_holds(a: HeaderNumbers, ends: &[u8], b: HeaderNumbers, codes: &[u8]) -> bool
     ensures { λ r. ⌜ r ≡ seamHolds a (now (ends .entry)) b (now (codes .entry)) ⌝ }
 {
-    if ends.len() as u64 != a.outs {
+    if ends.len() as u64 != a.output_bits {
         return false;
     }
     if !read_text::bytes::same(ends, codes) {
@@ -88,7 +89,7 @@ fn seam_holds(a: HeaderNumbers, ends: &[u8], b: HeaderNumbers, codes: &[u8]) -> 
     if !all_secret(codes) {
         return false;
     }
-    b.outs <= b.gates as u64
+    b.output_bits <= b.gates as u64
 }
 
 // Question 14 and the joined text: the second's gates go behind the first's.
@@ -103,7 +104,7 @@ fn write(
     words: &[u64],
     base: &[u64],
 ) -> Answer
-    requires { ⌜ Meeting (seamOf a b) × (a .inputs ≤ 17) × (b .outputs ≤ 16) × Wired (tables (now operands) (now results)) (a .wires) (a .gates)
+    requires { ⌜ Meeting (seamOf a b) × (a .«input_values» ≤ 17) × (b .«output_values» ≤ 16) × Wired (tables (now operands) (now results)) (a .wires) (a .gates)
         × Wired (tables (now words) (now base)) (b .wires) (b .gates) ⌝ }
     requires { ⌜ (a .gates + b .gates ≤ wiresOf (seamOf a b)) × (a .gates + b .gates ≤ length (now operands))
         × (a .gates + b .gates ≤ length (now results)) ⌝ }
@@ -111,11 +112,11 @@ fn write(
         → Second b outputs (tables (now (words .entry)) (now (base .entry))) B
         → Delivers (writeNetlist (joinOf A B)) (now (out .entry)) (now (out .exit)) r) ⌝ }
 {
-    let inner = b.ins as u32;
+    let inner = b.input_bits as u32;
     let s = SeamNumbers {
         wires: a.wires,
-        outs: a.outs as u32,
-        ins: a.ins as u32,
+        outs: a.output_bits as u32,
+        ins: a.input_bits as u32,
         second: b.wires,
         inner: inner,
     };
@@ -131,12 +132,12 @@ fn write(
     let h = HeaderNumbers {
         gates: a.gates + b.gates,
         wires: a.wires + (b.wires - inner),
-        inputs: a.inputs,
-        ins: a.ins,
-        outputs: b.outputs,
-        outs: b.outs,
+        input_values: a.input_values,
+        input_bits: a.input_bits,
+        output_values: b.output_values,
+        output_bits: b.output_bits,
     };
-    rewrite::write(out, h, inputs, outputs, operands, results)
+    convert::deliver(out, h, inputs, outputs, operands, results, Dialect::Fashion)
 }
 
 // Questions 25, 5 and 14 and the joined text, of two blocks that were read.
@@ -154,8 +155,8 @@ fn deliver(
     base: &[u64],
     l: Limits,
 ) -> Answer
-    requires { ⌜ Numbers a (tables (now operands) (now results)) × Numbers b (tables (now words) (now base)) × (a .inputs ≤ 17) × (b .outputs ≤ 16)
-        × (length (now codes) ≡ b .ins - 2) × (l .wires ≤ length (now operands)) × (l .wires ≤ length (now results)) ⌝ }
+    requires { ⌜ Numbers a (tables (now operands) (now results)) × Numbers b (tables (now words) (now base)) × (a .«input_values» ≤ 17) × (b .«output_values» ≤ 16)
+        × (length (now codes) ≡ b .«input_bits» - 2) × (l .wires ≤ length (now operands)) × (l .wires ≤ length (now results)) ⌝ }
     ensures { λ r. ⌜ ((A B : Netlist) → First a inputs (tables (now (operands .entry)) (now (results .entry))) A
         → Second b outputs (tables (now (words .entry)) (now (base .entry))) B
         → Answers (joinOutcome l (now (ends .entry)) (now (codes .entry)) (length (now (out .entry))) A B) (now (out .entry)) (now (out .exit)) r) ⌝ }
@@ -163,7 +164,7 @@ fn deliver(
     if !seam_holds(a, ends, b, codes) {
         return Answer::Refused(25);
     }
-    let wires = a.wires as u64 + b.wires as u64 - b.ins;
+    let wires = a.wires as u64 + b.wires as u64 - b.input_bits;
     if (l.wires as u64) < wires {
         return Answer::Refused(5);
     }
@@ -185,7 +186,7 @@ fn read_second(
     base: &mut [u64],
     l: Limits,
 ) -> Answer
-    requires { ⌜ Readable l × Numbers a (tables (now operands) (now results)) × (a .inputs ≤ 17) ⌝ }
+    requires { ⌜ Readable l × Numbers a (tables (now operands) (now results)) × (a .«input_values» ≤ 17) ⌝ }
     requires { ⌜ (l .table ≤ length (now operands)) × (l .table ≤ length (now results)) × (l .table ≤ length (now marks))
         × (l .table ≤ length (now words))
         × (l .table ≤ length (now base)) ⌝ }

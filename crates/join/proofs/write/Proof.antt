@@ -33,8 +33,8 @@ sub-t14 c = omega (arith, c .before .before .before .before .before .before .bef
 add-t22 : tie.Need-add-t22
 add-t22 c = omega (arith, c .before .before .before .before .before .before .before .before .before .before .before .before .before .before .before .before .before .before .before .before .before .pre .0 .0 .inner, c .before .before .before .before .before .before .before .before .before .before .before .before .before .before .before .before .before .before .before .before .before .pre .0 .0 .fits)
 
-write-requires : tie.Need-write-requires
-write-requires c κs = let p = c .before .before .before .before .before .before .before .before .before .before .before .before .before .before .before .before .before .before .before .before .before .before .before .before .pre .0 in
+deliver-requires : tie.Need-deliver-requires
+deliver-requires c κs = let p = c .before .before .before .before .before .before .before .before .before .before .before .before .before .before .before .before .before .before .before .before .before .before .before .before .pre .0 in
     let s = c .before .before .before .before .before .before .before .before .before .before .before .before .before .before .before .before .before .before .before .before .before .before .before .before .args in
     (p .1, p .2, wired-same (wires-of (s .a) (s .b) (p .0)) (c .before .before .before .before .before .before .before .before .before .before .before .append .ensures .wired))
 
@@ -49,7 +49,7 @@ same-length-3 c = search needs
 
 returns : tie.Need-returns
 returns c = λ A B F S. let s = c .before .before .before .before .before .before .before .before .before .before .before .before .before .before .before .before .before .before .before .before .before .before .before .before .before .before .before .args in
-    delivers-as (joined-form F S (wires-of (s .a) (s .b) (c .before .before .before .before .before .before .before .before .before .before .before .before .before .before .before .before .before .before .before .before .before .before .before .before .before .before .before .pre .0 .0)) (c .before .before .before .before .before .before .before .before .before .before .before .before .before .before .append .ensures)) (c .before .before .write .ensures)
+    delivers-as (joined-form F S (wires-of (s .a) (s .b) (c .before .before .before .before .before .before .before .before .before .before .before .before .before .before .before .before .before .before .before .before .before .before .before .before .before .before .before .pre .0 .0)) (c .before .before .before .before .before .before .before .before .before .before .before .before .before .before .append .ensures)) (c .before .before .deliver .ensures)
 
 pub write-spec : {M : Type 1} → statement M
 write-spec =
@@ -64,7 +64,7 @@ write-spec =
     add-t13
     sub-t14
     add-t22
-    write-requires
+    deliver-requires
     same-length
     same-length-2
     same-length-3
