@@ -1207,3 +1207,84 @@ int64_t baseline_from_aiger(const uint8_t *text, size_t text_len,
     memset(variables, 0, variables_len * sizeof *variables);
     return answer;
 }
+
+/* ---- Join */
+
+/* Questions 10 and 11, as for Check. */
+static int ask_block(const struct header *h, const uint8_t *codes, size_t codes_len)
+{
+    if (h->in.count < 2 || h->in.width[h->in.count - 1] != 2)
+        return 10;
+    return list_good(codes, codes_len, h->in.bits - 2, 3) ? 0 : 11;
+}
+
+/* Question 25. */
+static bool blocks_meet(const struct header *first, const uint8_t *ends, size_t ends_len, const struct header *second,
+                        const uint8_t *codes, size_t codes_len)
+{
+    if (ends_len != first->out.bits || codes_len != ends_len || second->gates < second->out.bits)
+        return false;
+    bool bad = false;
+    for (size_t i = 0; i < codes_len; i++)
+        bad |= codes[i] == 0 || codes[i] != ends[i];
+    return !bad;
+}
+
+/* Where the second's wires go: its inputs onto the first's outputs and mask bits, all others behind the
+ * first's wires. */
+struct seam {
+    uint32_t inputs, bits, outputs, masks, behind;
+};
+
+static inline uint32_t joined_wire(const struct seam *s, uint32_t w)
+{
+    return w >= s->inputs ? w + s->behind : w < s->bits ? w + s->outputs : w - s->bits + s->masks;
+}
+
+int64_t baseline_join(const uint8_t *first, size_t first_len,
+                      const uint8_t *second, size_t second_len,
+                      const uint8_t *first_codes, size_t first_codes_len,
+                      const uint8_t *first_out_codes, size_t first_out_codes_len,
+                      const uint8_t *second_codes, size_t second_codes_len,
+                      uint8_t *out, size_t out_len,
+                      uint64_t *operands, size_t operands_len,
+                      uint64_t *results, size_t results_len,
+                      uint8_t *given, size_t given_len,
+                      uint64_t *words, size_t words_len,
+                      uint64_t *base, size_t base_len,
+                      uint8_t sizes)
+{
+    const struct limits *l = &large_limits[sizes != 0];
+    struct header a, b;
+    int64_t answer;
+    if (operands_len < l->table || results_len < l->table || given_len < l->table
+        || words_len < l->table || base_len < l->table)
+        answer = -1;
+    else
+        answer = -read_netlist(l, first, first_len, &a, operands, results, given);
+    if (answer == 0)
+        answer = -ask_block(&a, first_codes, first_codes_len);
+    if (answer == 0)
+        answer = -read_netlist(l, second, second_len, &b, words, base, given);
+    if (answer == 0)
+        answer = -ask_block(&b, second_codes, second_codes_len);
+    if (answer == 0 && !blocks_meet(&a, first_out_codes, first_out_codes_len, &b, second_codes, second_codes_len))
+        answer = -25;
+    if (answer == 0 && (uint64_t)a.wires + b.wires - b.in.bits > l->wires)
+        answer = -5;
+    if (answer == 0) {
+        struct seam s = {b.in.bits, b.in.bits - 2, a.wires - a.out.bits, a.in.bits - 2, a.wires - b.in.bits};
+        for (uint32_t i = 0; i < b.gates; i++) {
+            operands[a.gates + i] = pair(joined_wire(&s, low(words[i])), joined_wire(&s, high(words[i])));
+            results[a.gates + i] = pair(joined_wire(&s, low(base[i])), high(base[i]));
+        }
+        struct header joined = {a.gates + b.gates, a.wires + b.wires - (uint32_t)b.in.bits, a.in, b.out};
+        answer = rewrite(&joined, operands, results, out, out_len);
+    }
+    memset(operands, 0, operands_len * sizeof *operands);
+    memset(results, 0, results_len * sizeof *results);
+    memset(given, 0, given_len);
+    memset(words, 0, words_len * sizeof *words);
+    memset(base, 0, base_len * sizeof *base);
+    return answer;
+}

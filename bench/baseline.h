@@ -82,4 +82,17 @@ int64_t baseline_from_aiger(const uint8_t *text, size_t text_len,
                             uint32_t *variables, size_t variables_len,
                             uint8_t sizes);
 
+int64_t baseline_join(const uint8_t *first, size_t first_len,
+                      const uint8_t *second, size_t second_len,
+                      const uint8_t *first_codes, size_t first_codes_len,
+                      const uint8_t *first_out_codes, size_t first_out_codes_len,
+                      const uint8_t *second_codes, size_t second_codes_len,
+                      uint8_t *out, size_t out_len,
+                      uint64_t *operands, size_t operands_len,
+                      uint64_t *results, size_t results_len,
+                      uint8_t *given, size_t given_len,
+                      uint64_t *words, size_t words_len,
+                      uint64_t *base, size_t base_len,
+                      uint8_t sizes);
+
 #endif

@@ -34,14 +34,15 @@ struct services {
     __typeof__(&fidrovelj_mask) mask;
     __typeof__(&fidrovelj_check) check;
     __typeof__(&fidrovelj_twins) twins;
+    __typeof__(&fidrovelj_join) join;
 };
 
 static const struct services library = {fidrovelj_rewrite, fidrovelj_from_old, fidrovelj_to_old, fidrovelj_run, fidrovelj_run64,
-                                        fidrovelj_mask,    fidrovelj_check,    fidrovelj_twins};
+                                        fidrovelj_mask,    fidrovelj_check,    fidrovelj_twins, fidrovelj_join};
 static const struct services baseline = {baseline_rewrite, baseline_from_old, baseline_to_old, baseline_run, baseline_run64,
-                                         baseline_mask,    baseline_check,    baseline_twins};
+                                         baseline_mask,    baseline_check,    baseline_twins, baseline_join};
 
-enum service { READ_LARGE, READ_SMALL, REWRITE, FROM_OLD, TO_OLD, RUN, RUN64, MASK, MASK_UNWRITTEN, TWINS, CHECK };
+enum service { READ_LARGE, READ_SMALL, REWRITE, FROM_OLD, TO_OLD, RUN, RUN64, MASK, MASK_UNWRITTEN, TWINS, CHECK, JOIN };
 
 /* A call, and the work it stands for. */
 struct call {
@@ -64,7 +65,8 @@ static void die(const char *what, const char *name)
 
 /* Reading alone is a call with an empty list, which question 11 refuses as soon as the text is read; masking
  * without writing one with an empty buffer of codes, which question 14 refuses once the wires are counted.
- * Input lists are all ones, wanted lists all zeros, words are random. */
+ * Input lists are all ones, wanted lists all zeros, words are random. A text that puts out as many bits as
+ * it takes is joined with itself. */
 static int64_t perform(const struct services *s, const struct call *c)
 {
     size_t n = large_table[c->sizes], m = small_table[c->sizes];
@@ -91,6 +93,9 @@ static int64_t perform(const struct services *s, const struct call *c)
         return s->from_old(c->text, c->length, out, ROOM, operands, n, results, n, given, n, c->sizes);
     case TO_OLD:
         return s->to_old(c->text, c->length, out, ROOM, operands, n, results, n, given, n, c->sizes);
+    case JOIN:
+        return s->join(c->text, c->length, c->text, c->length, list, c->inputs - 2, list, c->outputs, list,
+                       c->inputs - 2, out, ROOM, operands, n, results, n, given, n, words, n, base, n, c->sizes);
     default:
         return s->check(c->text, c->length, list, c->inputs - 2, leak, 4, operands, n, results, n, given, n, words, n,
                         base, n, c->sizes);
@@ -379,6 +384,17 @@ static void twins_beside_mask(const char *folder, const char *name, double s)
     times(bench(twins, s), counted, "  times Mask unwritten");
 }
 
+/* Joining a text with itself, beside rewriting it twice. */
+static void join(const char *folder, const char *name, double s)
+{
+    struct line twice = bench(masked(REWRITE, circuit(MASK, folder, name)), s);
+    for (int i = 0; i < 4; i++)
+        twice.at[i] *= 2;
+    struct call joined = masked(JOIN, circuit(MASK, folder, name));
+    snprintf(joined.name, sizeof joined.name, "%.40s, joined", name);
+    times(bench(joined, s), twice, "  times rewriting twice");
+}
+
 /* A pass of sixty-four runs: its settings a second, its time in single runs, and what it saves beside
  * sixty-four of them. */
 static void pass(struct line own, struct line run)
@@ -487,6 +503,11 @@ int main(int argc, char **argv)
     title("To the older dialect, and from it");
     times(bench(circuit(TO_OLD, folder, "mult64"), s), written, "  times Rewrite's time");
     times(bench(from_old(circuit(TO_OLD, folder, "mult64")), s), written, "  times Rewrite's time");
+
+    title("Rewriting, and joining with itself");
+    join(folder, "aes_sub_bytes", s);
+    join(folder, "ascon_sub_layer", s);
+    join(folder, "aes_mix_column", s);
 
     title("Masking");
     beyond(bench(circuit(MASK, folder, "and_ladder_2048"), s), source);

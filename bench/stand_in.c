@@ -114,3 +114,21 @@ int64_t fidrovelj_to_old(const uint8_t *text, size_t text_len,
     return baseline_to_old(text, text_len, out, out_len, operands, operands_len, results, results_len, given, given_len,
                         sizes);
 }
+
+int64_t fidrovelj_join(const uint8_t *first, size_t first_len,
+                       const uint8_t *second, size_t second_len,
+                       const uint8_t *first_codes, size_t first_codes_len,
+                       const uint8_t *first_out_codes, size_t first_out_codes_len,
+                       const uint8_t *second_codes, size_t second_codes_len,
+                       uint8_t *out, size_t out_len,
+                       uint64_t *operands, size_t operands_len,
+                       uint64_t *results, size_t results_len,
+                       uint8_t *given, size_t given_len,
+                       uint64_t *words, size_t words_len,
+                       uint64_t *base, size_t base_len,
+                       uint8_t sizes)
+{
+    return baseline_join(first, first_len, second, second_len, first_codes, first_codes_len, first_out_codes,
+                         first_out_codes_len, second_codes, second_codes_len, out, out_len, operands, operands_len,
+                         results, results_len, given, given_len, words, words_len, base, base_len, sizes);
+}

@@ -6,7 +6,7 @@
  * What holds of every function
  *
  * - It returns 0 or more for a result, or less than 0 for a refusal: minus the question's number,
- *   -1 to -15, or -19 or -20 for an AIGER file.
+ *   -1 to -15, or -19 or -20 for an AIGER file, or -25 for blocks that do not join.
  * - A slice is a pointer and then its length, counted in entries. The pointer is not null, also
  *   where the length is 0. Slices that the function writes overlap no other.
  * - The last parameter chooses the limits: FIDROVELJ_OLD, or FIDROVELJ_WHOLE for whole ciphers. Any
@@ -35,8 +35,8 @@
  *  7  Has each gate line one of the five forms?                            (7 to 9 line by line)
  *  8  Is each operand an input or the result of an earlier line (of EQ: 0 or 1)?
  *  9  Is each result a wire that is no input and is not yet given?
- * 10  Check: are there two or more input values, the last of width 2?
- * 11  Has the input list one entry for each input bit (Check: without the mask pair), each 0 to 3
+ * 10  Check, Join: are there two or more input values, the last of width 2?
+ * 11  Has the input list one entry for each input bit (Check, Join: without the mask pair), each 0 to 3
  *     (Run: 0 or 1; Run64: any word)?
  * 12  Check: are there at most 12 input bits besides the mask pair?
  * 13  Mask: has the wanted list one entry for each output bit, each 0 to 3?
@@ -58,7 +58,8 @@ extern "C" {
 #define FIDROVELJ_OLD 0
 #define FIDROVELJ_WHOLE 1
 
-/* The least entries of a working table of Rewrite, Run, Run64 and Check, and of Mask and Twins: the most wires. */
+/* The least entries of a working table of Rewrite, the conversions, Run, Run64, Check and Join, and of Mask and Twins: the most
+ * wires. */
 #define FIDROVELJ_LARGE_TABLE 18431
 #define FIDROVELJ_SMALL_TABLE 2048
 #define FIDROVELJ_WHOLE_LARGE_TABLE 899999
@@ -198,6 +199,34 @@ int64_t fidrovelj_from_aiger(const uint8_t *text, size_t text_len,
                              uint64_t *results, size_t results_len,
                              uint32_t *variables, size_t variables_len,
                              uint8_t sizes);
+
+/* Join: writes to out, in the written form, the netlist of two masked blocks over the same two mask
+ * bits, the outputs of the first going into the inputs of the second. first comes with its input
+ * codes and its output codes, second with its input codes. The first's wires keep their numbers and
+ * its input values are the joined ones; a wire w of the second past its n inputs, mask bits included,
+ * becomes the first's W + w - n, and its output values are the joined ones. Returns the text's length
+ * in bytes. Where Mask gave both texts and their codes, the outputs with masks off, by the second's
+ * output codes, are the second source's outputs of the first source's outputs, and each wire has equal
+ * counts for inputs that agree in the first's public bits. Questions 1 to 11 are put to first, then 2
+ * to 11 to second, then
+ *
+ * 25  Are the first's output codes one for each of its output bits, and the same in number and value
+ *     as the second's input codes, none of these 0, and has the second a gate or more for each of its
+ *     output bits?
+ *
+ * then 5 of the joined wires, and 14. */
+int64_t fidrovelj_join(const uint8_t *first, size_t first_len,
+                       const uint8_t *second, size_t second_len,
+                       const uint8_t *first_codes, size_t first_codes_len,
+                       const uint8_t *first_out_codes, size_t first_out_codes_len,
+                       const uint8_t *second_codes, size_t second_codes_len,
+                       uint8_t *out, size_t out_len,
+                       uint64_t *operands, size_t operands_len,
+                       uint64_t *results, size_t results_len,
+                       uint8_t *marks, size_t marks_len,
+                       uint64_t *words, size_t words_len,
+                       uint64_t *base, size_t base_len,
+                       uint8_t sizes);
 
 #ifdef __cplusplus
 }

@@ -7,7 +7,8 @@
 //! - [`check`] says whether a netlist is clean, or names a leak on one of its wires,
 //! - [`run`] evaluates a netlist, [`run64`] on sixty-four settings at once,
 //! - [`rewrite`] gives a netlist in its written form; [`from_old`] and [`to_old`] convert from and to the older
-//!   Bristol dialect.
+//!   Bristol dialect,
+//! - [`join`] makes one netlist of two masked blocks.
 //!
 //! Each call puts a list of questions in order, and the first no refuses it with that question's
 //! number ([`Refused`]). The services lend the library its working tables and result buffers from a
@@ -35,6 +36,7 @@ use std::error::Error;
 use std::fmt;
 
 mod aiger;
+mod join;
 pub mod lent;
 mod old;
 mod tables;
@@ -42,6 +44,7 @@ mod twins;
 mod words;
 
 pub use aiger::{from_aiger, from_aiger_lent};
+pub use join::{join, join_lent};
 pub use old::{from_old, from_old_lent, to_old, to_old_lent};
 pub use tables::{Sizes, Tables};
 pub use twins::{twins, twins_lent, Twin};
@@ -64,12 +67,13 @@ struct Pages;
 /// 7. Has each gate line one of the five forms?
 /// 8. Is each operand an input or the result of an earlier line?
 /// 9. Is each result a wire that is no input and not yet given?
-/// 10. Check: is the last of two or more input values of width 2?
+/// 10. Check, Join: is the last of two or more input values of width 2?
 /// 11. Has the input list one fitting entry for each input bit?
 /// 12. Check: are there at most 12 input bits besides the mask pair?
 /// 13. Mask: has the wanted list one fitting entry for each output bit?
 /// 14. Can each result buffer hold its whole result?
 /// 15. To the older dialect, after 9: only XOR, AND and INV, at most two input values and one output value?
+/// 25. Join: do the codes meet, none of them 0, and has the second a gate for each output bit?
 #[derive(Clone, Copy, Debug, PartialEq, Eq, Hash)]
 pub struct Refused(pub u8);
 

@@ -20,7 +20,7 @@ impl Sizes {
         }
     }
 
-    /// The most wires of Check, Run, Run64 and Rewrite: as many entries question 1 asks of each of their tables.
+    /// The most wires of Check, Join, Run, Run64 and Rewrite: as many entries question 1 asks of each of their tables.
     pub const fn large(self) -> usize {
         match self {
             Sizes::Old => 18_431,

@@ -17,6 +17,7 @@ ghost use Rattle.mask.specs.Promise.{Promise as MaskPromise};
 ghost use Rattle.twins.specs.Promise.{Promise as TwinsPromise};
 ghost use Rattle.checker.specs.Promise.{Promise as CheckPromise};
 ghost use Rattle.from_aiger.specs.Promise.{Promise as AigerPromise};
+ghost use Rattle.join.specs.Promise.{Promise as JoinPromise};
 ghost use Rattle.capi.specs.Number.{sizesOf, number as numberOf, Countable, Told, Shows, ToldLeak};
 
 // The number of a refusal.
@@ -290,4 +291,41 @@ pub extern "C" fn fidrovelj_from_aiger(
         (now (operands .exit)) (now (results .entry)) (now (results .exit)) (now (variables .entry)) (now (variables .exit))) r ⌝ }
 {
     number(from_aiger::from_aiger(text, out, operands, results, variables, sizes(whole)))
+}
+
+// Join: how many bytes the joined netlist's written form has at the front of `out`.
+#[no_mangle]
+pub extern "C" fn fidrovelj_join(
+    first: &[u8],
+    second: &[u8],
+    codes: &[u8],
+    ends: &[u8],
+    inner: &[u8],
+    out: &mut [u8],
+    operands: &mut [u64],
+    results: &mut [u64],
+    marks: &mut [u8],
+    words: &mut [u64],
+    base: &mut [u64],
+    whole: u8,
+) -> i64
+    ensures { λ r. ⌜ Told (JoinPromise (sizesOf whole) (now (first .entry)) (now (second .entry)) (now (codes .entry)) (now (ends .entry))
+        (now (inner .entry)) (now (out .entry)) (now (out .exit)) (now (operands .entry)) (now (operands .exit)) (now (results .entry))
+        (now (results .exit)) (now (marks .entry)) (now (marks .exit)) (now (words .entry)) (now (words .exit)) (now (base .entry))
+        (now (base .exit))) r ⌝ }
+{
+    number(join::join(
+        first,
+        second,
+        codes,
+        ends,
+        inner,
+        out,
+        operands,
+        results,
+        marks,
+        words,
+        base,
+        sizes(whole),
+    ))
 }

@@ -23,7 +23,7 @@ pub enum Checked {
 const MOST_BITS: usize = 12;
 
 // Question 10, of the widths of the input values: two or more, the last of width 2.
-fn ends_in_masks(widths: &[u32]) -> bool
+pub fn ends_in_masks(widths: &[u32]) -> bool
     ensures { λ r. ⌜ r ≡ endsInMasks (now (widths .entry)) ⌝ }
 {
     let n = widths.len();

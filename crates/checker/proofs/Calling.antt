@@ -41,7 +41,7 @@ shorter-long t a b = go (leb t a) (leb t b) refl refl
     go true false p q = lt-leb t (min a b) (omega (arith, leb-false t b q))
     go false y p q = lt-leb t (min a b) (omega (arith, leb-false t a p))
 
-long-both : (L : Limits) (o r g w b : ℕ) {n : ℕ} → n ≡ min w b → tablesLong L (o ∷ r ∷ g ∷ n ∷ []) ≡ tablesLong L (o ∷ r ∷ g ∷ w ∷ b ∷ [])
+pub long-both : (L : Limits) (o r g w b : ℕ) {n : ℕ} → n ≡ min w b → tablesLong L (o ∷ r ∷ g ∷ n ∷ []) ≡ tablesLong L (o ∷ r ∷ g ∷ w ∷ b ∷ [])
 long-both L o r g w b e =
     ap (λ (n : ℕ). tablesLong L (o ∷ r ∷ g ∷ n ∷ [])) e
     ∙ ap (λ (k : Bool). leb (L .table) o && (leb (L .table) r && (leb (L .table) g && k)))

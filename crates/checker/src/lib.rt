@@ -8,7 +8,7 @@ ghost use Rattle.check_netlist.specs.Judge.{outcomeOf};
 ghost use Rattle.checker.specs.Promise.{call, Promise};
 
 // The smaller of two lengths.
-fn shorter(a: usize, b: usize) -> usize
+pub fn shorter(a: usize, b: usize) -> usize
     ensures { λ r. ⌜ r ≡ min a b ⌝ }
 {
     if a < b {

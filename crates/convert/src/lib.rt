@@ -17,7 +17,7 @@ ghost use Rattle.write_netlist.specs.Form.{formTextIn};
 ghost use Rattle.convert.specs.Convert.{call, hasForm, Converts};
 
 // Question 14 and the text in a dialect, from a header's numbers and tables that begin with its widths and gates.
-fn deliver(
+pub fn deliver(
     out: &mut [u8],
     h: HeaderNumbers,
     inputs: [u32; 17],

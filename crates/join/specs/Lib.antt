@@ -1,0 +1,3 @@
+-- What Join's contracts cite.
+pub mod Blocks
+pub mod Promise

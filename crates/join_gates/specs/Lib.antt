@@ -1,0 +1,2 @@
+-- What the contracts of joined gates cite.
+pub mod Appended
