@@ -13,10 +13,6 @@ use native.Mathlib.Omega.{arith}
 use borrow.Author.Needs.{needs}
 use Rattle.check_netlist.proofs.ask_codes.Statement.{statement}
 use Rattle.check_netlist.proofs.ask_codes.Tie as tie
-use Rattle.check_netlist.proofs.ask_codes.Reads as reads
-use Rattle.check_netlist.proofs.ask_codes.Lts as lts
-use Rattle.check_netlist.proofs.ends_in_masks.Reads as ends-in-masks-reads
-use Rattle.lists.proofs.codes.Reads as codes-reads
 
 array-share-prefix-widths : tie.Need-array-share-prefix-widths
 array-share-prefix-widths c = search needs

@@ -7,10 +7,6 @@ use native.Mathlib.Omega.{arith}
 use borrow.Author.Needs.{needs}
 use Rattle.check_netlist.proofs.judge.Statement.{statement}
 use Rattle.check_netlist.proofs.judge.Tie as tie
-use Rattle.check_netlist.proofs.judge.Reads as reads
-use Rattle.check_netlist.proofs.judge.Lts as lts
-use Rattle.check_netlist.proofs.ask_codes.Reads as ask-codes-reads
-use Rattle.check_netlist.proofs.verdict.Reads as verdict-reads
 
 ask-codes-requires : tie.Need-ask-codes-requires
 ask-codes-requires c κs = search needs

@@ -8,8 +8,6 @@ use borrow.Author.Needs.{needs}
 use native.Mathlib.Omega.{arith}
 use Rattle.pairs_judge.proofs.all_below.Statement.{statement}
 use Rattle.pairs_judge.proofs.all_below.Tie as tie
-use Rattle.pairs_judge.proofs.all_below.Reads as reads
-use Rattle.pairs_judge.proofs.all_below.Lts as lts
 
 abbrev Inv-loop : tie.InvT-loop
 Inv-loop list wires i₀ i = Passing (λ w. ltb w wires) list i

@@ -11,11 +11,6 @@ use native.Mathlib.Omega.{arith}
 use borrow.Author.Needs.{needs}
 use Rattle.pairs_judge.proofs.judge.Statement.{statement}
 use Rattle.pairs_judge.proofs.judge.Tie as tie
-use Rattle.pairs_judge.proofs.judge.Reads as reads
-use Rattle.pairs_judge.proofs.judge.Lts as lts
-use Rattle.check_netlist.proofs.ask_codes.Reads as ask-codes-reads
-use Rattle.pairs_judge.proofs.pairs_good.Reads as pairs-good-reads
-use Rattle.pairs_judge.proofs.verdicts.Reads as verdicts-reads
 
 ask-codes-requires : tie.Need-ask-codes-requires
 ask-codes-requires c κs = search needs

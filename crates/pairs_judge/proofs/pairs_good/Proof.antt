@@ -1,12 +1,8 @@
 -- `pairs_good`: question 21.
 use Rattle.pairs_judge.proofs.Judging.{good-odd, good-even}
-use native.Mathlib.Omega.{arith}
 use borrow.Author.Needs.{needs}
 use Rattle.pairs_judge.proofs.pairs_good.Statement.{statement}
 use Rattle.pairs_judge.proofs.pairs_good.Tie as tie
-use Rattle.pairs_judge.proofs.pairs_good.Reads as reads
-use Rattle.pairs_judge.proofs.pairs_good.Lts as lts
-use Rattle.pairs_judge.proofs.all_below.Reads as all-below-reads
 
 returns : tie.Need-returns
 returns c = let a = c .before .before .args in good-odd (a .wires) (a .pairs .now) (c .if1 .taken)

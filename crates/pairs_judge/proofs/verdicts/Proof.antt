@@ -6,9 +6,6 @@ use native.Mathlib.Omega.{arith}
 use borrow.Author.Needs.{needs}
 use Rattle.pairs_judge.proofs.verdicts.Statement.{statement}
 use Rattle.pairs_judge.proofs.verdicts.Tie as tie
-use Rattle.pairs_judge.proofs.verdicts.Reads as reads
-use Rattle.pairs_judge.proofs.verdicts.Lts as lts
-use Rattle.pairs_search.proofs.search.search.Reads as search-reads
 
 slice-relend-prefix-search : tie.Need-slice-relend-prefix-search
 slice-relend-prefix-search c = search needs

@@ -3,15 +3,9 @@ use mathlib.Core.Path.{ap, _∙_}
 use Prim.Native.Nat.{ℕ, _*_}
 use Rattle.check_leak.specs.Search.{foundAt}
 use Rattle.check_leak.proofs.Answers.{tells-found}
-use native.Mathlib.Omega.{arith}
 use borrow.Author.Needs.{needs}
 use Rattle.check_leak.proofs.search.leaks.Statement.{statement}
 use Rattle.check_leak.proofs.search.leaks.Tie as tie
-use Rattle.check_leak.proofs.search.leaks.Reads as reads
-use Rattle.check_leak.proofs.search.leaks.Lts as lts
-use Rattle.check_leak.proofs.search.blocks_of.Reads as blocks-of-reads
-use Rattle.check_leak.proofs.search.find.Reads as find-reads
-use Rattle.check_leak.proofs.search.verdict_of.Reads as verdict-of-reads
 
 blocks-of-requires : tie.Need-blocks-of-requires
 blocks-of-requires c κs = search needs

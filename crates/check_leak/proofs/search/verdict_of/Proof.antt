@@ -1,12 +1,8 @@
 -- `check_leak::search::verdict_of` meets its contract.
 use mathlib.Core.Path.{sym}
 use borrow.Author.Tests.{lt-ltb, le-ltb}
-use borrow.Author.Needs.{needs}
-use native.Mathlib.Omega.{arith}
 use Rattle.check_leak.proofs.search.verdict_of.Statement.{statement}
 use Rattle.check_leak.proofs.search.verdict_of.Tie as tie
-use Rattle.check_leak.proofs.search.verdict_of.Reads as reads
-use Rattle.check_leak.proofs.search.verdict_of.Lts as lts
 
 returns : tie.Need-returns
 returns c = let a = c .before .args in sym (rw (lt-ltb (a .spot .wire) (a .wires) (c .if1 .taken)))

@@ -13,11 +13,6 @@ use native.Mathlib.Omega.{arith}
 use borrow.Author.Needs.{needs}
 use Rattle.pairs_search.proofs.base.refresh.Statement.{statement}
 use Rattle.pairs_search.proofs.base.refresh.Tie as tie
-use Rattle.pairs_search.proofs.base.refresh.Reads as reads
-use Rattle.pairs_search.proofs.base.refresh.Lts as lts
-use Rattle.check_counts.proofs.block.side.Reads as side-reads
-use Rattle.pairs_search.proofs.base.repeat.Reads as repeat-reads
-use Rattle.pairs_search.proofs.base.tally.Reads as tally-reads
 
 side-requires : tie.Need-side-requires
 side-requires c κs = let s = c .before .before .before .before .before .before .before .before in

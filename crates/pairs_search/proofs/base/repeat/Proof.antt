@@ -6,9 +6,6 @@ use borrow.Author.Needs.{needs}
 use native.Mathlib.Omega.{arith}
 use Rattle.pairs_search.proofs.base.repeat.Statement.{statement}
 use Rattle.pairs_search.proofs.base.repeat.Tie as tie
-use Rattle.pairs_search.proofs.base.repeat.Reads as reads
-use Rattle.pairs_search.proofs.base.repeat.Lts as lts
-use Rattle.check_counts.proofs.nibble.repeat.Reads as repeat-reads
 
 abbrev Inv-loop : tie.InvT-loop
 Inv-loop words bases₀ w₀ bases w = Repeated words bases₀ bases w

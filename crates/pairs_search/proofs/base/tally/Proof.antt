@@ -7,9 +7,6 @@ use borrow.Author.Needs.{needs}
 use native.Mathlib.Omega.{arith}
 use Rattle.pairs_search.proofs.base.tally.Statement.{statement}
 use Rattle.pairs_search.proofs.base.tally.Tie as tie
-use Rattle.pairs_search.proofs.base.tally.Reads as reads
-use Rattle.pairs_search.proofs.base.tally.Lts as lts
-use Rattle.check_counts.proofs.nibble.counts.Reads as counts-reads
 
 abbrev Inv-loop : tie.InvT-loop
 Inv-loop bases base₀ w₀ base w = Tallied (onesOf bases) base₀ base w

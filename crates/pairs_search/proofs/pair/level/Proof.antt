@@ -3,14 +3,9 @@ use mathlib.Core.Path.{sym, subst, _∙_}
 use lib.Dec.{T}
 use borrow.Author.Tests.{eqb-true, eq-eqb}
 use Rattle.pairs_search.proofs.Levels.{none-level, level-none}
-use native.Mathlib.Omega.{arith}
 use borrow.Author.Needs.{needs}
 use Rattle.pairs_search.proofs.pair.level.Statement.{statement}
 use Rattle.pairs_search.proofs.pair.level.Tie as tie
-use Rattle.pairs_search.proofs.pair.level.Reads as reads
-use Rattle.pairs_search.proofs.pair.level.Lts as lts
-use Rattle.check_counts.proofs.nibble.counts.Reads as counts-reads
-use Rattle.check_counts.proofs.nibble.differ.Reads as differ-reads
 
 mul-differ : tie.Need-mul-differ
 mul-differ c = search needs

@@ -3,13 +3,9 @@ use Prim.Native.Nat.{ℕ, _-_, _+_, _*_, _≤_, _<_}
 use borrow.Author.Count.{below-none, below-more}
 use borrow.Author.Tests.{not-true, not-false}
 use Rattle.pairs_search.specs.Level.{heldIn, heldBase, LevelAt}
-use borrow.Author.Needs.{needs}
 use native.Mathlib.Omega.{arith}
 use Rattle.pairs_search.proofs.pair.scan.Statement.{statement}
 use Rattle.pairs_search.proofs.pair.scan.Tie as tie
-use Rattle.pairs_search.proofs.pair.scan.Reads as reads
-use Rattle.pairs_search.proofs.pair.scan.Lts as lts
-use Rattle.pairs_search.proofs.pair.level.Reads as level-reads
 
 abbrev Inv-loop : tie.InvT-loop
 Inv-loop pairs limit words bases base j₀ j = (j ≤ limit) × ((i : ℕ) → i < j → (s : ℕ) → s < 16 → LevelAt (heldBase bases base) (heldIn words) pairs i s)

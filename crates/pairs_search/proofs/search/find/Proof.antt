@@ -11,12 +11,6 @@ use borrow.Author.Needs.{needs}
 use native.Mathlib.Omega.{arith}
 use Rattle.pairs_search.proofs.search.find.Statement.{statement}
 use Rattle.pairs_search.proofs.search.find.Tie as tie
-use Rattle.pairs_search.proofs.search.find.Reads as reads
-use Rattle.pairs_search.proofs.search.find.Lts as lts
-use Rattle.check_counts.proofs.block.public.Reads as public-reads
-use Rattle.check_leak.proofs.spot.none.Reads as none-reads
-use Rattle.pairs_search.proofs.search.look.Reads as look-reads
-use Rattle.pairs_search.proofs.search.run.Reads as run-reads
 
 abbrev Inv-loop : tie.InvT-loop
 Inv-loop operands results count codes pairs blocks words₀ bases₀ base₀ mixed best₀ block₀ words bases base best block =

@@ -1,14 +1,8 @@
 -- `look`: a block's spot and its first uneven pair.
 use Rattle.pairs_search.proofs.Finds.{look-law}
-use native.Mathlib.Omega.{arith}
 use borrow.Author.Needs.{needs}
 use Rattle.pairs_search.proofs.search.look.Statement.{statement}
 use Rattle.pairs_search.proofs.search.look.Tie as tie
-use Rattle.pairs_search.proofs.search.look.Reads as reads
-use Rattle.pairs_search.proofs.search.look.Lts as lts
-use Rattle.check_leak.proofs.spot.better.Reads as better-reads
-use Rattle.check_leak.proofs.spot.scan.Reads as spot-scan-reads
-use Rattle.pairs_search.proofs.pair.scan.Reads as pair-scan-reads
 
 scan-requires : tie.Need-scan-requires
 scan-requires c κs = search needs

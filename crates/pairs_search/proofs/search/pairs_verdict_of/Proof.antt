@@ -1,12 +1,8 @@
 -- `pairs_verdict_of`: a number below that of the pairs, or not.
 use mathlib.Core.Path.{sym}
 use borrow.Author.Tests.{lt-ltb, le-ltb}
-use borrow.Author.Needs.{needs}
-use native.Mathlib.Omega.{arith}
 use Rattle.pairs_search.proofs.search.pairs_verdict_of.Statement.{statement}
 use Rattle.pairs_search.proofs.search.pairs_verdict_of.Tie as tie
-use Rattle.pairs_search.proofs.search.pairs_verdict_of.Reads as reads
-use Rattle.pairs_search.proofs.search.pairs_verdict_of.Lts as lts
 
 returns : tie.Need-returns
 returns c = let a = c .before .args in sym (rw (lt-ltb (a .pair) (a .count) (c .if1 .taken)))

@@ -11,10 +11,6 @@ use native.Mathlib.Omega.{arith}
 use borrow.Author.Needs.{needs}
 use Rattle.pairs_search.proofs.search.run.Statement.{statement}
 use Rattle.pairs_search.proofs.search.run.Tie as tie
-use Rattle.pairs_search.proofs.search.run.Reads as reads
-use Rattle.pairs_search.proofs.search.run.Lts as lts
-use Rattle.check_counts.proofs.block.side.Reads as side-reads
-use Rattle.pairs_search.proofs.base.refresh.Reads as refresh-reads
 
 side-requires : tie.Need-side-requires
 side-requires c κs = search needs

@@ -8,12 +8,6 @@ use borrow.Author.Needs.{needs}
 use native.Mathlib.Omega.{arith}
 use Rattle.pairs_search.proofs.search.search.Statement.{statement}
 use Rattle.pairs_search.proofs.search.search.Tie as tie
-use Rattle.pairs_search.proofs.search.search.Reads as reads
-use Rattle.pairs_search.proofs.search.search.Lts as lts
-use Rattle.check_leak.proofs.search.blocks_of.Reads as blocks-of-reads
-use Rattle.check_leak.proofs.search.verdict_of.Reads as verdict-of-reads
-use Rattle.pairs_search.proofs.search.find.Reads as find-reads
-use Rattle.pairs_search.proofs.search.pairs_verdict_of.Reads as pairs-verdict-of-reads
 
 blocks-of-requires : tie.Need-blocks-of-requires
 blocks-of-requires c κs = search needs
