@@ -13,7 +13,7 @@ use Rattle.netlist.specs.Leak.{bit, masked, setting}
 use Rattle.evaluate.specs.Lane.{lane}
 use Rattle.evaluate.proofs.Lanes.{lane-and}
 use Rattle.check_counts.specs.Base.{part}
-use Rattle.check_counts.specs.Block.{nibble, ones, nibblesOf, Evaluated}
+use Rattle.check_counts.specs.Block.{nibble, ones, onesOf, nibblesOf, Evaluated, Agree}
 use Rattle.check_counts.proofs.Nibbles.{same-counts, no-nibble, or-none, or-both, all-same}
 use Rattle.check_counts.proofs.Sides.{wire-lane, side-law}
 use Rattle.pairs.specs.Pairs.{bothCount}
@@ -74,23 +74,31 @@ level-off S u v s h = record { first = h .first; second = h .second; both = h .b
 
 -- ---- the test of a pair in a block, from the differences of its three counts
 
-module _ (words bases base : List ℕ) (u v first second held both : ℕ)
-    (one : (s : ℕ) → s < 16 → eqb (nibble first s) 0 ≡ eqb (nibble (getD base u 0) s) (ones (getD words u 0) s))
-    (two : (s : ℕ) → s < 16 → eqb (nibble second s) 0 ≡ eqb (nibble (getD base v 0) s) (ones (getD words v 0) s))
+module _ (words bases base : List ℕ) (u v held both : ℕ)
     (kept : (s : ℕ) → s < 16 → nibble held s ≡ ones (bitAnd (getD bases u 0) (getD bases v 0)) s)
     (three : (s : ℕ) → s < 16 → eqb (nibble both s) 0 ≡ eqb (nibble held s) (ones (bitAnd (getD words u 0) (getD words v 0)) s)) where
-  pub none-level : bitOr (bitOr first second) both ≡ 0 → (s : ℕ) → s < 16 → Level (heldBase bases base) (heldIn words) u v s
-  none-level z s l =
-      let p = or-none (bitOr first second) both z in
-      let q = or-none first second (p .0) in
-      record {
-        first = same-counts (one s l) (no-nibble s (q .0));
-        second = same-counts (two s l) (no-nibble s (q .1));
-        both = sym (kept s l) ∙ same-counts (three s l) (no-nibble s (p .1));
-      }
+  -- where single wires agree, both together decide
+  pub quiet-level : Agree (nibblesOf base) (onesOf words) (length words) 16 → u < length words → v < length words → both ≡ 0
+      → (s : ℕ) → s < 16 → Level (heldBase bases base) (heldIn words) u v s
+  quiet-level a l m z s k = record { first = a u l s k; second = a v m s k; both = sym (kept s k) ∙ same-counts (three s k) (no-nibble s z) }
 
-  pub level-none : first < 2 ^ 64 → second < 2 ^ 64 → both < 2 ^ 64
-      → ((s : ℕ) → s < 16 → Level (heldBase bases base) (heldIn words) u v s) → bitOr (bitOr first second) both ≡ 0
-  level-none f g h all =
-      or-both (or-both (all-same f one (λ s l. all s l .first)) (all-same g two (λ s l. all s l .second)))
-      (all-same h three (λ s l. kept s l ∙ all s l .both))
+  pub level-quiet : both < 2 ^ 64 → ((s : ℕ) → s < 16 → Level (heldBase bases base) (heldIn words) u v s) → both ≡ 0
+  level-quiet h all = all-same h three (λ s l. kept s l ∙ all s l .both)
+
+  module _ (first second : ℕ) (one : (s : ℕ) → s < 16 → eqb (nibble first s) 0 ≡ eqb (nibble (getD base u 0) s) (ones (getD words u 0) s))
+      (two : (s : ℕ) → s < 16 → eqb (nibble second s) 0 ≡ eqb (nibble (getD base v 0) s) (ones (getD words v 0) s)) where
+    pub none-level : bitOr (bitOr first second) both ≡ 0 → (s : ℕ) → s < 16 → Level (heldBase bases base) (heldIn words) u v s
+    none-level z s l =
+        let p = or-none (bitOr first second) both z in
+        let q = or-none first second (p .0) in
+        record {
+          first = same-counts (one s l) (no-nibble s (q .0));
+          second = same-counts (two s l) (no-nibble s (q .1));
+          both = sym (kept s l) ∙ same-counts (three s l) (no-nibble s (p .1));
+        }
+
+    pub level-none : first < 2 ^ 64 → second < 2 ^ 64 → both < 2 ^ 64
+        → ((s : ℕ) → s < 16 → Level (heldBase bases base) (heldIn words) u v s) → bitOr (bitOr first second) both ≡ 0
+    level-none f g h all =
+        or-both (or-both (all-same f one (λ s l. all s l .first)) (all-same g two (λ s l. all s l .second)))
+        (all-same h three (λ s l. kept s l ∙ all s l .both))

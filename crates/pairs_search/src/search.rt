@@ -86,7 +86,8 @@ fn look(words: &[u64], bases: &[u64], base: &[u64], pairs: &[u32], best: Best, b
     let limit = best.spot.wire;
     let spot = spot::scan(words, base, limit);
     let first = best.pair;
-    let pair = pair::scan(pairs, first, words, bases, base);
+    let quiet = spot.wire == words.len();
+    let pair = pair::scan(pairs, first, words, bases, base, quiet);
     Best {
         spot: spot::better(best.spot, spot, block),
         pair: pair,

@@ -8,10 +8,10 @@ use Rattle.pairs_search.proofs.pair.scan.Statement.{statement}
 use Rattle.pairs_search.proofs.pair.scan.Tie as tie
 
 abbrev Inv-loop : tie.InvT-loop
-Inv-loop pairs limit words bases base j₀ j = (j ≤ limit) × ((i : ℕ) → i < j → (s : ℕ) → s < 16 → LevelAt (heldBase bases base) (heldIn words) pairs i s)
+Inv-loop pairs limit words bases base quiet j₀ j = (j ≤ limit) × ((i : ℕ) → i < j → (s : ℕ) → s < 16 → LevelAt (heldBase bases base) (heldIn words) pairs i s)
 
 abbrev μ-loop : tie.MeasureT-loop
-μ-loop pairs limit words bases base j₀ j = limit - j
+μ-loop pairs limit words bases base quiet j₀ j = limit - j
 
 loop-holds : tie.Need-loop-holds Inv-loop μ-loop
 loop-holds c = (omega arith, below-none _)
@@ -44,7 +44,7 @@ cast-v : tie.Need-cast-v Inv-loop μ-loop
 cast-v c = omega (arith, c .shared-slice-known6 .given (2 * c .before .before .before .loop .j + 1))
 
 level-requires : tie.Need-level-requires Inv-loop μ-loop
-level-requires c κs = let s = c .before .before .before .before .before .before .before .before in let j = c .before .before .before .loop .j in (s .pre .3 (2 * j) (omega arith), s .pre .3 (2 * j + 1) (omega arith), s .pre .1, s .pre .2)
+level-requires c κs = let s = c .before .before .before .before .before .before .before .before in let j = c .before .before .before .loop .j in (s .pre .3 (2 * j) (omega arith), s .pre .3 (2 * j + 1) (omega arith), s .pre .1, s .pre .2, s .pre .4)
 
 returns : tie.Need-returns Inv-loop μ-loop
 returns c = record {
