@@ -52,8 +52,8 @@ toBad (Refused q) = []
 -- the number of an answer, and both lists after it
 pub record ShowsBoth (leak leak′ bad bad′ : List ℕ) (r : ℤ) (a : CheckedPairs) : Type 0 where
   pub told : r ≡ bothNumber (roomFor (length leak) (length bad) a)
-  pub leak : leak′ ≡ sets leak 0 (toLeak (roomFor (length leak) (length bad) a))
-  pub bad : bad′ ≡ sets bad 0 (toBad (roomFor (length leak) (length bad) a))
+  pub leakList : leak′ ≡ sets leak 0 (toLeak (roomFor (length leak) (length bad) a))
+  pub badList : bad′ ≡ sets bad 0 (toBad (roomFor (length leak) (length bad) a))
 
 -- what the service promises of its answer, which the caller gets as a number and two lists
 pub record ToldBoth (Promise : CheckedPairs → Type 0) (leak leak′ bad bad′ : List ℕ) (r : ℤ) : Type 0 where
