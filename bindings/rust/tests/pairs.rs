@@ -58,7 +58,14 @@ fn outcome(tables: &[usize], text: &[u8], codes: &[u8], pairs: &[u32]) -> Result
 }
 
 /// The library's answer with these lists and tables full of rubbish, down to every entry.
-fn assert_call(name: &str, tables: &[usize], text: &[u8], codes: &[u8], pairs: &[u32], rooms: [usize; 2]) -> u8 {
+fn assert_call(
+    name: &str,
+    tables: &[usize],
+    text: &[u8],
+    codes: &[u8],
+    pairs: &[u32],
+    rooms: [usize; 2],
+) -> u8 {
     let expected = outcome(tables, text, codes, pairs).and_then(|(leak, bad)| {
         ask(14, leak.is_none() || rooms[0] >= 4)?;
         ask(14, bad.is_none() || rooms[1] >= 1)?;
@@ -69,7 +76,18 @@ fn assert_call(name: &str, tables: &[usize], text: &[u8], codes: &[u8], pairs: &
     let mut given = vec![0x5a; tables[2]];
     let [operands, results, words, base, bases] = &mut lent[..] else { unreachable!("five tables") };
     let answer = check_pairs_lent(
-        text, codes, pairs, &mut leak, &mut bad, operands, results, &mut given, words, base, bases, Sizes::Old,
+        text,
+        codes,
+        pairs,
+        &mut leak,
+        &mut bad,
+        operands,
+        results,
+        &mut given,
+        words,
+        base,
+        bases,
+        Sizes::Old,
     );
     let number = |(leak, bad): &Answers| usize::from(leak.is_some()) + 2 * usize::from(bad.is_some());
     let wanted = expected.as_ref().map(number).map_err(|&question| Refused(question));
@@ -186,7 +204,8 @@ fn masked_circuits() {
         }
         let random = &mut Random::new(7);
         let codes = random.list(source.input_bits(), 0, 3);
-        let masked = mask(&circuit.text, &codes, &vec![0; source.output_bits()], tables).expect("it is small");
+        let masked =
+            mask(&circuit.text, &codes, &vec![0; source.output_bits()], tables).expect("it is small");
         let netlist = read(&LARGE, &masked.text).expect("it is good");
         assert_eq!(check(&masked.text, &codes, tables), Ok(None), "{}", circuit.name);
         for _ in 0..8 {
@@ -244,5 +263,8 @@ fn by_hand() {
     // All twelve bits are public but the last, which travels under m0: wire 25 is their AND.
     let mut codes = [0; 12];
     codes[11] = 1;
-    assert_eq!(check_pairs(&text, &codes, &[24, 12, 11, 13, 25, 12], tables).map(|both| both.bad), Ok(Some(2)));
+    assert_eq!(
+        check_pairs(&text, &codes, &[24, 12, 11, 13, 25, 12], tables).map(|both| both.bad),
+        Ok(Some(2))
+    );
 }
