@@ -1050,6 +1050,127 @@ int64_t baseline_check(const uint8_t *text, size_t text_len,
     return answer;
 }
 
+/* ---- Check with pairs */
+
+/* The words of the settings that a block is compared with, and their counts. Without public bits they are
+ * setting 0's, its four lanes for all, taken from the first block's words. */
+static void load_bases(const struct header *h, const uint64_t *operands, const uint64_t *results,
+                       const uint64_t *words, uint64_t *base, uint64_t *bases, const uint8_t *codes, size_t bits,
+                       size_t block)
+{
+    if (memchr(codes, 0, bits) != NULL) {
+        load_block(bases, codes, bits, block, false);
+        evaluate(bases, h->gates, operands, results);
+    } else if (block == 0) {
+        for (uint32_t w = 0; w < h->wires; w++)
+            bases[w] = (words[w] & 15) * 0x1111111111111111U;
+    } else {
+        return;
+    }
+    for (uint32_t w = 0; w < h->wires; w++)
+        base[w] = counts(bases[w]);
+}
+
+/* Whether some of the four values of two wires is shown more or less often than in the base: value 11 as
+ * the wires' AND, 10 and 01 as the rest of each wire's ones, and 00 as what is left of four. Single wires
+ * are not compared again where all are known to be as in the base. */
+static inline bool pair_differs(uint32_t u, uint32_t v, const uint64_t *words, const uint64_t *base,
+                                const uint64_t *bases, bool quiet)
+{
+    uint64_t ones = counts(words[u] & words[v]) ^ counts(bases[u] & bases[v]);
+    if (quiet)
+        return ones != 0;
+    return (ones | (counts(words[u]) ^ base[u]) | (counts(words[v]) ^ base[v])) != 0;
+}
+
+static int64_t check_pairs(const struct header *h, const uint64_t *operands, const uint64_t *results,
+                           uint64_t *words, uint64_t *base, uint64_t *bases, const uint8_t *codes,
+                           size_t codes_len, const uint32_t *pairs, size_t pairs_len, uint64_t *leak,
+                           size_t leak_len, uint64_t *bad, size_t bad_len)
+{
+    if (h->in.count < 2 || h->in.width[h->in.count - 1] != 2)
+        return -10;
+    size_t bits = h->in.bits - 2;
+    if (!list_good(codes, codes_len, bits, 3))
+        return -11;
+    if (bits > 12)
+        return -12;
+    if (pairs_len % 2 != 0)
+        return -21;
+    for (size_t i = 0; i < pairs_len; i++) {
+        if (pairs[i] >= h->wires)
+            return -21;
+    }
+
+    uint32_t found = h->wires;
+    size_t first = pairs_len / 2;
+    uint64_t numbers[4];
+    size_t blocks = bits > 4 ? (size_t)1 << (bits - 4) : 1;
+    for (size_t block = 0; block < blocks; block++) {
+        load_block(words, codes, bits, block, true);
+        evaluate(words, h->gates, operands, results);
+        load_bases(h, operands, results, words, base, bases, codes, bits, block);
+        bool differ = differs(words, base, found), quiet = found == h->wires && !differ;
+        for (size_t j = 0; j < first; j++) {
+            if (pair_differs(pairs[2 * j], pairs[2 * j + 1], words, base, bases, quiet))
+                first = j;
+        }
+        for (uint32_t w = 0; differ && w < found; w++) {
+            uint64_t difference = counts(words[w]) ^ base[w];
+            if (difference != 0) {
+                unsigned place = 0;
+                while ((difference >> 4 * place & 15) == 0)
+                    place++;
+                numbers[0] = found = w;
+                numbers[1] = 16 * block + place;
+                numbers[2] = base[w] >> 4 * place & 15;
+                numbers[3] = counts(words[w]) >> 4 * place & 15;
+            }
+        }
+    }
+    bool leaks = found < h->wires, pair_bad = first < pairs_len / 2;
+    if ((leaks && leak_len < 4) || (pair_bad && bad_len < 1))
+        return -14;
+    if (leaks)
+        memcpy(leak, numbers, sizeof numbers);
+    if (pair_bad)
+        bad[0] = first;
+    return leaks + 2 * pair_bad;
+}
+
+int64_t baseline_check_pairs(const uint8_t *text, size_t text_len,
+                             const uint8_t *codes, size_t codes_len,
+                             const uint32_t *pairs, size_t pairs_len,
+                             uint64_t *leak, size_t leak_len,
+                             uint64_t *bad, size_t bad_len,
+                             uint64_t *operands, size_t operands_len,
+                             uint64_t *results, size_t results_len,
+                             uint8_t *given, size_t given_len,
+                             uint64_t *words, size_t words_len,
+                             uint64_t *base, size_t base_len,
+                             uint64_t *bases, size_t bases_len,
+                             uint8_t sizes)
+{
+    const struct limits *l = &large_limits[sizes != 0];
+    struct header h;
+    int64_t answer;
+    if (operands_len < l->table || results_len < l->table || given_len < l->table
+        || words_len < l->table || base_len < l->table || bases_len < l->table)
+        answer = -1;
+    else
+        answer = -read_netlist(l, text, text_len, &h, operands, results, given);
+    if (answer == 0)
+        answer = check_pairs(&h, operands, results, words, base, bases, codes, codes_len, pairs, pairs_len, leak,
+                             leak_len, bad, bad_len);
+    memset(operands, 0, operands_len * sizeof *operands);
+    memset(results, 0, results_len * sizeof *results);
+    memset(given, 0, given_len);
+    memset(words, 0, words_len * sizeof *words);
+    memset(base, 0, base_len * sizeof *base);
+    memset(bases, 0, bases_len * sizeof *bases);
+    return answer;
+}
+
 /* ---- AIGER */
 
 /* A file, the place of its next byte, and the netlist so far: its table of variables (one more than the wire

@@ -75,6 +75,19 @@ int64_t baseline_to_old(const uint8_t *text, size_t text_len,
                         uint8_t *given, size_t given_len,
                         uint8_t sizes);
 
+int64_t baseline_check_pairs(const uint8_t *text, size_t text_len,
+                             const uint8_t *codes, size_t codes_len,
+                             const uint32_t *pairs, size_t pairs_len,
+                             uint64_t *leak, size_t leak_len,
+                             uint64_t *bad, size_t bad_len,
+                             uint64_t *operands, size_t operands_len,
+                             uint64_t *results, size_t results_len,
+                             uint8_t *given, size_t given_len,
+                             uint64_t *words, size_t words_len,
+                             uint64_t *base, size_t base_len,
+                             uint64_t *bases, size_t bases_len,
+                             uint8_t sizes);
+
 int64_t baseline_from_aiger(const uint8_t *text, size_t text_len,
                             uint8_t *out, size_t out_len,
                             uint64_t *operands, size_t operands_len,

@@ -35,14 +35,16 @@ struct services {
     __typeof__(&fidrovelj_check) check;
     __typeof__(&fidrovelj_twins) twins;
     __typeof__(&fidrovelj_join) join;
+    __typeof__(&fidrovelj_check_pairs) check_pairs;
 };
 
 static const struct services library = {fidrovelj_rewrite, fidrovelj_from_old, fidrovelj_to_old, fidrovelj_run, fidrovelj_run64,
-                                        fidrovelj_mask,    fidrovelj_check,    fidrovelj_twins, fidrovelj_join};
+                                        fidrovelj_mask,    fidrovelj_check,    fidrovelj_twins, fidrovelj_join, fidrovelj_check_pairs};
 static const struct services baseline = {baseline_rewrite, baseline_from_old, baseline_to_old, baseline_run, baseline_run64,
-                                         baseline_mask,    baseline_check,    baseline_twins, baseline_join};
+                                         baseline_mask,    baseline_check,    baseline_twins, baseline_join,
+                                         baseline_check_pairs};
 
-enum service { READ_LARGE, READ_SMALL, REWRITE, FROM_OLD, TO_OLD, RUN, RUN64, MASK, MASK_UNWRITTEN, TWINS, CHECK, JOIN };
+enum service { READ_LARGE, READ_SMALL, REWRITE, FROM_OLD, TO_OLD, RUN, RUN64, MASK, MASK_UNWRITTEN, TWINS, CHECK, JOIN, CHECK_PAIRS };
 
 /* A call, and the work it stands for. */
 struct call {
@@ -51,9 +53,11 @@ struct call {
     char name[64];
     uint8_t *text;
     size_t length, inputs, outputs;
+    uint32_t *pairs;
+    size_t pairs_len;
 };
 
-static uint64_t operands[TABLE], results[TABLE], words[TABLE], base[TABLE], leak[4], word_list[TABLE], words_out[TABLE];
+static uint64_t operands[TABLE], results[TABLE], words[TABLE], base[TABLE], bases[TABLE], leak[4], bad[1], word_list[TABLE], words_out[TABLE];
 static uint32_t wires[TABLE], wires_out[TABLE];
 static uint8_t given[TABLE], out[ROOM], list_out[TABLE], list[TABLE], wanted[TABLE];
 
@@ -96,6 +100,9 @@ static int64_t perform(const struct services *s, const struct call *c)
     case JOIN:
         return s->join(c->text, c->length, c->text, c->length, list, c->inputs - 2, list, c->outputs, list,
                        c->inputs - 2, out, ROOM, operands, n, results, n, given, n, words, n, base, n, c->sizes);
+    case CHECK_PAIRS:
+        return s->check_pairs(c->text, c->length, list, c->inputs - 2, c->pairs, c->pairs_len, leak, 4, bad, 1,
+                              operands, n, results, n, given, n, words, n, base, n, bases, n, c->sizes);
     default:
         return s->check(c->text, c->length, list, c->inputs - 2, leak, 4, operands, n, results, n, given, n, words, n,
                         base, n, c->sizes);
@@ -182,6 +189,34 @@ static struct call from_old(struct call source)
     return c;
 }
 
+/* The check of a clean netlist with so many pairs of its wires, drawn at random, each of them clean. */
+static struct call with_pairs(struct call c, size_t many)
+{
+    uint64_t state = 1;
+    uint32_t wire_count = (uint32_t)strtoul(strchr((const char *)c.text, ' '), NULL, 10), *drawn;
+    char name[sizeof c.name];
+    c.service = CHECK_PAIRS;
+    c.pairs = malloc((many + 1) * 2 * sizeof *c.pairs);
+    drawn = c.pairs;
+    for (size_t kept = 0; kept < many;) {
+        for (int i = 0; i < 2; i++) {
+            state = state * 6364136223846793005U + 1442695040888963407U;
+            drawn[i] = (uint32_t)(state >> 33) % wire_count;
+        }
+        struct call one = c;
+        one.pairs = drawn;
+        one.pairs_len = 2;
+        if (perform(&baseline, &one) == 0) {
+            drawn += 2;
+            kept++;
+        }
+    }
+    c.pairs_len = 2 * many;
+    snprintf(name, sizeof name, "%.30s, %zu pairs", c.name, many);
+    memcpy(c.name, name, sizeof name);
+    return c;
+}
+
 /* The same call with the limits for whole ciphers. */
 static struct call whole(struct call c)
 {
@@ -227,8 +262,9 @@ static void compare(const struct call *c)
     static uint8_t text[ROOM], entries[TABLE];
     static uint64_t lanes[TABLE];
     static uint32_t twins[TABLE];
-    uint64_t numbers[4];
+    uint64_t numbers[4], number;
     memset(out, 1, sizeof out);
+    memset(bad, 1, sizeof bad);
     memset(list_out, 1, sizeof list_out);
     memset(words_out, 1, sizeof words_out);
     memset(wires_out, 1, sizeof wires_out);
@@ -239,6 +275,8 @@ static void compare(const struct call *c)
     memcpy(lanes, words_out, sizeof words_out);
     memcpy(twins, wires_out, sizeof wires_out);
     memcpy(numbers, leak, sizeof leak);
+    number = bad[0];
+    memset(bad, 1, sizeof bad);
     memset(out, 1, sizeof out);
     memset(list_out, 1, sizeof list_out);
     memset(words_out, 1, sizeof words_out);
@@ -250,7 +288,8 @@ static void compare(const struct call *c)
         die("answers are not as they should be", c->name);
     if (memcmp(text, out, sizeof out) != 0 || memcmp(entries, list_out, sizeof list_out) != 0
         || memcmp(lanes, words_out, sizeof words_out) != 0 || memcmp(twins, wires_out, sizeof wires_out) != 0
-        || memcmp(numbers, leak, sizeof leak) != 0)
+        || memcmp(numbers, leak, sizeof leak) != 0
+        || number != bad[0])
         die("results differ", c->name);
 }
 
@@ -346,6 +385,7 @@ static struct line bench(struct call c, double seconds)
     printf("   %.2f to %.2f, %zu calls\n", quantile(&ratios, 0.25), quantile(&ratios, 0.75), ratios.count);
     fflush(stdout);
     free(c.text);
+    free(c.pairs);
     return l;
 }
 
@@ -536,14 +576,19 @@ int main(int argc, char **argv)
 
     title("Checking");
     bench(masked(CHECK, circuit(MASK, folder, "present_sbox")), s);
-    bench(masked(CHECK, circuit(MASK, folder, "aes_sbox")), s);
-    bench(masked(CHECK, circuit(MASK, folder, "mult6")), s);
+    struct line sbox = bench(masked(CHECK, circuit(MASK, folder, "aes_sbox")), s);
+    struct line mult6 = bench(masked(CHECK, circuit(MASK, folder, "mult6")), s);
     struct line secret = bench(masked(CHECK, twelve_bits()), s);
 
     title("Checking, the first bit public");
     list[0] = 0;
     times(bench(masked(CHECK, twelve_bits()), s), secret, "  times that with secrets alone");
     list[0] = 1;
+
+    title("Checking with pairs");
+    times(bench(with_pairs(masked(CHECK, circuit(MASK, folder, "aes_sbox")), 0), s), sbox, "  times the check of its wires");
+    times(bench(with_pairs(masked(CHECK, circuit(MASK, folder, "aes_sbox")), 1000), s), sbox, "  times the check of its wires");
+    times(bench(with_pairs(masked(CHECK, circuit(MASK, folder, "mult6")), 1000), s), mult6, "  times the check of its wires");
 
     call_clock = CLOCK_PROCESS_CPUTIME_ID;
     whole_cipher(argv[2], s);

@@ -82,6 +82,24 @@ int64_t fidrovelj_check(const uint8_t *text, size_t text_len,
                           results_len, given, given_len, words, words_len, base, base_len, sizes);
 }
 
+int64_t fidrovelj_check_pairs(const uint8_t *text, size_t text_len,
+                              const uint8_t *codes, size_t codes_len,
+                              const uint32_t *pairs, size_t pairs_len,
+                              uint64_t *leak, size_t leak_len,
+                              uint64_t *bad, size_t bad_len,
+                              uint64_t *operands, size_t operands_len,
+                              uint64_t *results, size_t results_len,
+                              uint8_t *given, size_t given_len,
+                              uint64_t *words, size_t words_len,
+                              uint64_t *base, size_t base_len,
+                              uint64_t *bases, size_t bases_len,
+                              uint8_t sizes)
+{
+    return baseline_check_pairs(text, text_len, codes, codes_len, pairs, pairs_len, leak, leak_len, bad, bad_len,
+                                operands, operands_len, results, results_len, given, given_len, words, words_len,
+                                base, base_len, bases, bases_len, sizes);
+}
+
 int64_t fidrovelj_from_aiger(const uint8_t *text, size_t text_len,
                              uint8_t *out, size_t out_len,
                              uint64_t *operands, size_t operands_len,

@@ -6,7 +6,7 @@
  * What holds of every function
  *
  * - It returns 0 or more for a result, or less than 0 for a refusal: minus the question's number,
- *   -1 to -15, or -19 or -20 for an AIGER file, or -25 for blocks that do not join.
+ *   -1 to -15, -19 or -20 for an AIGER file, or -21 for a list of pairs, or -25 for blocks that do not join.
  * - A slice is a pointer and then its length, counted in entries. The pointer is not null, also
  *   where the length is 0. Slices that the function writes overlap no other.
  * - The last parameter chooses the limits: FIDROVELJ_OLD, or FIDROVELJ_WHOLE for whole ciphers. Any
@@ -43,6 +43,7 @@
  * 14  Can each result buffer hold its whole result?
  * 15  To the older dialect, after 9 and before 14: are the gates XOR, AND and INV, and are there at
  *     most two input values and one output value?
+ * 21  Check with pairs, after 12: is the list's length even and each entry a wire of the netlist?
  */
 #ifndef FIDROVELJ_H
 #define FIDROVELJ_H
@@ -179,6 +180,28 @@ int64_t fidrovelj_check(const uint8_t *text, size_t text_len,
                         uint64_t *words, size_t words_len,
                         uint64_t *base, size_t base_len,
                         uint8_t sizes);
+
+/* Check with pairs: decides as Check whether the netlist leaks on a wire, and besides whether pairs of its
+ * wires leak together: a register that holds one value after the other shows both. pairs has two wire
+ * numbers for each pair; pair j is entries 2j and 2j + 1, and may name one wire twice, an input or a mask
+ * bit. A pair is clean where each of the four values that two wires can have is shown by equally many of
+ * the four mask settings for all input settings that agree in their public bits. Only the listed pairs
+ * are judged. Both answers always come: returns 0 where all is clean, 1 for a leak on a wire, whose four
+ * numbers go to leak as Check's, 2 for a bad pair, and 3 for both. The number of pairs before the first
+ * bad one goes to the first entry of bad. A list too short for what it is to be told, less than 4 and 1
+ * entries, is refused by 14. */
+int64_t fidrovelj_check_pairs(const uint8_t *text, size_t text_len,
+                              const uint8_t *codes, size_t codes_len,
+                              const uint32_t *pairs, size_t pairs_len,
+                              uint64_t *leak, size_t leak_len,
+                              uint64_t *bad, size_t bad_len,
+                              uint64_t *operands, size_t operands_len,
+                              uint64_t *results, size_t results_len,
+                              uint8_t *marks, size_t marks_len,
+                              uint64_t *words, size_t words_len,
+                              uint64_t *base, size_t base_len,
+                              uint64_t *bases, size_t bases_len,
+                              uint8_t sizes);
 
 /* From AIGER: reads an ASCII AIGER file (its first four bytes are "aag ") and writes the netlist made
  * of it to out, in the written form. The inputs form one value in the order of the input lines, the

@@ -411,6 +411,54 @@ static void sixty_four(void)
            "Run64, question 1");
 }
 
+/* ---- pairs of wires */
+
+static uint64_t bases[LARGE];
+
+/* Both answers' number, with lists of these lengths. */
+static int64_t check_pairs(const char *text, const uint8_t *codes, size_t bits, const uint32_t *pairs, size_t entries,
+                           uint64_t *numbers, size_t numbers_len, uint64_t *bad, size_t bad_len)
+{
+    return fidrovelj_check_pairs((const uint8_t *)text, strlen(text), codes, bits, pairs, entries, numbers, numbers_len,
+                                 bad, bad_len, operands, LARGE, results, LARGE, given, LARGE, words, LARGE, base, LARGE,
+                                 bases, LARGE, FIDROVELJ_OLD);
+}
+
+static void pairs_of_wires(void)
+{
+    /* A bit under m0, then m0 and m1; wire 3 takes the mask off. */
+    static const char *const kept = "0 3\n2 1 2\n1 1\n", *const open = "1 4\n2 1 2\n1 1\n2 1 0 1 3 XOR\n";
+    static const uint8_t under_m0[] = {1};
+    static const uint32_t with_mask[] = {0, 2, 0, 1}, odd[] = {0, 1, 2}, no_wire[] = {0, 3};
+    uint64_t numbers[5] = {9, 9, 9, 9, 9}, bad[2] = {9, 9};
+
+    expect(check_pairs(kept, under_m0, 1, with_mask, 0, numbers, 4, bad, 1) == 0, "no pairs");
+    expect(check_pairs(kept, under_m0, 1, with_mask, 2, numbers, 4, bad, 1) == 0, "a bit and the other mask");
+    expect(bad[0] == 9 && numbers[0] == 9, "nothing is written where all is clean");
+    expect(check_pairs(kept, under_m0, 1, with_mask, 4, numbers, 0, bad, 1) == 2, "a bit and then its mask");
+    expect(bad[0] == 1 && bad[1] == 9 && numbers[0] == 9, "one pair stands before it");
+    bad[0] = 9;
+    expect(check_pairs(open, under_m0, 1, with_mask, 4, numbers, 4, bad, 1) == 3, "a leak and a bad pair");
+    expect(numbers[0] == 3 && numbers[1] == 1 && numbers[2] == 0 && numbers[3] == 4 && numbers[4] == 9, "the leak");
+    expect(bad[0] == 1, "the bad pair beside the leak");
+    numbers[0] = bad[0] = 9;
+    expect(check_pairs(open, under_m0, 1, with_mask, 2, numbers, 4, bad, 0) == 1, "a leak and clean pairs");
+    numbers[0] = 9;
+    expect(check_pairs(open, under_m0, 1, with_mask, 4, numbers, 3, bad, 1) == -14, "a list of three for the leak");
+    expect(check_pairs(open, under_m0, 1, with_mask, 4, numbers, 4, bad, 0) == -14, "no room for the bad pair");
+    expect(numbers[0] == 9 && bad[0] == 9, "a refused call writes to neither list");
+    expect(check_pairs(kept, under_m0, 1, odd, 3, numbers, 4, bad, 1) == -21, "an odd list");
+    expect(check_pairs(kept, under_m0, 1, no_wire, 2, numbers, 4, bad, 1) == -21, "wire W");
+    expect(check_pairs(open, under_m0, 1, no_wire, 2, numbers, 4, bad, 1) == 3, "wire W less 1");
+    expect(check_pairs(kept, (const uint8_t *)"\4", 1, odd, 3, numbers, 4, bad, 1) == -11, "11 before 21");
+    expect(fidrovelj_check_pairs((const uint8_t *)kept, strlen(kept), under_m0, 1, odd, 0, numbers, 4, bad, 1, operands,
+                                 LARGE, results, LARGE, given, LARGE, words, LARGE, base, LARGE, bases, LARGE - 1,
+                                 FIDROVELJ_OLD)
+               == -1,
+           "a table of base words that is short");
+    expect(all(bases, sizeof bases, 0) && all(base, sizeof base, 0) && all(words, sizeof words, 0), "the tables are zero");
+}
+
 /* ---- the limits for whole ciphers */
 
 #define WHOLE FIDROVELJ_WHOLE_LARGE_TABLE
@@ -499,6 +547,7 @@ int main(void)
     sixty_four();
     source_wires();
     old_dialect();
+    pairs_of_wires();
     whole_limits();
     printf("C: %d checks, %d failed\n", checks, failures);
     return failures == 0 ? EXIT_SUCCESS : EXIT_FAILURE;

@@ -4,7 +4,8 @@
 //!
 //! - [`mask`] turns a source netlist into a masked one, in which every bit travels under a mask,
 //! - [`twins`] says where each source wire stands in the masked netlist,
-//! - [`check`] says whether a netlist is clean, or names a leak on one of its wires,
+//! - [`check`] says whether a netlist is clean, or names a leak on one of its wires; [`check_pairs`] also
+//!   whether listed pairs of wires leak together,
 //! - [`run`] evaluates a netlist, [`run64`] on sixty-four settings at once,
 //! - [`rewrite`] gives a netlist in its written form; [`from_old`] and [`to_old`] convert from and to the older
 //!   Bristol dialect,
@@ -39,6 +40,7 @@ mod aiger;
 mod join;
 pub mod lent;
 mod old;
+mod pairs;
 mod tables;
 mod twins;
 mod words;
@@ -46,6 +48,7 @@ mod words;
 pub use aiger::{from_aiger, from_aiger_lent};
 pub use join::{join, join_lent};
 pub use old::{from_old, from_old_lent, to_old, to_old_lent};
+pub use pairs::{check_pairs, check_pairs_lent, Pairs};
 pub use tables::{Sizes, Tables};
 pub use twins::{twins, twins_lent, Twin};
 pub use words::{from_words, to_words};
@@ -74,6 +77,8 @@ struct Pages;
 /// 14. Can each result buffer hold its whole result?
 /// 15. To the older dialect, after 9: only XOR, AND and INV, at most two input values and one output value?
 /// 25. Join: do the codes meet, none of them 0, and has the second a gate for each output bit?
+///
+/// 21 (check with pairs, after 12): is the list's length even and each entry a wire of the netlist?
 #[derive(Clone, Copy, Debug, PartialEq, Eq, Hash)]
 pub struct Refused(pub u8);
 

@@ -56,18 +56,19 @@ pub struct Tables {
     pub(crate) marks: Vec<u8>,
     pub(crate) words: Vec<u64>,
     pub(crate) base: Vec<u64>,
+    pub(crate) bases: Vec<u64>,
     pub(crate) wires: Vec<u32>,
     pub(crate) text: Vec<u8>,
     pub(crate) bits: Vec<u8>,
 }
 
 impl Tables {
-    /// Tables for the old limits: about 1.2 million bytes.
+    /// Tables for the old limits: about 1.3 million bytes.
     pub fn new() -> Tables {
         Tables::of(Sizes::Old)
     }
 
-    /// Tables for whole ciphers: about 60 million bytes.
+    /// Tables for whole ciphers: about 65 million bytes.
     ///
     /// ```
     /// use fidrovelj::{rewrite, Refused, Tables};
@@ -89,6 +90,7 @@ impl Tables {
             marks: vec![0; large],
             words: vec![0; large],
             base: vec![0; large],
+            bases: vec![0; large],
             wires: vec![0; small],
             text: vec![0; sizes.text()],
             bits: vec![0; large],

@@ -8,12 +8,17 @@ use mathlib.Core.Path.{_≡_}
 use lib.ListN.{length, getD}
 use Rattle.netlist.specs.Netlist.{Netlist}
 use Rattle.netlist.specs.Leak.{masked, bit, setting, Secret}
-use Rattle.evaluate.specs.Lane.{lane}
+use Rattle.netlist.specs.Eval.{wireBits}
+use Rattle.evaluate.specs.Lane.{lane, lanes}
 use Rattle.check_counts.specs.Base.{part, countIn}
 
 -- the input wires under the mask setting and the input setting of a number, or that setting's base
 abbrev pub inputsAt : Bool → List ℕ → ℕ → List Bool
 inputsAt whole codes n = masked (lane 0 n) (lane 1 n) codes (part whole codes (setting (length codes) (n / 4)))
+
+-- the words hold the bits of all wires in a block's settings, or in their bases, each lane for itself
+pub record Evaluated (N : Netlist) (whole : Bool) (codes words : List ℕ) (block : ℕ) : Type 0 where
+  pub each : (j : ℕ) → j < 64 → lanes j words ≡ wireBits N (inputsAt whole codes (block * 64 + j))
 
 -- four bits of a word
 abbrev pub nibble : ℕ → ℕ → ℕ

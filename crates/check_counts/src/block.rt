@@ -8,7 +8,7 @@ ghost use lib.ListN.{length};
 ghost use Rattle.netlist.specs.Leak.{Secret};
 ghost use Rattle.netlist.specs.Table.{tables, Wired};
 ghost use Rattle.evaluate.specs.Bare.{bare};
-ghost use Rattle.check_counts.specs.Block.{onesOf, nibblesOf, Counted, Ready};
+ghost use Rattle.check_counts.specs.Block.{onesOf, nibblesOf, Evaluated, Counted, Ready};
 
 // The words of all wires in a block's settings, or in their bases.
 pub fn side(
@@ -22,8 +22,8 @@ pub fn side(
 )
     requires { ⌜ Wired (tables (now operands) (now results)) (length (now words)) count ⌝ }
     requires { ⌜ (length (now codes) < 64) × (length (now codes) + 2 ≤ length (now words)) ⌝ }
-    ensures { λ _. ⌜ (let N = bare (tables (now (operands .entry)) (now (results .entry))) count (length (now (words .entry))) in Counted N
-        whole (now (codes .entry)) (onesOf (now (words .exit))) block) ⌝ }
+    ensures { λ _. ⌜ (let N = bare (tables (now (operands .entry)) (now (results .entry))) count (length (now (words .entry))) in Evaluated
+        N whole (now (codes .entry)) (now (words .exit)) block) ⌝ }
 {
     load::inputs(codes, whole, block, words);
     evaluate::wires(operands, results, count, codes.len() + 2, words);

@@ -2,6 +2,7 @@
 use mathlib.Core.Path.{_≡_, sym, ap, _∙_}
 use mathlib.Core.Bool.{Bool, true, false}
 use mathlib.Core.List.{List}
+use mathlib.Core.Option.{Option, none, some}
 use Prim.Native.Nat.{ℕ, _%_, _^_, _≤_, _<_}
 use native.Mathlib.Nat.{mod-lt}
 use native.Mathlib.Omega.{arith}
@@ -10,7 +11,7 @@ use lib.ListN.{length}
 use lib.Pow.{pow-pos}
 use borrow.Author.Tests.{ltb-true, ltb-false}
 use Rattle.netlist.specs.Netlist.{Netlist}
-use Rattle.netlist.specs.Leak.{count, setting, firstWire, countAt, baseAt, leak}
+use Rattle.netlist.specs.Leak.{Found, count, setting, firstWire, countAt, baseAt, leak}
 use Rattle.netlist.specs.Table.{Tables, Holds}
 use Rattle.netlist.proofs.Tests.{onBool}
 use Rattle.netlist.proofs.Search.{Searched, search-is}
@@ -20,9 +21,7 @@ use Rattle.evaluate.proofs.Runs.{bare-wires}
 use Rattle.check_leak.specs.declared.spot.Spot.{Spot}
 use Rattle.check_counts.specs.Base.{part, countIn}
 use Rattle.check_leak.specs.Spot.{Spotted}
-use Rattle.check_leak.specs.Search.{foundOf}
-use Rattle.check_leak.specs.declared.search.Verdict.{Verdict}
-use Rattle.check_leak.specs.declared.search.Verdict.the-variants.{Clean, Leak}
+use Rattle.check_leak.specs.Search.{foundAt}
 use Rattle.check_leak.proofs.Spots.{spot-same}
 
 -- a count is that of the netlist that the tables hold
@@ -58,19 +57,24 @@ module _ {t : Tables} {m W n o : ℕ} {N : Netlist} (h : Holds t m W n o N) (cod
       let c = ltb-false (p .at) (2 ^ length codes) e in
       absurd (d .other (round false (p .wire) (p .at) ∙ d .smaller (p .at % 2 ^ length codes) (omega arith) ∙ sym (round true (p .wire) (p .at)))))
 
-  tells : (v : Verdict) → Searched f g (2 ^ length codes) W (foundOf v) → foundOf v ≡ leak N codes
+  tells : (v : Option Found) → Searched f g (2 ^ length codes) W v → v ≡ leak N codes
   unfolding leak
-  tells v s = search-is f g (2 ^ length codes) W (foundOf v) s ∙ ap (λ (k : ℕ). firstWire f g (2 ^ length codes) k 0) (sym (h .wires))
+  tells v s = search-is f g (2 ^ length codes) W v s ∙ ap (λ (k : ℕ). firstWire f g (2 ^ length codes) k 0) (sym (h .wires))
 
-  pub tells-leak : p .wire < W → foundOf (Leak (p .wire) (p .at) (p .base) (p .own)) ≡ leak N codes
+  tells-leak : p .wire < W → some (record { wire = p .wire; at = p .at; base = p .base; own = p .own }) ≡ leak N codes
   tells-leak l =
       let d = spot .differs l in
-      tells (Leak (p .wire) (p .at) (p .base) (p .own))
+      tells (some (record { wire = p .wire; at = p .at; base = p .base; own = p .own }))
       (record {
         wire = l;
         lower = λ w a s b. spot .lower w a s (omega arith);
         differs = record { at = inside l; smaller = d .smaller; other = d .other; base = d .base; own = d .own };
       })
 
-  pub tells-clean : p .wire ≡ W → foundOf Clean ≡ leak N codes
-  tells-clean e = tells Clean (λ w a s b. spot .lower w (omega arith) s (omega arith))
+  tells-clean : p .wire ≡ W → none ≡ leak N codes
+  tells-clean e = tells none (λ w a s b. spot .lower w (omega arith) s (omega arith))
+
+  pub tells-found : foundAt p W ≡ leak N codes
+  tells-found =
+      onBool (ltb (p .wire) W) (λ t. rw t (tells-leak (ltb-true (p .wire) W t)))
+      (λ t. let e : p .wire ≡ W = omega (arith, ltb-false (p .wire) W t, spot .within) in rw t (tells-clean e))

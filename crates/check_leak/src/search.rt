@@ -14,7 +14,7 @@ ghost use Rattle.evaluate.specs.Bare.{bare};
 ghost use Rattle.check_counts.specs.Base.{countIn};
 ghost use Rattle.check_counts.specs.Block.{Ready};
 ghost use Rattle.check_leak.specs.Spot.{Spotted, from};
-ghost use Rattle.check_leak.specs.Search.{foundOf};
+ghost use Rattle.check_leak.specs.Search.{foundOf, foundAt};
 
 // Clean, or a leak: its wire, its setting, its base's count and its own.
 pub enum Verdict {
@@ -87,11 +87,23 @@ fn find(
 }
 
 // How many blocks hold the settings of k input bits, sixteen in each.
-fn blocks_of(k: usize) -> u64
+pub fn blocks_of(k: usize) -> u64
     requires { ⌜ k < 20 ⌝ }
     ensures { λ r. ⌜ (2 ^ k ≤ r * 16) × (r < 65536) ⌝ }
 {
     if k < 4 { 1 } else { 1 << (k - 4) }
+}
+
+// What a spot among so many wires says, or none.
+pub fn verdict_of(spot: Spot, wires: usize) -> Verdict
+    ensures { λ r. ⌜ foundOf r ≡ foundAt spot wires ⌝ }
+{
+    let wire = spot.wire;
+    if wire < wires {
+        Verdict::Leak(wire, spot.at, spot.base, spot.own)
+    } else {
+        Verdict::Clean
+    }
 }
 
 // Whether the tables' netlist is clean under the input codes, and the leak if not. The words and the
@@ -118,10 +130,5 @@ pub fn leaks(
         words,
         base,
     );
-    let wire = spot.wire;
-    if wire < words.len() {
-        Verdict::Leak(wire, spot.at, spot.base, spot.own)
-    } else {
-        Verdict::Clean
-    }
+    verdict_of(spot, words.len())
 }

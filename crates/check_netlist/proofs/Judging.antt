@@ -1,7 +1,7 @@
 -- Questions 10 to 12 of a netlist, and the core's verdict on it.
-use Prim.Native.Nat.{ℕ, zero, suc, _-_, _≤_, _<_}
-use mathlib.Core.Path.{_≡_, sym, ap, _∙_}
-use mathlib.Core.Bool.{true, false}
+use Prim.Native.Nat.{ℕ, zero, suc, _+_, _-_, _≤_, _<_}
+use mathlib.Core.Path.{_≡_, refl, sym, ap, _∙_}
+use mathlib.Core.Bool.{Bool, true, false}
 use mathlib.Core.List.{List, [], _∷_}
 use mathlib.Core.Option.{Option}
 use native.Mathlib.Omega.{arith}
@@ -10,14 +10,16 @@ use lib.ListN.{length, getD}
 use borrow.Author.Tests.{le-leb, lt-leb}
 use Rattle.netlist.specs.Lists.{every, sum}
 use Rattle.netlist.specs.Netlist.{Netlist, inputBits}
-use Rattle.netlist.specs.Outcome.{Outcome, refused, done}
+use Rattle.netlist.specs.Outcome.{Outcome, refused, done, ask}
 use Rattle.netlist.specs.Mask.{isInputCode}
 use Rattle.netlist.specs.Leak.{Found, leak}
 use Rattle.netlist.specs.Services.{listGood, endsInMasks, maxChecked, checkOutcome}
 use Rattle.netlist.specs.Table.{Tables, Holds}
-use Rattle.netlist.proofs.Tests.{both, true-T}
+use Rattle.netlist.proofs.Tests.{both, isTrue, true-T}
+use Rattle.netlist.proofs.Questions.{ask-done}
 use Rattle.check_leak.specs.declared.search.Verdict.{Verdict}
 use Rattle.check_leak.specs.Search.{foundOf}
+use Rattle.check_netlist.specs.Judge.{codesAsked}
 
 -- ---- question 10
 
@@ -46,18 +48,41 @@ pub told : {t : Tables} {m k W n o : ℕ} {N : Netlist} {v : Verdict} (codes : L
     → _≡_ {A = Outcome (Option Found)} (done (foundOf u)) (done (leak N codes))
 told {n = n} {o = o} {N = N} codes u p e f h = ap done (ap foundOf (sym e) ∙ f n o N (rw p h))
 
--- ---- questions 10 to 12, from the widths and the number of the input bits
+-- ---- questions 10 and 11, and then 12
 
-module _ (N : Netlist) (codes ws : List ℕ) (n : ℕ) (widths : ws ≡ N .inputs) (bits : inputBits N ≡ n) where
-  pub outcome-ten : endsInMasks ws ≡ false → refused 10 ≡ checkOutcome codes N
-  outcome-ten e = sym (rw (← widths, e))
+module _ (ws codes : List ℕ) where
+  -- both are passed
+  pub asked-passed : codesAsked ws codes ≡ done tt → (endsInMasks ws ≡ true) × (listGood isInputCode (sum ws - 2) codes ≡ true)
+  asked-passed e =
+      let ten = ask-done 10 (endsInMasks ws) _ tt e in
+      let eleven = ask-done 11 (listGood isInputCode (sum ws - 2) codes) _ tt (ten .1) in
+      (isTrue (endsInMasks ws) (ten .0), isTrue (listGood isInputCode (sum ws - 2) codes) (eleven .0))
 
-  pub outcome-eleven : endsInMasks ws ≡ true → listGood isInputCode (n - 2) codes ≡ false → refused 11 ≡ checkOutcome codes N
-  outcome-eleven e g = sym (rw (bits, g, ← widths, e))
+  -- the mask pair is among the input bits, and the codes are as many as the others
+  pub asked-bits : codesAsked ws codes ≡ done tt → length codes + 2 ≡ sum ws
+  asked-bits e =
+      let p = asked-passed e in
+      let m = masks-bits ws (p .0) in
+      let l = codes-length (sum ws - 2) codes (p .1) in
+      omega arith
 
-  pub outcome-twelve : endsInMasks ws ≡ true → listGood isInputCode (n - 2) codes ≡ true → maxChecked < length codes → refused 12 ≡ checkOutcome codes N
-  outcome-twelve e g l = sym (rw (bits, g, ← widths, e, lt-leb (length codes) 12 l))
+  -- one of them refuses, whatever would follow
+  pub asked-refused : {A : Type 0} {q : ℕ} (o : Outcome A) → codesAsked ws codes ≡ refused q
+      → refused q ≡ ask 10 (endsInMasks ws) (ask 11 (listGood isInputCode (sum ws - 2) codes) o)
+  asked-refused {A} {q} o = go (endsInMasks ws) (listGood isInputCode (sum ws - 2) codes)
+    where
+      go : (a b : Bool) → ask 10 a (ask 11 b (done (tt {0}))) ≡ refused q → refused q ≡ ask 10 a (ask 11 b o)
+      go false b e = let z : 10 ≡ q = cc in cc
+      go true false e = let z : 11 ≡ q = cc in cc
+      go true true e = let z : _≡_ {A = ℕ} 0 1 = cc in absurd (omega arith)
 
-  pub outcome-told : {a : Outcome (Option Found)} → endsInMasks ws ≡ true → listGood isInputCode (n - 2) codes ≡ true → length codes ≤ maxChecked
+module _ (N : Netlist) (codes ws : List ℕ) (widths : ws ≡ N .inputs) where
+  pub outcome-refused : {q : ℕ} → refused q ≡ codesAsked ws codes → refused q ≡ checkOutcome codes N
+  outcome-refused e = asked-refused ws codes (ask 12 (leb (length codes) maxChecked) (done (leak N codes))) (sym e) ∙ rw widths refl
+
+  pub outcome-twelve : done tt ≡ codesAsked ws codes → maxChecked < length codes → refused 12 ≡ checkOutcome codes N
+  outcome-twelve e l = let p = asked-passed ws codes (sym e) in sym (rw (← widths, p .1, p .0, lt-leb (length codes) 12 l))
+
+  pub outcome-told : {a : Outcome (Option Found)} → done tt ≡ codesAsked ws codes → length codes ≤ maxChecked
       → a ≡ done (leak N codes) → a ≡ checkOutcome codes N
-  outcome-told e g l p = p ∙ sym (rw (bits, g, ← widths, e, le-leb (length codes) 12 l))
+  outcome-told e l p = let q = asked-passed ws codes (sym e) in p ∙ sym (rw (← widths, q .1, q .0, le-leb (length codes) 12 l))

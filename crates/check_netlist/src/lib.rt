@@ -10,7 +10,7 @@ ghost use Rattle.netlist.specs.Netlist.{Netlist};
 ghost use Rattle.netlist.specs.Outcome.{done};
 ghost use Rattle.netlist.specs.Services.{endsInMasks, checkOutcome, maxChecked};
 ghost use Rattle.netlist.specs.Table.{tables, Wired, Holds};
-ghost use Rattle.check_netlist.specs.Judge.{outcomeOf};
+ghost use Rattle.check_netlist.specs.Judge.{askedOf, codesAsked, outcomeOf};
 
 // Clean; or a leak: its wire, its setting, its base's count and its own; or the first question that gets a no.
 pub enum Checked {
@@ -19,8 +19,14 @@ pub enum Checked {
     Refused(u8),
 }
 
+// Questions 10 and 11 are passed, or the first that gets a no.
+pub enum Asked {
+    Passed,
+    Refused(u8),
+}
+
 // Question 12: the most input bits besides the mask pair.
-const MOST_BITS: usize = 12;
+pub const MOST_BITS: usize = 12;
 
 // Question 10, of the widths of the input values: two or more, the last of width 2.
 pub fn ends_in_masks(widths: &[u32]) -> bool
@@ -32,6 +38,21 @@ pub fn ends_in_masks(widths: &[u32]) -> bool
     }
     let last = n - 1;
     widths[last] == 2
+}
+
+// Questions 10 and 11, of the widths of the input values and the input codes.
+pub fn ask_codes(h: HeaderNumbers, widths: [u32; 17], codes: &[u8]) -> Asked
+    requires { ⌜ (h .«input_values» ≤ 17) × (h .«input_bits» ≡ sum (take (h .«input_values») widths)) ⌝ }
+    ensures { λ r. ⌜ askedOf r ≡ codesAsked (take (h .«input_values») widths) (now (codes .entry)) ⌝ }
+{
+    let values = h.input_values;
+    if !ends_in_masks(&widths[..values]) {
+        return Asked::Refused(10);
+    }
+    if !lists::codes(codes, h.input_bits as usize - 2) {
+        return Asked::Refused(11);
+    }
+    Asked::Passed
 }
 
 // The verdict on `count` gates over `wires` wires, for which the tables of words have room.
@@ -78,23 +99,21 @@ pub fn judge(
     ensures { λ r. ⌜ ((N : Netlist) → Holds (tables (now (operands .entry)) (now (results .entry))) (h .gates) (h .wires) (h .«input_bits») (h .«output_bits») N
         → take (h .«input_values») widths ≡ N .inputs → outcomeOf r ≡ checkOutcome (now (codes .entry)) N) ⌝ }
 {
-    let values = h.input_values;
-    if !ends_in_masks(&widths[..values]) {
-        return Checked::Refused(10);
+    match ask_codes(h, widths, codes) {
+        Asked::Refused(question) => Checked::Refused(question),
+        Asked::Passed => {
+            if MOST_BITS < codes.len() {
+                return Checked::Refused(12);
+            }
+            verdict(
+                h.gates as usize,
+                h.wires as usize,
+                codes,
+                operands,
+                results,
+                words,
+                base,
+            )
+        }
     }
-    if !lists::codes(codes, h.input_bits as usize - 2) {
-        return Checked::Refused(11);
-    }
-    if MOST_BITS < codes.len() {
-        return Checked::Refused(12);
-    }
-    verdict(
-        h.gates as usize,
-        h.wires as usize,
-        codes,
-        operands,
-        results,
-        words,
-        base,
-    )
 }

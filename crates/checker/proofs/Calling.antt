@@ -33,7 +33,7 @@ pub read-bits : {L : Limits} {t ins outs : List ℕ} {tabs : Tables} {h : Header
 read-bits r = sym (r .holds .ins) ∙ ap sum (sym (r .inputs))
 
 -- the shorter of two tables stands for both
-shorter-long : (t a b : ℕ) → leb t (min a b) ≡ leb t a && leb t b
+pub shorter-long : (t a b : ℕ) → leb t (min a b) ≡ leb t a && leb t b
 shorter-long t a b = go (leb t a) (leb t b) refl refl
   where
     go : (x y : Bool) → leb t a ≡ x → leb t b ≡ y → leb t (min a b) ≡ x && y
@@ -50,6 +50,14 @@ long-both L o r g w b e =
     assoc : (x y : Bool) → (x && y) && true ≡ x && (y && true)
     assoc true y = refl
     assoc false y = refl
+
+-- questions 10 to 12 are passed: the answer is that of the search
+pub outcome-leak : (N : Netlist) (codes : List ℕ) (f : Option Found) → checkOutcome codes N ≡ done f → leak N codes ≡ f
+outcome-leak N codes f e =
+    let ten = ask-done 10 (endsInMasks (N .inputs)) _ f e .1 in
+    let eleven = ask-done 11 (listGood isInputCode (inputBits N - 2) codes) _ f ten .1 in
+    let twelve = ask-done 12 (leb (length codes) maxChecked) _ f eleven .1 in
+    done-same (leak N codes) f twelve
 
 module _ (s : Sizes) (text codes o r g w b : List ℕ) where
   abbrev lengths : List ℕ
@@ -80,10 +88,7 @@ module _ (s : Sizes) (text codes o r g w b : List ℕ) where
   unfolding checkCall
   answer-leak N f read e =
       let one = ask-done 1 (tablesLong (large s) lengths) (andThen (readNetlist (large s) text) (checkOutcome codes)) f (sym e) .1 in
-      let ten = ask-done 10 (endsInMasks (N .inputs)) _ f (sym (ap (λ (u : Outcome Netlist). andThen u (checkOutcome codes)) read) ∙ one) .1 in
-      let eleven = ask-done 11 (listGood isInputCode (inputBits N - 2) codes) _ f ten .1 in
-      let twelve = ask-done 12 (leb (length codes) maxChecked) _ f eleven .1 in
-      done-same (leak N codes) f twelve
+      outcome-leak N codes f (sym (ap (λ (u : Outcome Netlist). andThen u (checkOutcome codes)) read) ∙ one)
 
   -- the answer follows the equal-count rule
   pub call-judged : (a : Checked) → outcomeOf a ≡ call s text codes o r g w b → (N : Netlist) → readNetlist (large s) text ≡ done N → Judged N codes a

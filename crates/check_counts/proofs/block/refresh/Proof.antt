@@ -7,7 +7,8 @@ use lib.ListN.{length}
 use Rattle.netlist.specs.Table.{tables}
 use Rattle.netlist.proofs.Puts.{wired-same}
 use Rattle.evaluate.specs.Bare.{bare}
-use Rattle.check_counts.specs.Block.{onesOf, Counted}
+use Rattle.check_counts.specs.Block.{Evaluated}
+use Rattle.check_counts.proofs.Sides.{side-law}
 use Rattle.check_counts.proofs.Bases.{counted-same, same-base, first-base}
 use native.Mathlib.Omega.{arith}
 use borrow.Author.Needs.{needs}
@@ -36,9 +37,9 @@ returns c =
     let side = c .before .before .before .before .before .before .side in
     let t = tables (s .args .operands .now) (s .args .results .now) in
     let ran = subst
-    (λ (W : ℕ). Counted (bare t (s .args .count) W) false (s .args .codes .now) (onesOf (side .last .1 .1 .1 .1 .1 .1 .0)) (s .args .block))
+    (λ (W : ℕ). Evaluated (bare t (s .args .count) W) false (s .args .codes .now) (side .last .1 .1 .1 .1 .1 .1 .0) (s .args .block))
     (s .pre .1 .0 .2) (side .ensures) in
-    (counted-same ran (c .before .before .tally .ensures), λ e. absurd (subst T (sym (at-if1 .if1 .taken) ∙ e) tt))
+    (counted-same (side-law ran) (c .before .before .tally .ensures), λ e. absurd (subst T (sym (at-if1 .if1 .taken) ∙ e) tt))
 
 same-length-2 : tie.Need-same-length-2
 same-length-2 c = search needs

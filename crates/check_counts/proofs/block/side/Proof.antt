@@ -4,13 +4,11 @@ use mathlib.Core.List.{List}
 use mathlib.Core.Bool.{Bool}
 use Prim.Native.Nat.{ℕ}
 use native.Mathlib.Omega.{arith}
-use lib.ListN.{length}
 use borrow.Author.Needs.{needs}
 use Rattle.netlist.specs.Eval.{wireBits}
 use Rattle.netlist.specs.Table.{tables}
 use Rattle.netlist.proofs.Puts.{wired-same}
 use Rattle.evaluate.specs.Bare.{bare}
-use Rattle.check_counts.proofs.Sides.{side-law}
 use Rattle.check_counts.proofs.block.side.Statement.{statement}
 use Rattle.check_counts.proofs.block.side.Tie as tie
 
@@ -35,8 +33,10 @@ returns c =
     let inputs = c .before .before .before .before .before .before .inputs in
     let wires = c .before .before .wires in
     let t = tables (s .operands .now) (s .results .now) in
-    side-law (bare t (s .count) (length (s .words .now))) (s .whole) (s .codes .now) (s .block) (wires .last .1 .1 .1 .1 .0)
-    (λ j l. wires .ensures j l ∙ ap₂ (λ (W : ℕ) (v : List Bool). wireBits (bare t (s .count) W) v) (inputs .kept .1 .1 .1 .0) (inputs .ensures j l))
+    record {
+      each = λ j l. wires .ensures j l
+          ∙ ap₂ (λ (W : ℕ) (v : List Bool). wireBits (bare t (s .count) W) v) (inputs .kept .1 .1 .1 .0) (inputs .ensures j l);
+    }
 
 pub side-spec : {M : Type 1} → statement M
 side-spec = tie.close (tie.spec inputs-requires add-wires wires-requires same-length returns)

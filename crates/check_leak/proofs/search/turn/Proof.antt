@@ -8,6 +8,7 @@ use Rattle.netlist.specs.Table.{tables}
 use Rattle.netlist.proofs.Puts.{wired-same}
 use Rattle.evaluate.specs.Bare.{bare}
 use Rattle.check_counts.specs.Block.{onesOf, nibblesOf, Counted, Ready}
+use Rattle.check_counts.proofs.Sides.{side-law}
 use Rattle.check_leak.proofs.Spots.{turn-law}
 use Rattle.check_leak.proofs.search.turn.Statement.{statement}
 use Rattle.check_leak.proofs.search.turn.Tie as tie
@@ -27,7 +28,7 @@ refresh-requires c κs =
         subst
             (λ (W : ℕ). Counted (bare t (s .args .count) W) true (s .args .codes .now) (onesOf (side .last .1 .1 .1 .1 .1 .1 .0)) (s .args .block)
             × Ready (s .args .mixed) (bare t (s .args .count) W) (s .args .codes .now) (s .args .base .now) (s .args .block))
-            (sym k) (side .ensures, s .pre .1 .4),
+            (sym k) (side-law (side .ensures), s .pre .1 .4),
       ),
     )
 
@@ -52,7 +53,7 @@ returns c =
     (λ (W : ℕ). Counted (bare t (s .args .count) W) false (s .args .codes .now) (nibblesOf base) (s .args .block)
     × Ready (s .args .mixed) (bare t (s .args .count) W) (s .args .codes .now) base (s .args .block + 1))
     (side .kept .1 .1 .1 .1 .1 .1 .0) (refresh .ensures) in
-    (turn-law (side .ensures) (based .0) (c .scan .ensures), based .1)
+    (turn-law (side-law (side .ensures)) (based .0) (c .scan .ensures), based .1)
 
 pub turn-spec : {M : Type 1} → statement M
 turn-spec =

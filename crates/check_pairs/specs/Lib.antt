@@ -1,0 +1,2 @@
+-- What the contracts of Check with pairs cite.
+pub mod Promise

@@ -1,0 +1,3 @@
+-- What the check of pairs cites.
+pub mod Pairs
+pub mod Call

@@ -1,0 +1,2 @@
+-- What the contracts of the verdict on wires and pairs cite.
+pub mod Judge

@@ -1,0 +1,176 @@
+-- The search over the blocks, and its two answers.
+use mathlib.Core.Path.{_≡_, refl, sym, ap, _∙_, subst}
+use mathlib.Core.Bool.{Bool, true, false}
+use mathlib.Core.List.{List}
+use mathlib.Core.Option.{Option, none, some}
+use Prim.Native.Nat.{ℕ, _+_, _*_, _/_, _%_, _^_, _≤_, _<_}
+use native.Mathlib.Nat.{mod-lt}
+use native.Mathlib.Omega.{arith}
+use lib.Dec.{T, ltb}
+use lib.ListN.{length, getD}
+use lib.Pow.{pow-pos}
+use borrow.Author.Tests.{ltb-true, ltb-false}
+use Rattle.netlist.specs.Netlist.{Netlist}
+use Rattle.netlist.specs.Leak.{count, publicOnly, setting}
+use Rattle.netlist.specs.Table.{Tables, Holds}
+use Rattle.netlist.proofs.Tests.{onBool}
+use Rattle.netlist.proofs.Settings.{setting-mod}
+use Rattle.evaluate.specs.Bare.{bare}
+use Rattle.evaluate.proofs.Runs.{bare-wires}
+use Rattle.check_counts.specs.Block.{onesOf, nibblesOf, Evaluated}
+use Rattle.check_leak.specs.declared.spot.Spot.{Spot}
+use Rattle.check_leak.specs.Spot.{Spotted, from}
+use Rattle.check_leak.proofs.Spots.{spot-none, spot-same}
+use Rattle.pairs.specs.Pairs.{bothCount, cleanPair, firstBad}
+use Rattle.pairs.proofs.PairCounts.{SameThree}
+use Rattle.pairs.proofs.PairCheck.{ThreeAsBase, passes-three, three-passes, Tested, first-is}
+use Rattle.pairs_search.specs.declared.search.Best.{Best}
+use Rattle.pairs_search.specs.Level.{Counts, countsOf, heldIn, heldBase, onFrom, Alike, Level, LevelAt, FirstUneven}
+use Rattle.pairs_search.specs.Bases.{Based, HeldOn}
+use Rattle.pairs_search.specs.Search.{badAt, Found}
+use Rattle.pairs_search.proofs.Levels.{alike-own, alike-base, level-as, level-back, level-on, level-off}
+use Rattle.pairs_search.proofs.Uneven.{uneven-none, uneven-as, uneven-more}
+
+-- ---- what one block shows
+
+pub look-law : (words bases base ws : List ℕ) (block : ℕ) {best : Best} {spot next : Spot} {k : ℕ}
+    → Spotted (nibblesOf base) (onesOf words) (best .spot .wire) 16 spot
+    → FirstUneven (LevelAt (heldBase bases base) (heldIn words) ws) (best .pair) 16 k
+    → ((f g : ℕ → ℕ → ℕ) (W : ℕ) → Spotted f g W (block * 16) (best .spot) → Spotted (from (block * 16) f) (from (block * 16) g) (best .spot .wire) 16 spot
+    → Spotted f g W (block * 16 + 16) next)
+    → (based own : Counts) (W n : ℕ) → Alike (heldBase bases base) (onFrom (block * 16) based) → Alike (heldIn words) (onFrom (block * 16) own)
+    → Found based own ws W n (block * 16) best → Found based own ws W n (block * 16 + 16) (record { spot = next; pair = k })
+look-law words bases base ws block scanned uneven better based own W n a b past = record {
+  spotted = better (based .one) (own .one) W (past .spotted) (spot-same (a .one) (b .one) scanned);
+  uneven = uneven-more (past .uneven)
+      (uneven-as (λ j s l h. level-on (block * 16) (first j) (second j) s (level-as a b (first j) (second j) s l h))
+      (λ j s l h. level-back a b (first j) (second j) s l (level-off (block * 16) (first j) (second j) s h)) uneven);
+}
+  where
+    first : ℕ → ℕ
+    first j = getD ws (2 * j) 0
+
+    second : ℕ → ℕ
+    second j = getD ws (2 * j + 1) 0
+
+-- ---- the loop over the blocks
+
+abbrev baseOf : Tables → ℕ → ℕ → List ℕ → Counts
+baseOf t n W codes = countsOf (bare t n W) false codes
+
+abbrev ownOf : Tables → ℕ → ℕ → List ℕ → Counts
+ownOf t n W codes = countsOf (bare t n W) true codes
+
+-- the blocks before this one are searched, and the tables keep their lengths
+pub record Finding (t : Tables) (n W : ℕ) (codes ws : List ℕ) (mixed : Bool) (blocks : ℕ) (words bases base : List ℕ) (best : Best) (block : ℕ) : Type 0 where
+  pub passed : block ≤ blocks
+  pub long-words : length words ≡ W
+  pub long-bases : length bases ≡ W
+  pub long-base : length base ≡ W
+  pub held : HeldOn mixed (bare t n W) codes bases base block
+  pub found : Found (baseOf t n W codes) (ownOf t n W codes) ws W (length ws / 2) (block * 16) best
+
+pub find-none : {t : Tables} {n W : ℕ} {codes : List ℕ} (ws : List ℕ) {mixed : Bool} (blocks : ℕ) {words bases base : List ℕ} {best : Best}
+    → length words ≡ W → length bases ≡ W → length base ≡ W → HeldOn mixed (bare t n W) codes bases base 0
+    → best .spot .wire ≡ W → best .pair ≡ length ws / 2 → Finding t n W codes ws mixed blocks words bases base best 0
+find-none {t} {n} {W} {codes} ws blocks {best = best} a b c h w p = record {
+  passed = omega arith;
+  long-words = a;
+  long-bases = b;
+  long-base = c;
+  held = h;
+  found = record {
+    spotted = spot-none w (λ w l s m. absurd (omega arith));
+    uneven = subst (FirstUneven (LevelAt (baseOf t n W codes) (ownOf t n W codes) ws) (length ws / 2) 0) (sym p)
+        (uneven-none (LevelAt (baseOf t n W codes) (ownOf t n W codes) ws) (length ws / 2));
+  };
+}
+
+-- a block is run and looked at
+pub find-more : {t : Tables} {n W : ℕ} {codes ws : List ℕ} {mixed : Bool} {blocks : ℕ} {words bases base : List ℕ} {best : Best} {block : ℕ}
+    → Finding t n W codes ws mixed blocks words bases base best block → block < blocks
+    → (us vs zs : List ℕ) (next : Best) → length us ≡ length words → length vs ≡ length bases → length zs ≡ length base
+    → Evaluated (bare t n (length words)) true codes us block × Based (bare t n (length words)) codes vs zs block
+    × HeldOn mixed (bare t n (length words)) codes vs zs (block + 1)
+    → ((based own : Counts) (W n : ℕ) → Alike (heldBase vs zs) (onFrom (block * 16) based) → Alike (heldIn us) (onFrom (block * 16) own)
+    → Found based own ws W n (block * 16) best → Found based own ws W n (block * 16 + 16) next)
+    → Finding t n W codes ws mixed blocks us vs zs next (block + 1)
+find-more {t} {n} {W} {codes} {ws} {mixed} {best = best} {block} r l us vs zs next a b c ran looked =
+    let q : block * 16 + 16 ≡ (block + 1) * 16 = omega arith in
+    let ran′ : Evaluated (bare t n W) true codes us block × Based (bare t n W) codes vs zs block × HeldOn mixed (bare t n W) codes vs zs (block + 1)
+    = subst (λ (k : ℕ). Evaluated (bare t n k) true codes us block × Based (bare t n k) codes vs zs block × HeldOn mixed (bare t n k) codes vs zs (block + 1))
+    (r .long-words) ran in
+    record {
+      passed = omega arith;
+      long-words = a ∙ r .long-words;
+      long-bases = b ∙ r .long-bases;
+      long-base = c ∙ r .long-base;
+      held = ran′ .2;
+      found = subst (λ (S : ℕ). Found (baseOf t n W codes) (ownOf t n W codes) ws W (length ws / 2) S next) q
+          (looked (baseOf t n W codes) (ownOf t n W codes) W (length ws / 2) (alike-base (ran′ .1)) (alike-own (ran′ .0)) (r .found));
+    }
+
+pub find-all : {t : Tables} {n W : ℕ} {codes ws : List ℕ} {mixed : Bool} {blocks : ℕ} {words bases base : List ℕ} {best : Best} {block : ℕ}
+    → Finding t n W codes ws mixed blocks words bases base best block → blocks ≤ block
+    → Found (baseOf t n W codes) (ownOf t n W codes) ws W (length ws / 2) (blocks * 16) best
+find-all {t} {n} {W} {codes} {ws} {blocks = blocks} {best = best} {block} r l =
+    let e : block ≡ blocks = omega (arith, r .passed) in
+    subst (λ (k : ℕ). Found (baseOf t n W codes) (ownOf t n W codes) ws W (length ws / 2) (k * 16) best) e (r .found)
+
+-- ---- the pairs' answer
+
+module _ {t : Tables} {m W n o : ℕ} {N : Netlist} (h : Holds t m W n o N) (codes : List ℕ) where
+  -- counts are those of the netlist that the tables hold
+  one-bare : (w : ℕ) (x : List Bool) → count (bare t m W) codes w x ≡ count N codes w x
+  unfolding count
+  one-bare w x = simp (bare-wires h)
+
+  both-bare : (u v : ℕ) (x : List Bool) → bothCount (bare t m W) codes u v x ≡ bothCount N codes u v x
+  unfolding bothCount
+  both-bare u v x = simp (bare-wires h)
+
+  module _ (u v : ℕ) where
+    -- level settings, and those whose three counts are their base's
+    level-three : (s : ℕ) → Level (baseOf t m W codes) (ownOf t m W codes) u v s → ThreeAsBase N codes u v (setting (length codes) s)
+    level-three s l =
+        let x = setting (length codes) s in
+        record {
+          left = sym (one-bare u (publicOnly codes x)) ∙ l .first ∙ one-bare u x;
+          right = sym (one-bare v (publicOnly codes x)) ∙ l .second ∙ one-bare v x;
+          both = sym (both-bare u v (publicOnly codes x)) ∙ l .both ∙ both-bare u v x;
+        }
+
+    three-level : (s : ℕ) → ThreeAsBase N codes u v (setting (length codes) s) → Level (baseOf t m W codes) (ownOf t m W codes) u v s
+    three-level s l =
+        let x = setting (length codes) s in
+        record {
+          first = one-bare u (publicOnly codes x) ∙ l .left ∙ sym (one-bare u x);
+          second = one-bare v (publicOnly codes x) ∙ l .right ∙ sym (one-bare v x);
+          both = both-bare u v (publicOnly codes x) ∙ l .both ∙ sym (both-bare u v x);
+        }
+
+    -- level in all numbered settings, which go round after the last
+    level-clean : (S : ℕ) → 2 ^ length codes ≤ S → ((s : ℕ) → s < S → Level (baseOf t m W codes) (ownOf t m W codes) u v s) → T (cleanPair N codes u v)
+    level-clean S room all = three-passes N codes u v (λ s l. level-three s (all s (omega arith)))
+
+    clean-level : T (cleanPair N codes u v) → (s : ℕ) → Level (baseOf t m W codes) (ownOf t m W codes) u v s
+    clean-level c s =
+        three-level s (subst (ThreeAsBase N codes u v) (sym (setting-mod (length codes) s))
+        (passes-three N codes u v c (s % 2 ^ length codes) (mod-lt s (pow-pos (length codes)))))
+
+  module _ (ws : List ℕ) (S k : ℕ) (room : 2 ^ length codes ≤ S)
+      (uneven : FirstUneven (LevelAt (baseOf t m W codes) (ownOf t m W codes) ws) (length ws / 2) S k) where
+    before-clean : (j : ℕ) → j < k → T (cleanPair N codes (getD ws (2 * j) 0) (getD ws (2 * j + 1) 0))
+    before-clean j l = level-clean (getD ws (2 * j) 0) (getD ws (2 * j + 1) 0) S room (uneven .before j l)
+
+    pub tells-pairs : badAt k (length ws / 2) ≡ firstBad (cleanPair N codes) ws
+    tells-pairs =
+        onBool (ltb k (length ws / 2))
+        (λ t. let l : k < length ws / 2 = ltb-true k (length ws / 2) t in
+        rw t (first-is (cleanPair N codes) ws (some k) (record {
+          inside = omega arith;
+          before = before-clean;
+          bad = λ c. uneven .bad l (λ s _. clean-level (getD ws (2 * k) 0) (getD ws (2 * k + 1) 0) c s);
+        })))
+        (λ t. let l = ltb-false k (length ws / 2) t in
+        rw t (first-is (cleanPair N codes) ws none (λ j i. before-clean j (omega arith))))

@@ -1,0 +1,5 @@
+-- Laws that several proofs cite.
+pub mod Lanes
+pub mod Levels
+pub mod Uneven
+pub mod Finds

@@ -1,0 +1,25 @@
+-- What the search of wires and pairs answers.
+use Prim.Native.Nat.{ℕ}
+use mathlib.Core.Bool.{cond}
+use mathlib.Core.List.{List}
+use mathlib.Core.Option.{Option, none, some}
+use lib.Dec.{ltb}
+use Rattle.check_leak.specs.Spot.{Spotted}
+use Rattle.pairs_search.specs.declared.search.Best.{Best}
+use Rattle.pairs_search.specs.declared.search.PairsVerdict.{PairsVerdict}
+use Rattle.pairs_search.specs.declared.search.PairsVerdict.the-variants.{Clean, Bad}
+use Rattle.pairs_search.specs.Level.{Counts, LevelAt, FirstUneven}
+
+-- how many pairs stand before the first bad one; none where all are clean
+abbrev pub badOf : PairsVerdict → Option ℕ
+badOf Clean = none
+badOf (Bad k) = some k
+
+-- the first bad one of n pairs; none where its number is not below n
+abbrev pub badAt : ℕ → ℕ → Option ℕ
+badAt k n = cond (ltb k n) (some k) none
+
+-- the best spot on wires below W and the first bad one of n pairs, over the settings below S
+pub record Found (base own : Counts) (ws : List ℕ) (W n S : ℕ) (b : Best) : Type 0 where
+  pub spotted : Spotted (base .one) (own .one) W S (b .spot)
+  pub uneven : FirstUneven (LevelAt base own ws) n S (b .pair)
