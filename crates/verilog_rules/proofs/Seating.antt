@@ -49,18 +49,18 @@ pub record Seating (t words : List ℕ) (n at : ℕ) (st₀ ws₀ st ws : List �
   pub gives : (ps : List (List ℕ)) (rest : List Token) → tokens (drop at t) ≡ some (portsLeft ps rest) → Ahead t words n st₀ ws₀ st ws i o place ps rest
 
 -- the first token, known
-known : {t : List ℕ} {place c s b : ℕ} → TokenAt t place c s b → (x : Token) (us : List Token) → tokens (drop place t) ≡ some (x ∷ us) → (tokenOf c (between t s b) ≡ some x) × (tokens (drop b t) ≡ some us)
+pub known : {t : List ℕ} {place c s b : ℕ} → TokenAt t place c s b → (x : Token) (us : List Token) → tokens (drop place t) ≡ some (x ∷ us) → (tokenOf c (between t s b) ≡ some x) × (tokens (drop b t) ≡ some us)
 known {t} {place} {c} {s} {b} A x us e = onBool (eqb c 0)
     (λ z. let n = none-left t place c s b A (x ∷ us) e z in let l = ap length n in absurd (omega (arith, l)))
     (λ z. let F = first t place c s b A (x ∷ us) e z in
     let h = head-same (x ∷ us) (F .token) x (F .more) us (F .split) refl in
     (F .is ∙ ap some (h .0), F .left ∙ ap some (h .1)))
 
-name-marked : (w : List ℕ) → tokenOf 15 w ≡ some (name w)
+pub name-marked : (w : List ℕ) → tokenOf 15 w ≡ some (name w)
 unfolding tokenOf
 name-marked w = refl
 
-same-name : {v w : List ℕ} → name v ≡ name w → v ≡ w
+pub same-name : {v w : List ℕ} → name v ≡ name w → v ≡ w
 same-name e = ap bytes e
   where
     bytes : Token → List ℕ
