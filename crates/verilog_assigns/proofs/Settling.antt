@@ -44,7 +44,7 @@ module _ {t words : List ℕ} {n : ℕ} {w : List ℕ} {st : List ℕ} where
 
 -- ---- all of them
 
-spoilt : (t words : List ℕ) (n : ℕ) (xs : List Assign) (S : Settled) → S .good ≡ false → settleAll t words n S xs .good ≡ false
+pub spoilt : (t words : List ℕ) (n : ℕ) (xs : List Assign) (S : Settled) → S .good ≡ false → settleAll t words n S xs .good ≡ false
 spoilt t words n [] S e = e
 spoilt t words n (a ∷ xs) S e = spoilt t words n xs (settle t words n S a) (rw e)
 

@@ -218,9 +218,10 @@ module _ {t : List ℕ} {at size most : ℕ} {heads₀ words₀ links₀ st₀ :
         let n : name w ≡ F .token = some-same (name w) (F .token) (sym (ap (λ (j : ℕ). tokenOf j w) e ∙ name-marked w) ∙ F .is) in
         (F .more, F .split ∙ ap (λ (y : Token). y ∷ F .more) (sym n), F .left)
 
-    pub load-end : declares code ≡ false → AllDeclared t at size heads words links st count place
+    pub load-end : declares code ≡ false → AllDeclared t at size most heads words links st count place
     load-end h = record {
       names = D .names;
+      few = D .few;
       within = omega (arith, D .token .start, D .token .onward, D .token .within);
       gives = λ ts e.
           let L = D .gives ts e in

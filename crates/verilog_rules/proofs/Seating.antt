@@ -31,7 +31,7 @@ pass : {b : Bool} (x y : Seated) → b ≡ false → cond b x y ≡ y
 pass x y e = λ i. cond (e i) x y
 
 -- a port that is none spoils all
-spoilt : (t words : List ℕ) (n : ℕ) (ps : List (List ℕ)) (P : Seated) → P .good ≡ false → seatAll t words n P ps .good ≡ false
+pub spoilt : (t words : List ℕ) (n : ℕ) (ps : List (List ℕ)) (P : Seated) → P .good ≡ false → seatAll t words n P ps .good ≡ false
 spoilt t words n [] P e = e
 spoilt t words n (w ∷ ps) P e = spoilt t words n ps (seat t words n P w) (onBool (eqb (wireOf t words (P .states) n w) 1) (λ q. rw q e) (λ q. rw (q, e) refl))
 
