@@ -1409,3 +1409,359 @@ int64_t baseline_join(const uint8_t *first, size_t first_len,
     memset(base, 0, base_len * sizeof *base);
     return answer;
 }
+
+/* ---- Verilog */
+
+enum word { THE_END, MODULE, INPUT, OUTPUT, WIRE, ASSIGN, ENDMODULE, NAME, NO_WORD };
+
+/* A word or a sign (its byte), and the places of its first byte and behind its last. */
+struct token {
+    int is;
+    size_t from, to;
+};
+
+/* A text, and the names that it declares: place in the text, what is known of it, wire, next of its chain. */
+struct verilog {
+    const uint8_t *text;
+    size_t length;
+    uint64_t *operands, *results, *heads, *words, *links;
+    uint32_t *states, *wires;
+    size_t chains, names, most_names, room;
+    size_t ports, items, assigns, operators, deepest;
+    uint32_t inputs, outputs, next;
+};
+
+enum known { AN_INPUT = 1, AN_OUTPUT = 2, A_PORT = 4, READABLE = 8 };
+
+static bool word_byte(uint8_t b)
+{
+    return (b >= 'a' && b <= 'z') || (b >= 'A' && b <= 'Z') || (b >= '0' && b <= '9');
+}
+
+static int word_of(const uint8_t *w, size_t length)
+{
+    static const char *const reserved[] = {"module", "input", "output", "wire", "assign", "endmodule"};
+    for (int i = 0; i < 6; i++) {
+        if (strlen(reserved[i]) == length && memcmp(reserved[i], w, length) == 0)
+            return MODULE + i;
+    }
+    return length <= 16 && (w[0] < '0' || w[0] > '9') ? NAME : NO_WORD;
+}
+
+static struct token token_at(const struct verilog *v, size_t i)
+{
+    const uint8_t *t = v->text;
+    while (i < v->length && (t[i] == ' ' || t[i] == '\n' || (t[i] == '\r' && i + 1 < v->length && t[i + 1] == '\n')))
+        i++;
+    if (i == v->length)
+        return (struct token){THE_END, i, i};
+    size_t to = i;
+    while (to < v->length && word_byte(t[to]))
+        to++;
+    if (to > i)
+        return (struct token){word_of(t + i, to - i), i, to};
+    switch (t[i]) {
+    case '(': case ')': case ';': case ',': case '=': case '~': case '&': case '^':
+        return (struct token){t[i], i, i + 1};
+    default:
+        return (struct token){NO_WORD, i, i + 1};
+    }
+}
+
+/* One token of the kind, from a place on that moves behind it. */
+static bool take(const struct verilog *v, size_t *at, int is)
+{
+    struct token x = token_at(v, *at);
+    *at = x.to;
+    return x.is == is;
+}
+
+/* Names with commas between, and the sign that ends them. */
+static bool take_names(const struct verilog *v, size_t *at, int end)
+{
+    for (;;) {
+        if (!take(v, at, NAME))
+            return false;
+        struct token x = token_at(v, *at);
+        *at = x.to;
+        if (x.is == end)
+            return true;
+        if (x.is != ',')
+            return false;
+    }
+}
+
+/* An expression and its semicolon: parentheses are counted. */
+static bool take_expression(struct verilog *v, size_t *at)
+{
+    size_t depth = 0;
+    bool operand = false, negated = false;
+    for (;;) {
+        struct token x = token_at(v, *at);
+        *at = x.to;
+        if (!operand) {
+            if (x.is == NAME) {
+                operand = true;
+            } else if (x.is == '(') {
+                if (++depth > v->deepest)
+                    v->deepest = depth;
+            } else if (x.is != '~' || negated) {
+                return false;
+            }
+            negated = x.is == '~';
+            v->operators += negated;
+        } else if (x.is == '&' || x.is == '^') {
+            operand = false;
+            v->operators++;
+        } else if (x.is == ')' && depth > 0) {
+            depth--;
+        } else {
+            return x.is == ';' && depth == 0;
+        }
+    }
+}
+
+/* Question 16, with the places of the ports, the declarations and the assignments. */
+static bool verilog_form(struct verilog *v)
+{
+    size_t at = 0;
+    if (!take(v, &at, MODULE) || !take(v, &at, NAME) || !take(v, &at, '('))
+        return false;
+    v->ports = at;
+    if (!take_names(v, &at, ')') || !take(v, &at, ';'))
+        return false;
+    v->items = at;
+    struct token x = token_at(v, at);
+    while (x.is == INPUT || x.is == OUTPUT || x.is == WIRE) {
+        at = x.to;
+        if (!take_names(v, &at, ';'))
+            return false;
+        x = token_at(v, at);
+    }
+    v->assigns = at;
+    while (x.is == ASSIGN) {
+        at = x.to;
+        if (!take(v, &at, NAME) || !take(v, &at, '=') || !take_expression(v, &at))
+            return false;
+        x = token_at(v, at);
+    }
+    return x.is == ENDMODULE && token_at(v, x.to).is == THE_END;
+}
+
+static size_t chain_of(const struct verilog *v, struct token x)
+{
+    uint64_t h = 0;
+    for (size_t i = x.from; i < x.to; i++)
+        h = (h * 37 + v->text[i]) % 4294967296;
+    return h % v->chains;
+}
+
+/* One more than a name's entry, or 0. */
+static size_t find(const struct verilog *v, struct token x)
+{
+    size_t p = v->heads[chain_of(v, x)];
+    while (p > 0) {
+        uint64_t word = v->words[p - 1];
+        size_t from = word % 4294967296, to = word / 4294967296;
+        if (to - from == x.to - x.from && memcmp(v->text + from, v->text + x.from, to - from) == 0)
+            break;
+        p = v->links[p - 1];
+    }
+    return p;
+}
+
+/* Question 17. */
+static bool verilog_rules(struct verilog *v)
+{
+    uint32_t known = 0;
+    for (size_t at = v->items; at < v->assigns;) {
+        struct token x = token_at(v, at);
+        at = x.to;
+        if (x.is == INPUT || x.is == OUTPUT || x.is == WIRE)
+            known = x.is == INPUT ? AN_INPUT : x.is == OUTPUT ? AN_OUTPUT : 0;
+        if (x.is != NAME)
+            continue;
+        if (v->names == v->most_names || find(v, x) > 0)
+            return false;
+        size_t chain = chain_of(v, x);
+        v->words[v->names] = x.from + x.to * 4294967296;
+        v->states[v->names] = known;
+        v->links[v->names] = v->heads[chain];
+        v->heads[chain] = ++v->names;
+    }
+    for (size_t at = v->ports; at < v->items;) {
+        struct token x = token_at(v, at);
+        at = x.to;
+        if (x.is != NAME)
+            continue;
+        size_t p = find(v, x);
+        if (p == 0 || v->states[p - 1] & A_PORT || !(v->states[p - 1] & (AN_INPUT | AN_OUTPUT)))
+            return false;
+        v->states[p - 1] |= A_PORT;
+        if (v->states[p - 1] & AN_INPUT) {
+            v->states[p - 1] |= READABLE;
+            v->wires[p - 1] = v->inputs++;
+        } else {
+            v->outputs++;
+        }
+    }
+    for (size_t i = 0; i < v->names; i++) {
+        if (v->states[i] == AN_INPUT || v->states[i] == AN_OUTPUT)
+            return false;
+    }
+    if (v->inputs == 0 || v->outputs == 0)
+        return false;
+    size_t target = 0;
+    for (size_t at = v->assigns;;) {
+        struct token x = token_at(v, at);
+        at = x.to;
+        if (x.is == ENDMODULE)
+            break;
+        if (x.is == ASSIGN) {
+            x = token_at(v, at);
+            at = x.to;
+            target = find(v, x);
+            if (target == 0 || v->states[target - 1] & READABLE)
+                return false;
+        } else if (x.is == NAME) {
+            size_t p = find(v, x);
+            if (p == 0 || !(v->states[p - 1] & READABLE))
+                return false;
+        } else if (x.is == ';') {
+            v->states[target - 1] |= READABLE;
+        }
+    }
+    for (size_t i = 0; i < v->names; i++) {
+        if (!(v->states[i] & READABLE))
+            return false;
+    }
+    return true;
+}
+
+static uint32_t verilog_keep(struct verilog *v, uint32_t kind, uint32_t left, uint32_t right)
+{
+    size_t i = v->next - v->inputs;
+    if (i < v->room) {
+        v->operands[i] = pair(left, right);
+        v->results[i] = pair(v->next, kind);
+    }
+    return v->next++;
+}
+
+static uint32_t expression(struct verilog *v, size_t *at);
+
+static uint32_t factor(struct verilog *v, size_t *at)
+{
+    struct token x = token_at(v, *at);
+    bool negated = x.is == '~';
+    if (negated)
+        x = token_at(v, x.to);
+    *at = x.to;
+    uint32_t wire;
+    if (x.is == NAME) {
+        wire = v->wires[find(v, x) - 1];
+    } else {
+        wire = expression(v, at);
+        take(v, at, ')');
+    }
+    return negated ? verilog_keep(v, INV, wire, wire) : wire;
+}
+
+static uint32_t term(struct verilog *v, size_t *at)
+{
+    uint32_t wire = factor(v, at);
+    for (struct token x = token_at(v, *at); x.is == '&'; x = token_at(v, *at)) {
+        *at = x.to;
+        uint32_t right = factor(v, at);
+        wire = verilog_keep(v, AND, wire, right);
+    }
+    return wire;
+}
+
+static uint32_t expression(struct verilog *v, size_t *at)
+{
+    uint32_t wire = term(v, at);
+    for (struct token x = token_at(v, *at); x.is == '^'; x = token_at(v, *at)) {
+        *at = x.to;
+        uint32_t right = term(v, at);
+        wire = verilog_keep(v, XOR, wire, right);
+    }
+    return wire;
+}
+
+static void verilog_gates(struct verilog *v)
+{
+    v->next = v->inputs;
+    size_t at = v->assigns;
+    while (take(v, &at, ASSIGN)) {
+        struct token target = token_at(v, at);
+        at = target.to;
+        take(v, &at, '=');
+        uint32_t wire = expression(v, &at);
+        v->wires[find(v, target) - 1] = wire;
+        take(v, &at, ';');
+    }
+    for (at = v->ports; at < v->items;) {
+        struct token x = token_at(v, at);
+        at = x.to;
+        if (x.is != NAME)
+            continue;
+        size_t i = find(v, x) - 1;
+        if (v->states[i] & AN_OUTPUT)
+            verilog_keep(v, EQW, v->wires[i], v->wires[i]);
+    }
+}
+
+/* Questions 2, 16, 17, 18 and 5: 0, or the number of the first with a no. */
+static int read_verilog(const struct limits *l, struct verilog *v, struct header *h)
+{
+    if (v->length > l->text)
+        return 2;
+    if (!verilog_form(v))
+        return 16;
+    if (!verilog_rules(v))
+        return 17;
+    if (v->deepest > 32)
+        return 18;
+    size_t wires = v->inputs + v->operators + v->outputs;
+    if (wires > l->wires)
+        return 5;
+    verilog_gates(v);
+    *h = (struct header){(uint32_t)(wires - v->inputs), (uint32_t)wires, {1, {v->inputs}, v->inputs}, {1, {v->outputs}, v->outputs}};
+    return 0;
+}
+
+int64_t baseline_from_verilog(const uint8_t *text, size_t text_len,
+                              uint8_t *out, size_t out_len,
+                              uint64_t *operands, size_t operands_len,
+                              uint64_t *results, size_t results_len,
+                              uint64_t *heads, size_t heads_len,
+                              uint64_t *words, size_t words_len,
+                              uint64_t *links, size_t links_len,
+                              uint32_t *states, size_t states_len,
+                              uint32_t *wires, size_t wires_len,
+                              uint8_t sizes)
+{
+    const struct limits *l = &small_limits[sizes != 0];
+    struct verilog v = {.text = text, .length = text_len, .operands = operands, .results = results, .heads = heads,
+                        .words = words, .links = links, .states = states, .wires = wires, .chains = heads_len,
+                        .most_names = l->table * 8, .room = l->table};
+    struct header h;
+    int64_t answer = -1;
+    if (operands_len >= l->table && results_len >= l->table && heads_len / 8 >= l->table && words_len / 8 >= l->table
+        && links_len / 8 >= l->table && states_len / 8 >= l->table && wires_len / 8 >= l->table) {
+        memset(heads, 0, heads_len * sizeof *heads);
+        memset(wires, 0, wires_len * sizeof *wires);
+        answer = -read_verilog(l, &v, &h);
+        if (answer == 0)
+            answer = rewrite(&h, operands, results, out, out_len);
+    }
+    memset(operands, 0, operands_len * sizeof *operands);
+    memset(results, 0, results_len * sizeof *results);
+    memset(heads, 0, heads_len * sizeof *heads);
+    memset(words, 0, words_len * sizeof *words);
+    memset(links, 0, links_len * sizeof *links);
+    memset(states, 0, states_len * sizeof *states);
+    memset(wires, 0, wires_len * sizeof *wires);
+    return answer;
+}

@@ -108,4 +108,15 @@ int64_t baseline_join(const uint8_t *first, size_t first_len,
                       uint64_t *base, size_t base_len,
                       uint8_t sizes);
 
+int64_t baseline_from_verilog(const uint8_t *text, size_t text_len,
+                              uint8_t *out, size_t out_len,
+                              uint64_t *operands, size_t operands_len,
+                              uint64_t *results, size_t results_len,
+                              uint64_t *heads, size_t heads_len,
+                              uint64_t *words, size_t words_len,
+                              uint64_t *links, size_t links_len,
+                              uint32_t *states, size_t states_len,
+                              uint32_t *wires, size_t wires_len,
+                              uint8_t sizes);
+
 #endif

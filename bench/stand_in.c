@@ -150,3 +150,19 @@ int64_t fidrovelj_join(const uint8_t *first, size_t first_len,
                          first_out_codes_len, second_codes, second_codes_len, out, out_len, operands, operands_len,
                          results, results_len, given, given_len, words, words_len, base, base_len, sizes);
 }
+
+int64_t fidrovelj_from_verilog(const uint8_t *text, size_t text_len,
+                               uint8_t *out, size_t out_len,
+                               uint64_t *operands, size_t operands_len,
+                               uint64_t *results, size_t results_len,
+                               uint64_t *heads, size_t heads_len,
+                               uint64_t *words, size_t words_len,
+                               uint64_t *links, size_t links_len,
+                               uint32_t *states, size_t states_len,
+                               uint32_t *wires, size_t wires_len,
+                               uint8_t sizes)
+{
+    return baseline_from_verilog(text, text_len, out, out_len, operands, operands_len, results, results_len, heads,
+                                 heads_len, words, words_len, links, links_len, states, states_len, wires, wires_len,
+                                 sizes);
+}

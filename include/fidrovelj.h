@@ -251,6 +251,32 @@ int64_t fidrovelj_join(const uint8_t *first, size_t first_len,
                        uint64_t *base, size_t base_len,
                        uint8_t sizes);
 
+/* From Verilog: reads a module of equations (module, input, output, wire, assign, endmodule; names of
+ * one bit, of one to sixteen letters or digits, a letter first; ~, &, ^ and parentheses) and writes the
+ * netlist made of it to out, in the written form. The inputs form one value and the outputs one value,
+ * in port order; each operator is one gate, operands before it, left before right, in text order; last
+ * comes an EQW for each output. Returns the text's length in bytes. Mask's limits hold; one entry of
+ * heads, words, links, states and wires, which are tables of names, has eight numbers, so each needs
+ * 8 times as many (16,384, or 800,000 for whole ciphers). The questions are 1, 2, then
+ *
+ * 16  Is the text one of the subset, depth aside?
+ * 17  Is each name declared once, each port an input or an output and each of these a port, each name
+ *     read after its assignment, each wire and output assigned once, and is there an input and an output?
+ * 18  Do the parentheses stand at most 32 deep?
+ *
+ * then 5 of the netlist made, and 14. Looking up a name takes about one comparison, as many as there are
+ * declared names at worst, for names chosen to share a chain. */
+int64_t fidrovelj_from_verilog(const uint8_t *text, size_t text_len,
+                               uint8_t *out, size_t out_len,
+                               uint64_t *operands, size_t operands_len,
+                               uint64_t *results, size_t results_len,
+                               uint64_t *heads, size_t heads_len,
+                               uint64_t *words, size_t words_len,
+                               uint64_t *links, size_t links_len,
+                               uint32_t *states, size_t states_len,
+                               uint32_t *wires, size_t wires_len,
+                               uint8_t sizes);
+
 #ifdef __cplusplus
 }
 #endif

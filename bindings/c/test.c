@@ -536,6 +536,47 @@ static void whole_limits(void)
            "the tables are zero");
 }
 
+/* ---- equations in Verilog */
+
+#define NAMES (8 * FIDROVELJ_SMALL_TABLE)
+static uint32_t states[NAMES];
+
+static int64_t equations_of(const char *text, size_t room, size_t names)
+{
+    fill();
+    memset(states, PATTERN, sizeof states);
+    int64_t answer = fidrovelj_from_verilog((const uint8_t *)text, strlen(text), out, room, operands, FIDROVELJ_SMALL_TABLE,
+                                            results, FIDROVELJ_SMALL_TABLE, words, NAMES, base, NAMES, words_out, names,
+                                            states, NAMES, wires, NAMES, FIDROVELJ_OLD);
+    bool zero = true;
+    for (size_t i = 0; i < NAMES; i++)
+        zero = zero && words[i] == 0 && base[i] == 0 && (i >= names || words_out[i] == 0) && states[i] == 0 && wires[i] == 0;
+    expect(zero, "equations: tables of names are zero");
+    for (size_t i = answer < 0 ? 0 : (size_t)answer; i < ROOM; i++) {
+        if (out[i] != PATTERN) {
+            expect(false, "equations: the buffer beyond the result");
+            break;
+        }
+    }
+    return answer;
+}
+
+static void equations(void)
+{
+    const char *text = "module m(y,a,b);\r\ninput a,b;output y;assign y=a^~b&a;endmodule\n";
+    const char *made = "4 6\n1 2\n1 1\n\n1 1 1 2 INV\n2 1 2 0 3 AND\n2 1 0 3 4 XOR\n1 1 4 5 EQW\n";
+    int64_t size = (int64_t)strlen(made);
+    expect(equations_of(text, ROOM, NAMES) == size && memcmp(out, made, strlen(made)) == 0, "equations: the netlist made");
+    expect(equations_of(text, (size_t)size, NAMES) == size, "equations: a buffer that just holds it");
+    expect(equations_of(text, (size_t)size - 1, NAMES) == -14, "equations: a buffer a byte short is 14");
+    expect(equations_of(text, ROOM, NAMES - 1) == -1, "equations: a short table of names is 1");
+    expect(equations_of("", ROOM, NAMES) == -16, "equations: nothing is 16");
+    expect(equations_of("module m(y,a);input a;output y;assign y=~~a;endmodule", ROOM, NAMES) == -16, "equations: ~~ is 16");
+    expect(equations_of("module m(y,a);input a;output y;assign y=y;endmodule", ROOM, NAMES) == -17, "equations: read early is 17");
+    expect(equations_of("module m(y,a);input a;output y;assign y=(((((((((((((((((((((((((((((((((a)))))))))))))))))))))))))))))))));endmodule",
+                        ROOM, NAMES) == -18, "equations: thirty-three deep is 18");
+}
+
 int main(void)
 {
     known_results();
@@ -549,6 +590,7 @@ int main(void)
     old_dialect();
     pairs_of_wires();
     whole_limits();
+    equations();
     printf("C: %d checks, %d failed\n", checks, failures);
     return failures == 0 ? EXIT_SUCCESS : EXIT_FAILURE;
 }

@@ -43,6 +43,7 @@ mod old;
 mod pairs;
 mod tables;
 mod twins;
+mod verilog;
 mod words;
 
 pub use aiger::{from_aiger, from_aiger_lent};
@@ -51,6 +52,7 @@ pub use old::{from_old, from_old_lent, to_old, to_old_lent};
 pub use pairs::{check_pairs, check_pairs_lent, Pairs};
 pub use tables::{Sizes, Tables};
 pub use twins::{twins, twins_lent, Twin};
+pub use verilog::{from_verilog, from_verilog_lent, NameTables};
 pub use words::{from_words, to_words};
 
 /// The examples of README.md and docs/LIBRARY.md, as documentation tests.

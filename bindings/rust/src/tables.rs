@@ -58,17 +58,20 @@ pub struct Tables {
     pub(crate) base: Vec<u64>,
     pub(crate) bases: Vec<u64>,
     pub(crate) wires: Vec<u32>,
+    pub(crate) links: Vec<u64>,
+    pub(crate) states: Vec<u32>,
+    pub(crate) name_wires: Vec<u32>,
     pub(crate) text: Vec<u8>,
     pub(crate) bits: Vec<u8>,
 }
 
 impl Tables {
-    /// Tables for the old limits: about 1.3 million bytes.
+    /// Tables for the old limits: about 1.7 million bytes.
     pub fn new() -> Tables {
         Tables::of(Sizes::Old)
     }
 
-    /// Tables for whole ciphers: about 65 million bytes.
+    /// Tables for whole ciphers: about 80 million bytes.
     ///
     /// ```
     /// use fidrovelj::{rewrite, Refused, Tables};
@@ -92,6 +95,9 @@ impl Tables {
             base: vec![0; large],
             bases: vec![0; large],
             wires: vec![0; small],
+            links: vec![0; 8 * small],
+            states: vec![0; 8 * small],
+            name_wires: vec![0; 8 * small],
             text: vec![0; sizes.text()],
             bits: vec![0; large],
         }

@@ -20,6 +20,7 @@ ghost use Rattle.twins.specs.Promise.{Promise as TwinsPromise};
 ghost use Rattle.checker.specs.Promise.{Promise as CheckPromise};
 ghost use Rattle.from_aiger.specs.Promise.{Promise as AigerPromise};
 ghost use Rattle.join.specs.Promise.{Promise as JoinPromise};
+ghost use Rattle.from_verilog.specs.Promise.{Promise as VerilogPromise};
 ghost use Rattle.capi.specs.Number.{sizesOf, number as numberOf, Countable, Told, Shows, ToldLeak};
 
 // The number of a refusal.
@@ -328,6 +329,39 @@ pub extern "C" fn fidrovelj_join(
         marks,
         words,
         base,
+        sizes(whole),
+    ))
+}
+
+// The netlist made of equations in Verilog: how many bytes its written form has at the front of `out`.
+#[no_mangle]
+pub extern "C" fn fidrovelj_from_verilog(
+    text: &[u8],
+    out: &mut [u8],
+    operands: &mut [u64],
+    results: &mut [u64],
+    heads: &mut [u64],
+    words: &mut [u64],
+    links: &mut [u64],
+    states: &mut [u32],
+    wires: &mut [u32],
+    whole: u8,
+) -> i64
+    ensures { λ r. ⌜ Told (VerilogPromise (sizesOf whole) (now (text .entry)) (now (out .entry)) (now (out .exit)) (now (operands .entry))
+        (now (operands .exit)) (now (results .entry)) (now (results .exit)) (now (heads .entry)) (now (heads .exit)) (now (words .entry))
+        (now (words .exit)) (now (links .entry)) (now (links .exit)) (now (states .entry)) (now (states .exit)) (now (wires .entry))
+        (now (wires .exit))) r ⌝ }
+{
+    number(from_verilog::from_verilog(
+        text,
+        out,
+        operands,
+        results,
+        heads,
+        words,
+        links,
+        states,
+        wires,
         sizes(whole),
     ))
 }

@@ -96,7 +96,8 @@ pub fn judge(
     requires { ⌜ Wired (tables (now operands) (now results)) (h .wires) (h .gates) ⌝ }
     requires { ⌜ (h .«input_values» ≤ 17) × (h .«input_bits» ≡ sum (take (h .«input_values») widths)) × (h .«input_bits» ≤ h .wires)
         × (h .wires ≤ length (now words)) × (h .wires ≤ length (now base)) ⌝ }
-    ensures { λ r. ⌜ ((N : Netlist) → Holds (tables (now (operands .entry)) (now (results .entry))) (h .gates) (h .wires) (h .«input_bits») (h .«output_bits») N
+    ensures { λ r. ⌜ ((N : Netlist) → Holds (tables (now (operands .entry)) (now (results .entry))) (h .gates) (h .wires) (h .«input_bits»)
+        (h .«output_bits») N
         → take (h .«input_values») widths ≡ N .inputs → outcomeOf r ≡ checkOutcome (now (codes .entry)) N) ⌝ }
 {
     match ask_codes(h, widths, codes) {

@@ -35,7 +35,7 @@ fn tables_long(a: usize, b: usize, c: usize, sizes: Sizes) -> bool
 }
 
 // Question 14 and the text of a netlist whose gates the tables begin with.
-fn write(out: &mut [u8], m: NetlistNumbers, operands: &[u64], results: &[u64]) -> Answer
+pub fn write(out: &mut [u8], m: NetlistNumbers, operands: &[u64], results: &[u64]) -> Answer
     requires { ⌜ Wired (tables (now operands) (now results)) (m .wires) (m .gates) ⌝ }
     ensures { λ r. ⌜ Delivers (formText (m .gates) (m .wires) (m .inputs ∷ []) (m .outputs ∷ [])
         (tables (now (operands .entry)) (now (results .entry)))) (now (out .entry)) (now (out .exit)) r ⌝ }

@@ -104,7 +104,8 @@ fn write(
     words: &[u64],
     base: &[u64],
 ) -> Answer
-    requires { ⌜ Meeting (seamOf a b) × (a .«input_values» ≤ 17) × (b .«output_values» ≤ 16) × Wired (tables (now operands) (now results)) (a .wires) (a .gates)
+    requires { ⌜ Meeting (seamOf a b) × (a .«input_values» ≤ 17) × (b .«output_values» ≤ 16)
+        × Wired (tables (now operands) (now results)) (a .wires) (a .gates)
         × Wired (tables (now words) (now base)) (b .wires) (b .gates) ⌝ }
     requires { ⌜ (a .gates + b .gates ≤ wiresOf (seamOf a b)) × (a .gates + b .gates ≤ length (now operands))
         × (a .gates + b .gates ≤ length (now results)) ⌝ }
@@ -155,7 +156,8 @@ fn deliver(
     base: &[u64],
     l: Limits,
 ) -> Answer
-    requires { ⌜ Numbers a (tables (now operands) (now results)) × Numbers b (tables (now words) (now base)) × (a .«input_values» ≤ 17) × (b .«output_values» ≤ 16)
+    requires { ⌜ Numbers a (tables (now operands) (now results)) × Numbers b (tables (now words) (now base)) × (a .«input_values» ≤ 17)
+        × (b .«output_values» ≤ 16)
         × (length (now codes) ≡ b .«input_bits» - 2) × (l .wires ≤ length (now operands)) × (l .wires ≤ length (now results)) ⌝ }
     ensures { λ r. ⌜ ((A B : Netlist) → First a inputs (tables (now (operands .entry)) (now (results .entry))) A
         → Second b outputs (tables (now (words .entry)) (now (base .entry))) B

@@ -48,7 +48,8 @@ fn evaluate(
 ) -> Answer
     requires { ⌜ Wired (tables (now operands) (now results)) (h .wires) (h .gates) × (h .«input_bits» ≤ h .wires) × (h .«output_bits» ≤ h .wires)
         × (h .wires ≤ length (now words)) ⌝ }
-    ensures { λ r. ⌜ ((N : Netlist) → Holds (tables (now (operands .entry)) (now (results .entry))) (h .gates) (h .wires) (h .«input_bits») (h .«output_bits») N
+    ensures { λ r. ⌜ ((N : Netlist) → Holds (tables (now (operands .entry)) (now (results .entry))) (h .gates) (h .wires) (h .«input_bits»)
+        (h .«output_bits») N
         → Answers (run64Outcome (now (list .entry)) (length (now (out .entry))) N) (now (out .entry)) (now (out .exit)) r) ⌝ }
 {
     let wires = h.wires as usize;

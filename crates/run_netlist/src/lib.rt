@@ -44,7 +44,8 @@ pub fn evaluate(
 ) -> Answer
     requires { ⌜ Wired (tables (now operands) (now results)) (h .wires) (h .gates) × (h .«input_bits» ≤ h .wires) × (h .«output_bits» ≤ h .wires)
         × (h .wires ≤ length (now words)) ⌝ }
-    ensures { λ r. ⌜ ((N : Netlist) → Holds (tables (now (operands .entry)) (now (results .entry))) (h .gates) (h .wires) (h .«input_bits») (h .«output_bits»)
+    ensures { λ r. ⌜ ((N : Netlist) → Holds (tables (now (operands .entry)) (now (results .entry))) (h .gates) (h .wires) (h .«input_bits»)
+        (h .«output_bits»)
         N → Answers (runOutcome (now (list .entry)) (length (now (out .entry))) N) (now (out .entry)) (now (out .exit)) r) ⌝ }
 {
     let wires = h.wires as usize;

@@ -25,21 +25,11 @@ use Rattle.verilog.specs.Rules.{rulesKept}
 use Rattle.verilog.specs.Equations.{inputPorts, equationOutputs}
 use Rattle.verilog.specs.Made.{netlistMade}
 use Rattle.verilog.specs.Call.{madeOutcome, readEquations, equationsCall}
+use Rattle.verilog.specs.Delivered.{Reads, Delivered}
 use Rattle.verilog.proofs.Parsing.{parse-sound, parse-complete}
 use Rattle.verilog.proofs.Naming.{kept}
 use Rattle.verilog.proofs.Making.{made-wellFormed}
 use Rattle.verilog.proofs.Solving.{made-computes}
-
--- the module that a text stands for, and the netlist made of it
-pub record Reads (L : Limits) (t : List ℕ) (N : Netlist) : Type 0 where
-  pub tree : Module
-  pub stands : Stands tree t
-  pub rules : T (rulesKept tree)
-  pub depth : T (shallow tree)
-  pub made : N ≡ netlistMade tree
-  pub formed : WellFormed N
-  pub within : Within L N
-  pub computes : (ins : List Bool) → length ins ≡ length (inputPorts tree) → outputsOf N ins ≡ equationOutputs tree ins
 
 made-within : (L : Limits) (N : Netlist) → T (withinLimits L (headerOf N)) → Within L N
 made-within L N t =
@@ -96,13 +86,7 @@ equations-accepted L t m l S r d w =
       isTrue (withinLimits L (headerOf (netlistMade m))) w,
     )
 
--- a result is the written form of the netlist of its text, and reads back as it
-pub record Delivered (s : Sizes) (t result : List ℕ) : Type 0 where
-  pub netlist : Netlist
-  pub reads : Reads (small s) t netlist
-  pub written : result ≡ writeNetlist netlist
-  pub back : readNetlist (small s) result ≡ done netlist
-
+-- a result of the call
 pub equations-delivered : (s : Sizes) (tables t : List ℕ) (room : ℕ) (result : List ℕ) → equationsCall (small s) tables t room ≡ done result → Delivered s t result
 unfolding equationsCall
 equations-delivered s tables t room result e =

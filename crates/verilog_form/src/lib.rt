@@ -7,266 +7,6 @@ ghost use lib.ListN.{length};
 ghost use Rattle.netlist.specs.Table.{half};
 ghost use Rattle.verilog_form.specs.Turns.{entryOf, afterClose, afterEnd, afterOpen, stepped, stepSaid, operatorCode, ScanIs};
 
-// The phase behind each token, by phase and code; 16 where the token may not come.
-const TURNS: [u8; 256] = [
-    16,
-    1,
-    16,
-    16,
-    16,
-    16,
-    16,
-    16,
-    16,
-    16,
-    16,
-    16,
-    16,
-    16,
-    16,
-    16,
-    16,
-    16,
-    16,
-    16,
-    16,
-    16,
-    16,
-    16,
-    16,
-    16,
-    16,
-    16,
-    16,
-    16,
-    16,
-    2,
-    16,
-    16,
-    16,
-    16,
-    16,
-    16,
-    16,
-    3,
-    16,
-    16,
-    16,
-    16,
-    16,
-    16,
-    16,
-    16,
-    16,
-    16,
-    16,
-    16,
-    16,
-    16,
-    16,
-    16,
-    16,
-    16,
-    16,
-    16,
-    16,
-    16,
-    16,
-    4,
-    16,
-    16,
-    16,
-    16,
-    16,
-    16,
-    16,
-    16,
-    5,
-    16,
-    3,
-    16,
-    16,
-    16,
-    16,
-    16,
-    16,
-    16,
-    16,
-    16,
-    16,
-    16,
-    16,
-    16,
-    16,
-    6,
-    16,
-    16,
-    16,
-    16,
-    16,
-    16,
-    16,
-    16,
-    8,
-    8,
-    8,
-    10,
-    15,
-    16,
-    16,
-    16,
-    16,
-    16,
-    16,
-    16,
-    16,
-    16,
-    16,
-    16,
-    16,
-    16,
-    16,
-    10,
-    15,
-    16,
-    16,
-    16,
-    16,
-    16,
-    16,
-    16,
-    16,
-    16,
-    16,
-    16,
-    16,
-    16,
-    16,
-    16,
-    16,
-    16,
-    16,
-    16,
-    16,
-    16,
-    16,
-    16,
-    16,
-    9,
-    16,
-    16,
-    16,
-    16,
-    16,
-    16,
-    16,
-    16,
-    16,
-    6,
-    8,
-    16,
-    16,
-    16,
-    16,
-    16,
-    16,
-    16,
-    16,
-    16,
-    16,
-    16,
-    16,
-    16,
-    16,
-    16,
-    16,
-    16,
-    16,
-    16,
-    16,
-    11,
-    16,
-    16,
-    16,
-    16,
-    16,
-    16,
-    16,
-    16,
-    16,
-    16,
-    16,
-    12,
-    16,
-    16,
-    16,
-    16,
-    16,
-    16,
-    16,
-    16,
-    16,
-    16,
-    16,
-    12,
-    16,
-    16,
-    16,
-    16,
-    13,
-    16,
-    16,
-    14,
-    16,
-    16,
-    16,
-    16,
-    16,
-    16,
-    16,
-    12,
-    16,
-    16,
-    16,
-    16,
-    16,
-    16,
-    16,
-    14,
-    16,
-    16,
-    16,
-    16,
-    16,
-    16,
-    16,
-    16,
-    14,
-    7,
-    16,
-    16,
-    16,
-    12,
-    12,
-    16,
-    16,
-    16,
-    16,
-    16,
-    16,
-    16,
-    16,
-    16,
-    16,
-    16,
-    16,
-    16,
-    16,
-    16,
-    16,
-    16,
-];
-
 // A phase, and how many parentheses are open.
 pub struct Step {
     pub phase: u8,
@@ -280,11 +20,141 @@ pub struct Scan {
     pub operators: usize,
 }
 
+// The phase behind a token, by phase and code; 16 where the token may not come. The phases of expressions come first.
 fn turn(phase: u8, code: u8) -> u8
     requires { ⌜ (phase ≤ 15) × (code ≤ 15) ⌝ }
     ensures { λ r. ⌜ (r ≡ entryOf phase code) × (r ≤ 16) ⌝ }
 {
-    TURNS[phase as usize * 16 + code as usize]
+    if phase == 12 {
+        if code == 15 {
+            return 14;
+        }
+        if code == 12 {
+            return 13;
+        }
+        if code == 7 {
+            return 12;
+        }
+        return 16;
+    }
+    if phase == 14 {
+        if code == 9 {
+            return 7;
+        }
+        if code == 14 {
+            return 12;
+        }
+        if code == 13 {
+            return 12;
+        }
+        if code == 8 {
+            return 14;
+        }
+        return 16;
+    }
+    if phase == 13 {
+        if code == 15 {
+            return 14;
+        }
+        if code == 7 {
+            return 12;
+        }
+        return 16;
+    }
+    if phase == 10 {
+        if code == 15 {
+            return 11;
+        }
+        return 16;
+    }
+    if phase == 11 {
+        if code == 11 {
+            return 12;
+        }
+        return 16;
+    }
+    if phase == 7 {
+        if code == 5 {
+            return 10;
+        }
+        if code == 6 {
+            return 15;
+        }
+        return 16;
+    }
+    if phase == 9 {
+        if code == 10 {
+            return 8;
+        }
+        if code == 9 {
+            return 6;
+        }
+        return 16;
+    }
+    if phase == 8 {
+        if code == 15 {
+            return 9;
+        }
+        return 16;
+    }
+    if phase == 4 {
+        if code == 10 {
+            return 3;
+        }
+        if code == 8 {
+            return 5;
+        }
+        return 16;
+    }
+    if phase == 3 {
+        if code == 15 {
+            return 4;
+        }
+        return 16;
+    }
+    if phase == 6 {
+        if code == 5 {
+            return 10;
+        }
+        if code == 4 {
+            return 8;
+        }
+        if code == 2 {
+            return 8;
+        }
+        if code == 3 {
+            return 8;
+        }
+        if code == 6 {
+            return 15;
+        }
+        return 16;
+    }
+    if phase == 0 {
+        if code == 1 {
+            return 1;
+        }
+        return 16;
+    }
+    if phase == 1 {
+        if code == 15 {
+            return 2;
+        }
+        return 16;
+    }
+    if phase == 2 {
+        if code == 7 {
+            return 3;
+        }
+        return 16;
+    }
+    if phase == 5 {
+        if code == 9 {
+            return 6;
+        }
+        return 16;
+    }
+    16
 }
 
 // Behind a closing parenthesis: in an expression one must be open.

@@ -47,7 +47,7 @@ module _ {t : List ℕ} {size most count kind from to : ℕ} {heads heads′ wor
 
 -- ---- names found and names in the list
 
-elem-snoc : (w x : List ℕ) (xs : List (List ℕ)) → elem w (xs ++ x ∷ []) ≡ (elem w xs || sameBytes w x)
+pub elem-snoc : (w x : List ℕ) (xs : List (List ℕ)) → elem w (xs ++ x ∷ []) ≡ (elem w xs || sameBytes w x)
 elem-snoc w x [] = go (sameBytes w x)
   where
     go : (b : Bool) → (b || false) ≡ (false || b)
@@ -59,7 +59,7 @@ elem-snoc w x (y ∷ xs) = ap (λ (b : Bool). sameBytes w y || b) (elem-snoc w x
     go true b c = refl
     go false b c = refl
 
-same-other : (u v : List ℕ) → sameBytes u v ≡ false → sameBytes v u ≡ false
+pub same-other : (u v : List ℕ) → sameBytes u v ≡ false → sameBytes v u ≡ false
 same-other u v e = onBool (sameBytes v u) (λ h. absurd (never (sym (ap (λ (x : List ℕ). sameBytes x v) (sym (same-equal v u h)) ∙ same-self v) ∙ e))) (λ h. h)
 
 pub found-elem : (t words w : List ℕ) (n : ℕ) → eqb (found t words w n) 0 ≡ not (elem w (namesOf t words n))
@@ -218,9 +218,10 @@ module _ {t : List ℕ} {at size most : ℕ} {heads₀ words₀ links₀ st₀ :
         let n : name w ≡ F .token = some-same (name w) (F .token) (sym (ap (λ (j : ℕ). tokenOf j w) e ∙ name-marked w) ∙ F .is) in
         (F .more, F .split ∙ ap (λ (y : Token). y ∷ F .more) (sym n), F .left)
 
-    pub load-end : declares code ≡ false → AllDeclared t at size heads words links st count place
+    pub load-end : declares code ≡ false → AllDeclared t at size most heads words links st count place
     load-end h = record {
       names = D .names;
+      few = D .few;
       within = omega (arith, D .token .start, D .token .onward, D .token .within);
       gives = λ ts e.
           let L = D .gives ts e in

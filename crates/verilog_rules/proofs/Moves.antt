@@ -64,7 +64,7 @@ module _ (t words states : List ℕ) (n : ℕ) (w : List ℕ) (old new : ℕ) wh
 
 -- ---- all states
 
-every-take : (p : ℕ → Bool) (xs : List ℕ) (i : ℕ) → i < length xs → every p (take (i + 1) xs) ≡ (every p (take i xs) && p (getD xs i 0))
+pub every-take : (p : ℕ → Bool) (xs : List ℕ) (i : ℕ) → i < length xs → every p (take (i + 1) xs) ≡ (every p (take i xs) && p (getD xs i 0))
 every-take p [] i h = absurd (omega arith)
 every-take p (x ∷ xs) zero h = go (p x)
   where

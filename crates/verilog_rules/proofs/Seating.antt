@@ -31,7 +31,7 @@ pass : {b : Bool} (x y : Seated) → b ≡ false → cond b x y ≡ y
 pass x y e = λ i. cond (e i) x y
 
 -- a port that is none spoils all
-spoilt : (t words : List ℕ) (n : ℕ) (ps : List (List ℕ)) (P : Seated) → P .good ≡ false → seatAll t words n P ps .good ≡ false
+pub spoilt : (t words : List ℕ) (n : ℕ) (ps : List (List ℕ)) (P : Seated) → P .good ≡ false → seatAll t words n P ps .good ≡ false
 spoilt t words n [] P e = e
 spoilt t words n (w ∷ ps) P e = spoilt t words n ps (seat t words n P w) (onBool (eqb (wireOf t words (P .states) n w) 1) (λ q. rw q e) (λ q. rw (q, e) refl))
 
@@ -49,23 +49,42 @@ pub record Seating (t words : List ℕ) (n at : ℕ) (st₀ ws₀ st ws : List �
   pub gives : (ps : List (List ℕ)) (rest : List Token) → tokens (drop at t) ≡ some (portsLeft ps rest) → Ahead t words n st₀ ws₀ st ws i o place ps rest
 
 -- the first token, known
-known : {t : List ℕ} {place c s b : ℕ} → TokenAt t place c s b → (x : Token) (us : List Token) → tokens (drop place t) ≡ some (x ∷ us) → (tokenOf c (between t s b) ≡ some x) × (tokens (drop b t) ≡ some us)
+pub known : {t : List ℕ} {place c s b : ℕ} → TokenAt t place c s b → (x : Token) (us : List Token) → tokens (drop place t) ≡ some (x ∷ us) → (tokenOf c (between t s b) ≡ some x) × (tokens (drop b t) ≡ some us)
 known {t} {place} {c} {s} {b} A x us e = onBool (eqb c 0)
     (λ z. let n = none-left t place c s b A (x ∷ us) e z in let l = ap length n in absurd (omega (arith, l)))
     (λ z. let F = first t place c s b A (x ∷ us) e z in
     let h = head-same (x ∷ us) (F .token) x (F .more) us (F .split) refl in
     (F .is ∙ ap some (h .0), F .left ∙ ap some (h .1)))
 
-name-marked : (w : List ℕ) → tokenOf 15 w ≡ some (name w)
+pub name-marked : (w : List ℕ) → tokenOf 15 w ≡ some (name w)
 unfolding tokenOf
 name-marked w = refl
 
-same-name : {v w : List ℕ} → name v ≡ name w → v ≡ w
+pub same-name : {v w : List ℕ} → name v ≡ name w → v ≡ w
 same-name e = ap bytes e
   where
     bytes : Token → List ℕ
     bytes (name w) = w
     bytes (mark k) = k
+
+-- the port at a place, and what follows it
+module _ {t : List ℕ} where
+  pub port-here : {place code from to : ℕ} → TokenAt t place code from to → code ≡ 15 → (ps : List (List ℕ)) (rest : List Token) → tokens (drop place t) ≡ some (portsLeft ps rest)
+      → (us : List (List ℕ)) × (ps ≡ between t from to ∷ us) × (tokens (drop to t) ≡ some (behindPort us rest))
+  port-here {code = code} {from} {to} A five [] rest e = let k = known A (mark (ascii ";")) rest e in
+      let z = sym five ∙ token-code code (between t from to) (mark (ascii ";")) (k .0) in absurd (omega (arith, z))
+  port-here {code = code} {from} {to} A five (w ∷ ps) rest e =
+      let k = known A (name w) (behindPort ps rest) e in
+      let v : between t from to ≡ w = same-name (some-same (name (between t from to)) (name w) (sym (ap (λ (c : ℕ). tokenOf c (between t from to)) five ∙ name-marked (between t from to)) ∙ k .0)) in
+      (ps, ap (λ (x : List ℕ). x ∷ ps) (sym v), k .1)
+
+  pub port-next : {to cc fc tc : ℕ} → TokenAt t to cc fc tc → (us : List (List ℕ)) (rest : List Token) → tokens (drop to t) ≡ some (behindPort us rest) → tokens (drop tc t) ≡ some (portsLeft us rest)
+  port-next C [] rest e = known C (mark (ascii ")")) (mark (ascii ";") ∷ rest) e .1
+  port-next C (v ∷ us) rest e = known C (mark (ascii ",")) (name v ∷ behindPort us rest) e .1
+
+  pub port-none : {place code from to : ℕ} → TokenAt t place code from to → (code ≡ 15 → ⊥) → (ps : List (List ℕ)) (rest : List Token) → tokens (drop place t) ≡ some (portsLeft ps rest) → ps ≡ []
+  port-none A h [] rest e = refl
+  port-none {code = code} {from} {to} A h (w ∷ ps) rest e = absurd (h (token-code code (between t from to) (name w) (known A (name w) (behindPort ps rest) e .0)))
 
 module _ {t words : List ℕ} {n at : ℕ} {st₀ ws₀ : List ℕ} where
   pub seat-start : {code from to : ℕ} → TokenAt t at code from to → Seating t words n at st₀ ws₀ st₀ ws₀ code from to 0 0
@@ -82,7 +101,7 @@ module _ {t words : List ℕ} {n at : ℕ} {st₀ ws₀ : List ℕ} where
     pub seat-end : (code ≡ 15 → ⊥) → PortsIs t words n at st₀ st ws₀ ws (record { good = true; inputs = i; outputs = o })
     seat-end h = record {
       gives = λ ps rest e. let A = S .gives ps rest e in
-          let q : seatAll t words n (unseated st₀ ws₀) ps ≡ seated st ws i o = A .same ∙ ap (seatAll t words n (seated st ws i o)) (none (A .more) rest (A .tokensAre)) in
+          let q : seatAll t words n (unseated st₀ ws₀) ps ≡ seated st ws i o = A .same ∙ ap (seatAll t words n (seated st ws i o)) (port-none (S .token) h (A .more) rest (A .tokensAre)) in
           record {
             said = sym (ap (λ (P : Seated). P .good) q);
             states = λ g. sym (ap (λ (P : Seated). P .states) q);
@@ -91,22 +110,8 @@ module _ {t words : List ℕ} {n at : ℕ} {st₀ ws₀ : List ℕ} where
             outputs = λ g. sym (ap (λ (P : Seated). P .outputs) q);
           };
     }
-      where
-        none : (ps : List (List ℕ)) (rest : List Token) → tokens (drop (S .place) t) ≡ some (portsLeft ps rest) → ps ≡ []
-        none [] rest e = refl
-        none (w ∷ ps) rest e = absurd (h (token-code code (between t from to) (name w) (known (S .token) (name w) (behindPort ps rest) e .0)))
 
     module _ {st′ ws′ : List ℕ} {r : Ports} (P : PortIs t words n (between t from to) i o st st′ ws ws′ r) (five : code ≡ 15) where
-      -- the port at this place
-      this : (ps : List (List ℕ)) (rest : List Token) → tokens (drop (S .place) t) ≡ some (portsLeft ps rest)
-          → (us : List (List ℕ)) × (ps ≡ between t from to ∷ us) × (tokens (drop to t) ≡ some (behindPort us rest))
-      this [] rest e = let k = known (S .token) (mark (ascii ";")) rest e in
-          let z = sym five ∙ token-code code (between t from to) (mark (ascii ";")) (k .0) in absurd (omega (arith, z))
-      this (w ∷ ps) rest e =
-          let k = known (S .token) (name w) (behindPort ps rest) e in
-          let v : between t from to ≡ w = same-name (some-same (name (between t from to)) (name w) (sym (ap (λ (c : ℕ). tokenOf c (between t from to)) five ∙ name-marked (between t from to)) ∙ k .0)) in
-          (ps, ap (λ (x : List ℕ). x ∷ ps) (sym v), k .1)
-
       seated-is : r .good ≡ true → seat t words n (seated st ws i o) (between t from to) ≡ seated st′ ws′ (r .inputs) (r .outputs)
       seated-is g =
           let w = between t from to in
@@ -123,7 +128,7 @@ module _ {t words : List ℕ} {n at : ℕ} {st₀ ws₀ : List ℕ} where
       pub seat-bad : {i′ o′ : ℕ} {st″ ws″ : List ℕ} → r .good ≡ false → PortsIs t words n at st₀ st″ ws₀ ws″ (record { good = false; inputs = i′; outputs = o′ })
       seat-bad g = record {
         gives = λ ps rest e. let A = S .gives ps rest e in
-            let T = this (A .more) rest (A .tokensAre) in
+            let T = port-here (S .token) five (A .more) rest (A .tokensAre) in
             let b : seat t words n (seated st ws i o) (between t from to) .good ≡ false = onBool (eqb (wireOf t words st n (between t from to)) 1)
             (λ q. absurd (never (sym (ap (λ (x : Ports). x .good) (P .isInput (eqb-true (wireOf t words st n (between t from to)) 1 q) .0)) ∙ g)))
             (λ q. rw q (sym (ap (λ (x : Ports). x .good) (P .isOther (eqb-false (wireOf t words st n (between t from to)) 1 q) .0)) ∙ g)) in
@@ -146,18 +151,14 @@ module _ {t words : List ℕ} {n at : ℕ} {st₀ ws₀ : List ℕ} where
         wired = lw ∙ S .wired;
         few = counts;
         gives = λ ps rest e. let H = S .gives ps rest e in
-            let T = this (H .more) rest (H .tokensAre) in
+            let T = port-here (S .token) five (H .more) rest (H .tokensAre) in
             record {
               more = T .0;
-              tokensAre = comma (T .0) rest (T .2);
+              tokensAre = port-next C (T .0) rest (T .2);
               same = H .same ∙ ap (seatAll t words n (seated st ws i o)) (T .1) ∙ ap (λ (x : Seated). seatAll t words n x (T .0)) (seated-is g);
             };
       }
         where
-          comma : (us : List (List ℕ)) (rest : List Token) → tokens (drop to t) ≡ some (behindPort us rest) → tokens (drop tc t) ≡ some (portsLeft us rest)
-          comma [] rest e = known C (mark (ascii ")")) (mark (ascii ";") ∷ rest) e .1
-          comma (v ∷ us) rest e = known C (mark (ascii ",")) (name v ∷ behindPort us rest) e .1
-
           counts : (r .inputs ≤ tc) × (r .outputs ≤ tc)
           counts =
               let z : eqb code 0 ≡ false = ap (λ (c : ℕ). eqb c 0) five in

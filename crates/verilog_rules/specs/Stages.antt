@@ -51,8 +51,9 @@ pub record Loaded (t words st : List ℕ) (count place : ℕ) (ts : List Token) 
   pub once : fresh [] (keys (declaredFrom 0 ts)) ≡ true
   pub left : tokens (drop place t) ≡ some (behindDeclared ts)
 
-pub record AllDeclared (t : List ℕ) (at size : ℕ) (heads words links st : List ℕ) (count place : ℕ) : Type 0 where
+pub record AllDeclared (t : List ℕ) (at size most : ℕ) (heads words links st : List ℕ) (count place : ℕ) : Type 0 where
   pub names : Chained t heads words links size count
+  pub few : count ≤ most
   pub within : place ≤ length t
   pub gives : (ts : List Token) → tokens (drop at t) ≡ some ts → Loaded t words st count place ts
 
@@ -61,7 +62,7 @@ pub record NotDeclared (t : List ℕ) (at most : ℕ) : Type 0 where
 
 -- every name was declared once; or one was declared twice, or there are more than `most`
 abbrev pub DeclaredBy : Bool → List ℕ → ℕ → ℕ → ℕ → List ℕ → List ℕ → List ℕ → List ℕ → ℕ → ℕ → Type 0
-DeclaredBy true t at size most heads words links st count place = AllDeclared t at size heads words links st count place
+DeclaredBy true t at size most heads words links st count place = AllDeclared t at size most heads words links st count place
 DeclaredBy false t at size most heads words links st count place = NotDeclared t at most
 
 abbrev pub DeclaredIs : List ℕ → ℕ → ℕ → ℕ → List ℕ → List ℕ → List ℕ → List ℕ → Declared → Type 0

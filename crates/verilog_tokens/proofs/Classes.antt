@@ -1,7 +1,7 @@
--- The classes of bytes: what the table says of each, and what each class means.
-use Prim.Native.Nat.{ℕ, zero, suc, _+_, _<_}
+-- The classes of bytes: which each byte has, and what each class means.
+use Prim.Native.Nat.{ℕ, zero, suc, _+_, _≤_, _<_}
 use native.Mathlib.Omega.{arith}
-use mathlib.Core.Path.{_≡_, refl, subst, sym, ap, _∙_}
+use mathlib.Core.Path.{_≡_, refl, subst, sym, ap, ap₂, _∙_}
 use mathlib.Core.Bool.{Bool, true, false, cond, not, _&&_, _||_}
 use mathlib.Core.List.{List, [], _∷_}
 use lib.Dec.{T, eqb, leb, eqb→eq}
@@ -9,34 +9,66 @@ use lib.ListN.{length, getD}
 use Rattle.netlist.specs.Number.{isDigit}
 use Rattle.netlist.specs.Text.{space, lf}
 use Rattle.netlist.proofs.Tests.{onBool, both, true-T}
-use borrow.Author.Tests.{eq-eqb, ne-eqb}
+use borrow.Author.Tests.{eq-eqb, ne-eqb, le-leb, lt-leb}
 use Rattle.verilog.specs.Tokens.{cr, isLetter, inWord, isSign, starts, isWhite, token}
 use Rattle.verilog_tokens.specs.Next.{signCode, classOf, tokenOf}
 
 pub never : true ≡ false → ⊥
 never e = let z : _≡_ {A = ℕ} 0 1 = cc in omega arith
 
--- ---- the table
+-- ---- the class of a byte, by comparisons
 
-abbrev pub classes : List ℕ
-classes =
-    16 ∷ 16 ∷ 16 ∷ 16 ∷ 16 ∷ 16 ∷ 16 ∷ 16 ∷ 16 ∷ 16 ∷ 17 ∷ 16 ∷ 16 ∷ 18 ∷ 16 ∷ 16 ∷ 16 ∷ 16 ∷ 16 ∷ 16 ∷ 16 ∷ 16 ∷ 16 ∷ 16 ∷ 16 ∷ 16 ∷ 16 ∷ 16 ∷ 16 ∷ 16 ∷ 16 ∷ 16 ∷ 17 ∷ 16 ∷ 16 ∷ 16 ∷ 16 ∷ 16 ∷ 13 ∷ 16 ∷ 7 ∷ 8 ∷ 16 ∷ 16 ∷ 10 ∷ 16 ∷ 16 ∷ 16 ∷ 19 ∷ 19 ∷ 19 ∷ 19 ∷ 19 ∷ 19 ∷ 19 ∷ 19 ∷ 19 ∷ 19 ∷ 16 ∷ 9 ∷ 16 ∷ 11 ∷ 16 ∷ 16 ∷ 16 ∷ 15 ∷ 15 ∷ 15 ∷ 15 ∷ 15 ∷ 15 ∷ 15 ∷ 15 ∷ 15 ∷ 15 ∷ 15 ∷ 15 ∷ 15 ∷ 15 ∷ 15 ∷ 15 ∷ 15 ∷ 15 ∷ 15 ∷ 15 ∷ 15 ∷ 15 ∷ 15 ∷ 15 ∷ 15 ∷ 15 ∷ 16 ∷ 16 ∷ 16 ∷ 14 ∷ 16 ∷ 16 ∷ 15 ∷ 15 ∷ 15 ∷ 15 ∷ 15 ∷ 15 ∷ 15 ∷ 15 ∷ 15 ∷ 15 ∷ 15 ∷ 15 ∷ 15 ∷ 15 ∷ 15 ∷ 15 ∷ 15 ∷ 15 ∷ 15 ∷ 15 ∷ 15 ∷ 15 ∷ 15 ∷ 15 ∷ 15 ∷ 15 ∷ 16 ∷ 16 ∷ 16 ∷ 12 ∷ 16 ∷ 16 ∷ 16 ∷ 16 ∷ 16 ∷ 16 ∷ 16 ∷ 16 ∷ 16 ∷ 16 ∷ 16 ∷ 16 ∷ 16 ∷ 16 ∷ 16 ∷ 16 ∷ 16 ∷ 16 ∷ 16 ∷ 16 ∷ 16 ∷ 16 ∷ 16 ∷ 16 ∷ 16 ∷ 16 ∷ 16 ∷ 16 ∷ 16 ∷ 16 ∷ 16 ∷ 16 ∷ 16 ∷ 16 ∷ 16 ∷ 16 ∷ 16 ∷ 16 ∷ 16 ∷ 16 ∷ 16 ∷ 16 ∷ 16 ∷ 16 ∷ 16 ∷ 16 ∷ 16 ∷ 16 ∷ 16 ∷ 16 ∷ 16 ∷ 16 ∷ 16 ∷ 16 ∷ 16 ∷ 16 ∷ 16 ∷ 16 ∷ 16 ∷ 16 ∷ 16 ∷ 16 ∷ 16 ∷ 16 ∷ 16 ∷ 16 ∷ 16 ∷ 16 ∷ 16 ∷ 16 ∷ 16 ∷ 16 ∷ 16 ∷ 16 ∷ 16 ∷ 16 ∷ 16 ∷ 16 ∷ 16 ∷ 16 ∷ 16 ∷ 16 ∷ 16 ∷ 16 ∷ 16 ∷ 16 ∷ 16 ∷ 16 ∷ 16 ∷ 16 ∷ 16 ∷ 16 ∷ 16 ∷ 16 ∷ 16 ∷ 16 ∷ 16 ∷ 16 ∷ 16 ∷ 16 ∷ 16 ∷ 16 ∷ 16 ∷ 16 ∷ 16 ∷ 16 ∷ 16 ∷ 16 ∷ 16 ∷ 16 ∷ 16 ∷ 16 ∷ 16 ∷ 16 ∷ 16 ∷ 16 ∷ 16 ∷ 16 ∷ 16 ∷ 16 ∷ 16 ∷ 16 ∷ 16 ∷ 16 ∷ 16 ∷ 16 ∷ 16 ∷ 16 ∷ 16 ∷ []
+module _ (b : ℕ) where
+  pub letter-low : b < 65 → false ≡ isLetter b
+  letter-low h = sym (rw (lt-leb 65 b h, lt-leb 97 b (omega (arith, h))))
 
--- each entry from a place on is the class of its place
-abbrev allRight : ℕ → List ℕ → Bool
-allRight i [] = true
-allRight i (x ∷ xs) = eqb x (classOf i) && allRight (suc i) xs
+  pub letter-capital : 65 ≤ b → b ≤ 90 → true ≡ isLetter b
+  letter-capital h k = sym (rw (le-leb 65 b h, le-leb b 90 k))
 
-right-at : (xs : List ℕ) (i : ℕ) → T (allRight i xs) → (k : ℕ) → k < length xs → getD xs k 0 ≡ classOf (k + i)
-right-at [] i t k h = absurd (omega arith)
-right-at (x ∷ xs) i t zero h = eqb→eq x (classOf i) (both (eqb x (classOf i)) (allRight (suc i) xs) t .0) ∙ ap classOf (omega arith)
-right-at (x ∷ xs) i t (suc k) h =
-    right-at xs (suc i) (both (eqb x (classOf i)) (allRight (suc i) xs) t .1) k (omega arith)
-    ∙ ap classOf (omega arith)
+  pub letter-between : 90 < b → b < 97 → false ≡ isLetter b
+  letter-between h k = sym (rw (le-leb 65 b (omega (arith, h)), lt-leb b 90 h, lt-leb 97 b k))
 
-pub class-right : (b : ℕ) → b < 256 → getD classes b 0 ≡ classOf b
-unfolding classOf
-class-right b h = let z : b + 0 ≡ b = omega arith in right-at classes 0 tt b h ∙ ap classOf z
+  pub letter-small : 97 ≤ b → leb b 122 ≡ isLetter b
+  letter-small h = sym (rw (le-leb 65 b (omega (arith, h)), lt-leb b 90 (omega (arith, h)), le-leb 97 b h))
+
+  pub digit-low : b < 48 → false ≡ isDigit b
+  digit-low h = sym (rw (lt-leb 48 b h))
+
+  pub digit-high : 48 ≤ b → leb b 57 ≡ isDigit b
+  digit-high h = sym (rw (le-leb 48 b h))
+
+  pub class-letter : isLetter b ≡ true → 15 ≡ classOf b
+  unfolding classOf
+  class-letter e = sym (λ i. cond (e i) 15 (cond (isDigit b) 19 (cond (eqb b space || eqb b lf) 17 (cond (eqb b cr) 18 (signCode b)))))
+
+  module _ (e : isLetter b ≡ false) where
+    pub class-digit : isDigit b ≡ true → 19 ≡ classOf b
+    unfolding classOf
+    class-digit d = sym (λ i. cond (e i) 15 (cond (d i) 19 (cond (eqb b space || eqb b lf) 17 (cond (eqb b cr) 18 (signCode b)))))
+
+    module _ (d : isDigit b ≡ false) where
+      white : (eqb b space || eqb b lf) ≡ true → 17 ≡ classOf b
+      unfolding classOf
+      white s = sym (λ i. cond (e i) 15 (cond (d i) 19 (cond (s i) 17 (cond (eqb b cr) 18 (signCode b)))))
+
+      pub class-space : b ≡ 32 → 17 ≡ classOf b
+      class-space q = white (ap (λ (x : Bool). x || eqb b lf) (eq-eqb b 32 q))
+
+      module _ (f : b ≡ 32 → ⊥) where
+        pub class-lf : b ≡ 10 → 17 ≡ classOf b
+        class-lf q = white (ap₂ _||_ (ne-eqb b 32 f) (eq-eqb b 10 q))
+
+        module _ (g : b ≡ 10 → ⊥) where
+          solid : (eqb b space || eqb b lf) ≡ false
+          solid = ap₂ _||_ (ne-eqb b 32 f) (ne-eqb b 10 g)
+
+          pub class-cr : b ≡ 13 → 18 ≡ classOf b
+          unfolding classOf
+          class-cr q = sym (λ i. cond (e i) 15 (cond (d i) 19 (cond (solid i) 17 (cond (eq-eqb b 13 q i) 18 (signCode b)))))
+
+          pub class-sign : (b ≡ 13 → ⊥) → {x : ℕ} → x ≡ signCode b → x ≡ classOf b
+          unfolding classOf
+          class-sign h q = q ∙ sym (λ i. cond (e i) 15 (cond (d i) 19 (cond (solid i) 17 (cond (ne-eqb b 13 h i) 18 (signCode b)))))
 
 -- ---- signs
 

@@ -5,8 +5,9 @@ ghost use mathlib.Core.Bool.{cond};
 ghost use lib.Dec.{leb};
 ghost use lib.ListN.{length, drop, getD};
 ghost use Rattle.read_text.specs.Line.{Scanned};
-ghost use Rattle.verilog.specs.Tokens.{inWord, isWhite};
-ghost use Rattle.verilog_tokens.specs.Next.{classOf, wordCode, White, TokenAt};
+ghost use Rattle.netlist.specs.Number.{isDigit};
+ghost use Rattle.verilog.specs.Tokens.{isLetter, inWord, isWhite};
+ghost use Rattle.verilog_tokens.specs.Next.{signCode, classOf, wordCode, White, TokenAt};
 use read_text::bytes::same;
 
 // A token: its code, and its bytes. Codes 1 to 14 are the marks in the order of their list, the reserved words first; 15 is a
@@ -17,270 +18,81 @@ pub struct Token {
     pub to: usize,
 }
 
-// For each byte the code of a sign; 15 for a letter, 19 for a digit, 17 for space and LF, 18 for CR, and 16 for any other byte.
-const CLASSES: [u8; 256] = [
-    16,
-    16,
-    16,
-    16,
-    16,
-    16,
-    16,
-    16,
-    16,
-    16,
-    17,
-    16,
-    16,
-    18,
-    16,
-    16,
-    16,
-    16,
-    16,
-    16,
-    16,
-    16,
-    16,
-    16,
-    16,
-    16,
-    16,
-    16,
-    16,
-    16,
-    16,
-    16,
-    17,
-    16,
-    16,
-    16,
-    16,
-    16,
-    13,
-    16,
-    7,
-    8,
-    16,
-    16,
-    10,
-    16,
-    16,
-    16,
-    19,
-    19,
-    19,
-    19,
-    19,
-    19,
-    19,
-    19,
-    19,
-    19,
-    16,
-    9,
-    16,
-    11,
-    16,
-    16,
-    16,
-    15,
-    15,
-    15,
-    15,
-    15,
-    15,
-    15,
-    15,
-    15,
-    15,
-    15,
-    15,
-    15,
-    15,
-    15,
-    15,
-    15,
-    15,
-    15,
-    15,
-    15,
-    15,
-    15,
-    15,
-    15,
-    15,
-    16,
-    16,
-    16,
-    14,
-    16,
-    16,
-    15,
-    15,
-    15,
-    15,
-    15,
-    15,
-    15,
-    15,
-    15,
-    15,
-    15,
-    15,
-    15,
-    15,
-    15,
-    15,
-    15,
-    15,
-    15,
-    15,
-    15,
-    15,
-    15,
-    15,
-    15,
-    15,
-    16,
-    16,
-    16,
-    12,
-    16,
-    16,
-    16,
-    16,
-    16,
-    16,
-    16,
-    16,
-    16,
-    16,
-    16,
-    16,
-    16,
-    16,
-    16,
-    16,
-    16,
-    16,
-    16,
-    16,
-    16,
-    16,
-    16,
-    16,
-    16,
-    16,
-    16,
-    16,
-    16,
-    16,
-    16,
-    16,
-    16,
-    16,
-    16,
-    16,
-    16,
-    16,
-    16,
-    16,
-    16,
-    16,
-    16,
-    16,
-    16,
-    16,
-    16,
-    16,
-    16,
-    16,
-    16,
-    16,
-    16,
-    16,
-    16,
-    16,
-    16,
-    16,
-    16,
-    16,
-    16,
-    16,
-    16,
-    16,
-    16,
-    16,
-    16,
-    16,
-    16,
-    16,
-    16,
-    16,
-    16,
-    16,
-    16,
-    16,
-    16,
-    16,
-    16,
-    16,
-    16,
-    16,
-    16,
-    16,
-    16,
-    16,
-    16,
-    16,
-    16,
-    16,
-    16,
-    16,
-    16,
-    16,
-    16,
-    16,
-    16,
-    16,
-    16,
-    16,
-    16,
-    16,
-    16,
-    16,
-    16,
-    16,
-    16,
-    16,
-    16,
-    16,
-    16,
-    16,
-    16,
-    16,
-    16,
-    16,
-    16,
-    16,
-    16,
-    16,
-    16,
-    16,
-    16,
-    16,
-    16,
-    16,
-    16,
-    16,
-    16,
-];
+fn is_letter(b: u8) -> bool
+    ensures { λ r. ⌜ r ≡ isLetter b ⌝ }
+{
+    if b < 65 {
+        return false;
+    }
+    if b <= 90 {
+        return true;
+    }
+    if b < 97 {
+        return false;
+    }
+    b <= 122
+}
 
+fn is_digit(b: u8) -> bool
+    ensures { λ r. ⌜ r ≡ isDigit b ⌝ }
+{
+    if b < 48 {
+        return false;
+    }
+    b <= 57
+}
+
+// The code of a sign, 16 for any other byte.
+fn sign_class(b: u8) -> u8
+    ensures { λ r. ⌜ r ≡ signCode b ⌝ }
+{
+    if b == b'(' {
+        return 7;
+    }
+    if b == b')' {
+        return 8;
+    }
+    if b == b';' {
+        return 9;
+    }
+    if b == b',' {
+        return 10;
+    }
+    if b == b'=' {
+        return 11;
+    }
+    if b == b'~' {
+        return 12;
+    }
+    if b == b'&' {
+        return 13;
+    }
+    if b == b'^' {
+        return 14;
+    }
+    16
+}
+
+// The code of a sign; 15 for a letter, 19 for a digit, 17 for space and LF, 18 for CR, and 16 for any other byte.
 fn class(b: u8) -> u8
     ensures { λ r. ⌜ r ≡ classOf b ⌝ }
 {
-    CLASSES[b as usize]
+    if is_letter(b) {
+        return 15;
+    }
+    if is_digit(b) {
+        return 19;
+    }
+    if b == b' ' {
+        return 17;
+    }
+    if b == b'\n' {
+        return 17;
+    }
+    if b == b'\r' {
+        return 18;
+    }
+    sign_class(b)
 }
 
 // Whether a byte is part of a word.

@@ -1,0 +1,3 @@
+// Equations in Verilog into lent tables.
+pub mod read;
+pub mod rules;
