@@ -190,13 +190,13 @@ fn the_ladder() {
     }
 }
 
-/// A masked text that is longer than the ladder's, of fewer wires: ten bits, ANDs of a wire with itself in a
-/// chain, all wires put out as sixteen values, each under another code than it has. A buffer a byte short is refused.
+/// A masked text that is longer than the ladder's, of fewer wires: ten values of one bit, ANDs of a wire with itself in a
+/// chain, all wires put out as sixteen values, each under another code than it has.
 #[test]
 fn a_long_masked_text() {
     let mut library = Library::new();
     let gates = (10..2_048).map(|c| Gate::And(c - 1, c - 1, c)).collect();
-    let source = Netlist { wires: 2_048, inputs: vec![10], outputs: vec![128; 16], gates }.write();
+    let source = Netlist { wires: 2_048, inputs: vec![1; 10], outputs: vec![128; 16], gates }.write();
     let (codes, wanted) = (vec![1; 10], vec![2; 2_048]);
     let masked = Call::new(Service::Mask, &source, &codes, &wanted);
     let expected = masked.outcome();
