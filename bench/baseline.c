@@ -987,8 +987,9 @@ static bool differs(const uint64_t *restrict words, const uint64_t *restrict bas
 }
 
 static int64_t check(const struct header *h, const uint64_t *operands, const uint64_t *results, uint64_t *words,
-                     uint64_t *base, const uint8_t *codes, size_t codes_len, uint64_t *leak)
+                     uint64_t *base, const uint8_t *codes, size_t codes_len, uint64_t *leak, size_t leak_len)
 {
+    uint64_t told[4];
     if (h->in.count < 2 || h->in.width[h->in.count - 1] != 2)
         return -10;
     size_t bits = h->in.bits - 2;
@@ -1011,14 +1012,19 @@ static int64_t check(const struct header *h, const uint64_t *operands, const uin
                 unsigned place = 0;
                 while ((difference >> 4 * place & 15) == 0)
                     place++;
-                leak[0] = found = w;
-                leak[1] = 16 * block + place;
-                leak[2] = base[w] >> 4 * place & 15;
-                leak[3] = counts(words[w]) >> 4 * place & 15;
+                told[0] = found = w;
+                told[1] = 16 * block + place;
+                told[2] = base[w] >> 4 * place & 15;
+                told[3] = counts(words[w]) >> 4 * place & 15;
             }
         }
     }
-    return found < h->wires;
+    if (found == h->wires)
+        return 0;
+    if (leak_len < 4)
+        return -14;
+    memcpy(leak, told, sizeof told);
+    return 1;
 }
 
 int64_t baseline_check(const uint8_t *text, size_t text_len,
@@ -1034,14 +1040,13 @@ int64_t baseline_check(const uint8_t *text, size_t text_len,
     const struct limits *l = &large_limits[sizes != 0];
     struct header h;
     int64_t answer;
-    (void)leak_len;
     if (operands_len < l->table || results_len < l->table || given_len < l->table
         || words_len < l->table || base_len < l->table)
         answer = -1;
     else
         answer = -read_netlist(l, text, text_len, &h, operands, results, given);
     if (answer == 0)
-        answer = check(&h, operands, results, words, base, codes, codes_len, leak);
+        answer = check(&h, operands, results, words, base, codes, codes_len, leak, leak_len);
     memset(operands, 0, operands_len * sizeof *operands);
     memset(results, 0, results_len * sizeof *results);
     memset(given, 0, given_len);

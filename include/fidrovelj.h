@@ -73,8 +73,7 @@ extern "C" {
 #define FIDROVELJ_WHOLE_SMALL_TEXT 3000000
 
 /* Rewrite: writes the netlist's written form to out (single spaces, LF behind each line, one blank
- * line behind the header, gates and operands in the order given). Returns its length in bytes, at
- * most two more than the text's. */
+ * line behind the header, gates and operands in the order given). Returns its length in bytes. */
 int64_t fidrovelj_rewrite(const uint8_t *text, size_t text_len,
                           uint8_t *out, size_t out_len,
                           uint64_t *operands, size_t operands_len,
@@ -169,8 +168,8 @@ int64_t fidrovelj_twins(const uint8_t *text, size_t text_len,
  * input settings that agree in their public bits. Returns 1 where it leaks, and then writes four
  * numbers to leak: the lowest wire whose counts differ, the smallest setting (input bit 0 is the
  * lowest bit) whose count is not that of the setting with the same public bits and zero secrets,
- * that one's count and its own. leak_len is 4; a shorter leak gets as many of them as it has
- * entries. */
+ * that one's count and its own. A leak of fewer than 4 entries is refused by 14, and stays as it was,
+ * where there is a leak to tell. */
 int64_t fidrovelj_check(const uint8_t *text, size_t text_len,
                         const uint8_t *codes, size_t codes_len,
                         uint64_t *leak, size_t leak_len,

@@ -145,10 +145,10 @@ static int64_t twins(const char *text, const char *codes, size_t wire_room, size
     return answer;
 }
 
-static int64_t check(const char *text, const char *codes)
+static int64_t check_into(const char *text, const char *codes, size_t room)
 {
     fill();
-    int64_t answer = fidrovelj_check((const uint8_t *)text, strlen(text), entries(codes), strlen(codes), leak, 4,
+    int64_t answer = fidrovelj_check((const uint8_t *)text, strlen(text), entries(codes), strlen(codes), leak, room,
                                      operands, LARGE, results, LARGE, given, LARGE, words, LARGE, base, LARGE,
                                      FIDROVELJ_OLD);
     expect(all(operands, sizeof operands, 0) && all(results, sizeof results, 0) && all(given, sizeof given, 0)
@@ -158,6 +158,8 @@ static int64_t check(const char *text, const char *codes)
         expect(all(leak, sizeof leak, PATTERN), "Check writes four numbers on a leak alone");
     return answer;
 }
+
+static int64_t check(const char *text, const char *codes) { return check_into(text, codes, 4); }
 
 static bool text_is(int64_t answer, const char *text)
 {
@@ -286,6 +288,11 @@ static void refusals(void)
     expect(rewrite("1 3\n2 1 1\n1 1\n2 1 0 2 2 AND\n", ROOM) == -8, "question 8");
     expect(rewrite("1 3\n2 1 1\n1 1\n2 1 0 1 1 AND\n", ROOM) == -9, "question 9");
     expect(check("0 3\n2 2 1\n1 1\n", "1") == -10, "question 10");
+    for (size_t room = 0; room < 4; room++) {
+        expect(check_into("1 4\n2 1 2\n1 1\n2 1 0 1 3 XOR\n", "1", room) == -14, "question 14, a short list for a leak");
+        expect(check_into("1 4\n2 1 2\n1 1\n2 1 0 1 3 XOR\n", "2", room) == 0, "question 14, nothing to tell");
+        expect(check_into("0 15\n2 13 2\n1 1\n", ones(13), room) == -12, "question 12 comes before 14");
+    }
     expect(run(and_gate, "12", LARGE) == -11, "question 11, Run");
     expect(mask(and_gate, "14", "0", ROOM, LARGE) == -11, "question 11, Mask");
     expect(mask(and_gate, "12", "4", ROOM, LARGE) == -13, "question 13");

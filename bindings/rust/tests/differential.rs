@@ -164,7 +164,7 @@ fn circuits_sixty_four_at_once() {
     }
 }
 
-/// The largest masked netlist: each service takes it.
+/// The masked netlist of the most wires: each service takes it.
 #[test]
 fn the_ladder() {
     let mut library = Library::new();
@@ -187,6 +187,27 @@ fn the_ladder() {
             assert!(expected.is_ok());
             library.assert_outcome("the masked ladder", &call, &expected);
         }
+    }
+}
+
+/// A masked text that is longer than the ladder's, of fewer wires: ten values of one bit, ANDs of a wire with itself in a
+/// chain, all wires put out as sixteen values, each under another code than it has.
+#[test]
+fn a_long_masked_text() {
+    let mut library = Library::new();
+    let gates = (10..2_048).map(|c| Gate::And(c - 1, c - 1, c)).collect();
+    let source = Netlist { wires: 2_048, inputs: vec![1; 10], outputs: vec![128; 16], gates }.write();
+    let (codes, wanted) = (vec![1; 10], vec![2; 2_048]);
+    let masked = Call::new(Service::Mask, &source, &codes, &wanted);
+    let expected = masked.outcome();
+    library.assert_outcome("a long masked text", &masked, &expected);
+    let text = expected.expect("it can be masked").text;
+    assert_eq!(text.len(), 412_905);
+    for (service, list) in [(Service::Rewrite, vec![]), (Service::Run, vec![1; 12]), (Service::Check, codes)] {
+        let call = Call::new(service, &text, &list, &[]);
+        let expected = call.outcome();
+        assert!(expected.is_ok());
+        library.assert_outcome("the long masked text", &call, &expected);
     }
 }
 

@@ -105,7 +105,7 @@ fn masks_the_circuits() {
     }
 }
 
-/// The largest masked netlist.
+/// The masked netlist of the most wires.
 #[test]
 fn masks_the_ladder() {
     let source = sizes::ladder().write();

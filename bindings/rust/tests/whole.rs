@@ -204,7 +204,7 @@ fn digits() {
     }
 }
 
-/// The largest masked netlist, of a public bit: each service takes it, and a buffer a byte short is refused.
+/// The masked netlist of the most wires, of a public bit: each service takes it, and a buffer a byte short is refused.
 #[test]
 fn the_ladder() {
     let library = &mut Library::new();

@@ -5,7 +5,8 @@ use mathlib.Core.List.{List, [], _∷_}
 use lib.IntN.{ℤ, pos, negℤ}
 use lib.Seq.{sets}
 use mathlib.Core.Bool.{cond}
-use lib.Dec.{eqb}
+use lib.Dec.{eqb, leb}
+use lib.ListN.{length}
 use Rattle.netlist.specs.declared.Sizes.{Sizes}
 use Rattle.netlist.specs.declared.Sizes.the-variants.{Old, Whole}
 use Rattle.netlist.specs.declared.Answer.{Answer}
@@ -45,10 +46,16 @@ numbers checked.Clean = []
 numbers (checked.Leak w s z o) = w ∷ s ∷ z ∷ o ∷ []
 numbers (checked.Refused q) = []
 
--- an answer's number, and its leak's numbers at the front of a list that was `before`: the first ones where it is short
+-- question 14: can a list of n entries hold the numbers, where there is a leak to tell?
+abbrev pub listed : ℕ → Checked → Checked
+listed n checked.Clean = checked.Clean
+listed n (checked.Leak w s z o) = cond (leb 4 n) (checked.Leak w s z o) (checked.Refused 14)
+listed n (checked.Refused q) = checked.Refused q
+
+-- an answer's number, and its leak's numbers at the front of a list that was `before`, which stays untouched otherwise
 pub record Shows (before after : List ℕ) (r : ℤ) (a : Checked) : Type 0 where
-  pub told : r ≡ verdict a
-  pub leak : after ≡ sets before 0 (numbers a)
+  pub told : r ≡ verdict (listed (length before) a)
+  pub leak : after ≡ sets before 0 (numbers (listed (length before) a))
 
 -- what Check promises of its answer, which the caller gets as a number and a list
 pub record ToldLeak (Promise : Checked → Type 0) (before after : List ℕ) (r : ℤ) : Type 0 where

@@ -60,13 +60,16 @@ fn show(leak: &mut [u64], wire: usize, setting: u64, base: u8, own: u8)
     put(leak, 3, own as u64);
 }
 
-// Check's answer: its number, and the numbers of a leak at the front of `leak`, as many as it has entries.
+// Check's answer: its number, and the numbers of a leak at the front of `leak`; a list that cannot hold them is refused by 14.
 fn tell(leak: &mut [u64], a: Checked) -> i64
     ensures { λ r. ⌜ Shows (now (leak .entry)) (now (leak .exit)) r a ⌝ }
 {
     match a {
         Checked::Clean => 0,
         Checked::Leak(wire, setting, base, own) => {
+            if leak.len() < 4 {
+                return minus(14);
+            }
             show(leak, wire, setting, base, own);
             1
         }

@@ -49,7 +49,7 @@ fn counted(file: &[u8]) -> usize
     without_end(file, n)
 }
 
-// The list in a file, in place of its bytes; answers how many entries it has.
+// The list in a file, in place of its bytes; answers how many entries it has. The bytes behind them are free.
 pub fn list(file: &mut [u8]) -> usize
     ensures { λ r. ⌜ Front (now (file .exit)) r (listFile (now (file .entry))) ⌝ }
 {

@@ -7,6 +7,7 @@ use mathlib.Core.Option.{Option, none, some}
 use native.Mathlib.Omega.{arith}
 use lib.ListN.{take, drop}
 use Rattle.netlist.specs.declared.Gate.{Gate}
+use Rattle.netlist.specs.declared.Gate.the-variants as G
 use Rattle.netlist.specs.Number.{number}
 use Rattle.read_text.specs.declared.cursor.Cursor.{Cursor}
 use Rattle.read_text.specs.Line.{LineTaken, EndAt, WordAt, lineWords, nextWord, afterLine, isEmpty}
@@ -14,7 +15,7 @@ use Rattle.read_text.specs.Answers.{NumberAt}
 use Rattle.read_text.proofs.SplitLaws.{addWord}
 use Rattle.read_text.proofs.AnswerLaws.{number-word, number-line, no-number, word-words, word-none, word-stays}
 use Rattle.read_gate_line.specs.GateForm.{onNumber, alone, named}
-use Rattle.read_gate_line.specs.GateAnswers.{gateNamed, LineNext, LineIs}
+use Rattle.read_gate_line.specs.GateAnswers.{gateNamed, namedFor, NamedExact, LineNext, LineIs}
 use Rattle.gate_table.specs.Numbers.{gateSaid}
 use Rattle.gate_table.specs.declared.GateNumbers.{GateNumbers}
 use Rattle.read_gate_line.specs.declared.gate.NamedGate.{NamedGate}
@@ -34,10 +35,10 @@ module _ (t : List ℕ) (at : ℕ) (e : Option Gate) (r : GateLine) (l : LineIs 
 -- ---- the same line from a place further on
 
 pub line-same : (t : List ℕ) (at : ℕ) (e f : Option Gate) (r : GateLine) → e ≡ f → LineIs t at f r → LineIs t at e r
-line-same t at e f r h l = record { gate = l .gate ∙ sym h; next = l .next }
+line-same t at e f r h l = record { gate = l .gate ∙ sym h; numbers = l .numbers; next = l .next }
 
 pub line-not : (t : List ℕ) (at : ℕ) (e : Option Gate) → e ≡ none → LineIs t at e L.Not
-line-not t at e h = record { gate = sym h; next = tt }
+line-not t at e h = record { gate = sym h; numbers = tt; next = tt }
 
 pub next-behind : (t : List ℕ) (at to : ℕ) → afterLine (drop to t) ≡ afterLine (drop at t) → at ≤ to → (r : GateLine) → LineNext t to r → LineNext t at r
 next-behind t at to e h (L.Is g c) n = record { left = n .left ∙ e; on = omega (arith, n .on); within = n .within }
@@ -52,6 +53,7 @@ module _ (t : List ℕ) (at : ℕ) (f : ℕ → List (List ℕ) → Option Gate)
   unfolding onNumber
   line-behind v to r n l = record {
     gate = l .gate ∙ sym (ap (λ (ws : List (List ℕ)). onNumber ws f) (number-word t at v to n) ∙ rw (n .value));
+    numbers = l .numbers;
     next = next-behind t at to (number-line t at v to n) (omega (arith, n .on)) r (l .next);
   }
 
@@ -74,6 +76,7 @@ pub line-named : (f : List ℕ → Option Gate) → f [] ≡ none → (t : List 
 unfolding named
 line-named f empty t at from to g r w n l = record {
   gate = l .gate ∙ sym (go (take (to - from) (drop from t)) refl ∙ ap (λ (g : Option Gate). alone g (lineWords (drop to t))) (sym n));
+  numbers = l .numbers;
   next = next-behind t at to (word-stays t at from to w) (omega (arith, w .start, w .on)) r (l .next);
 }
   where
@@ -82,6 +85,31 @@ line-named f empty t at from to g r w n l = record {
         ap (named f) (word-none t at from to w e) ∙ sym (alone-none (lineWords (drop to t)))
         ∙ ap (λ (g : Option Gate). alone g (lineWords (drop to t))) (sym empty)
     go (x ∷ u) e = ap (named f) (word-words t at from to w ∙ ap (λ (v : List ℕ). addWord v (lineWords (drop to t))) e)
+
+-- what a name stands for
+pub named-gate : (n : NamedGate) (o : Option Gate) → n ≡ namedFor o → gateNamed n ≡ o
+unfolding namedFor
+named-gate n o e = ap gateNamed e ∙ go o
+  where
+    go : (o : Option Gate) → gateNamed (namedFor o) ≡ o
+    go none = refl
+    go (some (G.Xor a b c)) = refl
+    go (some (G.And a b c)) = refl
+    go (some (G.Inv a c)) = refl
+    go (some (G.Eqw a c)) = refl
+    go (some (G.Eq v c)) = refl
+
+pub named-exact : (n : NamedGate) (o : Option Gate) → n ≡ namedFor o → NamedExact n
+unfolding namedFor
+named-exact n o e = subst NamedExact (sym e) (go o)
+  where
+    go : (o : Option Gate) → NamedExact (namedFor o)
+    go none = tt
+    go (some (G.Xor a b c)) = refl
+    go (some (G.And a b c)) = refl
+    go (some (G.Inv a c)) = refl
+    go (some (G.Eqw a c)) = refl
+    go (some (G.Eq v c)) = refl
 
 module _ (t : List ℕ) (at : ℕ) where
   -- no gate has the name
@@ -98,10 +126,11 @@ module _ (t : List ℕ) (at : ℕ) where
       go (w ∷ ws) e = refl
 
   -- the line ends
-  pub last-gate : (n : NamedGate) (g : GateNumbers) (c : Cursor) → n ≡ N.Is g → EndAt t at (c .at)
+  pub last-gate : (n : NamedGate) (g : GateNumbers) (c : Cursor) → n ≡ N.Is g → NamedExact n → EndAt t at (c .at)
       → LineIs t at (alone (gateNamed n) (lineWords (drop at t))) (L.Is g c)
   unfolding alone
-  last-gate n g c p e = record {
+  last-gate n g c p x e = record {
     gate = sym (ap (alone (gateNamed n)) (e .none) ∙ ap gateNamed p);
+    numbers = subst NamedExact p x;
     next = record { left = e .left; on = e .on; within = e .within };
   }

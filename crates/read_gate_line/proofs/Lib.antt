@@ -2,4 +2,3 @@
 pub mod GateFormLaws
 pub mod GateLaws
 pub mod OperandLaws
-pub mod EndLaws

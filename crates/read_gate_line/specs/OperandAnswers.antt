@@ -1,21 +1,14 @@
 -- What the answers on the counts of a gate line mean.
-use Prim.Native.Nat.{ℕ, _+_, _≤_, _<_}
+use Prim.Native.Nat.{ℕ, _≤_}
 use mathlib.Core.Path.{_≡_}
 use mathlib.Core.List.{List, _∷_}
 use mathlib.Core.Option.{none, some}
-use lib.ListN.{length, drop, getD}
+use lib.ListN.{length, drop}
 use Rattle.netlist.specs.Number.{number}
 use Rattle.read_text.specs.Line.{lineWords, afterLine}
 use Rattle.read_gate_line.specs.GateForm.{gateForm}
 use Rattle.read_gate_line.specs.declared.operands.Operands.{Operands}
 use Rattle.read_gate_line.specs.declared.operands.Operands.the-variants as O
-
--- the byte at a place is followed by " 1 "
-pub record OneResult (t : List ℕ) (at : ℕ) : Type 0 where
-  pub before : getD t (at + 1) 0 ≡ 32
-  pub one : getD t (at + 2) 0 ≡ 49
-  pub behind : getD t (at + 3) 0 ≡ 32
-  pub within : at + 3 < length t
 
 -- the first line of t from a place begins with the numbers k and 1, and goes on at `to`
 pub record OperandsAt (t : List ℕ) (at k to : ℕ) : Type 0 where

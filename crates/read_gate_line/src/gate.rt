@@ -1,22 +1,19 @@
 // One gate line: question 7. A line is read from the left: how many operands and results, the wires
 // or the constant, the gate's name, and nothing behind it.
 ghost use mathlib.Core.Path.{_≡_};
-ghost use mathlib.Core.Option.{some};
 ghost use Prim.Native.Nat.{_≤_};
 ghost use lib.ListN.{length, drop};
 ghost use Rattle.netlist.specs.GateLine.{gateLine, gate1 as theGate1, gate2 as theGate2};
 ghost use Rattle.read_text.specs.Line.{lineWords};
 ghost use Rattle.read_gate_line.specs.GateForm.{alone, end1, end2, one, resultForm, two};
-ghost use Rattle.read_gate_line.specs.GateAnswers.{gateNamed, UsualIs, LineIs};
-ghost use Rattle.gate_table.specs.Numbers.{gateFor, gateSaid};
+ghost use Rattle.read_gate_line.specs.GateAnswers.{gateNamed, numbersFor, namedFor, NamedExact, LineIs};
+ghost use Rattle.gate_table.specs.Numbers.{gateSaid};
 use crate::operands::Operands;
 use crate::operands::read_operands;
 use gate_table::GateNumbers;
 use read_text::bytes::same;
 use read_text::cursor::Cursor;
 use read_text::cursor::LineEnd;
-use read_text::ends::is_line_end;
-use read_text::ends::is_space;
 use read_text::number::Number;
 
 // The gate that a name stands for, if there is one.
@@ -33,7 +30,7 @@ pub enum GateLine {
 
 // A gate of one operand, or of a constant.
 fn unary(kind: u64, left: u32, result: u32) -> NamedGate
-    ensures { λ r. ⌜ gateNamed r ≡ some (gateFor kind left 0 result) ⌝ }
+    ensures { λ r. ⌜ r ≡ NamedGate.Is (numbersFor kind left 0 result) ⌝ }
 {
     NamedGate::Is(GateNumbers {
         kind,
@@ -45,7 +42,7 @@ fn unary(kind: u64, left: u32, result: u32) -> NamedGate
 
 // A gate of two operands.
 fn binary(kind: u64, left: u32, right: u32, result: u32) -> NamedGate
-    ensures { λ r. ⌜ gateNamed r ≡ some (gateFor kind left right result) ⌝ }
+    ensures { λ r. ⌜ r ≡ NamedGate.Is (numbersFor kind left right result) ⌝ }
 {
     NamedGate::Is(GateNumbers {
         kind,
@@ -57,7 +54,7 @@ fn binary(kind: u64, left: u32, right: u32, result: u32) -> NamedGate
 
 // The gate of one operand that a name stands for; EQ has a constant for it.
 fn gate1(name: &[u8], a: u32, c: u32) -> NamedGate
-    ensures { λ r. ⌜ gateNamed r ≡ theGate1 (now (name .entry)) a c ⌝ }
+    ensures { λ r. ⌜ r ≡ namedFor (theGate1 (now (name .entry)) a c) ⌝ }
 {
     if same(name, b"INV") {
         return unary(gate_table::INV, a, c);
@@ -73,7 +70,7 @@ fn gate1(name: &[u8], a: u32, c: u32) -> NamedGate
 
 // The gate of two operands that a name stands for.
 fn gate2(name: &[u8], a: u32, b: u32, c: u32) -> NamedGate
-    ensures { λ r. ⌜ gateNamed r ≡ theGate2 (now (name .entry)) a b c ⌝ }
+    ensures { λ r. ⌜ r ≡ namedFor (theGate2 (now (name .entry)) a b c) ⌝ }
 {
     if same(name, b"XOR") {
         return binary(gate_table::XOR, a, b, c);
@@ -86,44 +83,20 @@ fn gate2(name: &[u8], a: u32, b: u32, c: u32) -> NamedGate
 
 // The line of a gate whose name ends at a place: no other word may follow.
 fn last_word(text: &[u8], at: Cursor, named: NamedGate) -> GateLine
-    requires { ⌜ at .at ≤ length (now text) ⌝ }
+    requires { ⌜ (at .at ≤ length (now text)) × NamedExact named ⌝ }
     ensures { λ r. ⌜ LineIs (now (text .entry)) (at .at) (alone (gateNamed named) (lineWords (drop (at .at) (now (text .entry))))) r ⌝ }
 {
     let NamedGate::Is(g) = named else {
         return GateLine::Not;
     };
-    let LineEnd::At(next) = at.line_end(text) else {
-        return GateLine::Not;
-    };
-    GateLine::Is(g, next)
+    match at.line_end(text) {
+        LineEnd::At(next) => GateLine::Is(g, next),
+        LineEnd::More => GateLine::Not,
+    }
 }
 
-// The end of a line that ends as most do: a space, three bytes for a name, and no word behind them.
-fn usual_end(text: &[u8], at: usize) -> LineEnd
-    ensures { λ r. ⌜ UsualIs (now (text .entry)) at r ⌝ }
-{
-    if text.len() < 5 {
-        return LineEnd::More;
-    }
-    if text.len() - 5 < at {
-        return LineEnd::More;
-    }
-    if text[at] != b' ' {
-        return LineEnd::More;
-    }
-    let end = at + 4;
-    if is_line_end(text[end]) {
-        return LineEnd::At(Cursor { at: end + 1 });
-    }
-    if is_space(text[end]) {
-        let behind = Cursor { at: end };
-        return behind.line_end(text);
-    }
-    LineEnd::More
-}
-
-// The name of a gate of one operand and the line's end, however they are written.
-fn any_end1(text: &[u8], at: Cursor, a: u32, c: u32) -> GateLine
+// The name of a gate of one operand and the line's end.
+fn read_end1(text: &[u8], at: Cursor, a: u32, c: u32) -> GateLine
     requires { ⌜ at .at ≤ length (now text) ⌝ }
     ensures { λ r. ⌜ LineIs (now (text .entry)) (at .at) (end1 a c (lineWords (drop (at .at) (now (text .entry))))) r ⌝ }
 {
@@ -133,24 +106,8 @@ fn any_end1(text: &[u8], at: Cursor, a: u32, c: u32) -> GateLine
     last_word(text, Cursor { at: to }, gate1(&text[from..to], a, c))
 }
 
-// The same, first as most lines have it.
-fn read_end1(text: &[u8], at: Cursor, a: u32, c: u32) -> GateLine
-    requires { ⌜ at .at ≤ length (now text) ⌝ }
-    ensures { λ r. ⌜ LineIs (now (text .entry)) (at .at) (end1 a c (lineWords (drop (at .at) (now (text .entry))))) r ⌝ }
-{
-    let start = at.at;
-    if let LineEnd::At(next) = usual_end(text, start) {
-        let from = start + 1;
-        let to = start + 4;
-        if let NamedGate::Is(g) = gate1(&text[from..to], a, c) {
-            return GateLine::Is(g, next);
-        }
-    }
-    any_end1(text, at, a, c)
-}
-
-// The name of a gate of two operands and the line's end, however they are written.
-fn any_end2(text: &[u8], at: Cursor, a: u32, b: u32, c: u32) -> GateLine
+// The name of a gate of two operands and the line's end.
+fn read_end2(text: &[u8], at: Cursor, a: u32, b: u32, c: u32) -> GateLine
     requires { ⌜ at .at ≤ length (now text) ⌝ }
     ensures { λ r. ⌜ LineIs (now (text .entry)) (at .at) (end2 a b c (lineWords (drop (at .at) (now (text .entry))))) r ⌝ }
 {
@@ -158,22 +115,6 @@ fn any_end2(text: &[u8], at: Cursor, a: u32, b: u32, c: u32) -> GateLine
     let from = word.from;
     let to = word.to;
     last_word(text, Cursor { at: to }, gate2(&text[from..to], a, b, c))
-}
-
-// The same, first as most lines have it.
-fn read_end2(text: &[u8], at: Cursor, a: u32, b: u32, c: u32) -> GateLine
-    requires { ⌜ at .at ≤ length (now text) ⌝ }
-    ensures { λ r. ⌜ LineIs (now (text .entry)) (at .at) (end2 a b c (lineWords (drop (at .at) (now (text .entry))))) r ⌝ }
-{
-    let start = at.at;
-    if let LineEnd::At(next) = usual_end(text, start) {
-        let from = start + 1;
-        let to = start + 4;
-        if let NamedGate::Is(g) = gate2(&text[from..to], a, b, c) {
-            return GateLine::Is(g, next);
-        }
-    }
-    any_end2(text, at, a, b, c)
 }
 
 // The operand, the result and the name of a gate of one operand.

@@ -14,7 +14,7 @@ use Rattle.read_text.specs.declared.cursor.LineEnd.{LineEnd}
 use Rattle.read_text.specs.declared.cursor.LineEnd.the-variants as E
 use Rattle.read_text.specs.declared.number.Number.{Number}
 use Rattle.read_text.specs.declared.number.Number.the-variants as N
-use Rattle.read_text.proofs.SplitLaws.{addWord, words-step, after-step, no-word}
+use Rattle.read_text.proofs.SplitLaws.{addWord, pastSpace-words, pastSpace-after, words-step, after-step, no-word}
 
 -- ---- the variants
 
@@ -43,11 +43,11 @@ module _ (t : List ℕ) (at v to : ℕ) (n : NumberAt t at v to) where
     where
       go : (w : List ℕ) → number w ≡ some v → addWord w (lineWords (pastWord (drop at t))) ≡ w ∷ lineWords (drop to t)
       go [] e = absurd (no-empty v e)
-      go (x ∷ w) e = ap (λ (s : List ℕ). (x ∷ w) ∷ lineWords s) (sym (n .left))
+      go (x ∷ w) e = ap (_∷_ (x ∷ w)) (sym (ap lineWords (n .left) ∙ pastSpace-words (pastWord (drop at t))))
 
   -- and stays on it
   pub number-line : afterLine (drop to t) ≡ afterLine (drop at t)
-  number-line = ap afterLine (n .left) ∙ after-step (drop at t)
+  number-line = ap afterLine (n .left) ∙ pastSpace-after (pastWord (drop at t)) ∙ after-step (drop at t)
 
 -- a line that does not start with a number has no words, or another first word
 pub no-number : (P : List (List ℕ) → Type 0) (s : List ℕ) → number (nextWord s) ≡ none → P []

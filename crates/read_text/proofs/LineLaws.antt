@@ -9,8 +9,8 @@ use lib.ListN.{length, drop, getD, length-drop, drop-of-length-le}
 use lib.Seq.{drop-cons, drop-drop}
 use Rattle.netlist.specs.Text.{isSpace, isLineEnd, words, wordLines}
 use Rattle.read_text.specs.Line.{isBlank, inWord, inLine, afterLine, takeWhile, dropWhile, lineWords, isEmpty, Scanned, EndAt, LineTaken}
-use Rattle.read_text.proofs.SplitLaws.{addLine, addWord, lines-step, words-front, skip-words, skip-after, blank-lines}
-use Rattle.read_text.proofs.ScanLaws.{dropped-head}
+use Rattle.read_text.proofs.SplitLaws.{addLine, addWord, lines-step, words-front, end-no-space, skip-words, skip-after, blank-lines}
+use Rattle.read_text.proofs.ScanLaws.{scan-start, scan-stop, dropped-head}
 
 -- ---- a line's end
 
@@ -53,6 +53,10 @@ module _ (t : List ℕ) (at a : ℕ) (s : Scanned isSpace t at a) where
       ap isEmpty
       (sym (skip-words (drop at t)) ∙ ap lineWords (next h) ∙ words-front _
       ∙ ap (λ (w : List ℕ). addWord w (lineWords (dropWhile inWord (getD t a 0 ∷ drop (a + 1) t)))) d)
+
+-- the line ends at once
+pub end-here : (t : List ℕ) (at : ℕ) → at < length t → isLineEnd (getD t at 0) ≡ true → EndAt t at (at + 1)
+end-here t at h e = end-line t at at (scan-stop isSpace t at at h (end-no-space (getD t at 0) e) (scan-start isSpace t at (omega arith))) h e
 
 -- ---- the next line
 

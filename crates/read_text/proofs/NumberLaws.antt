@@ -12,7 +12,7 @@ use borrow.Author.Tests.{eqb-true, eqb-false, ne-eqb, leb-true, leb-false, le-le
 use Rattle.netlist.specs.Text.{space, lf, cr}
 use Rattle.netlist.specs.Number.{isDigit, allDigits, valueFrom, noLeadingZero, maxDigits, number}
 use Rattle.netlist.proofs.Tests.{onBool, isTrue, true-T, both}
-use Rattle.read_text.specs.Line.{inWord}
+use Rattle.read_text.specs.Line.{isBlank, inWord}
 use Rattle.read_text.specs.Answers.{isFull}
 
 -- ---- words that are no numbers
@@ -49,6 +49,10 @@ digit-word b h = go (eqb b space) (eqb b cr) (eqb b lf) refl refl refl
     go false true l p q e = sym (ap isDigit (eqb-true b cr q)) ∙ h
     go false false true p q e = sym (ap isDigit (eqb-true b lf e)) ∙ h
     go false false false p q e = refl
+
+-- the bytes above a space are part of a word
+pub above-space : (b : ℕ) → space < b → isBlank b ≡ false
+above-space b h = rw (ne-eqb b space (λ e. omega arith), ne-eqb b cr (λ e. omega arith), ne-eqb b lf (λ e. omega arith))
 
 pub digit-range : (b : ℕ) → isDigit b ≡ true → (48 ≤ b) × (b ≤ 57)
 digit-range b h =

@@ -7,14 +7,17 @@ use mathlib.Core.Option.{none, some}
 use native.Mathlib.Numerals.{add-one}
 use native.Mathlib.Omega.{arith}
 use native.Mathlib.Nat.{pow-suc}
+use lib.Dec.{eqb}
 use lib.ListN.{length, drop, getD, drop-of-length-le}
 use lib.Seq.{drop-cons}
+use borrow.Author.Tests.{ne-eqb}
 use Rattle.netlist.specs.Number.{isDigit, allDigits, valueFrom, noLeadingZero, maxDigits, number}
 use Rattle.netlist.proofs.Tests.{onBool}
-use Rattle.netlist.specs.Text.{isSpace}
-use Rattle.read_text.specs.Line.{isBlank, inWord, takeWhile, dropWhile, nextWord, pastWord, Scanned}
+use Rattle.netlist.specs.Text.{space, isSpace}
+use Rattle.read_text.specs.Line.{isBlank, inWord, takeWhile, dropWhile, nextWord, pastWord, pastSpace, Scanned}
 use Rattle.read_text.specs.Answers.{wordFrom, behindWord, isFull, WholeAt, WholeIs, NumberIs}
-use Rattle.read_text.proofs.NumberLaws.{no-digits, ill-led, too-long, a-number, led-filled, digit-word, digit-range, full-or, not-full, less}
+use Rattle.read_text.proofs.NumberLaws.{no-digits, ill-led, too-long, a-number, led-filled, digit-word, above-space, digit-range, full-or, not-full, less}
+use Rattle.read_text.proofs.ScanLaws.{Scanning, scan-stop, scan-end, word-no-space}
 use Rattle.read_text.specs.declared.number.Number.{Number}
 use Rattle.read_text.specs.declared.number.Number.the-variants as N
 
@@ -130,33 +133,63 @@ module _ (t : List ℕ) (from : ℕ) where
     pub reading-other : i < length t → isBlank (getD t i 0) ≡ false → isDigit (getD t i 0) ≡ false → number (wordFrom t from) ≡ none
     reading-other h e d = no-digits (wordFrom t from) (sym (r .digits) ∙ ap allDigits (word-on t i h (ap not e)) ∙ rw d)
 
-    ended : wordFrom t i ≡ [] → behindWord t i ≡ drop i t → WholeAt t from v i
-    ended w s =
+    pub reading-above : i < length t → space < getD t i 0 → isDigit (getD t i 0) ≡ false → number (wordFrom t from) ≡ none
+    reading-above h l d = reading-other h (above-space (getD t i 0) l) d
+
+    ended : (to : ℕ) → wordFrom t i ≡ [] → drop to t ≡ pastSpace (behindWord t i) → i ≤ to → to ≤ length t → WholeAt t from v to
+    ended to w s o l =
         let z : length (wordFrom t i) ≡ 0 = ap length w in
         record {
           value = a-number (wordFrom t from) (sym (r .digits) ∙ ap allDigits w) (sym (r .led) ∙ ap (λ (x : List ℕ). noLeadingZero ((48 + v) ∷ x)) w)
               (omega (arith, r .size, r .few))
               ∙ ap some (sym (r .value) ∙ ap (valueFrom v) w);
-          left = sym s ∙ r .left;
+          left = s ∙ ap pastSpace (r .left);
           on = omega (arith, r .place);
-          within = r .within;
+          within = l;
         }
 
-    -- the word ends
-    pub reading-stop : i < length t → isBlank (getD t i 0) ≡ true → WholeAt t from v i
-    reading-stop h e = ended (word-stop t i h (ap not e)) (behind-stop t i h (ap not e))
+    -- a space ends the word
+    pub reading-space : i < length t → getD t i 0 ≡ space → WholeAt t from v (i + 1)
+    reading-space h e =
+        let w : inWord (getD t i 0) ≡ false = ap inWord e in
+        let b : pastSpace (behindWord t i) ≡ drop (i + 1) t = ap pastSpace (behind-stop t i h w) ∙ rw (add-one, drop-cons t i 0) (rw e) in
+        ended (i + 1) (word-stop t i h w) (sym b) (omega arith) (omega arith)
+
+    -- another blank does
+    pub reading-stop : i < length t → getD t i 0 < space → isBlank (getD t i 0) ≡ true → WholeAt t from v i
+    reading-stop h l e =
+        let n : eqb (getD t i 0) space ≡ false = ne-eqb (getD t i 0) space (λ q. omega arith) in
+        let b : pastSpace (behindWord t i) ≡ drop i t = ap pastSpace (behind-stop t i h (ap not e)) ∙ rw (drop-cons t i 0) (rw n) in
+        ended i (word-stop t i h (ap not e)) (sym b) (omega arith) (r .within)
 
     -- the text ends
     pub reading-end : length t ≤ i → WholeAt t from v i
-    reading-end h = ended (word-end t i h) (behind-end t i h)
+    reading-end h =
+        let b : pastSpace (behindWord t i) ≡ drop i t = ap pastSpace (behind-end t i h ∙ drop-of-length-le t h) ∙ sym (drop-of-length-le t h) in
+        ended i (word-end t i h) (sym b) (omega arith) (r .within)
 
 -- the word behind the spaces is the next word
 pub whole-next : (t : List ℕ) (at from : ℕ) (r : Number) → Scanned isSpace t at from → WholeIs t from r → NumberIs t at r
 unfolding nextWord pastWord
 whole-next t at from (N.Is v c) s w = record {
   value = ap (λ (x : List ℕ). number (takeWhile inWord x)) (sym (s .left)) ∙ w .value;
-  left = w .left ∙ ap (dropWhile inWord) (s .left);
+  left = w .left ∙ ap (λ (x : List ℕ). pastSpace (dropWhile inWord x)) (s .left);
   on = omega (arith, s .on, w .on);
   within = w .within;
 }
 whole-next t at from N.Not s w = ap (λ (x : List ℕ). number (takeWhile inWord x)) (sym (s .left)) ∙ w
+
+-- ---- past the spaces
+
+module _ (t : List ℕ) (at i : ℕ) (s : Scanning isSpace t at i) where
+  -- a digit stands behind them
+  pub number-found : i < length t → isDigit (getD t i 0) ≡ true → (r : Number) → WholeIs t i r → NumberIs t at r
+  number-found h d r w = whole-next t at i r (scan-stop isSpace t at i h (word-no-space (getD t i 0) (digit-word (getD t i 0) d)) s) w
+
+  -- another byte
+  pub number-other : i < length t → isSpace (getD t i 0) ≡ false → isDigit (getD t i 0) ≡ false → number (nextWord (drop at t)) ≡ none
+  number-other h n d = whole-next t at i N.Not (scan-stop isSpace t at i h n s) (first-other t i h d)
+
+  -- nothing
+  pub number-missing : length t ≤ i → number (nextWord (drop at t)) ≡ none
+  number-missing h = whole-next t at i N.Not (scan-end isSpace t at i h s) (first-none t i h)

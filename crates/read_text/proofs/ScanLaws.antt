@@ -1,14 +1,14 @@
 -- A scan: the loop that goes on while the byte passes a test.
 use Prim.Native.Nat.{ℕ, _+_, _-_, _<_, _≤_}
-use mathlib.Core.Path.{_≡_, refl, sym, ap, _∙_}
-use mathlib.Core.Bool.{Bool, true, false, cond}
+use mathlib.Core.Path.{_≡_, refl, sym, ap, _∙_, subst}
+use mathlib.Core.Bool.{Bool, true, false, cond, _||_, not}
 use mathlib.Core.List.{List, [], _∷_, _++_}
 use native.Mathlib.Numerals.{add-one}
 use native.Mathlib.Omega.{arith}
 use lib.ListN.{length, take, drop, getD, length-append, length-drop, drop-of-length-le}
 use lib.Seq.{drop-cons, take-at, drop-drop}
-use Rattle.netlist.specs.Text.{isSpace}
-use Rattle.read_text.specs.Line.{inWord, takeWhile, dropWhile, nextWord, pastWord, Scanned, WordAt}
+use Rattle.netlist.specs.Text.{isSpace, isLineEnd}
+use Rattle.read_text.specs.Line.{isBlank, inWord, takeWhile, dropWhile, nextWord, pastWord, Scanned, ThreeBytes, WordAt}
 
 -- a scan on its way
 pub record Scanning (p : ℕ → Bool) (t : List ℕ) (from i : ℕ) : Type 0 where
@@ -78,3 +78,33 @@ word-at t at from to a b = record {
   on = b .on;
   within = b .within;
 }
+
+-- ---- words of three bytes
+
+pub not-three : (t : List ℕ) (at : ℕ) → false ≡ true → ThreeBytes t at
+not-three t at e = let z : _≡_ {A = ℕ} 0 1 = cc in absurd (omega arith)
+
+pub are-three : (t : List ℕ) (at : ℕ) (b : Bool) → at + 3 < length t → isBlank (getD t at 0) ≡ false → isBlank (getD t (at + 1) 0) ≡ false
+    → isBlank (getD t (at + 2) 0) ≡ false → b ≡ isBlank (getD t (at + 3) 0) → b ≡ true → ThreeBytes t at
+are-three t at b l x y z e p = record { first = ap not x; second = ap not y; third = ap not z; behind = ap not (sym e ∙ p); within = l }
+
+pub word-no-space : (x : ℕ) → inWord x ≡ true → isSpace x ≡ false
+word-no-space x h = go (isSpace x) (isLineEnd x) h
+  where
+    go : (b l : Bool) → not (b || l) ≡ true → b ≡ false
+    go true l e = let z : _≡_ {A = ℕ} 0 1 = cc in absurd (omega arith)
+    go false l e = refl
+
+-- one byte more, at the place behind it
+scan-to : (p : ℕ → Bool) (t : List ℕ) (from i j : ℕ) → i + 1 ≡ j → i < length t → p (getD t i 0) ≡ true → Scanning p t from i → Scanning p t from j
+scan-to p t from i j e h b s = subst (Scanning p t from) e (scan-on p t from i h b s)
+
+-- they are the next word
+pub three-word : (t : List ℕ) (at : ℕ) → ThreeBytes t at → WordAt t at at (at + 3)
+three-word t at w =
+    let l : at + 3 < length t = w .within in
+    word-at t at at (at + 3) (scan-stop isSpace t at at (omega arith) (word-no-space (getD t at 0) (w .first)) (scan-start isSpace t at (omega arith)))
+    (scan-stop inWord t at (at + 3) l (w .behind)
+    (scan-to inWord t at (at + 2) (at + 3) (omega arith) (omega arith) (w .third)
+    (scan-to inWord t at (at + 1) (at + 2) (omega arith) (omega arith) (w .second)
+    (scan-to inWord t at at (at + 1) refl (omega arith) (w .first) (scan-start inWord t at (omega arith))))))

@@ -7,7 +7,7 @@ use lib.Dec.{eqb}
 use borrow.Author.Tests.{eqb-true}
 use Rattle.netlist.specs.Text.{space, lf, cr, isSpace, isLineEnd, words, wordLines, split, onto, filled}
 use Rattle.netlist.proofs.Tests.{onBool}
-use Rattle.read_text.specs.Line.{isBlank, inWord, firstLine, afterLine, takeWhile, dropWhile, nextWord, pastWord, lineWords}
+use Rattle.read_text.specs.Line.{isBlank, inWord, firstLine, afterLine, takeWhile, dropWhile, nextWord, pastWord, pastSpace, lineWords}
 
 -- ---- lines
 
@@ -117,6 +117,15 @@ space-words x xs q = rw (space-no-end x q) (rw q)
 
 space-after : (x : ℕ) (xs : List ℕ) → isSpace x ≡ true → afterLine (x ∷ xs) ≡ afterLine xs
 space-after x xs q = rw (space-no-end x q)
+
+-- the one space that leads counts for nothing
+pub pastSpace-words : (s : List ℕ) → lineWords (pastSpace s) ≡ lineWords s
+pastSpace-words [] = refl
+pastSpace-words (x ∷ xs) = onBool (eqb x space) (λ e. rw e (sym (space-words x xs (rw e)))) (λ e. rw e)
+
+pub pastSpace-after : (s : List ℕ) → afterLine (pastSpace s) ≡ afterLine s
+pastSpace-after [] = refl
+pastSpace-after (x ∷ xs) = onBool (eqb x space) (λ e. rw e (sym (space-after x xs (rw e)))) (λ e. rw e)
 
 -- what passes over each byte of a kind passes over all of them
 passed-over : {A : Type 0} (p : ℕ → Bool) (f : List ℕ → A) → ((x : ℕ) (xs : List ℕ) → p x ≡ true → f (x ∷ xs) ≡ f xs)

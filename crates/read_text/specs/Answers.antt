@@ -9,7 +9,7 @@ use lib.ListN.{length, drop}
 use Rattle.netlist.specs.Text.{lf, cr}
 use Rattle.netlist.specs.Number.{number, maxDigits}
 use Rattle.netlist.specs.Read.{byteAllowed}
-use Rattle.read_text.specs.Line.{inWord, takeWhile, dropWhile, nextWord, pastWord, lineWords, isEmpty, EndAt}
+use Rattle.read_text.specs.Line.{inWord, takeWhile, dropWhile, nextWord, pastWord, pastSpace, lineWords, isEmpty, EndAt}
 use Rattle.read_text.specs.declared.cursor.LineEnd.{LineEnd}
 use Rattle.read_text.specs.declared.cursor.LineEnd.the-variants as E
 use Rattle.read_text.specs.declared.number.Number.{Number}
@@ -34,10 +34,10 @@ wordFrom t from = takeWhile inWord (drop from t)
 abbrev pub behindWord : List ℕ → ℕ → List ℕ
 behindWord t from = dropWhile inWord (drop from t)
 
--- the word that starts at a place is the number v, and ends at `to`
+-- the word that starts at a place is the number v, and with it the space behind it ends at `to`
 pub record WholeAt (t : List ℕ) (from v to : ℕ) : Type 0 where
   pub value : number (wordFrom t from) ≡ some v
-  pub left : drop to t ≡ behindWord t from
+  pub left : drop to t ≡ pastSpace (behindWord t from)
   pub on : from < to
   pub within : to ≤ length t
 
@@ -45,10 +45,10 @@ abbrev pub WholeIs : List ℕ → ℕ → Number → Type 0
 WholeIs t from (N.Is v c) = WholeAt t from v (c .at)
 WholeIs t from N.Not = number (wordFrom t from) ≡ none
 
--- the next word from a place is the number v, and ends at `to`
+-- the next word from a place is the number v, and with it the space behind it ends at `to`
 pub record NumberAt (t : List ℕ) (at v to : ℕ) : Type 0 where
   pub value : number (nextWord (drop at t)) ≡ some v
-  pub left : drop to t ≡ pastWord (drop at t)
+  pub left : drop to t ≡ pastSpace (pastWord (drop at t))
   pub on : at < to
   pub within : to ≤ length t
 

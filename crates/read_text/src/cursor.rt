@@ -1,10 +1,11 @@
 // A cursor goes over spaces, words and lines of a text. The text is lent to each method, so a cursor
 // is no more than a place and is handed on by value.
 ghost use mathlib.Core.Path.{_≡_};
+ghost use mathlib.Core.Bool.{true};
 ghost use Prim.Native.Nat.{_≤_};
 ghost use lib.ListN.{length};
 ghost use Rattle.netlist.specs.Text.{isSpace, isLineEnd};
-ghost use Rattle.read_text.specs.Line.{isBlank, inWord, Scanned, WordAt, LineTaken};
+ghost use Rattle.read_text.specs.Line.{isBlank, inWord, Scanned, ThreeBytes, WordAt, LineTaken};
 ghost use Rattle.read_text.specs.Answers.{EndIs};
 use crate::ends::is_line_end;
 use crate::ends::is_space;
@@ -31,6 +32,26 @@ pub fn is_blank(b: u8) -> bool
     ensures { λ r. ⌜ r ≡ isBlank b ⌝ }
 {
     is_space(b) || is_line_end(b)
+}
+
+// Whether a word of three bytes starts at a place and a blank stands behind it, as the name of a gate mostly does.
+fn is_three_bytes(text: &[u8], at: usize) -> bool
+    requires { ⌜ at ≤ length (now text) ⌝ }
+    ensures { λ r. ⌜ (r ≡ true → ThreeBytes (now (text .entry)) at) ⌝ }
+{
+    if text.len() - at < 4 {
+        return false;
+    }
+    if is_blank(text[at]) {
+        return false;
+    }
+    if is_blank(text[at + 1]) {
+        return false;
+    }
+    if is_blank(text[at + 2]) {
+        return false;
+    }
+    is_blank(text[at + 3])
 }
 
 impl Cursor {
@@ -84,6 +105,13 @@ impl Cursor {
         requires { ⌜ self .at ≤ length (now text) ⌝ }
         ensures { λ r. ⌜ WordAt (now (text .entry)) (self .at) (r .from) (r .to) ⌝ }
     {
+        let at = self.at;
+        if is_three_bytes(text, at) {
+            return Word {
+                from: at,
+                to: at + 3,
+            };
+        }
         let start = self.skip_spaces(text);
         let end = start.take_word(text);
         Word {
@@ -97,6 +125,12 @@ impl Cursor {
         requires { ⌜ self .at ≤ length (now text) ⌝ }
         ensures { λ r. ⌜ EndIs (now (text .entry)) (self .at) r ⌝ }
     {
+        let here = self.at;
+        if here < text.len() {
+            if is_line_end(text[here]) {
+                return LineEnd::At(Cursor { at: here + 1 });
+            }
+        }
         let end = self.skip_spaces(text);
         let at = end.at;
         if text.len() <= at {

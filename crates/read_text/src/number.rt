@@ -7,6 +7,7 @@ ghost use Rattle.netlist.specs.Number.{isDigit};
 ghost use Rattle.read_text.specs.Answers.{WholeIs, NumberIs, isFull};
 use crate::cursor::Cursor;
 use crate::cursor::is_blank;
+use crate::ends::is_space;
 
 // A word as a number, with the place behind it.
 pub enum Number {
@@ -39,43 +40,60 @@ fn is_full(v: u32) -> bool
     v == 0 || LONGEST <= v
 }
 
-// The word that starts at a place as a number, its value made while its end is looked for.
-fn read_number(text: &[u8], from: Cursor) -> Number
-    ensures { λ r. ⌜ WholeIs (now (text .entry)) (from .at) r ⌝ }
-{
-    let start = from.at;
-    if text.len() <= start {
-        return Number::Not;
-    }
-    let first = text[start];
-    if !is_digit(first) {
-        return Number::Not;
-    }
-    let mut v = digit_value(first);
-    let mut i = start + 1;
-    while i < text.len() {
-        let b = text[i];
-        if !is_digit(b) {
-            if is_blank(b) {
-                return Number::Is(v, Cursor { at: i });
-            }
-            return Number::Not;
-        }
-        if is_full(v) {
-            return Number::Not;
-        }
-        v = v * 10 + digit_value(b);
-        i += 1;
-    }
-    Number::Is(v, Cursor { at: i })
-}
-
 impl Cursor {
-    // The next word of the line as a number.
+    // Takes the word at the cursor as a number, its value made while its end is looked for. The one space that mostly stands
+    // behind it is passed with it; below a space stand the other bytes that end a word.
+    fn take_number(self, text: &[u8]) -> Number
+        ensures { λ r. ⌜ WholeIs (now (text .entry)) (self .at) r ⌝ }
+    {
+        let start = self.at;
+        if text.len() <= start {
+            return Number::Not;
+        }
+        let first = text[start];
+        if !is_digit(first) {
+            return Number::Not;
+        }
+        let mut v = digit_value(first);
+        let mut i = start + 1;
+        while i < text.len() {
+            let b = text[i];
+            if !is_digit(b) {
+                if b == b' ' {
+                    return Number::Is(v, Cursor { at: i + 1 });
+                }
+                if b < b' ' {
+                    if is_blank(b) {
+                        return Number::Is(v, Cursor { at: i });
+                    }
+                }
+                return Number::Not;
+            }
+            if is_full(v) {
+                return Number::Not;
+            }
+            v = v * 10 + digit_value(b);
+            i += 1;
+        }
+        Number::Is(v, Cursor { at: i })
+    }
+
+    // The next word of the line as a number: past the spaces to its first digit, and the word.
     pub fn next_number(self, text: &[u8]) -> Number
         requires { ⌜ self .at ≤ length (now text) ⌝ }
         ensures { λ r. ⌜ NumberIs (now (text .entry)) (self .at) r ⌝ }
     {
-        read_number(text, self.skip_spaces(text))
+        let mut i = self.at;
+        while i < text.len() {
+            let b = text[i];
+            if is_digit(b) {
+                return (Cursor { at: i }).take_number(text);
+            }
+            if !is_space(b) {
+                return Number::Not;
+            }
+            i += 1;
+        }
+        Number::Not
     }
 }

@@ -1,6 +1,7 @@
 -- The names one after another.
 use mathlib.Core.Path.{sym, _∙_}
 use borrow.Author.Needs.{needs}
+use Rattle.read_gate_line.specs.GateAnswers.{namedFor}
 use Rattle.read_gate_line.proofs.gate.gate1.Statement.{statement}
 use Rattle.read_gate_line.proofs.gate.gate1.Tie as tie
 
@@ -14,6 +15,7 @@ unary-requires : tie.Need-unary-requires
 unary-requires c κs = search needs
 
 returns : tie.Need-returns
+unfolding namedFor
 returns c = rw (sym (c .before .before .same .ensures) ∙ c .before .if1 .taken) (c .unary .ensures)
 
 slice-aggregate-same-2 : tie.Need-slice-aggregate-same-2
@@ -26,6 +28,7 @@ unary-requires-2 : tie.Need-unary-requires-2
 unary-requires-2 c κs = search needs
 
 returns-2 : tie.Need-returns-2
+unfolding namedFor
 returns-2 c =
     let d = c .before in
     rw (sym (d .before .before .before .before .same .ensures) ∙ d .before .before .before .if1 .left)
@@ -41,12 +44,14 @@ unary-requires-3 : tie.Need-unary-requires-3
 unary-requires-3 c κs = search needs
 
 returns-3 : tie.Need-returns-3
+unfolding namedFor
 returns-3 c =
     let d = c .before .before .before .before in
     rw (sym (d .before .before .before .before .same .ensures) ∙ d .before .before .before .if1 .left)
     (rw (sym (d .before .same2 .ensures) ∙ d .if2 .left) (rw (sym (c .before .before .same3 .ensures) ∙ c .before .if3 .taken) (c .unary3 .ensures)))
 
 returns-4 : tie.Need-returns-4
+unfolding namedFor
 returns-4 c =
     let d = c .before .before .before in
     rw (sym (d .before .before .before .before .same .ensures) ∙ d .before .before .before .if1 .left)

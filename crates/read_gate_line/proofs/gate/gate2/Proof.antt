@@ -1,6 +1,7 @@
 -- The names one after another.
 use mathlib.Core.Path.{sym, _∙_}
 use borrow.Author.Needs.{needs}
+use Rattle.read_gate_line.specs.GateAnswers.{namedFor}
 use Rattle.read_gate_line.proofs.gate.gate2.Statement.{statement}
 use Rattle.read_gate_line.proofs.gate.gate2.Tie as tie
 
@@ -14,6 +15,7 @@ binary-requires : tie.Need-binary-requires
 binary-requires c κs = search needs
 
 returns : tie.Need-returns
+unfolding namedFor
 returns c = rw (sym (c .before .before .same .ensures) ∙ c .before .if1 .taken) (c .binary .ensures)
 
 slice-aggregate-same-2 : tie.Need-slice-aggregate-same-2
@@ -26,12 +28,14 @@ binary-requires-2 : tie.Need-binary-requires-2
 binary-requires-2 c κs = search needs
 
 returns-2 : tie.Need-returns-2
+unfolding namedFor
 returns-2 c =
     let d = c .before in
     rw (sym (d .before .before .before .before .same .ensures) ∙ d .before .before .before .if1 .left)
     (rw (sym (d .before .same2 .ensures) ∙ d .if2 .taken) (c .binary2 .ensures))
 
 returns-3 : tie.Need-returns-3
+unfolding namedFor
 returns-3 c =
     rw (sym (c .before .before .before .before .same .ensures) ∙ c .before .before .before .if1 .left)
     (rw (sym (c .before .same2 .ensures) ∙ c .if2 .left))

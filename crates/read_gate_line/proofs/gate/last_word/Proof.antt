@@ -24,12 +24,12 @@ enum-told-2 : tie.Need-enum-told-2
 enum-told-2 c = search needs
 
 returns-2 : tie.Need-returns-2
-returns-2 c = last-more _ _ _ (end-more _ _ _ (c .enum-told2 .given .1) (c .before .before .line-end .ensures))
+returns-2 c =
+    last-gate _ _ _ _ _ (c .before .before .before .before .before .named .given .1) (c .before .before .before .before .before .before .before .before .pre .1)
+    (end-is _ _ _ _ (c .before .next .given .1) (c .before .before .before .line-end .ensures))
 
 returns-3 : tie.Need-returns-3
-returns-3 c =
-    last-gate _ _ _ _ _ (c .before .before .before .before .before .named .given .1)
-    (end-is _ _ _ _ (c .before .next .given .1) (c .before .before .before .line-end .ensures))
+returns-3 c = last-more _ _ _ (end-more _ _ _ (c .enum-told2 .given .1) (c .before .before .line-end .ensures))
 
 pub last-word-spec : {M : Type 1} → statement M
 last-word-spec =
