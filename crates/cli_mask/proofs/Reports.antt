@@ -17,6 +17,7 @@ use Rattle.netlist.specs.Read.{readNetlist}
 use Rattle.netlist.specs.Services.{MaskedText, tablesLong, outcomeOf as textOf, maskOutcome, maskCall}
 use Rattle.netlist.specs.Programs.{listFile, printList, printMask, maskProgram, fileLimit}
 use Rattle.netlist.proofs.Answering.{take-sets}
+use Rattle.netlist.proofs.Tests.{clash}
 use Rattle.netlist.proofs.Questions.{done-same}
 use Rattle.netlist.proofs.Masking.{output-codes-length}
 use Rattle.mask_pass.proofs.Made.{made}
@@ -35,7 +36,7 @@ answered-as p h = rw p at h
 answered-refused : (x y : List ℕ) (k q : ℕ) {a : Answer} → a ≡ Refused q → Answered (refused q) x y k a
 answered-refused x y k q p = record {
   outcome = ap (outcomeOf x (take k y)) p;
-  counted = λ n d. let z : _≡_ {A = ℕ} 0 1 = cc in absurd (omega arith);
+  counted = λ n d. clash (cc);
 }
 
 -- question 2

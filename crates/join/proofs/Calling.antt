@@ -4,7 +4,7 @@ use mathlib.Core.Path.{_≡_, refl, sym, ap, ap₂, _∙_, subst}
 use mathlib.Core.Bool.{Bool, true, false, _&&_}
 use mathlib.Core.List.{List, [], _∷_, _++_, map}
 use native.Mathlib.Omega.{arith}
-use lib.Dec.{T, eqb, leb, eqb→eq, lit<}
+use lib.Dec.{eqb, leb, eqb→eq, lit<}
 use lib.ListN.{length, take, getD}
 use borrow.Author.Tests.{le-leb, lt-leb, eq-eqb, ne-eqb}
 use Rattle.netlist.specs.declared.Gate.{Gate}
@@ -12,15 +12,15 @@ use Rattle.netlist.specs.declared.Limits.{Limits}
 use Rattle.netlist.specs.declared.Sizes.{Sizes}
 use Rattle.netlist.specs.declared.Answer.{Answer}
 use Rattle.netlist.specs.declared.Answer.the-variants.{Done, Refused}
-use Rattle.netlist.specs.Lists.{every, sum, sameBytes}
-use Rattle.netlist.specs.Netlist.{Netlist, inputBits, outputBits, large}
+use Rattle.netlist.specs.Lists.{every, sameBytes}
+use Rattle.netlist.specs.Netlist.{Netlist, inputBits, large}
 use Rattle.netlist.specs.Outcome.{Outcome, refused, done, ask, andThen}
 use Rattle.netlist.specs.Read.{readNetlist}
 use Rattle.netlist.specs.Write.{writeNetlist, gateText}
 use Rattle.netlist.specs.Mask.{isInputCode}
 use Rattle.netlist.specs.Services.{tablesLong, listGood, endsInMasks, outcomeOf, Answers, Delivers}
 use Rattle.netlist.specs.Table.{Tables, half, gatesOf}
-use Rattle.netlist.proofs.Tests.{both, true-T, isTrue}
+use Rattle.netlist.proofs.Tests.{clash, both, true-T, isTrue, same-equal}
 use Rattle.netlist.proofs.Questions.{done-same, ask-done}
 use Rattle.netlist.proofs.Puts.{length-gates}
 use Rattle.netlist.proofs.Answering.{answers-as, answers-refused, call-refused, call-goes-on, table-at}
@@ -34,7 +34,7 @@ use Rattle.write_netlist.specs.Form.{formText}
 use Rattle.joined.specs.Join.{joinedWire, renumbered, join}
 use Rattle.joined.specs.Call.{blockOutcome, readBlock, isSecret, seamGood, joinOutcome, joinCall}
 use Rattle.joined.specs.Delivered.{Delivered}
-use Rattle.joined.proofs.Calls.{same-equal, has-pair, read-block}
+use Rattle.joined.proofs.Calls.{has-pair, read-block}
 use Rattle.joined.proofs.Delivering.{call-delivers}
 use Rattle.join_gates.specs.Appended.{wiresOf, goesTo, Meeting, Appended}
 use Rattle.checker.proofs.Calling.{long-both}
@@ -70,7 +70,7 @@ module _ (L : Limits) (ls text codes : List ℕ) where
       rw (k .0, k .1 .read) z
     where
       other : (N : Netlist) {q : ℕ} (x y : Bool) → ask 10 x (ask 11 y (done h)) ≡ refused q → ask 10 x (ask 11 y (done N)) ≡ refused q
-      other N true true e = let z : _≡_ {A = ℕ} 0 1 = cc in absurd (omega arith)
+      other N true true e = clash (cc)
       other N true false e = cc
       other N false y e = cc
   block-is ins outs t {h} (R.Done h′) k e =
@@ -140,7 +140,7 @@ module _ (a : HeaderNumbers) (ends : List ℕ) (b : HeaderNumbers) (codes : List
       let p = both (x && y && z) w (true-T (x && y && z && w) e) .0 in
       let q = both x y (both (x && y) z p .0) in
       let n : length ends ≡ a .«output_bits» = eqb→eq (length ends) (a .«output_bits») (q .0) in
-      let m : length ends ≡ length codes = ap length (same-equal ends codes (q .1)) in
+      let m : length ends ≡ length codes = ap length (same-equal ends codes (isTrue y (q .1))) in
       let i : 2 ≤ b .«input_bits» = B .pair in
       record { outs = A .outs; pair = A .pair; ins = A .ins; meets = omega arith; inner = B .ins; fits = f }
 

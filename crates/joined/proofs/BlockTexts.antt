@@ -7,7 +7,7 @@ use lib.Dec.{T}
 use lib.ListN.{drop}
 use Rattle.netlist.specs.declared.Limits.{Limits}
 use Rattle.netlist.specs.declared.Sizes.{Sizes}
-use Rattle.netlist.specs.Lists.{every}
+use Rattle.netlist.specs.Lists.{every, sameBytes}
 use Rattle.netlist.specs.Netlist.{Netlist, inputBits, outputBits, small, large}
 use Rattle.netlist.specs.Outcome.{Outcome, done, ask, andThen}
 use Rattle.netlist.specs.Text.{wordLines}
@@ -16,6 +16,7 @@ use Rattle.netlist.specs.Write.{writeNetlist}
 use Rattle.netlist.specs.Eval.{outputsOf}
 use Rattle.netlist.specs.Mask.{isInputCode, isWanted, maskNetlist}
 use Rattle.netlist.specs.Services.{tablesLong, listGood, holds, MaskedText, maskedText, deliverOutcome, maskOutcome, maskCall}
+use Rattle.netlist.proofs.Tests.{isTrue, same-equal}
 use Rattle.netlist.proofs.Questions.{done-same, some-same, ask-done, andThen-done}
 use Rattle.netlist.proofs.MaskInputs.{MaskInputs, mask-inputs}
 use Rattle.netlist.proofs.Accepted.{opened, accepted}
@@ -25,7 +26,7 @@ use Rattle.joined.specs.Join.{join}
 use Rattle.joined.specs.Call.{isSecret, joinCall}
 use Rattle.joined.specs.Block.{Block, BlockText, FromMask}
 use Rattle.joined.proofs.Blocks.{masked-block, joined-block}
-use Rattle.joined.proofs.Calls.{same-equal, joined, joined-reads}
+use Rattle.joined.proofs.Calls.{joined, joined-reads}
 
 -- the result of an accepted call of Mask
 made-text : (s : Sizes) (N : Netlist) (tables source codes wanted : List ℕ) (textRoom codeRoom : ℕ) (R : MaskedText) → readNetlist (small s) source ≡ done N
@@ -74,7 +75,7 @@ join-text {s} {f} {g} {first} {codes} {middle} {second} {codes′} {ends} {out} 
     let J = joined (large s) tables first codes middle second codes′ room out e in
     let a : K .netlist ≡ J .A = done-same (K .netlist) (J .A) (sym (K .read) ∙ J .one .read) in
     let b : L .netlist ≡ J .B = done-same (L .netlist) (J .B) (sym (L .read) ∙ J .two .read) in
-    let m : middle ≡ codes′ = same-equal middle codes′ (J .seam .same) in
+    let m : middle ≡ codes′ = same-equal middle codes′ (isTrue (sameBytes middle codes′) (J .seam .same)) in
     let secret : T (every isSecret middle) = rw m (J .seam .secret) in
     record {
       netlist = join (J .A) (J .B);

@@ -1,6 +1,6 @@
 -- A call that is accepted: what its questions made sure of, and what the joined text is.
 use Prim.Native.Nat.{ℕ, zero, suc, _-_, _≤_}
-use mathlib.Core.Path.{_≡_, refl, sym, ap, ap₂, _∙_, subst}
+use mathlib.Core.Path.{_≡_, refl, sym, ap, _∙_, subst}
 use mathlib.Core.Bool.{Bool, _&&_}
 use mathlib.Core.List.{List, [], _∷_}
 use native.Mathlib.Omega.{arith}
@@ -15,7 +15,7 @@ use Rattle.netlist.specs.Read.{readNetlist, Within}
 use Rattle.netlist.specs.Write.{writeNetlist}
 use Rattle.netlist.specs.Mask.{isInputCode}
 use Rattle.netlist.specs.Services.{tablesLong, listGood, holds, endsInMasks}
-use Rattle.netlist.proofs.Tests.{isTrue, true-T, both, pair}
+use Rattle.netlist.proofs.Tests.{isTrue, true-T, both, pair, same-equal}
 use Rattle.netlist.proofs.Questions.{done-same, ask-done, andThen-done}
 use Rattle.netlist.proofs.Accepted.{accepted}
 use Rattle.netlist.proofs.Size.{Roomy, reads-back}
@@ -28,14 +28,6 @@ use Rattle.joined.proofs.Formed.{joined-formed}
 
 ask-yes : {A : Type 0} (q : ℕ) (b : Bool) (r : Outcome A) → T b → ask q b r ≡ r
 ask-yes q b r t = rw (isTrue b t) refl
-
-pub same-equal : (u v : List ℕ) → T (sameBytes u v) → u ≡ v
-same-equal [] [] t = refl
-same-equal [] (y ∷ v) t = absurd t
-same-equal (x ∷ u) [] t = absurd t
-same-equal (x ∷ u) (y ∷ v) t =
-    let p = both (eqb x y) (sameBytes u v) t in
-    ap₂ (λ (z : ℕ) (w : List ℕ). z ∷ w) (eqb→eq x y (p .0)) (same-equal u v (p .1))
 
 at-most-sum : (xs : List ℕ) (i : ℕ) → getD xs i 0 ≤ sum xs
 at-most-sum [] i = omega arith
@@ -166,7 +158,7 @@ module _ (L : Limits) (tables first firstCodes firstEnds second secondCodes : Li
       let B = J .B in
       let n : 2 ≤ inputBits B = has-pair B (J .two .masks) in
       let e : length firstEnds ≡ outputBits A = J .seam .count in
-      let s : length firstEnds ≡ length secondCodes = ap length (same-equal firstEnds secondCodes (J .seam .same)) in
+      let s : length firstEnds ≡ length secondCodes = ap length (same-equal firstEnds secondCodes (isTrue (sameBytes firstEnds secondCodes) (J .seam .same))) in
       let l : length secondCodes ≡ inputBits B - 2
       = eqb→eq _ _ (both (eqb (length secondCodes) (inputBits B - 2)) (every isInputCode secondCodes) (J .two .list) .0) in
       record {

@@ -1,6 +1,6 @@
 -- The twins of the masking steps are twins in every masked netlist of their source.
 use Prim.Native.Nat.{ℕ, _-_, _≤_, _<_}
-use mathlib.Core.Path.{_≡_, refl, ap, _∙_}
+use mathlib.Core.Path.{_≡_, refl, _∙_}
 use mathlib.Core.List.{List, [], _∷_}
 use native.Mathlib.Omega.{arith}
 use lib.ListN.{length, length-append, length-replicate, length-set}
@@ -11,7 +11,7 @@ use Rattle.netlist.proofs.PublicGates.{length-inputTwins}
 use Rattle.netlist.proofs.MaskInputs.{MaskInputs}
 use Rattle.netlist.proofs.Shape.{wire-placed}
 use Rattle.netlist.proofs.Masking.{twins-carry}
-use Rattle.mask_pass.specs.Twins.{Twins}
+use Rattle.netlist.specs.Twins.{Twins}
 
 length-advanceAll : (S : State) (gs : List Gate) → length (advanceAll S gs .twins) ≡ length (S .twins)
 length-advanceAll S [] = refl

@@ -1,23 +1,21 @@
 -- From a source that was read to the promise of the twins.
 use Prim.Native.Nat.{ℕ}
 use mathlib.Core.Path.{_≡_, refl, sym, ap, ap₂, _∙_}
-use mathlib.Core.Bool.{Bool, true, false, _&&_}
+use mathlib.Core.Bool.{true, _&&_}
 use mathlib.Core.List.{List, [], _∷_, map}
-use lib.Dec.{leb}
 use lib.ListN.{length, take}
-use Rattle.netlist.specs.declared.Limits.{Limits}
 use Rattle.netlist.specs.declared.Sizes.{Sizes}
 use Rattle.netlist.specs.declared.Answer.{Answer}
 use Rattle.netlist.specs.declared.Answer.the-variants.{Done, Refused}
 use Rattle.netlist.specs.declared.Twin.{Twin}
 use Rattle.netlist.specs.Netlist.{Netlist, inputBits, small}
-use Rattle.netlist.specs.Outcome.{Outcome, refused, done, ask}
+use Rattle.netlist.specs.Outcome.{refused, done, ask}
 use Rattle.netlist.specs.Read.{readNetlist}
 use Rattle.netlist.specs.Mask.{isInputCode, finish, maskNetlist}
 use Rattle.netlist.specs.Services.{tablesLong, listGood, holds, outcomeOf}
 use Rattle.netlist.specs.Table.{Tables, Holds}
 use Rattle.netlist.proofs.Questions.{done-same, ask-done, andThen-done}
-use Rattle.netlist.proofs.Answering.{call-refused, call-goes-on}
+use Rattle.netlist.proofs.Answering.{asked-again, call-refused, call-goes-on}
 use Rattle.read_header.specs.declared.HeaderNumbers.{HeaderNumbers}
 use Rattle.read_netlist.specs.Whole.{ReadAt}
 use Rattle.mask_pass.specs.State.{twinsOf}
@@ -31,14 +29,6 @@ twins-back : (ts : List Twin) → twinsOf (map wireOf ts) (map codeOf ts) ≡ ts
 twins-back [] = refl
 twins-back (t ∷ ts) = ap (λ (l : List Twin). t ∷ l) (twins-back ts)
 
--- the reader's last table is asked for once more
-again : (L : Limits) (a b c : ℕ) → tablesLong L (a ∷ b ∷ c ∷ c ∷ []) ≡ tablesLong L (a ∷ b ∷ c ∷ [])
-again L a b c = ap (λ (t : Bool). leb (L .table) a && (leb (L .table) b && t)) (twice (leb (L .table) c))
-  where
-    twice : (t : Bool) → t && (t && true) ≡ t && true
-    twice true = refl
-    twice false = refl
-
 module _ (s : Sizes) (text codes wires ends o r g : List ℕ) where
   abbrev lengths : List ℕ
   lengths = length o ∷ length r ∷ length g ∷ []
@@ -48,7 +38,7 @@ module _ (s : Sizes) (text codes wires ends o r g : List ℕ) where
       → TwinsAnswers (call s text codes wires ends o r g) wires wires ends ends (Refused q)
   unfolding twinsCall
   call-not p =
-      let e = again (small s) (length o) (length r) (length g) in
+      let e = asked-again (small s) (length o) (length r) (length g) in
       twins-refused wires ends
       (call-refused (tablesLong (small s) lengths) (readNetlist (small s) text) (twinsOutcome codes (length wires) (length ends)) (rw e at p))
 
@@ -59,7 +49,7 @@ module _ (s : Sizes) (text codes wires ends o r g : List ℕ) where
       → TwinsAnswers (call s text codes wires ends o r g) wires x ends y a
   unfolding twinsCall
   call-read k d =
-      let e = again (small s) (length o) (length r) (length g) in
+      let e = asked-again (small s) (length o) (length r) (length g) in
       twins-as
       (sym (call-goes-on (tablesLong (small s) lengths) (readNetlist (small s) text) (twinsOutcome codes (length wires) (length ends))
       (sym e ∙ k .0) (k .1 .read)))

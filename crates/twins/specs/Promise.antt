@@ -15,7 +15,7 @@ use Rattle.netlist.specs.Read.{readNetlist}
 use Rattle.netlist.specs.Mask.{isInputCode, finish}
 use Rattle.netlist.specs.Services.{tablesLong, listGood, holds, MaskedText, maskCall, Answers, Cleared}
 use Rattle.mask_pass.specs.State.{twinsOf}
-use Rattle.mask_pass.specs.Twins.{Twins}
+use Rattle.netlist.specs.Twins.{Twins}
 
 -- for each source wire its masked wire and its code
 pub record TwinLists : Type 0 where

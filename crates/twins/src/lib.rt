@@ -6,7 +6,8 @@ use read_header::HeaderNumbers;
 use read_netlist::read::Reading;
 ghost use Prim.Native.Nat.{_≤_};
 ghost use lib.ListN.{length};
-ghost use Rattle.netlist.specs.Netlist.{Netlist};
+ghost use Rattle.netlist.specs.declared.Sizes.the-variants.{Whole};
+ghost use Rattle.netlist.specs.Netlist.{Netlist, small};
 ghost use Rattle.netlist.specs.Table.{tables, Wired, Holds};
 ghost use Rattle.twins.specs.Promise.{twinLists, listsOutcome, twinsOutcome, TwinsAnswers, call, Promise};
 
@@ -19,7 +20,7 @@ fn place(
     operands: &[u64],
     results: &[u64],
 ) -> Answer
-    requires { ⌜ Wired (tables (now operands) (now results)) (h .wires) (h .gates) × (h .wires ≤ 100000) × (h .gates ≤ h .wires)
+    requires { ⌜ Wired (tables (now operands) (now results)) (h .wires) (h .gates) × (h .wires ≤ small Whole .wires) × (h .gates ≤ h .wires)
         × (length (now codes) ≤ h .wires) ⌝ }
     ensures { λ r. ⌜ ((N : Netlist)
         → Holds (tables (now (operands .entry)) (now (results .entry))) (h .gates) (h .wires) (length (now (codes .entry))) (h .«output_bits») N
@@ -53,7 +54,7 @@ fn deliver(
     operands: &[u64],
     results: &[u64],
 ) -> Answer
-    requires { ⌜ Wired (tables (now operands) (now results)) (h .wires) (h .gates) × (h .wires ≤ 100000) × (h .gates ≤ h .wires)
+    requires { ⌜ Wired (tables (now operands) (now results)) (h .wires) (h .gates) × (h .wires ≤ small Whole .wires) × (h .gates ≤ h .wires)
         × (h .«input_bits» ≤ h .wires) ⌝ }
     ensures { λ r. ⌜ ((N : Netlist)
         → Holds (tables (now (operands .entry)) (now (results .entry))) (h .gates) (h .wires) (h .«input_bits») (h .«output_bits») N

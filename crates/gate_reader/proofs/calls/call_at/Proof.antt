@@ -33,14 +33,14 @@ loop-less c = search needs
 
 loop-again : tie.Need-loop-again Inv-loop μ-loop
 loop-again c =
-    calling-on (c .before .before .before .before .loop .inv) (c .before .before .step-at .ensures) (c .before .place-after .ensures)
-    (c .before .before .before .loop-test .taken) (c .if1 .left)
+    calling-on (c .before .before .before .before .loop .inv) (c .before .before .step-at .ensures) (c .before .before .before .loop-test .taken)
+    (c .before .place-after .ensures)
 
 step-at-requires-2 : tie.Need-step-at-requires-2 Inv-loop μ-loop
 step-at-requires-2 c κs = search needs
 
 returns-2 : tie.Need-returns-2 Inv-loop μ-loop
-returns-2 c = calling-end (c .before .before .loop .inv) (c .before .loop-test .left) (c .step-at2 .ensures)
+returns-2 c = calling-end (c .before .before .loop .inv) (c .step-at2 .ensures) (c .before .loop-test .left)
 
 pub call-at-spec : {M : Type 1} → statement M
 call-at-spec =

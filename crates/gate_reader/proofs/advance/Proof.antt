@@ -1,4 +1,4 @@
--- `moved`: a walk of its MIR, by hand. `place_after`, of which only its contract is known, is called on the place and the step,
+-- `advance`: a walk of its MIR, by hand. `place_after`, of which only its contract is known, is called on the place and the step,
 -- and a reader is made of the text and its answer.
 -- The reader is Copy: what it owns is had twice. One copy is kept whole for the exit; the other, with the facts of the new place
 -- for those of the old one, is what the result owns.
@@ -28,6 +28,7 @@ use denote.RattleType.{RattleType, owns}
 use denote.Laws.{Is, shows}
 use denote.Plain.{uint-makes, uint-lawful}
 use denote.Builtin.{usize}
+use denote.Ref.{now}
 use denote.Signature.{namedLft}
 use denote.Steps.{only, owned, peeks, heard, nothing}
 use denote.Enum.Laws as EL
@@ -42,6 +43,7 @@ use denote.Triple.Table.{entered, cited}
 use denote.Triple.Walked.{says, Stays, stay-none, walkOf, goes-none, Walks, ends-at, walked, walk-meets}
 use denote.Exit.{yes}
 use Rattle.gate_reader.specs.Steps.{placeAfter}
+use Rattle.gate_reader.proofs.CallLaws.{advance-is}
 use Rattle.gate_reader.specs.declared.GateReader.{GateReader}
 use Rattle.gate_reader.specs.declared.step.Step.{Step}
 use Rattle.gate_reader.proofs.GateReader as T
@@ -52,16 +54,16 @@ use Rattle.gate_reader.proofs.step.place_after as place
 use Rattle.gate_reader.proofs.step.place_after.Symbol as place-def
 use Rattle.gate_reader.proofs.step.place_after.Symbol.{name as #gate-reader·step·place-after}
 use Rattle.gate_reader.proofs.step.place_after.Met as place-thm
-use Rattle.gate_reader.proofs.moved.Key.{name as #gate-reader·moved}
-use Rattle.gate_reader.proofs.moved as moved
-use Rattle.gate_reader.proofs.moved.Statement as stated
-use Rattle.gate_reader.proofs.moved.Code as code
+use Rattle.gate_reader.proofs.advance.Key.{name as #gate-reader·advance}
+use Rattle.gate_reader.proofs.advance as advance
+use Rattle.gate_reader.proofs.advance.Statement as stated
+use Rattle.gate_reader.proofs.advance.Code as code
 
 -- the struct's type, over the signature's lifetimes
 abbrev B : Lfts 1 → RattleType
 B κs = T.the-row (namedLft 1 0 tt κs)
 
-abbrev stayed : Stays (moved.ended .signature .params) (moved.ended .kept)
+abbrev stayed : Stays (advance.ended .signature .params) (advance.ended .kept)
 stayed = (stay-none B yes, (stay-none (λ _. S.the-row) yes, tt))
 
 module _ {M : Type 1} (𝓤 : URA M) (H : Heap 𝓤) (A : Atoms 𝓤) (mem : Memory → SProp 𝓤) (run : Routine → Fun 𝓤) where
@@ -81,11 +83,11 @@ module _ {M : Type 1} (𝓤 : URA M) (H : Heap 𝓤) (A : Atoms 𝓤) (W : Given
   abbrev d′ : ℕ → GateReader
   d′ m = record { text = d .text; at = m }
 
-  abbrev at : Vals moved.signature (κ, tt)
+  abbrev at : Vals advance.signature (κ, tt)
   at = (mach ∷ [], (v ∷ [], tt))
 
   abbrev Post : Val → SProp 𝓤
-  Post = walkOf 𝓤 H A moved.ended stayed (moved.clauses 𝓤 H A mem run) .post (((κ, tt), (q, tt), tt, (d, (s, tt)), at), tt)
+  Post = walkOf 𝓤 H A advance.ended stayed (advance.clauses 𝓤 H A mem run) .post (((κ, tt), (q, tt), tt, (d, (s, tt)), at), tt)
 
   abbrev Own : Fml
   Own = B (κ, tt) .own d (mach ∷ [])
@@ -104,13 +106,13 @@ module _ {M : Type 1} (𝓤 : URA M) (H : Heap 𝓤) (A : Atoms 𝓤) (W : Given
   said m = exE 𝓤 _ (λ ws. snd∗ 𝓤 (sem 𝓤 H A (lasts place.ended tt (d .at, (s, tt)) ws)) (fact 𝓤 (m ≡ placeAfter (d .at) s)))
 
   exits : (m : ℕ) → m < 2 ^ 64 → m ≡ placeAfter (d .at) s
-      → ent 𝓤 (onEntry 𝓤 H A moved.signature (κ, tt) (q, tt) (d, (s, tt)) at) (Post (T′.lowered (d′ m)))
+      → ent 𝓤 (onEntry 𝓤 H A advance.signature (κ, tt) (q, tt) (d, (s, tt)) at) (Post (T′.lowered (d′ m)))
   exits m ok e =
       qed W ((‵ (flft κ q) ⊛ ‵ ftrue) ∷ ‵ (owns (B (κ, tt) ∷ S.the-row ∷ []) (d, (s, tt)) at) ∷ []) ∵
       suffices ! _
-      (ends-at 𝓤 H A moved.ended stayed (moved.clauses 𝓤 H A mem run) W (((κ, tt), (q, tt), tt, (d, (s, tt)), at), tt) (T′.lowered (d′ m)) (d′ m)
+      (ends-at 𝓤 H A advance.ended stayed (advance.clauses 𝓤 H A mem run) W (((κ, tt), (q, tt), tt, (d, (s, tt)), at), tt) (T′.lowered (d′ m)) (d′ m)
       (tt, (tt, tt)) (tt, (tt, tt))) $
-      says ! (refl, e) $
+      says ! (refl, advance-is (now (d .text)) s e) $
       frame ! $ fsplit ! $
       use1 W (‵ Own ⊛ ‵ Own) (LL.copy (T.the-type (namedLft 1 0 tt (κ, tt))) (T′.the-copy (namedLft 1 0 tt (κ, tt))) 𝓤 H A W .twice d (mach ∷ [])) $
       split ! $ move ! (0 ∷ 2 ∷ []) $ fjoin ! $ frame ! $
@@ -120,9 +122,9 @@ module _ {M : Type 1} (𝓤 : URA M) (H : Heap 𝓤) (A : Atoms 𝓤) (W : Given
 
   module _ (C : Calls 𝓤 H) (Λ : Loops 𝓤 H) (fm : FmC 𝓤 H (W .laws) C) (known : Triple 𝓤 (C #gate-reader·step·place-after) (Place 𝓤 H A mem run)) where
     walk : Holds (hasTy (T′.mir (named 0)) mach) × WT mach → Is S.the-row s (v ∷ [])
-        → ent 𝓤 (onEntry 𝓤 H A moved.signature (κ, tt) (q, tt) (d, (s, tt)) at) (WpFn 𝓤 H C Λ code.function (mach ∷ v ∷ []) Post)
+        → ent 𝓤 (onEntry 𝓤 H A advance.signature (κ, tt) (q, tt) (d, (s, tt)) at) (WpFn 𝓤 H C Λ code.function (mach ∷ v ∷ []) Post)
     walk wt p =
-        qed W (raw (onEntry 𝓤 H A moved.signature (κ, tt) (q, tt) (d, (s, tt)) at) ∷ []) ∵ enter ! C Λ code.function (mach ∷ v ∷ []) _ $
+        qed W (raw (onEntry 𝓤 H A advance.signature (κ, tt) (q, tt) (d, (s, tt)) at) ∷ []) ∵ enter ! C Λ code.function (mach ∷ v ∷ []) _ $
         alloc1 ! (λ l₀. alloc1 ! (λ l₁. alloc1 ! (λ l₂. alloc1 ! (λ l₃. alloc1 ! (λ l₄. alloc1 ! (λ l₅. alloc0 ! $ params1 ! $
         pass1 ! (init ! 8 refl wt) $ pass1 ! (init ! 6 refl (EL.lawful S.the-type S′.the-laws 𝓤 H A W tt .typed s _ p .0)) $ pass0 ! $
         assigns ! (of-opd ! (load ! (from ! (fld ! refl (stop !))) (look-in ! 8 (sub ! 1 refl (whole !))))) (from ! (stop !))
@@ -155,30 +157,30 @@ module _ {M : Type 1} (𝓤 : URA M) (H : Heap 𝓤) (A : Atoms 𝓤) (W : Given
         move ! (2 ∷ 3 ∷ []) $ free1 ! $ free1 ! $ free0 ! $ by ! (exits m (is .1) e)))))))))))
 
 module _ {M : Type 1} (𝓤 : URA M) (H : Heap 𝓤) (A : Atoms 𝓤) (W : Given 𝓤 H A) (mem : Memory → SProp 𝓤) (run : Routine → Fun 𝓤) where
-  moved-walks : (C : Calls 𝓤 H) (Λ : Loops 𝓤 H) → FmC 𝓤 H (W .laws) C → Triple 𝓤 (C #gate-reader·step·place-after) (Place 𝓤 H A mem run)
-      → Walks 𝓤 H A moved.ended stayed (WpFn 𝓤 H C Λ code.function) (moved.clauses 𝓤 H A mem run)
-  moved-walks C Λ fm known =
-      walked 𝓤 H A moved.ended stayed (moved.clauses 𝓤 H A mem run) (WpFn 𝓤 H C Λ code.function)
+  advance-walks : (C : Calls 𝓤 H) (Λ : Loops 𝓤 H) → FmC 𝓤 H (W .laws) C → Triple 𝓤 (C #gate-reader·step·place-after) (Place 𝓤 H A mem run)
+      → Walks 𝓤 H A advance.ended stayed (WpFn 𝓤 H C Λ code.function) (advance.clauses 𝓤 H A mem run)
+  advance-walks C Λ fm known =
+      walked 𝓤 H A advance.ended stayed (advance.clauses 𝓤 H A mem run) (WpFn 𝓤 H C Λ code.function)
       (λ κs. (LL.vals (T.the-type (namedLft 1 0 tt κs)) (T′.the-laws (namedLft 1 0 tt κs)), (EL.vals S.the-type S′.the-laws, tt)))
       (λ κs. (LL.tells (T.the-type (namedLft 1 0 tt κs)) (T′.the-laws (namedLft 1 0 tt κs)), (EL.tells S.the-type S′.the-laws, tt)))
       (λ κs qs bounds a g are. via 𝓤 _ (fst∗ 𝓤 _ (emp 𝓤))
       (walk 𝓤 H A W mem run (κs .0) (qs .0) (a .0) (a .1 .0) C Λ fm known
       (LL.lawful (T.the-type (namedLft 1 0 tt κs)) (T′.the-laws (namedLft 1 0 tt κs)) 𝓤 H A W .typed (a .0) _ (are .0) .0) (are .1 .0)))
 
-moved-meets : {M : Type 1} (𝓤 : URA M) (H : Heap 𝓤) (A : Atoms 𝓤) (W : Given 𝓤 H A) (mem : Memory → SProp 𝓤) (run : Routine → Fun 𝓤) (𝓣 : Tables 𝓤 H)
+advance-meets : {M : Type 1} (𝓤 : URA M) (H : Heap 𝓤) (A : Atoms 𝓤) (W : Given 𝓤 H A) (mem : Memory → SProp 𝓤) (run : Routine → Fun 𝓤) (𝓣 : Tables 𝓤 H)
     → Triple 𝓤 (𝓣 .C #gate-reader·step·place-after) (Place 𝓤 H A mem run)
-    → Meets 𝓤 H A moved.signature (WpFn 𝓤 H (𝓣 .C) (𝓣 .Λ) code.function) (moved.spec 𝓤 H A mem run)
-moved-meets 𝓤 H A W mem run 𝓣 known =
-    walk-meets 𝓤 H A moved.ended stayed W
-    (goes-none 𝓤 H A W 1 B yes (λ κs x f. refl), (goes-none 𝓤 H A W 1 (λ _. S.the-row) yes (λ κs x f. refl), tt)) (moved.clauses 𝓤 H A mem run)
+    → Meets 𝓤 H A advance.signature (WpFn 𝓤 H (𝓣 .C) (𝓣 .Λ) code.function) (advance.spec 𝓤 H A mem run)
+advance-meets 𝓤 H A W mem run 𝓣 known =
+    walk-meets 𝓤 H A advance.ended stayed W
+    (goes-none 𝓤 H A W 1 B yes (λ κs x f. refl), (goes-none 𝓤 H A W 1 (λ _. S.the-row) yes (λ κs x f. refl), tt)) (advance.clauses 𝓤 H A mem run)
     (WpFn 𝓤 H (𝓣 .C) (𝓣 .Λ) code.function) (WpFn-mono 𝓤 H (W .laws) 𝓣 code.function)
-    (moved-walks 𝓤 H A W mem run (𝓣 .C) (𝓣 .Λ) (fmOf 𝓤 H (W .laws) 𝓣) known)
+    (advance-walks 𝓤 H A W mem run (𝓣 .C) (𝓣 .Λ) (fmOf 𝓤 H (W .laws) 𝓣) known)
 
-pub moved-spec : {M : Type 1} → stated.statement M
+pub advance-spec : {M : Type 1} → stated.statement M
 unfolding code.routine tablesOf
-moved-spec 𝓤 H 𝓜 𝓖 𝓡 =
-    entered 𝓤 H (tripleOf 𝓤 H (𝓖 .A) moved.signature (moved.spec 𝓤 H (𝓖 .A) (𝓜 .mem) (𝓡 .run)))
-    (tables 𝓤 H 𝓜 𝓡 code.env .C) (tables 𝓤 H 𝓜 𝓡 code.env .Λ) #gate-reader·moved code.function (code.unfolded 𝓤 H 𝓜 𝓡)
-    (moved-meets 𝓤 H (𝓖 .A) (givenOf 𝓤 H 𝓜 𝓖) (𝓜 .mem) (𝓡 .run) (tablesOf 𝓤 H 𝓜 (tables 𝓤 H 𝓜 𝓡 code.env))
+advance-spec 𝓤 H 𝓜 𝓖 𝓡 =
+    entered 𝓤 H (tripleOf 𝓤 H (𝓖 .A) advance.signature (advance.spec 𝓤 H (𝓖 .A) (𝓜 .mem) (𝓡 .run)))
+    (tables 𝓤 H 𝓜 𝓡 code.env .C) (tables 𝓤 H 𝓜 𝓡 code.env .Λ) #gate-reader·advance code.function (code.unfolded 𝓤 H 𝓜 𝓡)
+    (advance-meets 𝓤 H (𝓖 .A) (givenOf 𝓤 H 𝓜 𝓖) (𝓜 .mem) (𝓡 .run) (tablesOf 𝓤 H 𝓜 (tables 𝓤 H 𝓜 𝓡 code.env))
     (cited 𝓤 H (Place 𝓤 H (𝓖 .A) (𝓜 .mem) (𝓡 .run)) 𝓜 𝓡 code.env #gate-reader·step·place-after place-def.routine code.calls-gate-reader·step·place-after
     (place-thm.met 𝓤 H 𝓜 𝓖 𝓡)))

@@ -1,4 +1,4 @@
--- `next`: a walk of its MIR, by hand. The reader is taken apart, and `step_at`, of which only its contract is known, is called on
+-- `current`: a walk of its MIR, by hand. The reader is taken apart, and `step_at`, of which only its contract is known, is called on
 -- the text and the place.
 -- The reader is Copy: what it owns is had twice. One copy is kept whole for the exit; of the other, what the text owns goes to
 -- the callee, beside the lifetime's token, which comes back.
@@ -46,6 +46,7 @@ use denote.Triple.Walked.{says, Stays, stay-none, walkOf, goes-none, Walks, ends
 use denote.Exit.{yes}
 use denote.Triple.Clauses.{ensured, lasts}
 use Rattle.gate_reader.specs.Steps.{StepIs}
+use Rattle.gate_reader.proofs.CallLaws.{current-is}
 use Rattle.gate_reader.specs.declared.GateReader.{GateReader}
 use Rattle.gate_reader.specs.declared.step.Step.{Step}
 use Rattle.gate_reader.proofs.GateReader as T
@@ -56,16 +57,16 @@ use Rattle.gate_reader.proofs.step.step_at as step
 use Rattle.gate_reader.proofs.step.step_at.Symbol as step-def
 use Rattle.gate_reader.proofs.step.step_at.Symbol.{name as #gate-reader·step·step-at}
 use Rattle.gate_reader.proofs.step.step_at.Met as step-thm
-use Rattle.gate_reader.proofs.next.Key.{name as #gate-reader·next}
-use Rattle.gate_reader.proofs.next as next
-use Rattle.gate_reader.proofs.next.Statement as stated
-use Rattle.gate_reader.proofs.next.Code as code
+use Rattle.gate_reader.proofs.current.Key.{name as #gate-reader·current}
+use Rattle.gate_reader.proofs.current as current
+use Rattle.gate_reader.proofs.current.Statement as stated
+use Rattle.gate_reader.proofs.current.Code as code
 
 -- the struct's type, over the signature's lifetimes
 abbrev B : Lfts 1 → RattleType
 B κs = T.the-row (namedLft 1 0 tt κs)
 
-abbrev stayed : Stays (next.ended .signature .params) (next.ended .kept)
+abbrev stayed : Stays (current.ended .signature .params) (current.ended .kept)
 stayed = (stay-none B yes, tt)
 
 module _ {M : Type 1} (𝓤 : URA M) (H : Heap 𝓤) (A : Atoms 𝓤) (mem : Memory → SProp 𝓤) (run : Routine → Fun 𝓤) where
@@ -87,7 +88,7 @@ module _ {M : Type 1} (𝓤 : URA M) (H : Heap 𝓤) (A : Atoms 𝓤) (W : Given
   Found s = StepIs (now (d .text)) (d .at) s
 
   abbrev Post : Val → SProp 𝓤
-  Post = walkOf 𝓤 H A next.ended stayed (next.clauses 𝓤 H A mem run) .post (((κ, tt), (q, tt), tt, (d, tt), (mach ∷ [], tt)), tt)
+  Post = walkOf 𝓤 H A current.ended stayed (current.clauses 𝓤 H A mem run) .post (((κ, tt), (q, tt), tt, (d, tt), (mach ∷ [], tt)), tt)
 
   abbrev Own : Fml
   Own = B (κ, tt) .own d (mach ∷ [])
@@ -116,7 +117,7 @@ module _ {M : Type 1} (𝓤 : URA M) (H : Heap 𝓤) (A : Atoms 𝓤) (W : Given
 
   -- what the struct owns gives what the callee asks, and is kept
   apart : d .at < 2 ^ 64
-      → ent 𝓤 (onEntry 𝓤 H A next.signature (κ, tt) (q, tt) (d, tt) (mach ∷ [], tt)) (sep 𝓤 (StepAt 𝓤 H A mem run .pre to) (sem 𝓤 H A Own))
+      → ent 𝓤 (onEntry 𝓤 H A current.signature (κ, tt) (q, tt) (d, tt) (mach ∷ [], tt)) (sep 𝓤 (StepAt 𝓤 H A mem run .pre to) (sem 𝓤 H A Own))
   apart fits =
       qed W ((‵ (flft κ q) ⊛ ‵ ftrue) ∷ ‵ (owns (B (κ, tt) ∷ []) (d, tt) (mach ∷ [], tt)) ∷ []) ∵
       move ! (1 ∷ []) $ fsplit ! $ move ! (1 ∷ []) $ drop ! $
@@ -136,15 +137,15 @@ module _ {M : Type 1} (𝓤 : URA M) (H : Heap 𝓤) (A : Atoms 𝓤) (W : Given
   exits r u e =
       qed W (‵ (S.the-row .own r (u ∷ [])) ∷ (‵ (flft κ q) ⊛ ‵ ftrue) ∷ ‵ Own ∷ []) ∵
       suffices ! _
-      (ends-at 𝓤 H A next.ended stayed (next.clauses 𝓤 H A mem run) W (((κ, tt), (q, tt), tt, (d, tt), (mach ∷ [], tt)), tt) u r (tt, tt) (tt, tt)) $
-      says ! e $
+      (ends-at 𝓤 H A current.ended stayed (current.clauses 𝓤 H A mem run) W (((κ, tt), (q, tt), tt, (d, tt), (mach ∷ [], tt)), tt) u r (tt, tt) (tt, tt)) $
+      says ! (current-is e) $
       move ! (1 ∷ []) $ frame ! $ nothing ! $ move ! (2 ∷ 0 ∷ []) $ fjoin ! $ frame ! $ done !
 
   module _ (C : Calls 𝓤 H) (Λ : Loops 𝓤 H) (fm : FmC 𝓤 H (W .laws) C) (known : Triple 𝓤 (C #gate-reader·step·step-at) (StepAt 𝓤 H A mem run)) where
     walk : Holds (hasTy (T′.mir (named 0)) mach) × WT mach
-        → ent 𝓤 (onEntry 𝓤 H A next.signature (κ, tt) (q, tt) (d, tt) (mach ∷ [], tt)) (WpFn 𝓤 H C Λ code.function (mach ∷ []) Post)
+        → ent 𝓤 (onEntry 𝓤 H A current.signature (κ, tt) (q, tt) (d, tt) (mach ∷ [], tt)) (WpFn 𝓤 H C Λ code.function (mach ∷ []) Post)
     walk wt =
-        qed W (raw (onEntry 𝓤 H A next.signature (κ, tt) (q, tt) (d, tt) (mach ∷ [], tt)) ∷ []) ∵ enter ! C Λ code.function (mach ∷ []) _ $
+        qed W (raw (onEntry 𝓤 H A current.signature (κ, tt) (q, tt) (d, tt) (mach ∷ [], tt)) ∷ []) ∵ enter ! C Λ code.function (mach ∷ []) _ $
         alloc1 ! (λ l₀. alloc1 ! (λ l₁. alloc1 ! (λ l₂. alloc1 ! (λ l₃. alloc0 ! $ params1 ! $ pass1 ! (init ! 4 refl wt) $ pass0 ! $
         assigns ! (of-opd ! (load ! (from ! (fld ! refl (stop !))) (look-in ! 4 (sub ! 0 refl (whole !))))) (from ! (stop !))
         (init ! 2 refl (tt, wt .1 .0)) $
@@ -169,29 +170,29 @@ module _ {M : Type 1} (𝓤 : URA M) (H : Heap 𝓤) (A : Atoms 𝓤) (W : Given
         by ! (exits r u e)))))))))
 
 module _ {M : Type 1} (𝓤 : URA M) (H : Heap 𝓤) (A : Atoms 𝓤) (W : Given 𝓤 H A) (mem : Memory → SProp 𝓤) (run : Routine → Fun 𝓤) where
-  next-walks : (C : Calls 𝓤 H) (Λ : Loops 𝓤 H) → FmC 𝓤 H (W .laws) C → Triple 𝓤 (C #gate-reader·step·step-at) (StepAt 𝓤 H A mem run)
-      → Walks 𝓤 H A next.ended stayed (WpFn 𝓤 H C Λ code.function) (next.clauses 𝓤 H A mem run)
-  next-walks C Λ fm known =
-      walked 𝓤 H A next.ended stayed (next.clauses 𝓤 H A mem run) (WpFn 𝓤 H C Λ code.function)
+  current-walks : (C : Calls 𝓤 H) (Λ : Loops 𝓤 H) → FmC 𝓤 H (W .laws) C → Triple 𝓤 (C #gate-reader·step·step-at) (StepAt 𝓤 H A mem run)
+      → Walks 𝓤 H A current.ended stayed (WpFn 𝓤 H C Λ code.function) (current.clauses 𝓤 H A mem run)
+  current-walks C Λ fm known =
+      walked 𝓤 H A current.ended stayed (current.clauses 𝓤 H A mem run) (WpFn 𝓤 H C Λ code.function)
       (λ κs. (LL.vals (T.the-type (namedLft 1 0 tt κs)) (T′.the-laws (namedLft 1 0 tt κs)), tt))
       (λ κs. (LL.tells (T.the-type (namedLft 1 0 tt κs)) (T′.the-laws (namedLft 1 0 tt κs)), tt))
       (λ κs qs bounds a g are. via 𝓤 _ (fst∗ 𝓤 _ (emp 𝓤))
       (walk 𝓤 H A W mem run (κs .0) (qs .0) (a .0) C Λ fm known
       (LL.lawful (T.the-type (namedLft 1 0 tt κs)) (T′.the-laws (namedLft 1 0 tt κs)) 𝓤 H A W .typed (a .0) _ (are .0) .0)))
 
-next-meets : {M : Type 1} (𝓤 : URA M) (H : Heap 𝓤) (A : Atoms 𝓤) (W : Given 𝓤 H A) (mem : Memory → SProp 𝓤) (run : Routine → Fun 𝓤) (𝓣 : Tables 𝓤 H)
+current-meets : {M : Type 1} (𝓤 : URA M) (H : Heap 𝓤) (A : Atoms 𝓤) (W : Given 𝓤 H A) (mem : Memory → SProp 𝓤) (run : Routine → Fun 𝓤) (𝓣 : Tables 𝓤 H)
     → Triple 𝓤 (𝓣 .C #gate-reader·step·step-at) (StepAt 𝓤 H A mem run)
-    → Meets 𝓤 H A next.signature (WpFn 𝓤 H (𝓣 .C) (𝓣 .Λ) code.function) (next.spec 𝓤 H A mem run)
-next-meets 𝓤 H A W mem run 𝓣 known-step =
-    walk-meets 𝓤 H A next.ended stayed W (goes-none 𝓤 H A W 1 B yes (λ κs x f. refl), tt) (next.clauses 𝓤 H A mem run)
+    → Meets 𝓤 H A current.signature (WpFn 𝓤 H (𝓣 .C) (𝓣 .Λ) code.function) (current.spec 𝓤 H A mem run)
+current-meets 𝓤 H A W mem run 𝓣 known-step =
+    walk-meets 𝓤 H A current.ended stayed W (goes-none 𝓤 H A W 1 B yes (λ κs x f. refl), tt) (current.clauses 𝓤 H A mem run)
     (WpFn 𝓤 H (𝓣 .C) (𝓣 .Λ) code.function) (WpFn-mono 𝓤 H (W .laws) 𝓣 code.function)
-    (next-walks 𝓤 H A W mem run (𝓣 .C) (𝓣 .Λ) (fmOf 𝓤 H (W .laws) 𝓣) known-step)
+    (current-walks 𝓤 H A W mem run (𝓣 .C) (𝓣 .Λ) (fmOf 𝓤 H (W .laws) 𝓣) known-step)
 
-pub next-spec : {M : Type 1} → stated.statement M
+pub current-spec : {M : Type 1} → stated.statement M
 unfolding code.routine tablesOf
-next-spec 𝓤 H 𝓜 𝓖 𝓡 =
-    entered 𝓤 H (tripleOf 𝓤 H (𝓖 .A) next.signature (next.spec 𝓤 H (𝓖 .A) (𝓜 .mem) (𝓡 .run)))
-    (tables 𝓤 H 𝓜 𝓡 code.env .C) (tables 𝓤 H 𝓜 𝓡 code.env .Λ) #gate-reader·next code.function (code.unfolded 𝓤 H 𝓜 𝓡)
-    (next-meets 𝓤 H (𝓖 .A) (givenOf 𝓤 H 𝓜 𝓖) (𝓜 .mem) (𝓡 .run) (tablesOf 𝓤 H 𝓜 (tables 𝓤 H 𝓜 𝓡 code.env))
+current-spec 𝓤 H 𝓜 𝓖 𝓡 =
+    entered 𝓤 H (tripleOf 𝓤 H (𝓖 .A) current.signature (current.spec 𝓤 H (𝓖 .A) (𝓜 .mem) (𝓡 .run)))
+    (tables 𝓤 H 𝓜 𝓡 code.env .C) (tables 𝓤 H 𝓜 𝓡 code.env .Λ) #gate-reader·current code.function (code.unfolded 𝓤 H 𝓜 𝓡)
+    (current-meets 𝓤 H (𝓖 .A) (givenOf 𝓤 H 𝓜 𝓖) (𝓜 .mem) (𝓡 .run) (tablesOf 𝓤 H 𝓜 (tables 𝓤 H 𝓜 𝓡 code.env))
     (cited 𝓤 H (StepAt 𝓤 H (𝓖 .A) (𝓜 .mem) (𝓡 .run)) 𝓜 𝓡 code.env #gate-reader·step·step-at step-def.routine code.calls-gate-reader·step·step-at
     (step-thm.met 𝓤 H 𝓜 𝓖 𝓡)))
