@@ -16,7 +16,7 @@ use Rattle.netlist.specs.Text.{wordLines}
 use Rattle.netlist.specs.Header.{Header}
 use Rattle.netlist.specs.GateLine.{gateLine}
 use Rattle.netlist.specs.Read.{opening}
-use Rattle.netlist.specs.GateReader.{Said, gate, end, no, lineSays, says, lineOn, onward, callSays, afterOpening, readerSays}
+use Rattle.netlist.specs.GateReader.{Said, no, lineSays, says, lineOn, onward, callSays, afterOpening, readerSays}
 use Rattle.netlist.proofs.Tests.{clash}
 use Rattle.netlist.proofs.Accepted.{opened}
 use Rattle.netlist.proofs.ReaderCalls.{end-again, no-again, reader-in-order}
@@ -25,7 +25,8 @@ use Rattle.read_text.proofs.LineLaws.{behind-line, behind-lines}
 use Rattle.read_header.specs.declared.HeaderNumbers.{HeaderNumbers}
 use Rattle.gate_reader.specs.Steps.{stepSaid, placeAfter, StepIs}
 use Rattle.gate_reader.specs.Opens.{numbersOf, openingCall, OpeningIs}
-use Rattle.gate_reader.specs.Calls.{leftAfter, leftAt, AtCall, Behind, ReaderIs, CallIs, CurrentIs, AdvanceIs}
+use Rattle.gate_reader.specs.Calls.{leftAfter, leftAt, AtCall, Behind, ReaderIs, CurrentIs, AdvanceIs, Called, CallIs}
+use Rattle.gate_reader.specs.declared.calls.Call.{Call}
 use Rattle.gate_reader.specs.declared.step.Step.{Step}
 use Rattle.gate_reader.specs.declared.step.Step.the-variants as S
 use Rattle.gate_reader.specs.declared.opening.Opening.the-variants as O
@@ -121,31 +122,28 @@ pub record Calling (t : List ℕ) (from k at i : ℕ) : Type 0 where
 pub calling-start : (t : List ℕ) (from k : ℕ) → Calling t from k from 0
 calling-start t from k = record { reached = λ L a. a; few = omega arith }
 
-module _ {t : List ℕ} {from k at i : ℕ} (c : Calling t from k at i) {r : Step} (s : StepIs t at r) where
+module _ {t : List ℕ} {from k at i : ℕ} (c : Calling t from k at i) {a : Call} (s : Called t at a) where
   -- one call more
-  pub calling-on : {to : ℕ} → i < k → to ≡ placeAfter at r → Calling t from k to (i + 1)
-  calling-on h e = record {
-    reached = λ L o. let a = c .reached L o in advance-is t r e .call L i a (reader-current a s);
-    few = omega arith;
-  }
+  pub calling-on : i < k → Calling t from k (a .at) (i + 1)
+  calling-on h = record { reached = λ L o. let p = c .reached L o in s .on .call L i p (s .says .call L i p); few = omega arith }
 
   -- the reader stayed: what it said is said at every later call
-  pub calling-stays : {to : ℕ} → to ≡ placeAfter at r → to ≡ at → CallIs t from k r
-  calling-stays {to} e m = record { call = λ L o. go L r e s (reader-current (c .reached L o) s) }
+  pub calling-stays : a .at ≡ at → CallIs t from k (a .step)
+  calling-stays m = record { call = λ L o. go L (a .step) (s .on .place) (s .says .step) (s .says .call L i (c .reached L o)) }
     where
       later : i + (k - i) ≡ k
       later = omega (arith, c .few)
 
-      go : (L : Limits) (r : Step) → to ≡ placeAfter at r → StepIs t at r → ReaderIs L t i r → ReaderIs L t k r
+      go : (L : Limits) (r : Step) → a .at ≡ placeAfter at r → StepIs t at r → ReaderIs L t i r → ReaderIs L t k r
       go L (S.On g p) q u x = absurd (omega (arith, u .passed .1))
       go L S.End q u x = reader-is (sym (rw later at (x .endAgain refl (k - i)))) tt
       go L (S.Refused n) q u x = reader-is (sym (rw later at (x .noAgain n refl (k - i)))) tt
 
   -- the last call
-  pub calling-end : k ≤ i → CallIs t from k r
+  pub calling-end : k ≤ i → CallIs t from k (a .step)
   calling-end h =
       let y : i ≡ k = omega (arith, c .few) in
-      record { call = λ L o. subst (λ (n : ℕ). ReaderIs L t n r) y (reader-current (c .reached L o) s) }
+      record { call = λ L o. subst (λ (n : ℕ). ReaderIs L t n (a .step)) y (s .says .call L i (c .reached L o)) }
 
 -- ---- from an opening on
 

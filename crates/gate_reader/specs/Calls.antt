@@ -12,6 +12,7 @@ use Rattle.netlist.specs.Read.{opening, readNetlist}
 use Rattle.netlist.specs.GateReader.{Said, gate, end, no, says, readerSays, kthSaid}
 use Rattle.read_text.specs.Line.{behindLine, behindLines}
 use Rattle.gate_reader.specs.Steps.{stepSaid, placeAfter, StepIs}
+use Rattle.gate_reader.specs.declared.calls.Call.{Call}
 use Rattle.gate_reader.specs.declared.step.Step.{Step}
 use Rattle.gate_reader.specs.declared.step.Step.the-variants as S
 
@@ -49,10 +50,6 @@ pub record ReaderIs (L : Limits) (t : List ℕ) (k : ℕ) (r : Step) : Type 0 wh
   pub noAgain : (q : ℕ) → stepSaid r ≡ no q → (j : ℕ) → readerSays L t (k + j) ≡ no q
   pub behind : Behind L t k r
 
--- r is the k-th answer of the reader that stands at the place `from` before its first call
-pub record CallIs (t : List ℕ) (from k : ℕ) (r : Step) : Type 0 where
-  pub call : (L : Limits) → AtCall L t 0 from → ReaderIs L t k r
-
 -- ---- what the struct's functions promise
 
 -- s is what the reader at a place says: of the lines from there on; and before its k-th call, the k-th answer
@@ -64,3 +61,14 @@ pub record CurrentIs (t : List ℕ) (at : ℕ) (s : Step) : Type 0 where
 pub record AdvanceIs (t : List ℕ) (at : ℕ) (s : Step) (to : ℕ) : Type 0 where
   pub place : to ≡ placeAfter at s
   pub call : (L : Limits) (k : ℕ) → AtCall L t k at → ReaderIs L t k s → AtCall L t (k + 1) to
+
+-- ---- calls without the struct
+
+-- c is one call at a place: what the reader says there, and its place then
+pub record Called (t : List ℕ) (at : ℕ) (c : Call) : Type 0 where
+  pub says : CurrentIs t at (c .step)
+  pub on : AdvanceIs t at (c .step) (c .at)
+
+-- r is the k-th answer of the reader that stands at the place `from` before its first call
+pub record CallIs (t : List ℕ) (from k : ℕ) (r : Step) : Type 0 where
+  pub call : (L : Limits) → AtCall L t 0 from → ReaderIs L t k r
