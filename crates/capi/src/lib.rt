@@ -122,14 +122,14 @@ pub extern "C" fn fidrovelj_run64(
     ))
 }
 
-// Mask: how many bytes the masked text has at the front of `out`; the output codes stand at the front of `ends`.
+// Mask: how many bytes the masked text has at the front of `out`; the output codes stand at the front of `out_codes`.
 #[no_mangle]
 pub extern "C" fn fidrovelj_mask(
     text: &[u8],
     codes: &[u8],
     wanted: &[u8],
     out: &mut [u8],
-    ends: &mut [u8],
+    out_codes: &mut [u8],
     operands: &mut [u64],
     results: &mut [u64],
     wires: &mut [u32],
@@ -137,7 +137,7 @@ pub extern "C" fn fidrovelj_mask(
     whole: u8,
 ) -> i64
     ensures { λ r. ⌜ Told (MaskPromise (sizesOf whole) (now (text .entry)) (now (codes .entry)) (now (wanted .entry)) (now (out .entry))
-        (now (out .exit)) (now (ends .entry)) (now (ends .exit)) (now (operands .entry)) (now (operands .exit)) (now (results .entry))
+        (now (out .exit)) (now (out_codes .entry)) (now (out_codes .exit)) (now (operands .entry)) (now (operands .exit)) (now (results .entry))
         (now (results .exit)) (now (wires .entry)) (now (wires .exit)) (now (marks .entry)) (now (marks .exit))) r ⌝ }
 {
     number(mask::mask(
@@ -145,7 +145,7 @@ pub extern "C" fn fidrovelj_mask(
         codes,
         wanted,
         out,
-        ends,
+        out_codes,
         operands,
         results,
         wires,
@@ -154,27 +154,27 @@ pub extern "C" fn fidrovelj_mask(
     ))
 }
 
-// Twins: how many source wires there are; the masked wire of each stands at the front of `wires`, its code at the front of `ends`.
+// Twins: how many source wires there are; the masked wire of each stands at the front of `wires`, its code at the front of `out_codes`.
 #[no_mangle]
 pub extern "C" fn fidrovelj_twins(
     text: &[u8],
     codes: &[u8],
     wires: &mut [u32],
-    ends: &mut [u8],
+    out_codes: &mut [u8],
     operands: &mut [u64],
     results: &mut [u64],
     marks: &mut [u8],
     whole: u8,
 ) -> i64
     ensures { λ r. ⌜ Told (TwinsPromise (sizesOf whole) (now (text .entry)) (now (codes .entry)) (now (wires .entry)) (now (wires .exit))
-        (now (ends .entry)) (now (ends .exit)) (now (operands .entry)) (now (operands .exit)) (now (results .entry)) (now (results .exit))
+        (now (out_codes .entry)) (now (out_codes .exit)) (now (operands .entry)) (now (operands .exit)) (now (results .entry)) (now (results .exit))
         (now (marks .entry)) (now (marks .exit))) r ⌝ }
 {
     number(twins::twins(
         text,
         codes,
         wires,
-        ends,
+        out_codes,
         operands,
         results,
         marks,
@@ -236,7 +236,7 @@ pub extern "C" fn fidrovelj_join(
     first: &[u8],
     second: &[u8],
     codes: &[u8],
-    ends: &[u8],
+    out_codes: &[u8],
     inner: &[u8],
     out: &mut [u8],
     operands: &mut [u64],
@@ -246,7 +246,7 @@ pub extern "C" fn fidrovelj_join(
     base: &mut [u64],
     whole: u8,
 ) -> i64
-    ensures { λ r. ⌜ Told (JoinPromise (sizesOf whole) (now (first .entry)) (now (second .entry)) (now (codes .entry)) (now (ends .entry))
+    ensures { λ r. ⌜ Told (JoinPromise (sizesOf whole) (now (first .entry)) (now (second .entry)) (now (codes .entry)) (now (out_codes .entry))
         (now (inner .entry)) (now (out .entry)) (now (out .exit)) (now (operands .entry)) (now (operands .exit)) (now (results .entry))
         (now (results .exit)) (now (marks .entry)) (now (marks .exit)) (now (words .entry)) (now (words .exit)) (now (base .entry))
         (now (base .exit))) r ⌝ }
@@ -255,7 +255,7 @@ pub extern "C" fn fidrovelj_join(
         first,
         second,
         codes,
-        ends,
+        out_codes,
         inner,
         out,
         operands,
