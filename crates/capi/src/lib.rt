@@ -137,7 +137,7 @@ pub extern "C" fn fidrovelj_mask(
     whole: u8,
 ) -> i64
     ensures { λ r. ⌜ Told (MaskPromise (sizesOf whole) (now (text .entry)) (now (codes .entry)) (now (wanted .entry)) (now (out .entry))
-        (now (out .exit)) (now (out_codes .entry)) (now (out_codes .exit)) (now (operands .entry)) (now (operands .exit)) (now (results .entry))
+        (now (out .exit)) (now («out_codes» .entry)) (now («out_codes» .exit)) (now (operands .entry)) (now (operands .exit)) (now (results .entry))
         (now (results .exit)) (now (wires .entry)) (now (wires .exit)) (now (marks .entry)) (now (marks .exit))) r ⌝ }
 {
     number(mask::mask(
@@ -167,7 +167,7 @@ pub extern "C" fn fidrovelj_twins(
     whole: u8,
 ) -> i64
     ensures { λ r. ⌜ Told (TwinsPromise (sizesOf whole) (now (text .entry)) (now (codes .entry)) (now (wires .entry)) (now (wires .exit))
-        (now (out_codes .entry)) (now (out_codes .exit)) (now (operands .entry)) (now (operands .exit)) (now (results .entry)) (now (results .exit))
+        (now («out_codes» .entry)) (now («out_codes» .exit)) (now (operands .entry)) (now (operands .exit)) (now (results .entry)) (now (results .exit))
         (now (marks .entry)) (now (marks .exit))) r ⌝ }
 {
     number(twins::twins(
@@ -246,7 +246,7 @@ pub extern "C" fn fidrovelj_join(
     base: &mut [u64],
     whole: u8,
 ) -> i64
-    ensures { λ r. ⌜ Told (JoinPromise (sizesOf whole) (now (first .entry)) (now (second .entry)) (now (codes .entry)) (now (out_codes .entry))
+    ensures { λ r. ⌜ Told (JoinPromise (sizesOf whole) (now (first .entry)) (now (second .entry)) (now (codes .entry)) (now («out_codes» .entry))
         (now (inner .entry)) (now (out .entry)) (now (out .exit)) (now (operands .entry)) (now (operands .exit)) (now (results .entry))
         (now (results .exit)) (now (marks .entry)) (now (marks .exit)) (now (words .entry)) (now (words .exit)) (now (base .entry))
         (now (base .exit))) r ⌝ }

@@ -28,9 +28,9 @@ fn answer(
     wires: &mut [u32],
     marks: &mut [u8],
 ) -> Answer
-    requires { ⌜ Roomy (now text) (now out_codes) (now operands) (now results) (now wires) (now marks) ⌝ }
+    requires { ⌜ Roomy (now text) (now «out_codes») (now operands) (now results) (now wires) (now marks) ⌝ }
     ensures { λ r. ⌜ Answered (outcome (now (netlist .entry)) (now (codes .entry)) (now (wanted .entry))) (now (text .exit))
-        (now (out_codes .exit)) (length (now (wanted .entry))) r ⌝ }
+        (now («out_codes» .exit)) (length (now (wanted .entry))) r ⌝ }
 {
     if FILE_LIMIT < netlist.len() {
         return Answer::Refused(2);
@@ -51,9 +51,9 @@ fn answer(
 
 // What an answer prints, where there are so many output codes.
 fn print(line: &mut [u8], text: &[u8], out_codes: &[u8], codes: usize, a: Answer) -> Printed
-    requires { ⌜ Counted (now text) (now out_codes) codes a × (3 * length (now out_codes) + 64 ≤ length (now line)) ⌝ }
+    requires { ⌜ Counted (now text) (now «out_codes») codes a × (3 * length (now «out_codes») + 64 ≤ length (now line)) ⌝ }
     ensures { λ r. ⌜ Prints (now (line .exit)) (now (text .entry)) r
-        (printMask (outcomeOf (now (text .entry)) (take codes (now (out_codes .entry))) a)) ⌝ }
+        (printMask (outcomeOf (now (text .entry)) (take codes (now («out_codes» .entry))) a)) ⌝ }
 {
     match a {
         Answer::Done(n) => Printed {
@@ -80,8 +80,8 @@ fn report(
     wires: &mut [u32],
     marks: &mut [u8],
 ) -> Printed
-    requires { ⌜ Roomy (now text) (now out_codes) (now operands) (now results) (now wires) (now marks)
-        × (3 * length (now out_codes) + 64 ≤ length (now line)) ⌝ }
+    requires { ⌜ Roomy (now text) (now «out_codes») (now operands) (now results) (now wires) (now marks)
+        × (3 * length (now «out_codes») + 64 ≤ length (now line)) ⌝ }
     ensures { λ r. ⌜ Prints (now (line .exit)) (now (text .exit)) r
         (maskProgram (now (netlist .entry)) (now (inputs .entry)) (now (outputs .entry))) ⌝ }
 {

@@ -78,7 +78,7 @@ fn all_secret(codes: &[u8]) -> bool
 
 // Question 25.
 fn seam_holds(a: HeaderNumbers, out_codes: &[u8], b: HeaderNumbers, codes: &[u8]) -> bool
-    ensures { λ r. ⌜ r ≡ seamHolds a (now (out_codes .entry)) b (now (codes .entry)) ⌝ }
+    ensures { λ r. ⌜ r ≡ seamHolds a (now («out_codes» .entry)) b (now (codes .entry)) ⌝ }
 {
     if out_codes.len() as u64 != a.output_bits {
         return false;
@@ -161,7 +161,7 @@ fn deliver(
         × (length (now codes) ≡ b .«input_bits» - 2) × (l .wires ≤ length (now operands)) × (l .wires ≤ length (now results)) ⌝ }
     ensures { λ r. ⌜ ((A B : Netlist) → First a inputs (tables (now (operands .entry)) (now (results .entry))) A
         → Second b outputs (tables (now (words .entry)) (now (base .entry))) B
-        → Answers (joinOutcome l (now (out_codes .entry)) (now (codes .entry)) (length (now (out .entry))) A B) (now (out .entry)) (now (out .exit)) r) ⌝ }
+        → Answers (joinOutcome l (now («out_codes» .entry)) (now (codes .entry)) (length (now (out .entry))) A B) (now (out .entry)) (now (out .exit)) r) ⌝ }
 {
     if !seam_holds(a, out_codes, b, codes) {
         return Answer::Refused(25);
@@ -194,7 +194,7 @@ fn read_second(
         × (l .table ≤ length (now base)) ⌝ }
     ensures { λ r. ⌜ ((A : Netlist) → First a inputs (tables (now (operands .entry)) (now (results .entry))) A
         → Answers (andThen (readBlock l (now (second .entry)) (now (codes .entry)))
-        (joinOutcome l (now (out_codes .entry)) (now (codes .entry)) (length (now (out .entry))) A)) (now (out .entry)) (now (out .exit)) r) ⌝ }
+        (joinOutcome l (now («out_codes» .entry)) (now (codes .entry)) (length (now (out .entry))) A)) (now (out .entry)) (now (out .exit)) r) ⌝ }
 {
     let mut inner = [0u32; 17];
     let mut outputs = [0u32; 16];
@@ -243,7 +243,7 @@ fn answer(
     base: &mut [u64],
     sizes: Sizes,
 ) -> Answer
-    ensures { λ r. ⌜ Answers (call sizes (now (first .entry)) (now (second .entry)) (now (codes .entry)) (now (out_codes .entry)) (now (inner .entry))
+    ensures { λ r. ⌜ Answers (call sizes (now (first .entry)) (now (second .entry)) (now (codes .entry)) (now («out_codes» .entry)) (now (inner .entry))
         (now (out .entry)) (now (operands .entry)) (now (results .entry)) (now (marks .entry)) (now (words .entry)) (now (base .entry)))
         (now (out .entry)) (now (out .exit)) r ⌝ }
 {
@@ -296,7 +296,7 @@ pub fn join(
     base: &mut [u64],
     sizes: Sizes,
 ) -> Answer
-    ensures { λ r. ⌜ Promise sizes (now (first .entry)) (now (second .entry)) (now (codes .entry)) (now (out_codes .entry)) (now (inner .entry))
+    ensures { λ r. ⌜ Promise sizes (now (first .entry)) (now (second .entry)) (now (codes .entry)) (now («out_codes» .entry)) (now (inner .entry))
         (now (out .entry)) (now (out .exit)) (now (operands .entry)) (now (operands .exit)) (now (results .entry)) (now (results .exit))
         (now (marks .entry)) (now (marks .exit)) (now (words .entry)) (now (words .exit)) (now (base .entry)) (now (base .exit)) r ⌝ }
 {

@@ -80,8 +80,8 @@ fn fill(
         → Source (tables (now (operands .entry)) (now (results .entry))) count (length (now (wire .entry))) (length (now (codes .entry)))
         (length (now (wanted .entry))) (now (ins .entry)) (now (outs .entry)) N
         → Numbers (maskNetlist N (now (codes .entry)) (now (wanted .entry))) (length (now (wanted .entry))) gates wires
-        → Filled (maskNetlist N (now (codes .entry)) (now (wanted .entry))) (now (out .entry)) (now (out .exit)) (now (out_codes .entry))
-        (now (out_codes .exit)) r) ⌝ }
+        → Filled (maskNetlist N (now (codes .entry)) (now (wanted .entry))) (now (out .entry)) (now (out .exit)) (now («out_codes» .entry))
+        (now («out_codes» .exit)) r) ⌝ }
 {
     let size = write(
         d,
@@ -175,9 +175,9 @@ fn answer(
         (length (now (wanted .entry))) (now (ins .entry)) (now (outs .entry)) N
         → Numbers (maskNetlist N (now (codes .entry)) (now (wanted .entry))) (length (now (wanted .entry))) gates wires
         → WellFormed (maskNetlist N (now (codes .entry)) (now (wanted .entry)) .netlist)
-        → MaskAnswers (deliverOutcome (length (now (out .entry))) (length (now (out_codes .entry)))
-        (maskedText (maskNetlist N (now (codes .entry)) (now (wanted .entry))))) (now (out .entry)) (now (out .exit)) (now (out_codes .entry))
-        (now (out_codes .exit)) r) ⌝ }
+        → MaskAnswers (deliverOutcome (length (now (out .entry))) (length (now («out_codes» .entry)))
+        (maskedText (maskNetlist N (now (codes .entry)) (now (wanted .entry))))) (now (out .entry)) (now (out .exit)) (now («out_codes» .entry))
+        (now («out_codes» .exit)) r) ⌝ }
 {
     if out_codes.len() < wanted.len() {
         return Answer::Refused(14);
@@ -238,9 +238,9 @@ pub fn deliver(
         → Source (tables (now (operands .entry)) (now (results .entry))) count (length (now (wire .entry))) (length (now (codes .entry)))
         (length (now (wanted .entry))) (now (ins .entry)) (now (outs .entry)) N
         → WellFormed (maskNetlist N (now (codes .entry)) (now (wanted .entry)) .netlist)
-        → MaskAnswers (deliverOutcome (length (now (out .entry))) (length (now (out_codes .entry)))
-        (maskedText (maskNetlist N (now (codes .entry)) (now (wanted .entry))))) (now (out .entry)) (now (out .exit)) (now (out_codes .entry))
-        (now (out_codes .exit)) r) ⌝ }
+        → MaskAnswers (deliverOutcome (length (now (out .entry))) (length (now («out_codes» .entry)))
+        (maskedText (maskNetlist N (now (codes .entry)) (now (wanted .entry))))) (now (out .entry)) (now (out .exit)) (now («out_codes» .entry))
+        (now («out_codes» .exit)) r) ⌝ }
 {
     let wires = mask_pass::count::count(
         operands,

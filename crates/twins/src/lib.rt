@@ -24,8 +24,8 @@ fn place(
         × (length (now codes) ≤ h .wires) ⌝ }
     ensures { λ r. ⌜ ((N : Netlist)
         → Holds (tables (now (operands .entry)) (now (results .entry))) (h .gates) (h .wires) (length (now (codes .entry))) (h .«output_bits») N
-        → TwinsAnswers (listsOutcome (length (now (wires .entry))) (length (now (out_codes .entry))) (twinLists N (now (codes .entry))))
-        (now (wires .entry)) (now (wires .exit)) (now (out_codes .entry)) (now (out_codes .exit)) r) ⌝ }
+        → TwinsAnswers (listsOutcome (length (now (wires .entry))) (length (now («out_codes» .entry))) (twinLists N (now (codes .entry))))
+        (now (wires .entry)) (now (wires .exit)) (now («out_codes» .entry)) (now («out_codes» .exit)) r) ⌝ }
 {
     let all = h.wires as usize;
     if wires.len() < all {
@@ -58,8 +58,8 @@ fn deliver(
         × (h .«input_bits» ≤ h .wires) ⌝ }
     ensures { λ r. ⌜ ((N : Netlist)
         → Holds (tables (now (operands .entry)) (now (results .entry))) (h .gates) (h .wires) (h .«input_bits») (h .«output_bits») N
-        → TwinsAnswers (twinsOutcome (now (codes .entry)) (length (now (wires .entry))) (length (now (out_codes .entry))) N)
-        (now (wires .entry)) (now (wires .exit)) (now (out_codes .entry)) (now (out_codes .exit)) r) ⌝ }
+        → TwinsAnswers (twinsOutcome (now (codes .entry)) (length (now (wires .entry))) (length (now («out_codes» .entry))) N)
+        (now (wires .entry)) (now (wires .exit)) (now («out_codes» .entry)) (now («out_codes» .exit)) r) ⌝ }
 {
     if !lists::valid_codes(codes, h.input_bits as usize) {
         return Answer::Refused(11);
@@ -78,9 +78,9 @@ fn answer(
     marks: &mut [u8],
     sizes: Sizes,
 ) -> Answer
-    ensures { λ r. ⌜ TwinsAnswers (call sizes (now (text .entry)) (now (codes .entry)) (now (wires .entry)) (now (out_codes .entry))
-        (now (operands .entry)) (now (results .entry)) (now (marks .entry))) (now (wires .entry)) (now (wires .exit)) (now (out_codes .entry))
-        (now (out_codes .exit)) r ⌝ }
+    ensures { λ r. ⌜ TwinsAnswers (call sizes (now (text .entry)) (now (codes .entry)) (now (wires .entry)) (now («out_codes» .entry))
+        (now (operands .entry)) (now (results .entry)) (now (marks .entry))) (now (wires .entry)) (now (wires .exit)) (now («out_codes» .entry))
+        (now («out_codes» .exit)) r ⌝ }
 {
     let l = netlist::small(sizes);
     let mut inputs = [0u32; 17];
@@ -113,8 +113,8 @@ pub fn twins(
     marks: &mut [u8],
     sizes: Sizes,
 ) -> Answer
-    ensures { λ r. ⌜ Promise sizes (now (text .entry)) (now (codes .entry)) (now (wires .entry)) (now (wires .exit)) (now (out_codes .entry))
-        (now (out_codes .exit)) (now (operands .entry)) (now (operands .exit)) (now (results .entry)) (now (results .exit))
+    ensures { λ r. ⌜ Promise sizes (now (text .entry)) (now (codes .entry)) (now (wires .entry)) (now (wires .exit)) (now («out_codes» .entry))
+        (now («out_codes» .exit)) (now (operands .entry)) (now (operands .exit)) (now (results .entry)) (now (results .exit))
         (now (marks .entry)) (now (marks .exit)) r ⌝ }
 {
     let r = answer(
