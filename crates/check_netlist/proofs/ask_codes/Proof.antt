@@ -28,8 +28,8 @@ returns c = let a = c .before .before .before .before .args in
     let ten : endsInMasks (take (a .h .«input_values») (a .t2)) ≡ false = sym (c .before .ends-in-masks .ensures) ∙ not-true _ (c .if1 .taken) in
     sym (rw ten)
 
-sub-codes : tie.Need-sub-codes
-sub-codes c = let s = c .before .before .before .before in
+sub-valid-codes : tie.Need-sub-valid-codes
+sub-valid-codes c = let s = c .before .before .before .before in
     omega (arith, s .pre .1, masks-bits (take (s .args .h .«input_values») (s .args .t2)) (sym (c .before .ends-in-masks .ensures) ∙ not-false _ (c .if1 .left)))
 
 valid-codes-requires : tie.Need-valid-codes-requires
@@ -59,7 +59,7 @@ ask-codes-spec =
     slice-aggregate-ends-in-masks
     ends-in-masks-requires
     returns
-    sub-codes
+    sub-valid-codes
     valid-codes-requires
     returns-2
     returns-3)

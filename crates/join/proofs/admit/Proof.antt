@@ -20,8 +20,8 @@ returns : tie.Need-returns
 returns c = let a = c .before .before .before .before .before .args in
     ask-ten (take (a .h .«input_values») (a .widths .now)) (a .codes .now) (a .h) (sym (c .before .ends-in-masks .ensures) ∙ not-true _ (c .if1 .taken))
 
-sub-codes : tie.Need-sub-codes
-sub-codes c = let a = c .before .before .before .before .before .args in
+sub-valid-codes : tie.Need-sub-valid-codes
+sub-valid-codes c = let a = c .before .before .before .before .before .args in
     omega (arith, c .before .before .before .before .before .pre .1, masks-bits (take (a .h .«input_values») (a .widths .now)) (sym (c .before .ends-in-masks .ensures) ∙ not-false _ (c .if1 .left)))
 
 valid-codes-requires : tie.Need-valid-codes-requires
@@ -44,7 +44,7 @@ admit-spec =
     slice-aggregate-ends-in-masks
     ends-in-masks-requires
     returns
-    sub-codes
+    sub-valid-codes
     valid-codes-requires
     returns-2
     returns-3)
