@@ -2,14 +2,9 @@
 // least 0 for a result and minus the number of the refusing question otherwise. include/fidrovelj.h declares them.
 mod pairs;
 
-use check_netlist::Checked;
-use netlist::Answer;
-use netlist::Sizes;
-ghost use mathlib.Core.Path.{_≡_};
-ghost use mathlib.Core.List.{[], _∷_};
-ghost use lib.IntN.{pos, negℤ};
-ghost use lib.ListN.{set};
-ghost use lib.Seq.{sets};
+use capi_answers::number;
+use capi_answers::sizes;
+use capi_answers::tell;
 ghost use Rattle.rewrite.specs.Promise.{Promise as RewritePromise};
 ghost use Rattle.from_old.specs.Promise.{Promise as FromOldPromise};
 ghost use Rattle.to_old.specs.Promise.{Promise as ToOldPromise};
@@ -21,71 +16,7 @@ ghost use Rattle.checker.specs.Promise.{Promise as CheckPromise};
 ghost use Rattle.from_aiger.specs.Promise.{Promise as AigerPromise};
 ghost use Rattle.join.specs.Promise.{Promise as JoinPromise};
 ghost use Rattle.from_verilog.specs.Promise.{Promise as VerilogPromise};
-ghost use Rattle.capi.specs.Number.{sizesOf, number as numberOf, Countable, Told, Shows, ToldLeak};
-
-// The number of a refusal.
-fn minus(question: u8) -> i64
-    ensures { λ r. ⌜ r ≡ negℤ (pos question) ⌝ }
-{
-    -(question as i64)
-}
-
-// The number of an answer.
-fn number(a: Answer) -> i64
-    requires { ⌜ Countable a ⌝ }
-    ensures { λ r. ⌜ r ≡ numberOf a ⌝ }
-{
-    match a {
-        Answer::Done(n) => n as i64,
-        Answer::Refused(question) => minus(question),
-    }
-}
-
-// One entry of a list, where the list is long enough.
-fn put(list: &mut [u64], at: usize, entry: u64)
-    ensures { λ _. ⌜ now (list .exit) ≡ set (now (list .entry)) at entry ⌝ }
-{
-    if at < list.len() {
-        list[at] = entry;
-    }
-}
-
-// The numbers of a leak: its wire, its setting, its base's count and its own.
-fn show(leak: &mut [u64], wire: usize, setting: u64, base: u8, own: u8)
-    ensures { λ _. ⌜ now (leak .exit) ≡ sets (now (leak .entry)) 0 (wire ∷ setting ∷ base ∷ own ∷ []) ⌝ }
-{
-    put(leak, 0, wire as u64);
-    put(leak, 1, setting);
-    put(leak, 2, base as u64);
-    put(leak, 3, own as u64);
-}
-
-// Check's answer: its number, and the numbers of a leak at the front of `leak`; a list that cannot hold them is refused by 14.
-fn tell(leak: &mut [u64], a: Checked) -> i64
-    ensures { λ r. ⌜ Shows (now (leak .entry)) (now (leak .exit)) r a ⌝ }
-{
-    match a {
-        Checked::Clean => 0,
-        Checked::Leak(wire, setting, base, own) => {
-            if leak.len() < 4 {
-                return minus(14);
-            }
-            show(leak, wire, setting, base, own);
-            1
-        }
-        Checked::Refused(question) => minus(question),
-    }
-}
-
-// The sizes of a call: the old ones for 0, and otherwise those for whole ciphers.
-fn sizes(whole: u8) -> Sizes
-    ensures { λ r. ⌜ r ≡ sizesOf whole ⌝ }
-{
-    if whole == 0 {
-        return Sizes::Old;
-    }
-    Sizes::Whole
-}
+ghost use Rattle.capi_answers.specs.Number.{sizesOf, Told, ToldLeak};
 
 // Rewrite: how many bytes the written form has at the front of `out`.
 #[no_mangle]
@@ -191,14 +122,14 @@ pub extern "C" fn fidrovelj_run64(
     ))
 }
 
-// Mask: how many bytes the masked text has at the front of `out`; the output codes stand at the front of `ends`.
+// Mask: how many bytes the masked text has at the front of `out`; the output codes stand at the front of `out_codes`.
 #[no_mangle]
 pub extern "C" fn fidrovelj_mask(
     text: &[u8],
     codes: &[u8],
     wanted: &[u8],
     out: &mut [u8],
-    ends: &mut [u8],
+    out_codes: &mut [u8],
     operands: &mut [u64],
     results: &mut [u64],
     wires: &mut [u32],
@@ -206,7 +137,7 @@ pub extern "C" fn fidrovelj_mask(
     whole: u8,
 ) -> i64
     ensures { λ r. ⌜ Told (MaskPromise (sizesOf whole) (now (text .entry)) (now (codes .entry)) (now (wanted .entry)) (now (out .entry))
-        (now (out .exit)) (now (ends .entry)) (now (ends .exit)) (now (operands .entry)) (now (operands .exit)) (now (results .entry))
+        (now (out .exit)) (now («out_codes» .entry)) (now («out_codes» .exit)) (now (operands .entry)) (now (operands .exit)) (now (results .entry))
         (now (results .exit)) (now (wires .entry)) (now (wires .exit)) (now (marks .entry)) (now (marks .exit))) r ⌝ }
 {
     number(mask::mask(
@@ -214,7 +145,7 @@ pub extern "C" fn fidrovelj_mask(
         codes,
         wanted,
         out,
-        ends,
+        out_codes,
         operands,
         results,
         wires,
@@ -223,27 +154,27 @@ pub extern "C" fn fidrovelj_mask(
     ))
 }
 
-// Twins: how many source wires there are; the masked wire of each stands at the front of `wires`, its code at the front of `ends`.
+// Twins: how many source wires there are; the masked wire of each stands at the front of `wires`, its code at the front of `out_codes`.
 #[no_mangle]
 pub extern "C" fn fidrovelj_twins(
     text: &[u8],
     codes: &[u8],
     wires: &mut [u32],
-    ends: &mut [u8],
+    out_codes: &mut [u8],
     operands: &mut [u64],
     results: &mut [u64],
     marks: &mut [u8],
     whole: u8,
 ) -> i64
     ensures { λ r. ⌜ Told (TwinsPromise (sizesOf whole) (now (text .entry)) (now (codes .entry)) (now (wires .entry)) (now (wires .exit))
-        (now (ends .entry)) (now (ends .exit)) (now (operands .entry)) (now (operands .exit)) (now (results .entry)) (now (results .exit))
+        (now («out_codes» .entry)) (now («out_codes» .exit)) (now (operands .entry)) (now (operands .exit)) (now (results .entry)) (now (results .exit))
         (now (marks .entry)) (now (marks .exit))) r ⌝ }
 {
     number(twins::twins(
         text,
         codes,
         wires,
-        ends,
+        out_codes,
         operands,
         results,
         marks,
@@ -305,7 +236,7 @@ pub extern "C" fn fidrovelj_join(
     first: &[u8],
     second: &[u8],
     codes: &[u8],
-    ends: &[u8],
+    out_codes: &[u8],
     inner: &[u8],
     out: &mut [u8],
     operands: &mut [u64],
@@ -315,7 +246,7 @@ pub extern "C" fn fidrovelj_join(
     base: &mut [u64],
     whole: u8,
 ) -> i64
-    ensures { λ r. ⌜ Told (JoinPromise (sizesOf whole) (now (first .entry)) (now (second .entry)) (now (codes .entry)) (now (ends .entry))
+    ensures { λ r. ⌜ Told (JoinPromise (sizesOf whole) (now (first .entry)) (now (second .entry)) (now (codes .entry)) (now («out_codes» .entry))
         (now (inner .entry)) (now (out .entry)) (now (out .exit)) (now (operands .entry)) (now (operands .exit)) (now (results .entry))
         (now (results .exit)) (now (marks .entry)) (now (marks .exit)) (now (words .entry)) (now (words .exit)) (now (base .entry))
         (now (base .exit))) r ⌝ }
@@ -324,7 +255,7 @@ pub extern "C" fn fidrovelj_join(
         first,
         second,
         codes,
-        ends,
+        out_codes,
         inner,
         out,
         operands,

@@ -49,7 +49,7 @@ pub fn ask_codes(h: HeaderNumbers, widths: [u32; 17], codes: &[u8]) -> Asked
     if !ends_in_masks(&widths[..values]) {
         return Asked::Refused(10);
     }
-    if !lists::codes(codes, h.input_bits as usize - 2) {
+    if !lists::valid_codes(codes, h.input_bits as usize - 2) {
         return Asked::Refused(11);
     }
     Asked::Passed

@@ -17,6 +17,7 @@ use Rattle.netlist.specs.Read.{readNetlist}
 use Rattle.netlist.specs.Services.{MaskedText, tablesLong, outcomeOf as textOf, maskOutcome, maskCall}
 use Rattle.netlist.specs.Programs.{listFile, printList, printMask, maskProgram, fileLimit}
 use Rattle.netlist.proofs.Answering.{take-sets}
+use Rattle.netlist.proofs.Tests.{clash}
 use Rattle.netlist.proofs.Questions.{done-same}
 use Rattle.netlist.proofs.Masking.{output-codes-length}
 use Rattle.mask_pass.proofs.Made.{made}
@@ -35,13 +36,13 @@ answered-as p h = rw p at h
 answered-refused : (x y : List ℕ) (k q : ℕ) {a : Answer} → a ≡ Refused q → Answered (refused q) x y k a
 answered-refused x y k q p = record {
   outcome = ap (outcomeOf x (take k y)) p;
-  counted = λ n d. let z : _≡_ {A = ℕ} 0 1 = cc in absurd (omega arith);
+  counted = λ n d. clash (cc);
 }
 
 -- question 2
-pub answer-long : (netlist codes wanted text ends : List ℕ) → fileLimit < length netlist
-    → Answered (outcome netlist codes wanted) text ends (length wanted) (Refused 2)
-answer-long netlist codes wanted text ends h = answered-as (sym (readable-long netlist _ h)) (answered-refused text ends (length wanted) 2 refl)
+pub answer-long : (netlist codes wanted text outCodes : List ℕ) → fileLimit < length netlist
+    → Answered (outcome netlist codes wanted) text outCodes (length wanted) (Refused 2)
+answer-long netlist codes wanted text outCodes h = answered-as (sym (readable-long netlist _ h)) (answered-refused text outCodes (length wanted) 2 refl)
 
 module _ (netlist codes wanted : List ℕ) {t e o r w m : List ℕ} (room : Roomy t e o r w m) where
   -- the tables and the buffers are long enough
@@ -56,7 +57,7 @@ module _ (netlist codes wanted : List ℕ) {t e o r w m : List ℕ} (room : Room
         le-leb (small Old .table) (length m) (room .marks),
       ) in
       ap (λ (b : Bool). ask 1 b (andThen (readNetlist (small Old) netlist) (maskOutcome codes wanted (length t) (length e)))) long
-      ∙ ap₂ (λ (j k : ℕ). andThen (readNetlist (small Old) netlist) (maskOutcome codes wanted j k)) (room .text) (room .ends)
+      ∙ ap₂ (λ (j k : ℕ). andThen (readNetlist (small Old) netlist) (maskOutcome codes wanted j k)) (room .text) (room .outCodes)
       ∙ sym (readable-short netlist _ h)
 
   -- there are as many output codes as wanted ones
@@ -69,10 +70,10 @@ module _ (netlist codes wanted : List ℕ) {t e o r w m : List ℕ} (room : Room
       let many : length (R .codes) ≡ length wanted = sym same ∙ output-codes-length (M .inputs) ∙ sym (M .inputs .wantedLength) in
       let fits : length (R .codes) ≤ length e = omega (arith, M .room, same) in
       let text : take (length (R .text)) x ≡ R .text = done-same _ _ (ap (textOf x) (sym (h .text .answer)) ∙ h .text .outcome) in
-      let ends : take (length wanted) y ≡ R .codes = ap₂ take (sym many) (h .codes) ∙ take-sets (R .codes) e fits in
+      let outCodes : take (length wanted) y ≡ R .codes = ap₂ take (sym many) (h .codes) ∙ take-sets (R .codes) e fits in
       record {
         outcome = ap (outcomeOf x (take (length wanted) y)) (h .text .answer)
-            ∙ ap₂ (λ (u v : List ℕ). done (record { text = u; codes = v })) text ends;
+            ∙ ap₂ (λ (u v : List ℕ). done (record { text = u; codes = v })) text outCodes;
         counted = λ n d. (answered (h .text) .counted n d, omega (arith, ap length (h .codes) ∙ length-sets e 0 (R .codes)));
       }
 

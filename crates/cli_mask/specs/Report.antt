@@ -15,7 +15,7 @@ use Rattle.cli_mask.specs.declared.Printed.{Printed}
 -- question 1 admits the program's tables, and question 14 all output codes and 60,000 bytes of text
 pub record Roomy (t e o r w m : List ℕ) : Type 0 where
   pub text : length t ≡ fileLimit
-  pub ends : length e ≡ small Old .wires
+  pub outCodes : length e ≡ small Old .wires
   pub operands : small Old .table ≤ length o
   pub results : small Old .table ≤ length r
   pub wires : small Old .table ≤ length w
@@ -32,12 +32,12 @@ outcomeOf text codes (Refused q) = refused q
 
 -- the text and the k output codes of an answer lie in their buffers
 abbrev pub Counted : List ℕ → List ℕ → ℕ → Answer → Type 0
-Counted text ends k a = (n : ℕ) → a ≡ Done n → (n ≤ length text) × (k ≤ length ends)
+Counted text outCodes k a = (n : ℕ) → a ≡ Done n → (n ≤ length text) × (k ≤ length outCodes)
 
 -- an answer, the text's buffer, and k output codes in theirs, are a call's outcome
-pub record Answered (call : Outcome MaskedText) (text ends : List ℕ) (k : ℕ) (a : Answer) : Type 0 where
-  pub outcome : outcomeOf text (take k ends) a ≡ call
-  pub counted : Counted text ends k a
+pub record Answered (call : Outcome MaskedText) (text outCodes : List ℕ) (k : ℕ) (a : Answer) : Type 0 where
+  pub outcome : outcomeOf text (take k outCodes) a ≡ call
+  pub counted : Counted text outCodes k a
 
 -- what is printed of a line and of the text behind it
 pub record Prints (l t : List ℕ) (p : Printed) (bytes : List ℕ) : Type 0 where

@@ -22,15 +22,15 @@ fn answer(
     codes: &[u8],
     wanted: &[u8],
     text: &mut [u8],
-    ends: &mut [u8],
+    out_codes: &mut [u8],
     operands: &mut [u64],
     results: &mut [u64],
     wires: &mut [u32],
     marks: &mut [u8],
 ) -> Answer
-    requires { ⌜ Roomy (now text) (now ends) (now operands) (now results) (now wires) (now marks) ⌝ }
+    requires { ⌜ Roomy (now text) (now «out_codes») (now operands) (now results) (now wires) (now marks) ⌝ }
     ensures { λ r. ⌜ Answered (outcome (now (netlist .entry)) (now (codes .entry)) (now (wanted .entry))) (now (text .exit))
-        (now (ends .exit)) (length (now (wanted .entry))) r ⌝ }
+        (now («out_codes» .exit)) (length (now (wanted .entry))) r ⌝ }
 {
     if FILE_LIMIT < netlist.len() {
         return Answer::Refused(2);
@@ -40,7 +40,7 @@ fn answer(
         codes,
         wanted,
         text,
-        ends,
+        out_codes,
         operands,
         results,
         wires,
@@ -50,14 +50,14 @@ fn answer(
 }
 
 // What an answer prints, where there are so many output codes.
-fn print(line: &mut [u8], text: &[u8], ends: &[u8], codes: usize, a: Answer) -> Printed
-    requires { ⌜ Counted (now text) (now ends) codes a × (3 * length (now ends) + 64 ≤ length (now line)) ⌝ }
+fn print(line: &mut [u8], text: &[u8], out_codes: &[u8], codes: usize, a: Answer) -> Printed
+    requires { ⌜ Counted (now text) (now «out_codes») codes a × (3 * length (now «out_codes») + 64 ≤ length (now line)) ⌝ }
     ensures { λ r. ⌜ Prints (now (line .exit)) (now (text .entry)) r
-        (printMask (outcomeOf (now (text .entry)) (take codes (now (ends .entry))) a)) ⌝ }
+        (printMask (outcomeOf (now (text .entry)) (take codes (now («out_codes» .entry))) a)) ⌝ }
 {
     match a {
         Answer::Done(n) => Printed {
-            line: program_text::digits(line, &ends[..codes]),
+            line: program_text::digits(line, &out_codes[..codes]),
             text: n,
         },
         Answer::Refused(question) => Printed {
@@ -71,7 +71,7 @@ fn print(line: &mut [u8], text: &[u8], ends: &[u8], codes: usize, a: Answer) -> 
 fn report(
     line: &mut [u8],
     text: &mut [u8],
-    ends: &mut [u8],
+    out_codes: &mut [u8],
     netlist: &[u8],
     inputs: &mut [u8],
     outputs: &mut [u8],
@@ -80,8 +80,8 @@ fn report(
     wires: &mut [u32],
     marks: &mut [u8],
 ) -> Printed
-    requires { ⌜ Roomy (now text) (now ends) (now operands) (now results) (now wires) (now marks)
-        × (3 * length (now ends) + 64 ≤ length (now line)) ⌝ }
+    requires { ⌜ Roomy (now text) (now «out_codes») (now operands) (now results) (now wires) (now marks)
+        × (3 * length (now «out_codes») + 64 ≤ length (now line)) ⌝ }
     ensures { λ r. ⌜ Prints (now (line .exit)) (now (text .exit)) r
         (maskProgram (now (netlist .entry)) (now (inputs .entry)) (now (outputs .entry))) ⌝ }
 {
@@ -92,13 +92,13 @@ fn report(
         &inputs[..n],
         &outputs[..m],
         text,
-        ends,
+        out_codes,
         operands,
         results,
         wires,
         marks,
     );
-    print(line, text, ends, m, a)
+    print(line, text, out_codes, m, a)
 }
 
 fn main() {
@@ -107,7 +107,7 @@ fn main() {
     let mut inputs = [0u8; FILE_LIMIT];
     let mut outputs = [0u8; FILE_LIMIT];
     let mut text = [0u8; FILE_LIMIT];
-    let mut ends = [0u8; SMALL_TABLE];
+    let mut out_codes = [0u8; SMALL_TABLE];
     let mut operands = [0u64; SMALL_TABLE];
     let mut results = [0u64; SMALL_TABLE];
     let mut wires = [0u32; SMALL_TABLE];
@@ -119,7 +119,7 @@ fn main() {
     let p = report(
         &mut line,
         &mut text,
-        &mut ends,
+        &mut out_codes,
         &netlist[..bytes],
         &mut inputs[..codes],
         &mut outputs[..wanted],

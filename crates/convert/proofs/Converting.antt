@@ -1,7 +1,7 @@
 -- From a text that was read to the outcome of a conversion.
 use Prim.Native.Nat.{ℕ, _≤_}
 use mathlib.Core.Path.{_≡_, refl, sym, ap, ap₂, _∙_}
-use mathlib.Core.Bool.{Bool, true, false, _&&_}
+use mathlib.Core.Bool.{Bool, true, false}
 use mathlib.Core.List.{List, [], _∷_, _++_}
 use lib.Dec.{leb}
 use lib.ListN.{length, take}
@@ -16,7 +16,7 @@ use Rattle.netlist.specs.Outcome.{Outcome, refused, done, ask, andThen}
 use Rattle.netlist.specs.Write.{writeNetlist, gateText}
 use Rattle.netlist.specs.Services.{tablesLong, delivered, outcomeOf, Answers, Delivers}
 use Rattle.netlist.specs.Table.{Tables, gatesOf}
-use Rattle.netlist.proofs.Answering.{answers-as, answers-refused, call-refused, call-goes-on}
+use Rattle.netlist.proofs.Answering.{asked-again, answers-as, answers-refused, call-refused, call-goes-on}
 use Rattle.netlist.proofs.Questions.{done-same, refused-done}
 use Rattle.netlist.proofs.Puts.{length-gates}
 use Rattle.old_form.specs.declared.Dialect.{Dialect}
@@ -81,21 +81,13 @@ module _ (to : Dialect) (gs : List Gate) (ins outs : List ℕ) {i o : ℕ} {r : 
         → Answers (ask 15 (hasForm to gs (length (take i ins)) (length (take o outs))) (delivered (length e) bs)) e x a
     form-yes {e} {x} {bs} y d = answers-as (sym (ap (λ (b : Bool). ask 15 b (delivered (length e) bs)) (fronts ∙ y))) (d .answers)
 
--- the reader's last table is asked for once more
-again : (L : Limits) (a b c : ℕ) → tablesLong L (a ∷ b ∷ c ∷ c ∷ []) ≡ tablesLong L (a ∷ b ∷ c ∷ [])
-again L a b c = ap (λ (t : Bool). leb (L .table) a && (leb (L .table) b && t)) (twice (leb (L .table) c))
-  where
-    twice : (t : Bool) → t && (t && true) ≡ t && true
-    twice true = refl
-    twice false = refl
-
 module _ (from to : Dialect) (s : Sizes) (text out o r g : List ℕ) where
   -- questions 1 to 9, and then 15 and 14
   pub call-not : {q : ℕ}
       → ask 1 (tablesLong (large s) (length o ∷ length r ∷ length g ∷ length g ∷ [])) (readIn from (large s) text) ≡ refused q
       → Answers (call from to s text out o r g) out out (Refused q)
   call-not p =
-      let e = again (large s) (length o) (length r) (length g) in
+      let e = asked-again (large s) (length o) (length r) (length g) in
       answers-refused out
       (call-refused (tablesLong (large s) (length o ∷ length r ∷ length g ∷ [])) (readIn from (large s) text) (formOutcome to (length out)) (rw e at p))
 
@@ -105,7 +97,7 @@ module _ (from to : Dialect) (s : Sizes) (text out o r g : List ℕ) where
       (delivered (length out) (formTextIn to (h .gates) (h .wires) (take (h .«input_values») ins) (take (h .«output_values») outs) tabs))) out x a
       → Answers (call from to s text out o r g) out x a
   call-read k d =
-      let e = again (large s) (length o) (length r) (length g) in
+      let e = asked-again (large s) (length o) (length r) (length g) in
       answers-as
       (outcome-same to (k .1) (length out)
       ∙ sym (call-goes-on (tablesLong (large s) (length o ∷ length r ∷ length g ∷ [])) (readIn from (large s) text) (formOutcome to (length out))

@@ -1,4 +1,6 @@
 // Question 15: whether a netlist has a form in a dialect.
+use gate_table::EQW;
+use gate_table::HALF;
 use old_form::Dialect;
 ghost use Prim.Native.Nat.{ℕ, _≤_};
 ghost use mathlib.Core.Path.{_≡_};
@@ -9,10 +11,7 @@ ghost use Rattle.old_form.specs.OldWrite.{isOldGate};
 ghost use Rattle.old_form.specs.declared.Dialect.the-variants.{Old};
 ghost use Rattle.convert.specs.Convert.{hasForm};
 
-// 2^32: the kind of a gate stands in the upper half of its entry of results.
-const HALF: u64 = 4294967296;
-
-// Whether an entry is that of XOR, AND or INV, the first three kinds.
+// Whether an entry is that of XOR, AND or INV, the kinds before EQW.
 fn is_old_entry(result: u64) -> bool
     ensures { λ r. ⌜ ((o : ℕ) → r ≡ isOldGate (gateIn o result)) ⌝ }
 {
@@ -20,7 +19,7 @@ fn is_old_entry(result: u64) -> bool
     if kind == 0 {
         return false;
     }
-    kind < 4
+    kind < EQW
 }
 
 // Whether the first gates of the tables are XOR, AND and INV alone.

@@ -1,14 +1,16 @@
 -- An opening, from the head of the text and the number of its gate lines.
 use Prim.Native.Nat.{ℕ, suc, _+_, _<_, _≤_}
 use mathlib.Core.Path.{_≡_, refl, sym, ap, _∙_, subst}
+use mathlib.Core.Bool.{_&&_}
 use mathlib.Core.List.{List, _∷_}
 use native.Mathlib.Numerals.{add-one}
 use native.Mathlib.Omega.{arith}
+use lib.Dec.{leb}
 use lib.ListN.{length, take, drop, getD, set, length-set, drop-of-length-le}
 use lib.Seq.{sets, drop-cons, getD-take, length-take-le}
-use borrow.Author.Tests.{eq-eqb, ne-eqb}
+use borrow.Author.Tests.{eq-eqb, ne-eqb, le-leb, lt-leb}
 use Rattle.netlist.specs.declared.Limits.{Limits}
-use Rattle.netlist.specs.Outcome.{refused, done}
+use Rattle.netlist.specs.Outcome.{refused, done, ask}
 use Rattle.netlist.specs.Text.{wordLines}
 use Rattle.netlist.specs.Read.{opening}
 use Rattle.read_header.specs.HeaderAnswers.{HeaderAt}
@@ -16,7 +18,8 @@ use Rattle.read_header.specs.HeadAnswers.{HeadAt, HeadNot, HeadIs}
 use Rattle.read_header.specs.declared.head.Head.{Head}
 use Rattle.read_header.specs.declared.HeaderNumbers.{HeaderNumbers}
 use Rattle.read_header.proofs.HeadLaws.{inputs-front, outputs-front}
-use Rattle.gate_reader.specs.Opens.{numbersOf, OpeningIs}
+use Rattle.gate_reader.specs.Calls.{leftAt}
+use Rattle.gate_reader.specs.Opens.{numbersOf, openingCall, OpeningIs}
 use Rattle.gate_reader.specs.declared.opening.Opening.{Opening}
 use Rattle.gate_reader.specs.declared.opening.Opening.the-variants as O
 
@@ -67,29 +70,55 @@ numbers-same a =
     }
 
 -- a question gets a no, and nothing is written
-refuses : {L : Limits} {t ins outs : List ℕ} {q : ℕ} → opening L t ≡ refused q → OpeningIs L t ins ins outs outs (O.Refused q)
+refuses : {L : Limits} {t ins outs : List ℕ} {q : ℕ} → openingCall L t (length ins) (length outs) ≡ refused q
+    → OpeningIs L t ins ins outs outs (O.Refused q)
 refuses e = record { said = rw e; inputs = rw e; outputs = rw e; place = tt }
 
+-- one of 2 to 6
+not-opened : {L : Limits} {t ins outs : List ℕ} {q : ℕ} → opening L t ≡ refused q → OpeningIs L t ins ins outs outs (O.Refused q)
+unfolding openingCall
+not-opened e = refuses (rw e)
+
 pub open-not : {L : Limits} {t ins outs : List ℕ} {q : ℕ} → HeadNot L t q → OpeningIs L t ins ins outs outs (O.Refused q)
-open-not a = refuses (a .refuses)
+open-not a = not-opened (a .refuses)
 
 module _ {L : Limits} {t ws vs : List ℕ} {h : HeaderNumbers} {to n : ℕ} (a : HeadAt L t ws vs h to) (lines : n ≡ length (wordLines (drop to t))) where
   -- there are more gate lines, or fewer
   pub open-6 : {ins outs : List ℕ} → (n ≡ h .gates → ⊥) → OpeningIs L t ins ins outs outs (O.Refused 6)
-  open-6 e = refuses (a .opens ∙ rw (← lines) (rw (ne-eqb _ _ e)))
+  open-6 e = not-opened (a .opens ∙ rw (← lines) (rw (ne-eqb _ _ e)))
 
   -- there are as many
-  pub open-at : {ins ins′ outs outs′ : List ℕ} → n ≡ h .gates → L .inputs ≤ length ws → L .outputs ≤ length vs
-      → ins′ ≡ sets ins 0 (take (h .«input_values») ws) → outs′ ≡ sets outs 0 (take (h .«output_values») vs) → OpeningIs L t ins ins′ outs outs′ (O.At h to)
-  open-at {ins} {ins′} {outs} e room room′ p q =
-      let H = a .header in
-      let o : opening L t ≡ done (H .is) = a .opens ∙ rw (← lines) (rw (eq-eqb _ _ e)) in
-      record {
-        said = rw o (ap done (numbers-same H));
-        inputs = p ∙ rw o (ap (sets ins 0) (inputs-front a room));
-        outputs = q ∙ rw o (ap (sets outs 0) (outputs-front a room′));
-        place = (H .left, H .within);
-      }
+  module _ (e : n ≡ h .gates) where
+    opens : opening L t ≡ done (a .header .is)
+    opens = a .opens ∙ rw (← lines) (rw (eq-eqb _ _ e))
+
+    -- question 14 is left, of buffers with room for i and o widths
+    called : (i o : ℕ) → openingCall L t i o ≡ ask 14 (leb (h .«input_values») i && leb (h .«output_values») o) (done (a .header .is))
+    unfolding openingCall
+    called i o = rw opens (rw (a .header .inputs, a .header .outputs) refl)
+
+    -- the input widths have no room, or the output widths
+    pub open-14-in : {ins outs : List ℕ} → length ins < h .«input_values» → OpeningIs L t ins ins outs outs (O.Refused 14)
+    open-14-in {ins} {outs} k = refuses (called (length ins) (length outs) ∙ rw (lt-leb _ _ k))
+
+    pub open-14-out : {ins outs : List ℕ} → h .«input_values» ≤ length ins → length outs < h .«output_values»
+        → OpeningIs L t ins ins outs outs (O.Refused 14)
+    open-14-out {ins} {outs} i k = refuses (called (length ins) (length outs) ∙ rw (le-leb _ _ i, lt-leb _ _ k))
+
+    -- both have room
+    pub open-at : {ins ins′ outs outs′ : List ℕ} → h .«input_values» ≤ length ins → h .«output_values» ≤ length outs → L .inputs ≤ length ws
+        → L .outputs ≤ length vs → ins′ ≡ sets ins 0 (take (h .«input_values») ws) → outs′ ≡ sets outs 0 (take (h .«output_values») vs)
+        → OpeningIs L t ins ins′ outs outs′ (O.At h to)
+    unfolding leftAt
+    open-at {ins} {ins′} {outs} i o room room′ p q =
+        let H = a .header in
+        let c : openingCall L t (length ins) (length outs) ≡ done (H .is) = called (length ins) (length outs) ∙ rw (le-leb _ _ i, le-leb _ _ o) in
+        record {
+          said = rw c (ap done (numbers-same H));
+          inputs = p ∙ rw c (ap (sets ins 0) (inputs-front a room));
+          outputs = q ∙ rw c (ap (sets outs 0) (outputs-front a room′));
+          place = record { head = H .is; opens = opens; left = H .place; within = H .within };
+        }
 
 -- an opening known by its answer
 pub open-is : (L : Limits) (t ins ins′ outs outs′ : List ℕ) {r s : Opening} → r ≡ s → OpeningIs L t ins ins′ outs outs′ r → OpeningIs L t ins ins′ outs outs′ s

@@ -8,15 +8,15 @@ use lib.ListN.{length, drop}
 use Rattle.netlist.specs.declared.Gate.{Gate}
 use Rattle.netlist.specs.Text.{wordLines}
 use Rattle.netlist.specs.GateLine.{gateLine}
-use Rattle.netlist.specs.GateReader.{says, onward}
+use Rattle.netlist.specs.GateReader.{says}
 use Rattle.read_text.specs.Line.{lineWords, afterLine, LineTaken, isBlank, Scanned}
-use Rattle.read_text.proofs.LineLaws.{at-word, word-line, no-line, blanks-lines, line-on}
+use Rattle.read_text.proofs.LineLaws.{at-word, word-line, no-line, blanks-lines, line-on, line-passed}
 use Rattle.gate_reader.specs.Steps.{StepIs}
 use Rattle.gate_reader.specs.declared.step.Step.the-variants as S
 
 no-lines : (t : List ℕ) (at : ℕ) → wordLines (drop at t) ≡ [] → StepIs t at S.End
-unfolding says onward
-no-lines t at e = record { said = sym (ap says e); lines = e ∙ sym (ap onward e); passed = tt }
+unfolding says
+no-lines t at e = record { said = sym (ap says e); passed = tt }
 
 -- the place is past the end
 pub end-past : (t : List ℕ) (at : ℕ) → length t ≤ at → StepIs t at S.End
@@ -33,16 +33,12 @@ module _ (t : List ℕ) (at from : ℕ) (s : Scanned isBlank t at from) where
 
     -- the line is no gate
     pub no-step : none ≡ gateLine (lineWords (drop from t)) → StepIs t at (S.Refused 7)
-    unfolding says onward
-    no-step e = record { said = sym (ap says here ∙ rw (sym e)); lines = here ∙ sym (ap onward here ∙ rw (sym e)); passed = tt }
+    unfolding says
+    no-step e = record { said = sym (ap says here ∙ rw (sym e)); passed = tt }
 
     -- the line is a gate
     pub on-step : (g : Gate) (to : ℕ) → some g ≡ gateLine (lineWords (drop from t)) → LineTaken t from to → StepIs t at (S.On g to)
-    unfolding says onward
+    unfolding says
     on-step g to e l =
         let o : from < to = line-on t from to h l in
-        record {
-          said = sym (ap says here ∙ rw (sym e));
-          lines = ap wordLines (l .left) ∙ sym (ap onward here ∙ rw (sym e));
-          passed = (omega (arith, s .on), l .within);
-        }
+        record { said = sym (ap says here ∙ rw (sym e)); passed = (line-passed t at from to s l, omega (arith, s .on), l .within) }

@@ -4,7 +4,8 @@ use mathlib.Core.Path.{_≡_}
 use mathlib.Core.List.{List}
 use lib.ListN.{length, drop}
 use Rattle.netlist.specs.Text.{wordLines}
-use Rattle.netlist.specs.GateReader.{Said, gate, end, no, says, onward}
+use Rattle.netlist.specs.GateReader.{Said, gate, end, no, says}
+use Rattle.read_text.specs.Line.{behindLine}
 use Rattle.gate_reader.specs.declared.step.Step.{Step}
 use Rattle.gate_reader.specs.declared.step.Step.the-variants as S
 
@@ -20,14 +21,13 @@ placeAfter at (S.On g to) = to
 placeAfter at S.End = at
 placeAfter at (S.Refused q) = at
 
--- a gate's line was passed
+-- a gate comes with the place behind its line
 abbrev pub Passed : List ℕ → ℕ → Step → Type 0
-Passed t at (S.On g to) = (at < to) × (to ≤ length t)
+Passed t at (S.On g to) = (drop to t ≡ behindLine (drop at t)) × (at < to) × (to ≤ length t)
 Passed t at S.End = Unit {0}
 Passed t at (S.Refused q) = Unit {0}
 
--- r is what the reader says at a place of t, and the place after it stands before the lines that are left
+-- r is what the reader says at a place of t
 pub record StepIs (t : List ℕ) (at : ℕ) (r : Step) : Type 0 where
   pub said : stepSaid r ≡ says (wordLines (drop at t))
-  pub lines : wordLines (drop (placeAfter at r) t) ≡ onward (wordLines (drop at t))
   pub passed : Passed t at r

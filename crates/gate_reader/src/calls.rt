@@ -1,12 +1,29 @@
-// The calls of a gate reader counted.
+// The calls of a gate reader counted, for a caller that holds a text and a place in place of a reader.
+use crate::advance;
+use crate::current;
 use crate::opening::Opening;
 use crate::opening::open_at;
+use crate::reader;
 use crate::step::Step;
-use crate::step::place_after;
-use crate::step::step_at;
 use netlist::Sizes;
 ghost use Rattle.netlist.specs.Netlist.{large as largeLimits};
-ghost use Rattle.gate_reader.specs.Calls.{CallIs, ReaderIs};
+ghost use Rattle.gate_reader.specs.Calls.{Called, CallIs, ReaderIs};
+
+// What the reader says at a place, and its place then.
+pub struct Call {
+    pub step: Step,
+    pub at: usize,
+}
+
+// One call of the reader at a place of a text.
+pub fn ask(text: &[u8], at: usize) -> Call
+    ensures { λ c. ⌜ Called (now (text .entry)) at c ⌝ }
+{
+    let r = reader(text, at);
+    let s = current(r);
+    let q = advance(r, s);
+    Call { step: s, at: q.at }
+}
 
 // What the reader at a place says when it is asked for the k-th time, from 0. Where it stays, at an end or a no, it says the
 // same each time.
@@ -16,15 +33,15 @@ fn call_at(text: &[u8], from: usize, k: usize) -> Step
     let mut at = from;
     let mut i = 0;
     while i < k {
-        let s = step_at(text, at);
-        let to = place_after(at, s);
-        if to == at {
-            return s;
+        let c = ask(text, at);
+        if c.at == at {
+            return c.step;
         }
-        at = to;
+        at = c.at;
         i += 1;
     }
-    step_at(text, at)
+    let last = ask(text, at);
+    last.step
 }
 
 // What the reader of a text says when it is asked for the k-th time, from 0; a refused opening gives its number.

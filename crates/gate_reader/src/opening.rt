@@ -1,4 +1,4 @@
-// Opening a gate reader: questions 2 to 6 with the large limits.
+// Opening a gate reader: questions 2 to 6 with the large limits, and 14 of the buffers for the widths.
 use netlist::Sizes;
 use netlist::large;
 use read_header::HeaderNumbers;
@@ -13,7 +13,7 @@ ghost use lib.Seq.{sets};
 ghost use Rattle.netlist.specs.Netlist.{large as largeLimits};
 ghost use Rattle.gate_reader.specs.Opens.{OpeningIs};
 
-// What the header says, with the place before the first gate line; or the first question with a no.
+// What the header says, with the place of the reader's first call; or the first question with a no.
 pub enum Opening {
     At(HeaderNumbers, usize),
     Refused(u8),
@@ -31,8 +31,7 @@ fn copy(widths: &[u32], count: usize, table: &mut [u32])
     }
 }
 
-// Questions 2 to 6. The widths of the values go to the front of the tables, as many as they have room for; on a refusal
-// the tables stay untouched.
+// Questions 2 to 6, and 14 of the two buffers. The widths of the values go to their fronts; on a refusal they stay untouched.
 pub fn open_at(text: &[u8], inputs: &mut [u32], outputs: &mut [u32], sizes: Sizes) -> Opening
     ensures { λ r. ⌜ OpeningIs (largeLimits sizes) (now (text .entry)) (now (inputs .entry)) (now (inputs .exit)) (now (outputs .entry))
         (now (outputs .exit)) r ⌝ }
@@ -44,6 +43,12 @@ pub fn open_at(text: &[u8], inputs: &mut [u32], outputs: &mut [u32], sizes: Size
         Head::Is(h, at) => {
             if count_lines(text, at) != h.gates as usize {
                 return Opening::Refused(6);
+            }
+            if inputs.len() < h.input_values {
+                return Opening::Refused(14);
+            }
+            if outputs.len() < h.output_values {
+                return Opening::Refused(14);
             }
             copy(&ins, h.input_values, inputs);
             copy(&outs, h.output_values, outputs);

@@ -1,5 +1,5 @@
 -- A gate's numbers, and its two entries.
-use Prim.Native.Nat.{ℕ, zero, suc, _+_, _*_, _<_, _≤_}
+use Prim.Native.Nat.{ℕ, zero, suc, _+_, _<_, _≤_}
 use mathlib.Core.Path.{_≡_, refl, sym, ap, _∙_, subst}
 use mathlib.Core.Bool.{Bool, true, false, cond, _&&_, _||_}
 use mathlib.Core.List.{[], _∷_, _++_}
@@ -11,7 +11,7 @@ use Rattle.netlist.specs.declared.Gate.the-variants.{Eq}
 use Rattle.netlist.specs.Netlist.{result}
 use Rattle.netlist.specs.Read.{operandsGiven}
 use Rattle.netlist.specs.Table.{Tables, half, gateOf, gatesOf, putEntry}
-use Rattle.netlist.proofs.Tests.{onBool}
+use Rattle.netlist.proofs.Tests.{clash, onBool}
 use Rattle.netlist.proofs.Puts.{entry-low, entry-high, Room, gates-put, wired-put}
 use Rattle.gate_table.specs.declared.GateNumbers.{GateNumbers}
 use Rattle.gate_table.specs.declared.Entry.{Entry}
@@ -22,7 +22,7 @@ use Rattle.gate_table.specs.Entry.{packed, entryOf, Entered, Stored}
 
 -- neither side of an `||` holds
 neither : (p q : Bool) → (p || q) ≡ false → (p ≡ false) × (q ≡ false)
-neither true q e = let z : _≡_ {A = ℕ} 0 1 = cc in absurd (omega arith)
+neither true q e = clash (cc)
 neither false q e = (refl, e)
 
 -- a number that is not the least it may be

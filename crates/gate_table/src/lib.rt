@@ -43,7 +43,7 @@ pub struct Parts {
 }
 
 // 2^32: the right operand and the kind stand in the upper halves of their entries.
-const HALF: u64 = 4294967296;
+pub const HALF: u64 = 4294967296;
 
 // The gate that the numbers are.
 pub fn gate_of(g: GateNumbers) -> Gate

@@ -4,7 +4,7 @@ use mathlib.Core.Path.{_≡_, refl, sym, ap, ap₂, _∙_, subst}
 use mathlib.Core.Bool.{Bool, true, false, _&&_}
 use mathlib.Core.List.{List, [], _∷_, _++_, map}
 use native.Mathlib.Omega.{arith}
-use lib.Dec.{T, eqb, leb, eqb→eq, lit<}
+use lib.Dec.{eqb, leb, eqb→eq, lit<}
 use lib.ListN.{length, take, getD}
 use borrow.Author.Tests.{le-leb, lt-leb, eq-eqb, ne-eqb}
 use Rattle.netlist.specs.declared.Gate.{Gate}
@@ -12,15 +12,15 @@ use Rattle.netlist.specs.declared.Limits.{Limits}
 use Rattle.netlist.specs.declared.Sizes.{Sizes}
 use Rattle.netlist.specs.declared.Answer.{Answer}
 use Rattle.netlist.specs.declared.Answer.the-variants.{Done, Refused}
-use Rattle.netlist.specs.Lists.{every, sum, sameBytes}
-use Rattle.netlist.specs.Netlist.{Netlist, inputBits, outputBits, large}
+use Rattle.netlist.specs.Lists.{every, sameBytes}
+use Rattle.netlist.specs.Netlist.{Netlist, inputBits, large}
 use Rattle.netlist.specs.Outcome.{Outcome, refused, done, ask, andThen}
 use Rattle.netlist.specs.Read.{readNetlist}
 use Rattle.netlist.specs.Write.{writeNetlist, gateText}
 use Rattle.netlist.specs.Mask.{isInputCode}
 use Rattle.netlist.specs.Services.{tablesLong, listGood, endsInMasks, outcomeOf, Answers, Delivers}
 use Rattle.netlist.specs.Table.{Tables, half, gatesOf}
-use Rattle.netlist.proofs.Tests.{both, true-T, isTrue}
+use Rattle.netlist.proofs.Tests.{clash, both, true-T, isTrue, same-equal}
 use Rattle.netlist.proofs.Questions.{done-same, ask-done}
 use Rattle.netlist.proofs.Puts.{length-gates}
 use Rattle.netlist.proofs.Answering.{answers-as, answers-refused, call-refused, call-goes-on, table-at}
@@ -34,7 +34,7 @@ use Rattle.write_netlist.specs.Form.{formText}
 use Rattle.joined.specs.Join.{joinedWire, renumbered, join}
 use Rattle.joined.specs.Call.{blockOutcome, readBlock, isSecret, seamGood, joinOutcome, joinCall}
 use Rattle.joined.specs.Delivered.{Delivered}
-use Rattle.joined.proofs.Calls.{same-equal, has-pair, read-block}
+use Rattle.joined.proofs.Calls.{has-pair, read-block}
 use Rattle.joined.proofs.Delivering.{call-delivers}
 use Rattle.join_gates.specs.Appended.{wiresOf, goesTo, Meeting, Appended}
 use Rattle.checker.proofs.Calling.{long-both}
@@ -70,7 +70,7 @@ module _ (L : Limits) (ls text codes : List ℕ) where
       rw (k .0, k .1 .read) z
     where
       other : (N : Netlist) {q : ℕ} (x y : Bool) → ask 10 x (ask 11 y (done h)) ≡ refused q → ask 10 x (ask 11 y (done N)) ≡ refused q
-      other N true true e = let z : _≡_ {A = ℕ} 0 1 = cc in absurd (omega arith)
+      other N true true e = clash (cc)
       other N true false e = cc
       other N false y e = cc
   block-is ins outs t {h} (R.Done h′) k e =
@@ -115,32 +115,32 @@ block-as {L = L} ls text codes ins outs t {r} e p h =
 
 -- ---- question 25
 
-module _ (a : HeaderNumbers) (ends : List ℕ) (b : HeaderNumbers) (codes : List ℕ) where
-  pub seam-number : (length ends ≡ a .«output_bits» → ⊥) → false ≡ seamHolds a ends b codes
-  seam-number h = sym (rw (ne-eqb (length ends) (a .«output_bits») h))
+module _ (a : HeaderNumbers) (outCodes : List ℕ) (b : HeaderNumbers) (codes : List ℕ) where
+  pub seam-number : (length outCodes ≡ a .«output_bits» → ⊥) → false ≡ seamHolds a outCodes b codes
+  seam-number h = sym (rw (ne-eqb (length outCodes) (a .«output_bits») h))
 
-  pub seam-values : length ends ≡ a .«output_bits» → sameBytes ends codes ≡ false → false ≡ seamHolds a ends b codes
-  seam-values h e = sym (rw (eq-eqb (length ends) (a .«output_bits») h, e))
+  pub seam-values : length outCodes ≡ a .«output_bits» → sameBytes outCodes codes ≡ false → false ≡ seamHolds a outCodes b codes
+  seam-values h e = sym (rw (eq-eqb (length outCodes) (a .«output_bits») h, e))
 
-  pub seam-public : length ends ≡ a .«output_bits» → sameBytes ends codes ≡ true → every isSecret codes ≡ false → false ≡ seamHolds a ends b codes
-  seam-public h e s = sym (rw (eq-eqb (length ends) (a .«output_bits») h, e, s))
+  pub seam-public : length outCodes ≡ a .«output_bits» → sameBytes outCodes codes ≡ true → every isSecret codes ≡ false → false ≡ seamHolds a outCodes b codes
+  seam-public h e s = sym (rw (eq-eqb (length outCodes) (a .«output_bits») h, e, s))
 
-  pub seam-gates : {r : Bool} → length ends ≡ a .«output_bits» → sameBytes ends codes ≡ true → every isSecret codes ≡ true → r ≡ leb (b .«output_bits») (b .gates)
-      → r ≡ seamHolds a ends b codes
-  seam-gates h e s g = g ∙ sym (rw (eq-eqb (length ends) (a .«output_bits») h, e, s))
+  pub seam-gates : {r : Bool} → length outCodes ≡ a .«output_bits» → sameBytes outCodes codes ≡ true → every isSecret codes ≡ true → r ≡ leb (b .«output_bits») (b .gates)
+      → r ≡ seamHolds a outCodes b codes
+  seam-gates h e s g = g ∙ sym (rw (eq-eqb (length outCodes) (a .«output_bits») h, e, s))
 
   -- the numbers then meet, where the joined W is below 2^32
-  pub seam-meets : {t v : Tables} → Numbers a t → Numbers b v → length codes ≡ b .«input_bits» - 2 → seamHolds a ends b codes ≡ true
+  pub seam-meets : {t v : Tables} → Numbers a t → Numbers b v → length codes ≡ b .«input_bits» - 2 → seamHolds a outCodes b codes ≡ true
       → wiresOf (seamOf a b) < half → Meeting (seamOf a b)
   seam-meets A B l e f =
-      let x = eqb (length ends) (a .«output_bits») in
-      let y = sameBytes ends codes in
+      let x = eqb (length outCodes) (a .«output_bits») in
+      let y = sameBytes outCodes codes in
       let z = every isSecret codes in
       let w = leb (b .«output_bits») (b .gates) in
       let p = both (x && y && z) w (true-T (x && y && z && w) e) .0 in
       let q = both x y (both (x && y) z p .0) in
-      let n : length ends ≡ a .«output_bits» = eqb→eq (length ends) (a .«output_bits») (q .0) in
-      let m : length ends ≡ length codes = ap length (same-equal ends codes (q .1)) in
+      let n : length outCodes ≡ a .«output_bits» = eqb→eq (length outCodes) (a .«output_bits») (q .0) in
+      let m : length outCodes ≡ length codes = ap length (same-equal outCodes codes (isTrue y (q .1))) in
       let i : 2 ≤ b .«input_bits» = B .pair in
       record { outs = A .outs; pair = A .pair; ins = A .ins; meets = omega arith; inner = B .ins; fits = f }
 
@@ -150,22 +150,22 @@ module _ {a b : HeaderNumbers} {ins outs : List ℕ} {t v : Tables} {A B : Netli
   gates-second : length (B .gates) ≡ b .gates
   gates-second = ap length (S .holds .gates) ∙ length-gates v (b .gates)
 
-  seam-same : (ends codes : List ℕ) → seamGood A ends B codes ≡ seamHolds a ends b codes
-  seam-same ends codes = rw (F .holds .outs, S .holds .outs, gates-second) refl
+  seam-same : (outCodes codes : List ℕ) → seamGood A outCodes B codes ≡ seamHolds a outCodes b codes
+  seam-same outCodes codes = rw (F .holds .outs, S .holds .outs, gates-second) refl
 
   wires-same : join A B .wires ≡ wiresOf (seamOf a b)
   wires-same = rw (F .holds .wires, S .holds .wires, S .holds .ins) refl
 
-  module _ (L : Limits) (ends codes out : List ℕ) where
-    pub join-25 : seamHolds a ends b codes ≡ false → Answers (joinOutcome L ends codes (length out) A B) out out (Refused 25)
-    join-25 e = answers-refused out (rw (seam-same ends codes ∙ e))
+  module _ (L : Limits) (outCodes codes out : List ℕ) where
+    pub join-25 : seamHolds a outCodes b codes ≡ false → Answers (joinOutcome L outCodes codes (length out) A B) out out (Refused 25)
+    join-25 e = answers-refused out (rw (seam-same outCodes codes ∙ e))
 
-    pub join-5 : seamHolds a ends b codes ≡ true → L .wires < wiresOf (seamOf a b) → Answers (joinOutcome L ends codes (length out) A B) out out (Refused 5)
-    join-5 e h = answers-refused out (rw (seam-same ends codes ∙ e, lt-leb (join A B .wires) (L .wires) (rw wires-same h)))
+    pub join-5 : seamHolds a outCodes b codes ≡ true → L .wires < wiresOf (seamOf a b) → Answers (joinOutcome L outCodes codes (length out) A B) out out (Refused 5)
+    join-5 e h = answers-refused out (rw (seam-same outCodes codes ∙ e, lt-leb (join A B .wires) (L .wires) (rw wires-same h)))
 
-    pub join-14 : {x : List ℕ} {r : Answer} → seamHolds a ends b codes ≡ true → wiresOf (seamOf a b) ≤ L .wires
-        → Delivers (writeNetlist (join A B)) out x r → Answers (joinOutcome L ends codes (length out) A B) out x r
-    join-14 e h d = answers-as (sym (rw (seam-same ends codes ∙ e, le-leb (join A B .wires) (L .wires) (rw wires-same h)))) (d .answers)
+    pub join-14 : {x : List ℕ} {r : Answer} → seamHolds a outCodes b codes ≡ true → wiresOf (seamOf a b) ≤ L .wires
+        → Delivers (writeNetlist (join A B)) out x r → Answers (joinOutcome L outCodes codes (length out) A B) out x r
+    join-14 e h d = answers-as (sym (rw (seam-same outCodes codes ∙ e, le-leb (join A B .wires) (L .wires) (rw wires-same h)))) (d .answers)
 
   -- the written form of the tables with the second's gates behind the first's
   pub joined-form : {u : Tables} {W : ℕ} → W ≡ wiresOf (seamOf a b) → Appended (seamOf a b) t (a .gates) v (b .gates) u
@@ -184,9 +184,9 @@ module _ {a b : HeaderNumbers} {ins outs : List ℕ} {t v : Tables} {A B : Netli
 
 -- ---- the second text, and the whole call
 
-module _ (L : Limits) (ls text codes ends out : List ℕ) (A : Netlist) where
+module _ (L : Limits) (ls text codes outCodes out : List ℕ) (A : Netlist) where
   abbrev then : Netlist → Outcome (List ℕ)
-  then = joinOutcome L ends codes (length out) A
+  then = joinOutcome L outCodes codes (length out) A
 
   pub second-not : {q : ℕ} → tablesLong L ls ≡ true → ask 1 (tablesLong L ls) (readBlock L text codes) ≡ refused q
       → Answers (andThen (readBlock L text codes) then) out out (Refused q)
@@ -196,10 +196,10 @@ module _ (L : Limits) (ls text codes ends out : List ℕ) (A : Netlist) where
       → Answers (andThen (readBlock L text codes) then) out x r
   second-read e = answers-as (sym (rw e))
 
-module _ (s : Sizes) (first second codes ends inner out o r g w b : List ℕ) where
+module _ (s : Sizes) (first second codes outCodes inner out o r g w b : List ℕ) where
   -- what follows the first text
   abbrev rest : Netlist → Outcome (List ℕ)
-  rest A = andThen (readBlock (large s) second inner) (joinOutcome (large s) ends inner (length out) A)
+  rest A = andThen (readBlock (large s) second inner) (joinOutcome (large s) outCodes inner (length out) A)
 
   module _ {n : ℕ} (shortest : n ≡ min (length w) (length b)) where
     -- question 1 of all five tables
@@ -207,21 +207,21 @@ module _ (s : Sizes) (first second codes ends inner out o r g w b : List ℕ) wh
     all-long = long-both (large s) (length o) (length r) (length g) (length w) (length b) shortest
 
     pub call-not : {q : ℕ} → ask 1 (tablesLong (large s) (length o ∷ length r ∷ length g ∷ n ∷ [])) (readBlock (large s) first codes) ≡ refused q
-        → Answers (call s first second codes ends inner out o r g w b) out out (Refused q)
+        → Answers (call s first second codes outCodes inner out o r g w b) out out (Refused q)
     unfolding joinCall
     call-not p = answers-refused out (call-refused (tablesLong (large s) (lengths o r g w b)) (readBlock (large s) first codes) rest (rw all-long at p))
 
     pub call-read : {A : Netlist} {x : List ℕ} {a : Answer} → tablesLong (large s) (length o ∷ length r ∷ length g ∷ n ∷ []) ≡ true
-        → readBlock (large s) first codes ≡ done A → Answers (rest A) out x a → Answers (call s first second codes ends inner out o r g w b) out x a
+        → readBlock (large s) first codes ≡ done A → Answers (rest A) out x a → Answers (call s first second codes outCodes inner out o r g w b) out x a
     unfolding joinCall
     call-read e p =
         answers-as (sym (call-goes-on (tablesLong (large s) (lengths o r g w b)) (readBlock (large s) first codes) rest (sym all-long ∙ e) p))
 
   -- what an answer with a text delivers
-  pub call-delivered : {x : List ℕ} {a : Answer} → Answers (call s first second codes ends inner out o r g w b) out x a
-      → (n : ℕ) → a ≡ Done n → Delivered s (lengths o r g w b) first codes ends second inner (length out) (take n x)
+  pub call-delivered : {x : List ℕ} {a : Answer} → Answers (call s first second codes outCodes inner out o r g w b) out x a
+      → (n : ℕ) → a ≡ Done n → Delivered s (lengths o r g w b) first codes outCodes second inner (length out) (take n x)
   call-delivered {x} {a} k n p =
-      call-delivers s (lengths o r g w b) first codes ends second inner (length out) (take n x) (sym (k .outcome) ∙ ap (outcomeOf x) p)
+      call-delivers s (lengths o r g w b) first codes outCodes second inner (length out) (take n x) (sym (k .outcome) ∙ ap (outcomeOf x) p)
 
 -- ---- for the functions' proofs
 
@@ -233,11 +233,11 @@ pub wires-of : (a b : HeaderNumbers) → Meeting (seamOf a b) → a .wires + (b 
 wires-of a b M = let i : b .«input_bits» ≤ b .wires = M .inner in omega arith
 
 -- what follows the first text, under limits that are known
-pub rest-as : {l L : Limits} (second inner ends out : List ℕ) (A : Netlist) {x : List ℕ} {r : Answer} → l ≡ L
-    → Answers (andThen (readBlock l second inner) (joinOutcome l ends inner (length out) A)) out x r
-    → Answers (andThen (readBlock L second inner) (joinOutcome L ends inner (length out) A)) out x r
-rest-as second inner ends out A {x} {r} e =
-    subst (λ (l : Limits). Answers (andThen (readBlock l second inner) (joinOutcome l ends inner (length out) A)) out x r) e
+pub rest-as : {l L : Limits} (second inner outCodes out : List ℕ) (A : Netlist) {x : List ℕ} {r : Answer} → l ≡ L
+    → Answers (andThen (readBlock l second inner) (joinOutcome l outCodes inner (length out) A)) out x r
+    → Answers (andThen (readBlock L second inner) (joinOutcome L outCodes inner (length out) A)) out x r
+rest-as second inner outCodes out A {x} {r} e =
+    subst (λ (l : Limits). Answers (andThen (readBlock l second inner) (joinOutcome l outCodes inner (length out) A)) out x r) e
 
 -- question 1 of the second's tables, which was put with the first
 pub four-long : (L : Limits) {a b c d : ℕ} → L .table ≤ a → L .table ≤ b → L .table ≤ c → L .table ≤ d → tablesLong L (a ∷ b ∷ c ∷ d ∷ []) ≡ true

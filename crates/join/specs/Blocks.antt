@@ -58,7 +58,7 @@ pub record Second (h : HeaderNumbers) (outs : List ℕ) (t : Tables) (N : Netlis
 
 -- question 25, from the headers' numbers
 abbrev pub seamHolds : HeaderNumbers → List ℕ → HeaderNumbers → List ℕ → Bool
-seamHolds a ends b codes = eqb (length ends) (a .«output_bits») && sameBytes ends codes && every isSecret codes && leb (b .«output_bits») (b .gates)
+seamHolds a outCodes b codes = eqb (length outCodes) (a .«output_bits») && sameBytes outCodes codes && every isSecret codes && leb (b .«output_bits») (b .gates)
 
 -- the numbers of the seam
 abbrev pub seamOf : HeaderNumbers → HeaderNumbers → SeamNumbers

@@ -19,13 +19,13 @@ lengths o r g w b = length o ∷ length r ∷ length g ∷ length w ∷ length b
 -- the outcome of a call that is handed its sizes, the first text and the second, the first's input codes and output codes, the second's
 -- input codes, a result buffer, and those tables
 abbrev pub call : Sizes → List ℕ → List ℕ → List ℕ → List ℕ → List ℕ → List ℕ → List ℕ → List ℕ → List ℕ → List ℕ → List ℕ → Outcome (List ℕ)
-call s first second codes ends inner out o r g w b = joinCall (large s) (lengths o r g w b) first codes ends second inner (length out)
+call s first second codes outCodes inner out o r g w b = joinCall (large s) (lengths o r g w b) first codes outCodes second inner (length out)
 
 -- the sizes, the texts and the codes, then the result buffer and each table before and after the call
-pub record Promise (s : Sizes) (first second codes ends inner out out′ o o′ r r′ g g′ w w′ b b′ : List ℕ) (a : Answer) : Type 0 where
-  pub answers : Answers (call s first second codes ends inner out o r g w b) out out′ a
+pub record Promise (s : Sizes) (first second codes outCodes inner out out′ o o′ r r′ g g′ w w′ b b′ : List ℕ) (a : Answer) : Type 0 where
+  pub answers : Answers (call s first second codes outCodes inner out o r g w b) out out′ a
   -- the text written is that of the joined netlist, with all that is said of it
-  pub delivered : (n : ℕ) → a ≡ Done n → Delivered s (lengths o r g w b) first codes ends second inner (length out) (take n out′)
+  pub delivered : (n : ℕ) → a ≡ Done n → Delivered s (lengths o r g w b) first codes outCodes second inner (length out) (take n out′)
   pub operands : Cleared o o′
   pub results : Cleared r r′
   pub marks : Cleared g g′

@@ -33,7 +33,7 @@ fn admit(h: HeaderNumbers, widths: &[u32], codes: &[u8]) -> Reading
     if !check_netlist::ends_in_masks(&widths[..values]) {
         return Reading::Refused(10);
     }
-    if !lists::codes(codes, h.input_bits as usize - 2) {
+    if !lists::valid_codes(codes, h.input_bits as usize - 2) {
         return Reading::Refused(11);
     }
     Reading::Done(h)
@@ -77,13 +77,13 @@ fn all_secret(codes: &[u8]) -> bool
 }
 
 // Question 25.
-fn seam_holds(a: HeaderNumbers, ends: &[u8], b: HeaderNumbers, codes: &[u8]) -> bool
-    ensures { λ r. ⌜ r ≡ seamHolds a (now (ends .entry)) b (now (codes .entry)) ⌝ }
+fn seam_holds(a: HeaderNumbers, out_codes: &[u8], b: HeaderNumbers, codes: &[u8]) -> bool
+    ensures { λ r. ⌜ r ≡ seamHolds a (now («out_codes» .entry)) b (now (codes .entry)) ⌝ }
 {
-    if ends.len() as u64 != a.output_bits {
+    if out_codes.len() as u64 != a.output_bits {
         return false;
     }
-    if !read_text::bytes::same(ends, codes) {
+    if !read_text::bytes::same(out_codes, codes) {
         return false;
     }
     if !all_secret(codes) {
@@ -143,7 +143,7 @@ fn write(
 
 // Questions 25, 5 and 14 and the joined text, of two blocks that were read.
 fn deliver(
-    ends: &[u8],
+    out_codes: &[u8],
     codes: &[u8],
     out: &mut [u8],
     a: HeaderNumbers,
@@ -161,9 +161,9 @@ fn deliver(
         × (length (now codes) ≡ b .«input_bits» - 2) × (l .wires ≤ length (now operands)) × (l .wires ≤ length (now results)) ⌝ }
     ensures { λ r. ⌜ ((A B : Netlist) → First a inputs (tables (now (operands .entry)) (now (results .entry))) A
         → Second b outputs (tables (now (words .entry)) (now (base .entry))) B
-        → Answers (joinOutcome l (now (ends .entry)) (now (codes .entry)) (length (now (out .entry))) A B) (now (out .entry)) (now (out .exit)) r) ⌝ }
+        → Answers (joinOutcome l (now («out_codes» .entry)) (now (codes .entry)) (length (now (out .entry))) A B) (now (out .entry)) (now (out .exit)) r) ⌝ }
 {
-    if !seam_holds(a, ends, b, codes) {
+    if !seam_holds(a, out_codes, b, codes) {
         return Answer::Refused(25);
     }
     let wires = a.wires as u64 + b.wires as u64 - b.input_bits;
@@ -176,7 +176,7 @@ fn deliver(
 // The answer once the first text is read: questions 2 to 11 of the second, and then 25, 5 and 14.
 fn read_second(
     second: &[u8],
-    ends: &[u8],
+    out_codes: &[u8],
     codes: &[u8],
     out: &mut [u8],
     a: HeaderNumbers,
@@ -194,7 +194,7 @@ fn read_second(
         × (l .table ≤ length (now base)) ⌝ }
     ensures { λ r. ⌜ ((A : Netlist) → First a inputs (tables (now (operands .entry)) (now (results .entry))) A
         → Answers (andThen (readBlock l (now (second .entry)) (now (codes .entry)))
-        (joinOutcome l (now (ends .entry)) (now (codes .entry)) (length (now (out .entry))) A)) (now (out .entry)) (now (out .exit)) r) ⌝ }
+        (joinOutcome l (now («out_codes» .entry)) (now (codes .entry)) (length (now (out .entry))) A)) (now (out .entry)) (now (out .exit)) r) ⌝ }
 {
     let mut inner = [0u32; 17];
     let mut outputs = [0u32; 16];
@@ -212,7 +212,7 @@ fn read_second(
     ) {
         Reading::Refused(question) => Answer::Refused(question),
         Reading::Done(b) => deliver(
-            ends,
+            out_codes,
             codes,
             out,
             a,
@@ -233,7 +233,7 @@ fn answer(
     first: &[u8],
     second: &[u8],
     codes: &[u8],
-    ends: &[u8],
+    out_codes: &[u8],
     inner: &[u8],
     out: &mut [u8],
     operands: &mut [u64],
@@ -243,7 +243,7 @@ fn answer(
     base: &mut [u64],
     sizes: Sizes,
 ) -> Answer
-    ensures { λ r. ⌜ Answers (call sizes (now (first .entry)) (now (second .entry)) (now (codes .entry)) (now (ends .entry)) (now (inner .entry))
+    ensures { λ r. ⌜ Answers (call sizes (now (first .entry)) (now (second .entry)) (now (codes .entry)) (now («out_codes» .entry)) (now (inner .entry))
         (now (out .entry)) (now (operands .entry)) (now (results .entry)) (now (marks .entry)) (now (words .entry)) (now (base .entry)))
         (now (out .entry)) (now (out .exit)) r ⌝ }
 {
@@ -265,7 +265,7 @@ fn answer(
         Reading::Refused(question) => Answer::Refused(question),
         Reading::Done(a) => read_second(
             second,
-            ends,
+            out_codes,
             inner,
             out,
             a,
@@ -286,7 +286,7 @@ pub fn join(
     first: &[u8],
     second: &[u8],
     codes: &[u8],
-    ends: &[u8],
+    out_codes: &[u8],
     inner: &[u8],
     out: &mut [u8],
     operands: &mut [u64],
@@ -296,7 +296,7 @@ pub fn join(
     base: &mut [u64],
     sizes: Sizes,
 ) -> Answer
-    ensures { λ r. ⌜ Promise sizes (now (first .entry)) (now (second .entry)) (now (codes .entry)) (now (ends .entry)) (now (inner .entry))
+    ensures { λ r. ⌜ Promise sizes (now (first .entry)) (now (second .entry)) (now (codes .entry)) (now («out_codes» .entry)) (now (inner .entry))
         (now (out .entry)) (now (out .exit)) (now (operands .entry)) (now (operands .exit)) (now (results .entry)) (now (results .exit))
         (now (marks .entry)) (now (marks .exit)) (now (words .entry)) (now (words .exit)) (now (base .entry)) (now (base .exit)) r ⌝ }
 {
@@ -304,7 +304,7 @@ pub fn join(
         first,
         second,
         codes,
-        ends,
+        out_codes,
         inner,
         out,
         operands,

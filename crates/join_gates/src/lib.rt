@@ -1,12 +1,10 @@
 // The gates of a second netlist put behind those of a first, on their joined wires.
+use gate_table::HALF;
 ghost use mathlib.Core.Path.{_≡_};
 ghost use Prim.Native.Nat.{_+_, _*_, _/_, _%_, _≤_, _<_};
 ghost use lib.ListN.{length};
 ghost use Rattle.netlist.specs.Table.{tables, half, Wired};
 ghost use Rattle.join_gates.specs.Appended.{Meeting, goesTo, Appended};
-
-// 2^32: the right operand and the kind stand in the upper halves of their entries.
-const HALF: u64 = 4294967296;
 
 // The numbers of a seam; input bits include the mask pair.
 pub struct SeamNumbers {

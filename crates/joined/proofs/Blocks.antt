@@ -47,29 +47,29 @@ masked-block {N} {codes} {wanted} C =
       clean = counts-equal C;
     }
 
-module _ {f : List Bool → List Bool} {codes : List ℕ} {A : Netlist} {ends : List ℕ} (K : Block f codes A ends) where
-  put-out : (m0 m1 : Bool) (x : List Bool) → length (outputsOf A (masked m0 m1 codes x)) ≡ length ends
+module _ {f : List Bool → List Bool} {codes : List ℕ} {A : Netlist} {outCodes : List ℕ} (K : Block f codes A outCodes) where
+  put-out : (m0 m1 : Bool) (x : List Bool) → length (outputsOf A (masked m0 m1 codes x)) ≡ length outCodes
   put-out m0 m1 x =
       let i : length codes + 2 ≡ inputBits A = K .inputs in
       length-outputsOf (K .formed) (masked m0 m1 codes x) (length-masked m0 m1 codes x ∙ i) ∙ sym (K .outputs)
 
   -- the function gives a bit for each output bit
-  pub length-computed : (x : List Bool) → length x ≡ length codes → length (f x) ≡ length ends
+  pub length-computed : (x : List Bool) → length x ≡ length codes → length (f x) ≡ length outCodes
   length-computed x l =
       let m = Bool.false in
-      ap length (sym (K .computes m m x l)) ∙ length-unmasked m m ends (outputsOf A (masked m m codes x)) (put-out m m x)
+      ap length (sym (K .computes m m x l)) ∙ length-unmasked m m outCodes (outputsOf A (masked m m codes x)) (put-out m m x)
 
   -- what goes over the seam: the function's bits, masked by the output codes, and the mask pair
-  pub seam-masked : (m0 m1 : Bool) (x : List Bool) → length x ≡ length codes → seamBits A (masked m0 m1 codes x) ≡ masked m0 m1 ends (f x)
+  pub seam-masked : (m0 m1 : Bool) (x : List Bool) → length x ≡ length codes → seamBits A (masked m0 m1 codes x) ≡ masked m0 m1 outCodes (f x)
   seam-masked m0 m1 x l =
       let i : length codes + 2 ≡ inputBits A = K .inputs in
       let ins = masked m0 m1 codes x in
       let z : inputBits A - 2 ≡ length codes = omega arith in
       ap (λ (p : List Bool). outputsOf A ins ++ p) (ap (λ (k : ℕ). drop k ins) z ∙ mask-pair m0 m1 codes x)
-      ∙ sym (masked-again m0 m1 ends (outputsOf A ins) (put-out m0 m1 x))
-      ∙ ap (masked m0 m1 ends) (K .computes m0 m1 x l)
+      ∙ sym (masked-again m0 m1 outCodes (outputsOf A ins) (put-out m0 m1 x))
+      ∙ ap (masked m0 m1 outCodes) (K .computes m0 m1 x l)
 
-module _ {f g : List Bool → List Bool} {codes middle ends : List ℕ} {A B : Netlist} (K : Block f codes A middle) (L : Block g middle B ends) where
+module _ {f g : List Bool → List Bool} {codes middle outCodes : List ℕ} {A B : Netlist} (K : Block f codes A middle) (L : Block g middle B outCodes) where
   pub blocks-meet : Seam A B
   blocks-meet =
       let i : length codes + 2 ≡ inputBits A = K .inputs in
@@ -119,14 +119,14 @@ module _ {f g : List Bool → List Bool} {codes middle ends : List ℕ} {A B : N
         ∙ sym (second-count v b y (a .second))))
 
     -- two blocks joined over secret bits
-    pub joined-block : Block (λ x. g (f x)) codes (join A B) ends
+    pub joined-block : Block (λ x. g (f x)) codes (join A B) outCodes
     joined-block = record {
       formed = joined-formed blocks-meet;
       inputs = K .inputs;
       outputs = L .outputs;
       gates = let k : outputBits B ≤ length (B .gates) = L .gates in simp (length-append, length-map) (omega arith);
       computes = λ m0 m1 x l.
-          ap (unmasked m0 m1 ends) (joined-outputs blocks-meet (masked m0 m1 codes x) (fits m0 m1 x) ∙ ap (outputsOf B) (seam-masked K m0 m1 x l))
+          ap (unmasked m0 m1 outCodes) (joined-outputs blocks-meet (masked m0 m1 codes x) (fits m0 m1 x) ∙ ap (outputsOf B) (seam-masked K m0 m1 x l))
           ∙ L .computes m0 m1 (f x) (length-computed K x l);
       clean = joined-clean;
     }
@@ -145,10 +145,10 @@ module _ (N N′ : Netlist) (codes wanted wanted′ : List ℕ) where
   masked-join C D = joined-block (masked-block C) (masked-block D) (codes-secret (M .codes) (output-codes-good C))
 
 -- three blocks: one netlist, which is a block of the third function after the second after the first
-module _ {f g h : List Bool → List Bool} {codes first second ends : List ℕ} {A B C : Netlist}
-    (K : Block f codes A first) (L : Block g first B second) (M : Block h second C ends) where
+module _ {f g h : List Bool → List Bool} {codes first second outCodes : List ℕ} {A B C : Netlist}
+    (K : Block f codes A first) (L : Block g first B second) (M : Block h second C outCodes) where
   pub three-joined : join (join A B) C ≡ join A (join B C)
   three-joined = join-three (blocks-meet K L) (blocks-meet L M)
 
-  pub three-block : T (every isSecret first) → T (every isSecret second) → Block (λ x. h (g (f x))) codes (join (join A B) C) ends
+  pub three-block : T (every isSecret first) → T (every isSecret second) → Block (λ x. h (g (f x))) codes (join (join A B) C) outCodes
   three-block s t = joined-block (joined-block K L s) M t

@@ -1,6 +1,6 @@
 -- A call that is accepted: what its questions made sure of, and what the joined text is.
 use Prim.Native.Nat.{ℕ, zero, suc, _-_, _≤_}
-use mathlib.Core.Path.{_≡_, refl, sym, ap, ap₂, _∙_, subst}
+use mathlib.Core.Path.{_≡_, refl, sym, ap, _∙_, subst}
 use mathlib.Core.Bool.{Bool, _&&_}
 use mathlib.Core.List.{List, [], _∷_}
 use native.Mathlib.Omega.{arith}
@@ -15,7 +15,7 @@ use Rattle.netlist.specs.Read.{readNetlist, Within}
 use Rattle.netlist.specs.Write.{writeNetlist}
 use Rattle.netlist.specs.Mask.{isInputCode}
 use Rattle.netlist.specs.Services.{tablesLong, listGood, holds, endsInMasks}
-use Rattle.netlist.proofs.Tests.{isTrue, true-T, both, pair}
+use Rattle.netlist.proofs.Tests.{isTrue, true-T, both, pair, same-equal}
 use Rattle.netlist.proofs.Questions.{done-same, ask-done, andThen-done}
 use Rattle.netlist.proofs.Accepted.{accepted}
 use Rattle.netlist.proofs.Size.{Roomy, reads-back}
@@ -28,14 +28,6 @@ use Rattle.joined.proofs.Formed.{joined-formed}
 
 ask-yes : {A : Type 0} (q : ℕ) (b : Bool) (r : Outcome A) → T b → ask q b r ≡ r
 ask-yes q b r t = rw (isTrue b t) refl
-
-pub same-equal : (u v : List ℕ) → T (sameBytes u v) → u ≡ v
-same-equal [] [] t = refl
-same-equal [] (y ∷ v) t = absurd t
-same-equal (x ∷ u) [] t = absurd t
-same-equal (x ∷ u) (y ∷ v) t =
-    let p = both (eqb x y) (sameBytes u v) t in
-    ap₂ (λ (z : ℕ) (w : List ℕ). z ∷ w) (eqb→eq x y (p .0)) (same-equal u v (p .1))
 
 at-most-sum : (xs : List ℕ) (i : ℕ) → getD xs i 0 ≤ sum xs
 at-most-sum [] i = omega arith
@@ -70,18 +62,18 @@ has-pair N t =
     omega (arith, at-most-sum (N .inputs) last)
 
 -- what 25 says
-pub record Joins (A : Netlist) (ends : List ℕ) (B : Netlist) (codes : List ℕ) : Type 0 where
-  pub count : length ends ≡ outputBits A
-  pub same : T (sameBytes ends codes)
+pub record Joins (A : Netlist) (outCodes : List ℕ) (B : Netlist) (codes : List ℕ) : Type 0 where
+  pub count : length outCodes ≡ outputBits A
+  pub same : T (sameBytes outCodes codes)
   pub secret : T (every isSecret codes)
   pub gates : outputBits B ≤ length (B .gates)
 
-module _ (A : Netlist) (ends : List ℕ) (B : Netlist) (codes : List ℕ) where
+module _ (A : Netlist) (outCodes : List ℕ) (B : Netlist) (codes : List ℕ) where
   abbrev a : Bool
-  a = eqb (length ends) (outputBits A)
+  a = eqb (length outCodes) (outputBits A)
 
   abbrev b : Bool
-  b = sameBytes ends codes
+  b = sameBytes outCodes codes
 
   abbrev c : Bool
   c = every isSecret codes
@@ -89,20 +81,20 @@ module _ (A : Netlist) (ends : List ℕ) (B : Netlist) (codes : List ℕ) where
   abbrev d : Bool
   d = leb (outputBits B) (length (B .gates))
 
-  pub joins : T (seamGood A ends B codes) → Joins A ends B codes
+  pub joins : T (seamGood A outCodes B codes) → Joins A outCodes B codes
   joins t =
       let p = both (a && b && c) d t in
       let q = both (a && b) c (p .0) in
       let r = both a b (q .0) in
       record { count = eqb→eq _ _ (r .0); same = r .1; secret = q .1; gates = leb→le _ _ (p .1) }
 
-  pub seam-good : Joins A ends B codes → T (seamGood A ends B codes)
+  pub seam-good : Joins A outCodes B codes → T (seamGood A outCodes B codes)
   seam-good J =
-      pair (a && b && c) d (pair (a && b) c (pair a b (true-T a (eq-eqb (length ends) (outputBits A) (J .count))) (J .same)) (J .secret)) (le→leb _ _ (J .gates))
+      pair (a && b && c) d (pair (a && b) c (pair a b (true-T a (eq-eqb (length outCodes) (outputBits A) (J .count))) (J .same)) (J .secret)) (le→leb _ _ (J .gates))
 
 -- ---- a call
 
-module _ (L : Limits) (tables first firstCodes firstEnds second secondCodes : List ℕ) (room : ℕ) where
+module _ (L : Limits) (tables first firstCodes firstOutCodes second secondCodes : List ℕ) (room : ℕ) where
   -- what a call that gives out was handed, and what out is
   pub record Joined (out : List ℕ) : Type 0 where
     pub long : T (tablesLong L tables)
@@ -110,15 +102,15 @@ module _ (L : Limits) (tables first firstCodes firstEnds second secondCodes : Li
     pub one : Admitted L first firstCodes A
     pub B : Netlist
     pub two : Admitted L second secondCodes B
-    pub seam : Joins A firstEnds B secondCodes
+    pub seam : Joins A firstOutCodes B secondCodes
     pub wires : join A B .wires ≤ L .wires
     pub text : out ≡ writeNetlist (join A B)
     pub fits : length out ≤ room
 
   abbrev rest : Netlist → Netlist → Outcome (List ℕ)
-  rest A B = joinOutcome L firstEnds secondCodes room A B
+  rest A B = joinOutcome L firstOutCodes secondCodes room A B
 
-  pub joined : (out : List ℕ) → joinCall L tables first firstCodes firstEnds second secondCodes room ≡ done out → Joined out
+  pub joined : (out : List ℕ) → joinCall L tables first firstCodes firstOutCodes second secondCodes room ≡ done out → Joined out
   unfolding joinCall
   joined out e =
       let k₁ = ask-done 1 (tablesLong L tables) (andThen (readBlock L first firstCodes) λ A. andThen (readBlock L second secondCodes) (rest A)) out e in
@@ -127,7 +119,7 @@ module _ (L : Limits) (tables first firstCodes firstEnds second secondCodes : Li
       let l = andThen-done (readBlock L second secondCodes) (rest A) out (k .2) in
       let B = l .0 in
       let text = writeNetlist (join A B) in
-      let k₂₅ = ask-done 25 (seamGood A firstEnds B secondCodes) (ask 5 (leb (join A B .wires) (L .wires)) (ask 14 (holds room text) (done text))) out (l .2) in
+      let k₂₅ = ask-done 25 (seamGood A firstOutCodes B secondCodes) (ask 5 (leb (join A B .wires) (L .wires)) (ask 14 (holds room text) (done text))) out (l .2) in
       let k₅ = ask-done 5 (leb (join A B .wires) (L .wires)) (ask 14 (holds room text) (done text)) out (k₂₅ .1) in
       let k₁₄ = ask-done 14 (holds room text) (done text) out (k₅ .1) in
       let same : text ≡ out = done-same text out (k₁₄ .1) in
@@ -138,13 +130,13 @@ module _ (L : Limits) (tables first firstCodes firstEnds second secondCodes : Li
         one = admitted L first firstCodes A (k .1);
         B = B;
         two = admitted L second secondCodes B (l .1);
-        seam = joins A firstEnds B secondCodes (k₂₅ .0);
+        seam = joins A firstOutCodes B secondCodes (k₂₅ .0);
         wires = leb→le _ _ (k₅ .0);
         text = sym same;
         fits = rw same at short;
       }
 
-  pub call-done : (out : List ℕ) → Joined out → joinCall L tables first firstCodes firstEnds second secondCodes room ≡ done out
+  pub call-done : (out : List ℕ) → Joined out → joinCall L tables first firstCodes firstOutCodes second secondCodes room ≡ done out
   unfolding joinCall
   call-done out J =
       let A = J .A in
@@ -154,7 +146,7 @@ module _ (L : Limits) (tables first firstCodes firstEnds second secondCodes : Li
       ask-yes 1 (tablesLong L tables) _ (J .long)
       ∙ ap (λ (o : Outcome Netlist). andThen o λ A. andThen (readBlock L second secondCodes) (rest A)) (read-block (J .one))
       ∙ ap (λ (o : Outcome Netlist). andThen o (rest A)) (read-block (J .two))
-      ∙ ask-yes 25 (seamGood A firstEnds B secondCodes) _ (seam-good A firstEnds B secondCodes (J .seam))
+      ∙ ask-yes 25 (seamGood A firstOutCodes B secondCodes) _ (seam-good A firstOutCodes B secondCodes (J .seam))
       ∙ ask-yes 5 (leb (join A B .wires) (L .wires)) _ (le→leb _ _ (J .wires))
       ∙ ask-yes 14 (holds room text) _ (le→leb _ _ short)
       ∙ ap done (sym (J .text))
@@ -165,8 +157,8 @@ module _ (L : Limits) (tables first firstCodes firstEnds second secondCodes : Li
       let A = J .A in
       let B = J .B in
       let n : 2 ≤ inputBits B = has-pair B (J .two .masks) in
-      let e : length firstEnds ≡ outputBits A = J .seam .count in
-      let s : length firstEnds ≡ length secondCodes = ap length (same-equal firstEnds secondCodes (J .seam .same)) in
+      let e : length firstOutCodes ≡ outputBits A = J .seam .count in
+      let s : length firstOutCodes ≡ length secondCodes = ap length (same-equal firstOutCodes secondCodes (isTrue (sameBytes firstOutCodes secondCodes) (J .seam .same))) in
       let l : length secondCodes ≡ inputBits B - 2
       = eqb→eq _ _ (both (eqb (length secondCodes) (inputBits B - 2)) (every isInputCode secondCodes) (J .two .list) .0) in
       record {

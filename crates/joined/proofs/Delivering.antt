@@ -19,20 +19,20 @@ use Rattle.joined.proofs.Calls.{joined, call-seam, joined-reads}
 use Rattle.joined.proofs.BlockTexts.{mask-text, join-text}
 use Rattle.joined.proofs.ThreeTexts.{other-order, order-back}
 
-module _ (s : Sizes) (tables first codes ends second inner : List ℕ) (room : ℕ) (text : List ℕ)
-    (e : joinCall (large s) tables first codes ends second inner room ≡ done text) where
+module _ (s : Sizes) (tables first codes outCodes second inner : List ℕ) (room : ℕ) (text : List ℕ)
+    (e : joinCall (large s) tables first codes outCodes second inner room ≡ done text) where
   -- the block that the text of two blocks reads as
-  block-of : {f g : List Bool → List Bool} {ends′ : List ℕ} {J : Netlist} → BlockText s f codes first ends → BlockText s g inner second ends′
-      → readNetlist (large s) text ≡ done J → Block (λ x. g (f x)) codes J ends′
+  block-of : {f g : List Bool → List Bool} {outCodes′ : List ℕ} {J : Netlist} → BlockText s f codes first outCodes → BlockText s g inner second outCodes′
+      → readNetlist (large s) text ≡ done J → Block (λ x. g (f x)) codes J outCodes′
   block-of {J = J} K L r =
       let T = join-text tables room K L e in
       let z : T .netlist ≡ J = done-same (T .netlist) J (sym (T .read) ∙ r) in
       rw z at (T .block)
 
-  pub call-delivers : Delivered s tables first codes ends second inner room text
+  pub call-delivers : Delivered s tables first codes outCodes second inner room text
   call-delivers =
-      let J = joined (large s) tables first codes ends second inner room text e in
-      let back = joined-reads (large s) tables first codes ends second inner room (roomy-large s) J in
+      let J = joined (large s) tables first codes outCodes second inner room text e in
+      let back = joined-reads (large s) tables first codes outCodes second inner room (roomy-large s) J in
       record {
         firstIs = J .A;
         firstRead = J .one .read;
@@ -40,10 +40,10 @@ module _ (s : Sizes) (tables first codes ends second inner : List ℕ) (room : �
         secondRead = J .two .read;
         written = J .text;
         back = back;
-        computes = joined-outputs (call-seam (large s) tables first codes ends second inner room J);
-        outputs = λ N N′ ends′ F G. block-of (mask-text F (J .one .read)) (mask-text G (J .two .read)) back .computes;
-        counts = λ N N′ ends′ F G. block-of (mask-text F (J .one .read)) (mask-text G (J .two .read)) back .clean;
-        block = λ f g ends′ K L. join-text tables room K L e;
-        laterSeam = λ f g one oneEnds two twoCodes p K L d. other-order K L tables second inner room p first text d e;
-        earlierSeam = λ f g two twoEnds three threeCodes p K L d. order-back K L tables three threeCodes room p second text d e;
+        computes = joined-outputs (call-seam (large s) tables first codes outCodes second inner room J);
+        outputs = λ N N′ outCodes′ F G. block-of (mask-text F (J .one .read)) (mask-text G (J .two .read)) back .computes;
+        counts = λ N N′ outCodes′ F G. block-of (mask-text F (J .one .read)) (mask-text G (J .two .read)) back .clean;
+        block = λ f g outCodes′ K L. join-text tables room K L e;
+        laterSeam = λ f g one oneOutCodes two twoCodes p K L d. other-order K L tables second inner room p first text d e;
+        earlierSeam = λ f g two twoOutCodes three threeCodes p K L d. order-back K L tables three threeCodes room p second text d e;
       }

@@ -32,19 +32,19 @@ first-wide {A} {B} S more =
     let c : length (A .gates) ≡ A .wires - inputBits A = S .first .gateCount in
     omega arith
 
-module _ {L : Limits} (R : Roomy L) (tables one oneCodes oneEnds two twoCodes twoEnds three threeCodes : List ℕ) where
+module _ {L : Limits} (R : Roomy L) (tables one oneCodes oneOutCodes two twoCodes twoOutCodes three threeCodes : List ℕ) where
   -- the four calls: one and two, their text and three, two and three, one and their text
   abbrev FirstSeam : ℕ → List ℕ → Type 0
-  FirstSeam room out = Joined L tables one oneCodes oneEnds two twoCodes room out
+  FirstSeam room out = Joined L tables one oneCodes oneOutCodes two twoCodes room out
 
   abbrev ThenThird : List ℕ → ℕ → List ℕ → Type 0
-  ThenThird text room out = Joined L tables text oneCodes twoEnds three threeCodes room out
+  ThenThird text room out = Joined L tables text oneCodes twoOutCodes three threeCodes room out
 
   abbrev SecondSeam : ℕ → List ℕ → Type 0
-  SecondSeam room out = Joined L tables two twoCodes twoEnds three threeCodes room out
+  SecondSeam room out = Joined L tables two twoCodes twoOutCodes three threeCodes room out
 
   abbrev ThenFirst : List ℕ → ℕ → List ℕ → Type 0
-  ThenFirst text room out = Joined L tables one oneCodes oneEnds text twoCodes room out
+  ThenFirst text room out = Joined L tables one oneCodes oneOutCodes text twoCodes room out
 
   -- two readings of a text are one
   same-reading : (text : List ℕ) {N M : Netlist} → readNetlist L text ≡ done N → readNetlist L text ≡ done M → N ≡ M
@@ -55,13 +55,13 @@ module _ {L : Limits} (R : Roomy L) (tables one oneCodes oneEnds two twoCodes tw
       let A = F .A in
       let B = F .B in
       let C = G .B in
-      let ab : G .A ≡ join A B = same-reading u (G .one .read) (joined-reads L tables one oneCodes oneEnds two twoCodes p R F) in
+      let ab : G .A ≡ join A B = same-reading u (G .one .read) (joined-reads L tables one oneCodes oneOutCodes two twoCodes p R F) in
       let b : H .A ≡ B = same-reading two (H .one .read) (F .two .read) in
       let c : H .B ≡ C = same-reading three (H .two .read) (G .two .read) in
       let a : K .A ≡ A = same-reading one (K .one .read) (F .one .read) in
-      let bc : K .B ≡ join (H .A) (H .B) = same-reading x (K .two .read) (joined-reads L tables two twoCodes twoEnds three threeCodes r R H) in
-      let S = call-seam L tables one oneCodes oneEnds two twoCodes p F in
-      let Q : Seam B C = rw (b, c) at (call-seam L tables two twoCodes twoEnds three threeCodes r H) in
+      let bc : K .B ≡ join (H .A) (H .B) = same-reading x (K .two .read) (joined-reads L tables two twoCodes twoOutCodes three threeCodes r R H) in
+      let S = call-seam L tables one oneCodes oneOutCodes two twoCodes p F in
+      let Q : Seam B C = rw (b, c) at (call-seam L tables two twoCodes twoOutCodes three threeCodes r H) in
       G .text ∙ ap (λ (N : Netlist). writeNetlist (join N C)) ab ∙ ap writeNetlist (join-three S Q)
       ∙ sym (K .text ∙ rw (a, bc, b, c))
 
@@ -81,13 +81,13 @@ module _ {L : Limits} (R : Roomy L) (tables one oneCodes oneEnds two twoCodes tw
       let A = F .A in
       let B = F .B in
       let C = G .B in
-      let ab : G .A ≡ join A B = same-reading u (G .one .read) (joined-reads L tables one oneCodes oneEnds two twoCodes p R F) in
-      let S = call-seam L tables one oneCodes oneEnds two twoCodes p F in
-      let J : Seam (join A B) C = rw ab at (call-seam L tables u oneCodes twoEnds three threeCodes q G) in
+      let ab : G .A ≡ join A B = same-reading u (G .one .read) (joined-reads L tables one oneCodes oneOutCodes two twoCodes p R F) in
+      let S = call-seam L tables one oneCodes oneOutCodes two twoCodes p F in
+      let J : Seam (join A B) C = rw ab at (call-seam L tables u oneCodes twoOutCodes three threeCodes q G) in
       let m : outputBits A + 2 ≡ inputBits B = S .meets in
       let wide : inputBits B ≤ A .wires = first-wide S more in
       let Q : Seam B C = record { first = S .second; second = J .second; pair = omega arith; meets = J .meets; gates = J .gates } in
-      let s : Joins (join A B) twoEnds C threeCodes = rw ab at (G .seam) in
+      let s : Joins (join A B) twoOutCodes C threeCodes = rw ab at (G .seam) in
       let w : join (join A B) C .wires ≤ L .wires = rw ab at (G .wires) in
       let i : inputBits B ≤ B .wires = S .second .inputsFit in
       let k : inputBits C ≤ C .wires = J .second .inputsFit in
@@ -129,11 +129,11 @@ module _ {L : Limits} (R : Roomy L) (tables one oneCodes oneEnds two twoCodes tw
       let A = K .A in
       let B = H .A in
       let C = H .B in
-      let bc : K .B ≡ join B C = same-reading x (K .two .read) (joined-reads L tables two twoCodes twoEnds three threeCodes r R H) in
-      let Q = call-seam L tables two twoCodes twoEnds three threeCodes r H in
-      let J : Seam A (join B C) = rw bc at (call-seam L tables one oneCodes oneEnds x twoCodes s K) in
+      let bc : K .B ≡ join B C = same-reading x (K .two .read) (joined-reads L tables two twoCodes twoOutCodes three threeCodes r R H) in
+      let Q = call-seam L tables two twoCodes twoOutCodes three threeCodes r H in
+      let J : Seam A (join B C) = rw bc at (call-seam L tables one oneCodes oneOutCodes x twoCodes s K) in
       let S : Seam A B = record { first = J .first; second = Q .first; pair = J .pair; meets = J .meets; gates = more } in
-      let t : Joins A oneEnds (join B C) twoCodes = rw bc at (K .seam) in
+      let t : Joins A oneOutCodes (join B C) twoCodes = rw bc at (K .seam) in
       let w : join A (join B C) .wires ≤ L .wires = rw bc at (K .wires) in
       let i : inputBits B ≤ B .wires = Q .first .inputsFit in
       let k : inputBits C ≤ C .wires = Q .second .inputsFit in
@@ -168,37 +168,37 @@ module _ {L : Limits} (R : Roomy L) (tables one oneCodes oneEnds two twoCodes tw
       )
 
 -- texts of blocks have the gates that this asks for: what calls accept in one order they accept in the other, with the same text
-module _ {s : Sizes} {f g : List Bool → List Bool} {one oneCodes oneEnds two twoCodes twoEnds : List ℕ} (K : BlockText s f oneCodes one oneEnds)
-    (M : BlockText s g twoCodes two twoEnds) (tables three threeCodes : List ℕ) (last : ℕ) where
+module _ {s : Sizes} {f g : List Bool → List Bool} {one oneCodes oneOutCodes two twoCodes twoOutCodes : List ℕ} (K : BlockText s f oneCodes one oneOutCodes)
+    (M : BlockText s g twoCodes two twoOutCodes) (tables three threeCodes : List ℕ) (last : ℕ) where
   -- the gates of a block's text
-  gates-of : {h : List Bool → List Bool} {codes text ends : List ℕ} → BlockText s h codes text ends → {N : Netlist} → readNetlist (large s) text ≡ done N
+  gates-of : {h : List Bool → List Bool} {codes text outCodes : List ℕ} → BlockText s h codes text outCodes → {N : Netlist} → readNetlist (large s) text ≡ done N
       → outputBits N ≤ length (N .gates)
   gates-of T {N} e = let z : T .netlist ≡ N = done-same (T .netlist) N (sym (T .read) ∙ e) in rw z at (T .block .gates)
 
-  pub other-order : (p : ℕ) (u v : List ℕ) → joinCall (large s) tables one oneCodes oneEnds two twoCodes p ≡ done u
-      → joinCall (large s) tables u oneCodes twoEnds three threeCodes last ≡ done v
-      → (x : List ℕ) × (joinCall (large s) tables two twoCodes twoEnds three threeCodes (large s .text) ≡ done x)
-      × (joinCall (large s) tables one oneCodes oneEnds x twoCodes last ≡ done v)
+  pub other-order : (p : ℕ) (u v : List ℕ) → joinCall (large s) tables one oneCodes oneOutCodes two twoCodes p ≡ done u
+      → joinCall (large s) tables u oneCodes twoOutCodes three threeCodes last ≡ done v
+      → (x : List ℕ) × (joinCall (large s) tables two twoCodes twoOutCodes three threeCodes (large s .text) ≡ done x)
+      × (joinCall (large s) tables one oneCodes oneOutCodes x twoCodes last ≡ done v)
   other-order p u v d e =
-      let F = joined (large s) tables one oneCodes oneEnds two twoCodes p u d in
-      let G = joined (large s) tables u oneCodes twoEnds three threeCodes last v e in
-      let k = second-first (roomy-large s) tables one oneCodes oneEnds two twoCodes twoEnds three threeCodes p last (large s .text) u v F G
+      let F = joined (large s) tables one oneCodes oneOutCodes two twoCodes p u d in
+      let G = joined (large s) tables u oneCodes twoOutCodes three threeCodes last v e in
+      let k = second-first (roomy-large s) tables one oneCodes oneOutCodes two twoCodes twoOutCodes three threeCodes p last (large s .text) u v F G
       (gates-of K (F .one .read)) (omega arith) in (
         k .0,
-        call-done (large s) tables two twoCodes twoEnds three threeCodes (large s .text) (k .0) (k .1),
-        call-done (large s) tables one oneCodes oneEnds (k .0) twoCodes last v (k .2),
+        call-done (large s) tables two twoCodes twoOutCodes three threeCodes (large s .text) (k .0) (k .1),
+        call-done (large s) tables one oneCodes oneOutCodes (k .0) twoCodes last v (k .2),
       )
 
-  pub order-back : (r : ℕ) (x y : List ℕ) → joinCall (large s) tables two twoCodes twoEnds three threeCodes r ≡ done x
-      → joinCall (large s) tables one oneCodes oneEnds x twoCodes last ≡ done y
-      → (u : List ℕ) × (joinCall (large s) tables one oneCodes oneEnds two twoCodes (large s .text) ≡ done u)
-      × (joinCall (large s) tables u oneCodes twoEnds three threeCodes last ≡ done y)
+  pub order-back : (r : ℕ) (x y : List ℕ) → joinCall (large s) tables two twoCodes twoOutCodes three threeCodes r ≡ done x
+      → joinCall (large s) tables one oneCodes oneOutCodes x twoCodes last ≡ done y
+      → (u : List ℕ) × (joinCall (large s) tables one oneCodes oneOutCodes two twoCodes (large s .text) ≡ done u)
+      × (joinCall (large s) tables u oneCodes twoOutCodes three threeCodes last ≡ done y)
   order-back r x y d e =
-      let H = joined (large s) tables two twoCodes twoEnds three threeCodes r x d in
-      let J = joined (large s) tables one oneCodes oneEnds x twoCodes last y e in
-      let k = first-first (roomy-large s) tables one oneCodes oneEnds two twoCodes twoEnds three threeCodes r last (large s .text) x y H J
+      let H = joined (large s) tables two twoCodes twoOutCodes three threeCodes r x d in
+      let J = joined (large s) tables one oneCodes oneOutCodes x twoCodes last y e in
+      let k = first-first (roomy-large s) tables one oneCodes oneOutCodes two twoCodes twoOutCodes three threeCodes r last (large s .text) x y H J
       (gates-of M (H .one .read)) (omega arith) in (
         k .0,
-        call-done (large s) tables one oneCodes oneEnds two twoCodes (large s .text) (k .0) (k .1),
-        call-done (large s) tables (k .0) oneCodes twoEnds three threeCodes last y (k .2),
+        call-done (large s) tables one oneCodes oneOutCodes two twoCodes (large s .text) (k .0) (k .1),
+        call-done (large s) tables (k .0) oneCodes twoOutCodes three threeCodes last y (k .2),
       )

@@ -29,20 +29,20 @@ isSecret e = not (isPublic e)
 -- question 25: the first's output codes are one for each output bit, and the second's input codes in number and value; none
 -- of these is 0; and the second has at least as many gates as output bits
 abbrev pub seamGood : Netlist → List ℕ → Netlist → List ℕ → Bool
-seamGood A ends B codes =
-    eqb (length ends) (outputBits A) && sameBytes ends codes && every isSecret codes && leb (outputBits B) (length (B .gates))
+seamGood A outCodes B codes =
+    eqb (length outCodes) (outputBits A) && sameBytes outCodes codes && every isSecret codes && leb (outputBits B) (length (B .gates))
 
 -- questions 25, 5 of the joined W, and 14
 abbrev pub joinOutcome : Limits → List ℕ → List ℕ → ℕ → Netlist → Netlist → Outcome (List ℕ)
-joinOutcome L ends codes room A B =
-    ask 25 (seamGood A ends B codes)
+joinOutcome L outCodes codes room A B =
+    ask 25 (seamGood A outCodes B codes)
     (ask 5 (leb (join A B .wires) (L .wires))
     (delivered room (writeNetlist (join A B))))
 
 -- the first text with its input and output codes, the second with its input codes
 unfoldable pub joinCall : Limits → List ℕ → List ℕ → List ℕ → List ℕ → List ℕ → List ℕ → ℕ → Outcome (List ℕ)
-joinCall L tables first firstCodes firstEnds second secondCodes room =
+joinCall L tables first firstCodes firstOutCodes second secondCodes room =
     ask 1 (tablesLong L tables)
     (andThen (readBlock L first firstCodes) λ A.
     andThen (readBlock L second secondCodes) λ B.
-    joinOutcome L firstEnds secondCodes room A B)
+    joinOutcome L firstOutCodes secondCodes room A B)

@@ -22,7 +22,7 @@ seamBits A ins = outputsOf A ins ++ drop (inputBits A - 2) ins
 
 -- the sizes, the tables' lengths, the first text with its input and output codes, the second with its input codes, the buffer's
 -- length, and the text delivered
-pub record Delivered (s : Sizes) (tables first codes ends second inner : List ℕ) (room : ℕ) (text : List ℕ) : Type 0 where
+pub record Delivered (s : Sizes) (tables first codes outCodes second inner : List ℕ) (room : ℕ) (text : List ℕ) : Type 0 where
   pub firstIs : Netlist
   pub firstRead : readNetlist (large s) first ≡ done firstIs
   pub secondIs : Netlist
@@ -34,23 +34,23 @@ pub record Delivered (s : Sizes) (tables first codes ends second inner : List �
   pub computes : (ins : List Bool) → length ins ≡ inputBits firstIs → outputsOf (join firstIs secondIs) ins ≡ outputsOf secondIs (seamBits firstIs ins)
   -- where both texts and their codes came from Mask: for all inputs and the four mask settings, the outputs with masks off are the second
   -- source's outputs of the first's
-  pub outputs : (N N′ : Netlist) (ends′ : List ℕ) → FromMask N codes first ends → FromMask N′ inner second ends′
+  pub outputs : (N N′ : Netlist) (outCodes′ : List ℕ) → FromMask N codes first outCodes → FromMask N′ inner second outCodes′
       → (m0 m1 : Bool) (x : List Bool) → length x ≡ length codes
-      → unmasked m0 m1 ends′ (outputsOf (join firstIs secondIs) (masked m0 m1 codes x)) ≡ outputsOf N′ (outputsOf N x)
+      → unmasked m0 m1 outCodes′ (outputsOf (join firstIs secondIs) (masked m0 m1 codes x)) ≡ outputsOf N′ (outputsOf N x)
   -- and every wire has equal counts for settings that agree in the first's public bits
-  pub counts : (N N′ : Netlist) (ends′ : List ℕ) → FromMask N codes first ends → FromMask N′ inner second ends′
+  pub counts : (N N′ : Netlist) (outCodes′ : List ℕ) → FromMask N codes first outCodes → FromMask N′ inner second outCodes′
       → (w : ℕ) → w < join firstIs secondIs .wires → EqualCounts (join firstIs secondIs) codes w
   -- both again of blocks, whichever way they came about: what comes of joining can be joined again
-  pub block : (f g : List Bool → List Bool) (ends′ : List ℕ) → BlockText s f codes first ends → BlockText s g inner second ends′
-      → BlockText s (λ x. g (f x)) codes text ends′
+  pub block : (f g : List Bool → List Bool) (outCodes′ : List ℕ) → BlockText s f codes first outCodes → BlockText s g inner second outCodes′
+      → BlockText s (λ x. g (f x)) codes text outCodes′
   -- three blocks: where the first text is itself one and two joined, the call that joins two with this call's second text is accepted, and
   -- the call that joins one with what comes of it delivers the very same text
-  pub laterSeam : (f g : List Bool → List Bool) (one oneEnds two twoCodes : List ℕ) (p : ℕ) → BlockText s f codes one oneEnds → BlockText s g twoCodes two ends
-      → joinCall (large s) tables one codes oneEnds two twoCodes p ≡ done first
-      → (x : List ℕ) × (joinCall (large s) tables two twoCodes ends second inner (largeText s) ≡ done x)
-      × (joinCall (large s) tables one codes oneEnds x twoCodes room ≡ done text)
+  pub laterSeam : (f g : List Bool → List Bool) (one oneOutCodes two twoCodes : List ℕ) (p : ℕ) → BlockText s f codes one oneOutCodes → BlockText s g twoCodes two outCodes
+      → joinCall (large s) tables one codes oneOutCodes two twoCodes p ≡ done first
+      → (x : List ℕ) × (joinCall (large s) tables two twoCodes outCodes second inner (largeText s) ≡ done x)
+      × (joinCall (large s) tables one codes oneOutCodes x twoCodes room ≡ done text)
   -- and where the second text is two and three joined, so it is with this call's first text and two, and then three
-  pub earlierSeam : (f g : List Bool → List Bool) (two twoEnds three threeCodes : List ℕ) (p : ℕ) → BlockText s f codes first ends
-      → BlockText s g inner two twoEnds → joinCall (large s) tables two inner twoEnds three threeCodes p ≡ done second
-      → (x : List ℕ) × (joinCall (large s) tables first codes ends two inner (largeText s) ≡ done x)
-      × (joinCall (large s) tables x codes twoEnds three threeCodes room ≡ done text)
+  pub earlierSeam : (f g : List Bool → List Bool) (two twoOutCodes three threeCodes : List ℕ) (p : ℕ) → BlockText s f codes first outCodes
+      → BlockText s g inner two twoOutCodes → joinCall (large s) tables two inner twoOutCodes three threeCodes p ≡ done second
+      → (x : List ℕ) × (joinCall (large s) tables first codes outCodes two inner (largeText s) ≡ done x)
+      × (joinCall (large s) tables x codes twoOutCodes three threeCodes room ≡ done text)

@@ -13,14 +13,14 @@ use Rattle.joined.specs.Call.{joinCall}
 pub record Known : Type 0 where
   pub first : String
   pub codes : List ℕ
-  pub ends : List ℕ
+  pub outCodes : List ℕ
   pub second : String
   pub inner : List ℕ
   pub room : ℕ
   pub outcome : Outcome (List ℕ)
 
 abbrev pub known : String → List ℕ → List ℕ → String → List ℕ → ℕ → Outcome (List ℕ) → Known
-known a codes ends b inner room o = record { first = a; codes = codes; ends = ends; second = b; inner = inner; room = room; outcome = o }
+known a codes outCodes b inner room o = record { first = a; codes = codes; outCodes = outCodes; second = b; inner = inner; room = room; outcome = o }
 
 -- five tables as short as question 1 admits
 abbrev pub tables : List ℕ
@@ -28,7 +28,7 @@ tables = 18431 ∷ 18431 ∷ 18431 ∷ 18431 ∷ 18431 ∷ []
 
 -- every call has its outcome
 abbrev pub AllKnown : List Known → Type 0
-AllKnown ks = map (λ k. joinCall (large Old) tables (ascii (k .first)) (k .codes) (k .ends) (ascii (k .second)) (k .inner) (k .room)) ks ≡ map (λ k. k .outcome) ks
+AllKnown ks = map (λ k. joinCall (large Old) tables (ascii (k .first)) (k .codes) (k .outCodes) (ascii (k .second)) (k .inner) (k .room)) ks ≡ map (λ k. k .outcome) ks
 
 -- a masked wire (M3 of document 01) and a masked inverter, both under code 2
 abbrev pub copy : String

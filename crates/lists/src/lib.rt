@@ -30,21 +30,21 @@ fn good(list: &[u8], n: usize, most: u8) -> bool
 }
 
 // Run's input list: 0 or 1 for each of n bits.
-pub fn bits(list: &[u8], n: usize) -> bool
+pub fn valid_bits(list: &[u8], n: usize) -> bool
     ensures { λ r. ⌜ r ≡ listGood isBit n (now (list .entry)) ⌝ }
 {
     good(list, n, 1)
 }
 
 // The codes of n input bits: 0 to 3.
-pub fn codes(list: &[u8], n: usize) -> bool
+pub fn valid_codes(list: &[u8], n: usize) -> bool
     ensures { λ r. ⌜ r ≡ listGood isInputCode n (now (list .entry)) ⌝ }
 {
     good(list, n, 3)
 }
 
 // The wanted codes of n output bits: 0 to 3.
-pub fn wanted(list: &[u8], n: usize) -> bool
+pub fn valid_wanted(list: &[u8], n: usize) -> bool
     ensures { λ r. ⌜ r ≡ listGood isWanted n (now (list .entry)) ⌝ }
 {
     good(list, n, 3)

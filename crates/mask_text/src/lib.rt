@@ -61,7 +61,7 @@ fn write(
 fn fill(
     d: &[u64],
     out: &mut [u8],
-    ends: &mut [u8],
+    out_codes: &mut [u8],
     gates: usize,
     wires: usize,
     operands: &[u64],
@@ -80,8 +80,8 @@ fn fill(
         → Source (tables (now (operands .entry)) (now (results .entry))) count (length (now (wire .entry))) (length (now (codes .entry)))
         (length (now (wanted .entry))) (now (ins .entry)) (now (outs .entry)) N
         → Numbers (maskNetlist N (now (codes .entry)) (now (wanted .entry))) (length (now (wanted .entry))) gates wires
-        → Filled (maskNetlist N (now (codes .entry)) (now (wanted .entry))) (now (out .entry)) (now (out .exit)) (now (ends .entry))
-        (now (ends .exit)) r) ⌝ }
+        → Filled (maskNetlist N (now (codes .entry)) (now (wanted .entry))) (now (out .entry)) (now (out .exit)) (now («out_codes» .entry))
+        (now («out_codes» .exit)) r) ⌝ }
 {
     let size = write(
         d,
@@ -99,7 +99,7 @@ fn fill(
         code,
     );
     let from = code.len() - wanted.len();
-    mask_pass::outs::codes(code, from, wanted, ends);
+    mask_pass::outs::codes(code, from, wanted, out_codes);
     size
 }
 
@@ -155,7 +155,7 @@ fn holds(
 fn answer(
     d: &[u64],
     out: &mut [u8],
-    ends: &mut [u8],
+    out_codes: &mut [u8],
     gates: usize,
     wires: usize,
     operands: &[u64],
@@ -175,11 +175,11 @@ fn answer(
         (length (now (wanted .entry))) (now (ins .entry)) (now (outs .entry)) N
         → Numbers (maskNetlist N (now (codes .entry)) (now (wanted .entry))) (length (now (wanted .entry))) gates wires
         → WellFormed (maskNetlist N (now (codes .entry)) (now (wanted .entry)) .netlist)
-        → MaskAnswers (deliverOutcome (length (now (out .entry))) (length (now (ends .entry)))
-        (maskedText (maskNetlist N (now (codes .entry)) (now (wanted .entry))))) (now (out .entry)) (now (out .exit)) (now (ends .entry))
-        (now (ends .exit)) r) ⌝ }
+        → MaskAnswers (deliverOutcome (length (now (out .entry))) (length (now («out_codes» .entry)))
+        (maskedText (maskNetlist N (now (codes .entry)) (now (wanted .entry))))) (now (out .entry)) (now (out .exit)) (now («out_codes» .entry))
+        (now («out_codes» .exit)) r) ⌝ }
 {
-    if ends.len() < wanted.len() {
+    if out_codes.len() < wanted.len() {
         return Answer::Refused(14);
     }
     if !holds(
@@ -202,7 +202,7 @@ fn answer(
     Answer::Done(fill(
         d,
         out,
-        ends,
+        out_codes,
         gates,
         wires,
         operands,
@@ -222,7 +222,7 @@ fn answer(
 // No line on a hundred wires or fewer is stored by words, so there the table is not filled.
 pub fn deliver(
     out: &mut [u8],
-    ends: &mut [u8],
+    out_codes: &mut [u8],
     operands: &[u64],
     results: &[u64],
     count: usize,
@@ -238,9 +238,9 @@ pub fn deliver(
         → Source (tables (now (operands .entry)) (now (results .entry))) count (length (now (wire .entry))) (length (now (codes .entry)))
         (length (now (wanted .entry))) (now (ins .entry)) (now (outs .entry)) N
         → WellFormed (maskNetlist N (now (codes .entry)) (now (wanted .entry)) .netlist)
-        → MaskAnswers (deliverOutcome (length (now (out .entry))) (length (now (ends .entry)))
-        (maskedText (maskNetlist N (now (codes .entry)) (now (wanted .entry))))) (now (out .entry)) (now (out .exit)) (now (ends .entry))
-        (now (ends .exit)) r) ⌝ }
+        → MaskAnswers (deliverOutcome (length (now (out .entry))) (length (now («out_codes» .entry)))
+        (maskedText (maskNetlist N (now (codes .entry)) (now (wanted .entry))))) (now (out .entry)) (now (out .exit)) (now («out_codes» .entry))
+        (now («out_codes» .exit)) r) ⌝ }
 {
     let wires = mask_pass::count::count(
         operands,
@@ -257,7 +257,7 @@ pub fn deliver(
         return answer(
             &none,
             out,
-            ends,
+            out_codes,
             gates,
             wires,
             operands,
@@ -276,7 +276,7 @@ pub fn deliver(
     answer(
         &table,
         out,
-        ends,
+        out_codes,
         gates,
         wires,
         operands,

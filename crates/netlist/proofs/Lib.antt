@@ -37,6 +37,7 @@ pub mod LeakSearch
 pub mod Secrets
 -- what Mask promises
 pub mod Masking
+pub mod Carried
 pub mod GateCount
 pub mod MaskedText
 pub mod Breaks

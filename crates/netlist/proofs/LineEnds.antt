@@ -3,13 +3,12 @@ use Prim.Native.Nat.{ℕ}
 use mathlib.Core.Path.{_≡_, refl, sym, ap, _∙_, subst}
 use mathlib.Core.Bool.{Bool, true, false, cond, _&&_, _||_, or-false}
 use mathlib.Core.List.{List, [], _∷_, map}
-use native.Mathlib.Omega.{arith}
 use lib.Dec.{T, eqb}
 use borrow.Author.Tests.{eqb-true}
 use Rattle.netlist.specs.Lists.{every}
 use Rattle.netlist.specs.Text.{space, lf, cr, atLF, lfEnds, isLineEnd, isSpace, onto, split, filled, words, wordLines}
 use Rattle.netlist.specs.Read.{byteAllowed, bytesAllowed}
-use Rattle.netlist.proofs.Tests.{All, empty, each, onBool, isTrue, true-T, both}
+use Rattle.netlist.proofs.Tests.{clash, All, empty, each, onBool, isTrue, true-T, both}
 use Rattle.netlist.proofs.Words.{Lacks}
 
 -- ---- texts without CR
@@ -133,7 +132,7 @@ unfolding first behind
 same-cr ys k = record { start = record { start = refl; more = refl }; more = k .more }
 
 same-crlf : (x : ℕ) (xs : List ℕ) → eqb x cr ≡ true → atLF xs ≡ true → SameLines (lfEnds xs) xs → SameLines (lfEnds xs) (x ∷ xs)
-same-crlf x [] p q k = let z : _≡_ {A = ℕ} 0 1 = cc in absurd (omega arith)
+same-crlf x [] p q k = clash (cc)
 same-crlf x (y ∷ ys) p q k =
     subst (λ (a : ℕ). SameLines (lfEnds (y ∷ ys)) (a ∷ (y ∷ ys))) (sym (eqb-true x cr p))
     (subst (λ (b : ℕ). SameLines (lfEnds (b ∷ ys)) (b ∷ ys) → SameLines (lfEnds (b ∷ ys)) (cr ∷ (b ∷ ys))) (sym (eqb-true y lf q)) (same-cr ys) k)

@@ -1,18 +1,16 @@
 -- A gate line under either dialect: the names that question 7 admits are those of the gates that the dialect has.
 use Prim.Native.Nat.{ℕ}
-use mathlib.Core.Path.{_≡_, refl, sym, ap, ap₂, _∙_}
-use mathlib.Core.Bool.{Bool, true, false, cond, _&&_, _||_}
-use mathlib.Core.List.{List, [], _∷_, map}
+use mathlib.Core.Path.{_≡_, refl, sym, ap, _∙_}
+use mathlib.Core.Bool.{Bool, true, false, cond, _&&_}
+use mathlib.Core.List.{List, [], _∷_}
 use mathlib.Core.Option.{Option, none, some}
-use native.Mathlib.Omega.{arith}
 use lib.Dec.{eqb}
-use borrow.Author.Tests.{eqb-true}
 use Rattle.netlist.specs.declared.Gate.{Gate}
 use Rattle.netlist.specs.declared.Gate.the-variants.{Xor, And, Inv, Eqw, Eq}
 use Rattle.netlist.specs.Lists.{sameBytes}
 use Rattle.netlist.specs.Header.{numbers}
 use Rattle.netlist.specs.GateLine.{XOR, AND, INV, EQW, EQ, gate1, gate2, makeGate, allButLast, lastWord, gateLine}
-use Rattle.netlist.proofs.Tests.{onBool, both-true}
+use Rattle.netlist.proofs.Tests.{clash, onBool, same-equal}
 use Rattle.netlist.proofs.Questions.{none-some, some-same}
 use Rattle.old_form.specs.OldRead.{isOldName, oldLine}
 use Rattle.old_form.specs.OldWrite.{isOldGate}
@@ -20,18 +18,11 @@ use Rattle.old_form.specs.Dialects.{lineIn, linesIn, hasGate}
 use Rattle.old_form.specs.declared.Dialect.{Dialect}
 use Rattle.old_form.specs.declared.Dialect.the-variants.{Fashion, Old}
 
-same-bytes : (a b : List ℕ) → sameBytes a b ≡ true → a ≡ b
-same-bytes [] [] e = refl
-same-bytes [] (y ∷ ys) e = let z : _≡_ {A = ℕ} 0 1 = cc in absurd (omega arith)
-same-bytes (x ∷ xs) [] e = let z : _≡_ {A = ℕ} 0 1 = cc in absurd (omega arith)
-same-bytes (x ∷ xs) (y ∷ ys) e =
-    let p = both-true (eqb x y) (sameBytes xs ys) e in ap₂ {A = ℕ} {B = List ℕ} _∷_ (eqb-true x y (p .0)) (same-bytes xs ys (p .1))
-
 -- ---- a gate and its name
 
 -- a name that is one of the dialect's, or is not
 named : (name other : List ℕ) (g : Gate) → isOldName other ≡ isOldGate g → sameBytes name other ≡ true → isOldName name ≡ isOldGate g
-named name other g e p = ap isOldName (same-bytes name other p) ∙ e
+named name other g e p = ap isOldName (same-equal name other p) ∙ e
 
 module _ (name : List ℕ) (g : Gate) where
   name-2 : (a b c : ℕ) → gate2 name a b c ≡ some g → isOldName name ≡ isOldGate g
@@ -94,7 +85,7 @@ line-none Fashion ws e = e
 line-none Old ws e = old-none ws e
 
 pub line-refused : (d : Dialect) (ws : List (List ℕ)) (g : Gate) → gateLine ws ≡ some g → hasGate d g ≡ false → gateLine (lineIn d ws) ≡ none
-line-refused Fashion ws g e h = let z : _≡_ {A = ℕ} 0 1 = cc in absurd (omega arith)
+line-refused Fashion ws g e h = clash (cc)
 line-refused Old ws g e h = old-refused ws g e h
 
 pub line-same : (d : Dialect) (ws : List (List ℕ)) (g : Gate) → gateLine ws ≡ some g → hasGate d g ≡ true → gateLine (lineIn d ws) ≡ some g

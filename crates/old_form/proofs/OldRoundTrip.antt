@@ -1,9 +1,9 @@
 -- What is written in the older dialect is read back.
 use Prim.Native.Nat.{ℕ, zero, suc, _+_, _-_, _^_, _≤_, _<_}
 use mathlib.Core.Path.{_≡_, refl, sym, ap, ap₂, _∙_, subst}
-use mathlib.Core.Bool.{Bool, true, false, _&&_, _||_}
+use mathlib.Core.Bool.{true, _&&_, _||_}
 use mathlib.Core.List.{List, [], _∷_, _++_, map, append-assoc}
-use mathlib.Core.Option.{Option, none, some}
+use mathlib.Core.Option.{some}
 use native.Mathlib.Nat.{lt-of-lt-of-le, le-trans}
 use native.Mathlib.Omega.{arith}
 use lib.Dec.{T, eqb, leb, leb→le, lit≤, lit<}
@@ -16,11 +16,10 @@ use Rattle.netlist.specs.Lists.{every}
 use Rattle.netlist.specs.Text.{space, lf, cr, atLF, wordLines}
 use Rattle.netlist.specs.Number.{decimal, maxDigits}
 use Rattle.netlist.specs.Netlist.{Netlist, inputBits, outputBits}
-use Rattle.netlist.specs.Outcome.{Outcome, done}
-use Rattle.netlist.specs.Header.{Header, numbers}
-use Rattle.netlist.specs.Read.{byteAllowed, bytesAllowed, gateLines, netlistOf, headerOf, readNetlist, WellFormed, Within}
+use Rattle.netlist.specs.Outcome.{done}
+use Rattle.netlist.specs.Read.{byteAllowed, bytesAllowed, gateLines, headerOf, WellFormed}
 use Rattle.netlist.specs.Write.{line, gateWords, gateText, decimals, writeNetlist}
-use Rattle.netlist.proofs.Tests.{All, empty, each, all-map, all-tail, both, both-true, isTrue}
+use Rattle.netlist.proofs.Tests.{clash, All, empty, each, all-map, all-tail, both, both-true, isTrue}
 use Rattle.netlist.proofs.Words.{Inner, Word, word, wordLines-line, wordLines-blank}
 use Rattle.netlist.proofs.LineEnds.{allowed-step}
 use Rattle.netlist.proofs.Decimal.{Digit, decimal-digits, decimal-filled, decimal-of}
@@ -28,9 +27,9 @@ use Rattle.netlist.proofs.Lines.{Fits, NumbersFit, numbers-of, written-lines, w
 use Rattle.netlist.proofs.RoundTrip.{numbers-below}
 use Rattle.netlist.proofs.Accepted.{Accepted, parts}
 use Rattle.netlist.proofs.Size.{Roomy, reads-back, written-within}
-use Rattle.old_form.specs.OldHeader.{parties, inputValues, outputValues, partyHeader, oldHeader}
+use Rattle.old_form.specs.OldHeader.{parties, inputValues, outputValues, oldHeader}
 use Rattle.old_form.specs.OldRead.{oldLine, oldOpening, readOld}
-use Rattle.old_form.specs.OldWrite.{isOldGate, hasOldForm, partyBits, oldWrittenLines, writeOld}
+use Rattle.old_form.specs.OldWrite.{isOldGate, hasOldForm, partyBits, writeOld}
 use Rattle.old_form.specs.declared.Parties.{Parties}
 
 -- ---- a line of numbers
@@ -118,8 +117,8 @@ old-words : (g : Gate) → isOldGate g ≡ true → oldLine (gateWords g) ≡ ga
 old-words (Xor a b c) e = refl
 old-words (And a b c) e = refl
 old-words (Inv a c) e = refl
-old-words (Eqw a c) e = let z : _≡_ {A = ℕ} 0 1 = cc in absurd (omega arith)
-old-words (Eq v c) e = let z : _≡_ {A = ℕ} 0 1 = cc in absurd (omega arith)
+old-words (Eqw a c) e = clash (cc)
+old-words (Eq v c) e = clash (cc)
 
 old-lines : (gs : List Gate) → every isOldGate gs ≡ true → map oldLine (map gateWords gs) ≡ map gateWords gs
 old-lines [] e = refl

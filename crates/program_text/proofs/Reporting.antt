@@ -12,7 +12,7 @@ use Rattle.netlist.specs.declared.Answer.the-variants.{Done, Refused}
 use Rattle.netlist.specs.Outcome.{Outcome, refused, done}
 use Rattle.netlist.specs.Services.{outcomeOf, answerOf, Answers}
 use Rattle.netlist.specs.Programs.{readable, printRefused, fileLimit}
-use Rattle.netlist.proofs.Tests.{onBool}
+use Rattle.netlist.proofs.Tests.{clash, onBool}
 use Rattle.netlist.proofs.Questions.{done-same}
 use Rattle.write_buffer.specs.Wrote.{Wrote, WroteFew}
 use Rattle.write_buffer.proofs.Wrote.{wrote-front, front-within}
@@ -29,7 +29,7 @@ readable-short file o h = rw (le-leb (length file) fileLimit h)
 -- ---- a service's answer
 
 counted-done : (o : Outcome (List ℕ)) (x : List ℕ) {a : Answer} (n : ℕ) → a ≡ answerOf o → outcomeOf x a ≡ o → a ≡ Done n → n ≤ length x
-counted-done (refused q) x n p e d = let z : _≡_ {A = ℕ} 0 1 = cc in absurd (omega arith)
+counted-done (refused q) x n p e d = clash (cc)
 counted-done (done bytes) x n p e d =
     let same : n ≡ length bytes = cc in
     let is : take n x ≡ bytes = done-same _ _ (ap (outcomeOf x) (sym d) ∙ e) in
@@ -42,7 +42,7 @@ pub answered-as : {o p : Outcome (List ℕ)} {x : List ℕ} {a : Answer} → o �
 answered-as e w = rw e at w
 
 pub answered-refused : (x : List ℕ) (q : ℕ) → Answered (refused q) x (Refused q)
-answered-refused x q = record { outcome = refl; counted = λ n d. let z : _≡_ {A = ℕ} 0 1 = cc in absurd (omega arith) }
+answered-refused x q = record { outcome = refl; counted = λ n d. clash (cc) }
 
 -- ---- lines in a buffer that holds them
 

@@ -24,6 +24,7 @@ use Rattle.read_header.specs.HeadAnswers.{withinNumbers, gatesCounted, I
 use Rattle.read_header.specs.declared.HeaderNumbers.{HeaderNumbers}
 use Rattle.read_header.specs.declared.head.Head.{Head}
 use Rattle.read_header.specs.declared.head.Head.the-variants as H
+use Rattle.read_header.proofs.HeaderLaws.{header-left}
 
 -- ---- a header's numbers
 
@@ -91,7 +92,7 @@ module _ (d : Dialect) (L : Limits) (t : List ℕ) where
         unfolding withinNumbers gatesCounted
         reached =
             opening-of d L t
-            ∙ rw (le-leb _ _ k, e, a .read) (simp (a .wires, a .inputs, a .inputBits, a .outputs, a .outputBits, a .gates, a .left))
+            ∙ rw (le-leb _ _ k, e, a .read) (simp (a .wires, a .inputs, a .inputBits, a .outputs, a .outputBits, a .gates, header-left a))
 
         pub head-5 : withinNumbers L h ≡ false → NoHead d L t 5
         head-5 f = record { refuses = reached ∙ rw f }

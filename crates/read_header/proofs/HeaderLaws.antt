@@ -11,16 +11,16 @@ use borrow.Author.Tests.{ltb-true, ltb-false}
 use Rattle.netlist.specs.Number.{number}
 use Rattle.netlist.specs.Text.{wordLines}
 use Rattle.netlist.specs.Header.{header, makeHeader, numbers, consOption, values}
-use Rattle.netlist.proofs.Tests.{onBool}
+use Rattle.netlist.proofs.Tests.{clash, onBool}
 use Rattle.netlist.proofs.Questions.{none-some}
 use Rattle.read_text.specs.declared.cursor.Cursor.{Cursor}
-use Rattle.read_text.specs.Line.{lineWords, nextWord, afterLine, isBlank, isEmpty, Scanned, LineTaken, EndAt}
+use Rattle.read_text.specs.Line.{lineWords, nextWord, afterLine, behindLine, isBlank, isEmpty, Scanned, LineTaken, EndAt}
 use Rattle.read_text.specs.Answers.{NumberAt}
 use Rattle.read_text.proofs.SplitLaws.{addLine, lines-step}
 use Rattle.read_text.proofs.AnswerLaws.{number-line, no-number}
-use Rattle.read_text.proofs.LineLaws.{AtWord, at-word, word-line, no-line, blanks-lines}
+use Rattle.read_text.proofs.LineLaws.{AtWord, at-word, word-line, no-line, blanks-lines, line-passed, behind-lines}
 use Rattle.old_form.specs.declared.Dialect.{Dialect}
-use Rattle.old_form.specs.Dialects.{headerIn}
+use Rattle.old_form.specs.Dialects.{headerIn, headerLines}
 use Rattle.read_header.specs.HeaderAnswers.{pairOnly, CountsAt, CountsIs, WidthsAt, HeaderOf, HeaderAt, HeaderSays}
 use Rattle.read_header.specs.declared.Counts.{Counts}
 use Rattle.read_header.specs.declared.Counts.the-variants as C
@@ -43,6 +43,11 @@ header-is d t ins outs r h c p k = subst (HeaderSays d t ins outs) p k
 
 pub header-not : (d : Dialect) (t ins outs : List ℕ) (r : HeaderRead) → r ≡ R.Not → HeaderSays d t ins outs r → headerIn d (wordLines t) ≡ none
 header-not d t ins outs r p k = subst (HeaderSays d t ins outs) p k
+
+-- the gate lines stand behind the place
+pub header-left : {d : Dialect} {t ins outs : List ℕ} {h : HeaderNumbers} {to : ℕ} → HeaderOf d t ins outs h to
+    → wordLines (drop to t) ≡ drop (headerLines d) (wordLines t)
+header-left {d} {t} a = ap wordLines (a .place) ∙ behind-lines (headerLines d) t
 
 pub header-in : {d e : Dialect} (t ins outs : List ℕ) (r : HeaderRead) → e ≡ d → HeaderSays e t ins outs r → HeaderSays d t ins outs r
 header-in t ins outs r p k = subst (λ (d : Dialect). HeaderSays d t ins outs r) p k
@@ -71,7 +76,7 @@ module _ (t : List ℕ) (at g c w d : ℕ) (a : NumberAt t at g c) (b : NumberAt
       third (some x) (some xs) = refl
 
       go : (ws : List (List ℕ)) → isEmpty ws ≡ false → pairOnly (consOption (some g) (consOption (some w) (numbers ws))) ≡ none
-      go [] e = let z : _≡_ {A = ℕ} 0 1 = cc in absurd (omega arith)
+      go [] e = clash (cc)
       go (x ∷ xs) e = third (number x) (numbers xs)
 
   pub pair-good : (to : ℕ) → EndAt t d to → CountsAt t at g w to
@@ -199,6 +204,6 @@ module _ (t : List ℕ) (a : ℕ) (sa : Scanned isBlank t 0 a) where
             outputBits = y .all;
             keptIn = x .kept;
             keptOut = y .kept;
-            left = sym (ap (drop 3) three);
+            place = line-passed t d d′ to sd (y .next) ∙ ap behindLine (line-passed t b b′ d sb (x .next) ∙ ap behindLine (line-passed t 0 a b sa (c .next)));
             within = y .next .within;
           }

@@ -14,10 +14,10 @@ use Rattle.netlist.specs.Text.{wordLines}
 use Rattle.netlist.specs.Header.{numbers, consOption}
 use Rattle.netlist.proofs.Questions.{none-some}
 use Rattle.read_text.specs.declared.cursor.Cursor.{Cursor}
-use Rattle.read_text.specs.Line.{lineWords, nextWord, isBlank, Scanned}
+use Rattle.read_text.specs.Line.{lineWords, nextWord, behindLine, isBlank, Scanned}
 use Rattle.read_text.specs.Answers.{NumberAt}
 use Rattle.read_text.proofs.AnswerLaws.{number-line, no-number}
-use Rattle.read_text.proofs.LineLaws.{at-word}
+use Rattle.read_text.proofs.LineLaws.{at-word, line-passed}
 use Rattle.old_form.specs.declared.Parties.{Parties}
 use Rattle.old_form.specs.declared.Dialect.the-variants.{Old}
 use Rattle.old_form.specs.OldHeader.{parties, inputValues, outputValues, partyHeader, oldHeader}
@@ -136,6 +136,6 @@ module _ (t : List ℕ) (a : ℕ) (sa : Scanned isBlank t 0 a) where
           outputBits = omega arith;
           keptIn = k .1;
           keptOut = rw o (kept-first outs₀ (p .output));
-          left = sym (ap (drop 2) two);
+          place = line-passed t b b′ to sb (x .next) ∙ ap behindLine (line-passed t 0 a b sa (c .next));
           within = x .next .within;
         }

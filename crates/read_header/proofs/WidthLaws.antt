@@ -12,7 +12,7 @@ use borrow.Author.Tests.{le-leb, ltb-true, ltb-false, eq-eqb, ne-eqb}
 use Rattle.netlist.specs.Lists.{every, sum}
 use Rattle.netlist.specs.Number.{number}
 use Rattle.netlist.specs.Header.{numbers, consOption, values}
-use Rattle.netlist.proofs.Tests.{onBool}
+use Rattle.netlist.proofs.Tests.{clash, onBool}
 use Rattle.netlist.proofs.Shape.{sum-snoc}
 use Rattle.read_text.specs.declared.cursor.Cursor.{Cursor}
 use Rattle.read_text.specs.Line.{lineWords, nextWord, afterLine, isEmpty, EndAt}
@@ -142,7 +142,7 @@ module _ (t : List ℕ) (from : ℕ) where
     widen-not h f =
         ap positives (w .line)
         ∙ no-number (λ ws. isEmpty ws ≡ false → positives (joined (w .seen) (numbers ws)) ≡ none) (drop i t) h
-        (λ e. let z : _≡_ {A = ℕ} 0 1 = cc in absurd (omega arith)) (λ v ws e g. rw e) f
+        (λ e. clash (cc)) (λ v ws e g. rw e) f
 
     -- a width is 0
     pub widen-zero : (v j : ℕ) → v ≡ 0 → NumberAt t i v j → positives (numbers (lineWords (drop from t))) ≡ none

@@ -9,7 +9,7 @@ use lib.ListN.{length, drop, getD}
 use Rattle.netlist.specs.Lists.{every, sum}
 use Rattle.netlist.specs.Text.{wordLines}
 use Rattle.netlist.specs.Header.{Header, numbers}
-use Rattle.read_text.specs.Line.{lineWords, LineTaken}
+use Rattle.read_text.specs.Line.{lineWords, behindLines, LineTaken}
 use Rattle.old_form.specs.declared.Dialect.{Dialect}
 use Rattle.old_form.specs.declared.Dialect.the-variants.{Fashion}
 use Rattle.old_form.specs.declared.Parties.{Parties}
@@ -81,7 +81,7 @@ PartiesIs t at P.Not = parties (numbers (lineWords (drop at t))) ≡ none
 
 -- ---- the header
 
--- the header of t in a dialect, its numbers, and its widths in the two tables; the gate lines stand behind the place `to`
+-- the header of t in a dialect, its numbers, and its widths in the two tables; the place `to` is that behind its last line
 pub record HeaderOf (d : Dialect) (t ins outs : List ℕ) (h : HeaderNumbers) (to : ℕ) : Type 0 where
   pub is : Header
   pub read : headerIn d (wordLines t) ≡ some is
@@ -93,7 +93,7 @@ pub record HeaderOf (d : Dialect) (t ins outs : List ℕ) (h : HeaderNumbers) (t
   pub outputBits : sum (is .outputs) ≡ h .«output_bits»
   pub keptIn : Kept ins (is .inputs)
   pub keptOut : Kept outs (is .outputs)
-  pub left : wordLines (drop to t) ≡ drop (headerLines d) (wordLines t)
+  pub place : drop to t ≡ behindLines (headerLines d) t
   pub within : to ≤ length t
 
 abbrev pub HeaderSays : Dialect → List ℕ → List ℕ → List ℕ → HeaderRead → Type 0

@@ -87,7 +87,7 @@ pub fn read_opening_in(
     Head::Is(h, at)
 }
 
-// The same with document 01's header.
+// Questions 2 to 6 with document 01's header, but for the number of gate lines.
 pub fn read_opening(text: &[u8], l: Limits, inputs: &mut [u32], outputs: &mut [u32]) -> Head
     requires { ⌜ l .text < 2 ^ 32 ⌝ }
     ensures { λ r. ⌜ HeadIs l (now (text .entry)) (now (inputs .exit)) (now (outputs .exit)) r ⌝ }

@@ -13,7 +13,7 @@ use Rattle.netlist.specs.declared.Gate.the-variants.{Xor, And, Inv, Eqw, Eq}
 use Rattle.netlist.specs.Lists.{member}
 use Rattle.netlist.specs.Netlist.{result}
 use Rattle.netlist.specs.Read.{operandsGiven, isGiven, resultGood}
-use Rattle.netlist.proofs.Tests.{All, empty, each, onBool, both-true}
+use Rattle.netlist.proofs.Tests.{clash, All, empty, each, onBool, both-true}
 use Rattle.read_netlist.specs.Marks.{marked, Marks}
 use Rattle.gate_table.specs.Numbers.{Names}
 
@@ -40,7 +40,7 @@ marks-result {table} {rs} {n} {W} m g = go (leb n (result g)) refl
 
 -- a marked wire lies below W
 member-below : {W : ℕ} {rs : List ℕ} (x : ℕ) → All (λ r. r < W) rs → member x rs ≡ true → x < W
-member-below x empty e = let z : _≡_ {A = ℕ} 0 1 = cc in absurd (omega arith)
+member-below x empty e = clash (cc)
 member-below {W} x (each {x = r} {xs = rs} p ps) e = onBool (eqb x r)
     (λ h. let q : x ≡ r = eqb-true x r h in omega arith)
     (λ h. member-below x ps (rw h at e))

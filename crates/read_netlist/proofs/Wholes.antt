@@ -25,6 +25,7 @@ use Rattle.old_form.specs.OldRead.{readOld}
 use Rattle.old_form.specs.Dialects.{headerIn, headerLines, linesIn, openingIn, readIn}
 use Rattle.old_form.proofs.OldAccepted.{old-header-good}
 use Rattle.read_header.specs.HeadAnswers.{Inside, HeadOf, NoHead}
+use Rattle.read_header.proofs.HeaderLaws.{header-left}
 use Rattle.read_header.proofs.HeadLaws.{inputs-front, outputs-front}
 use Rattle.read_header.specs.declared.HeaderNumbers.{HeaderNumbers}
 use Rattle.read_netlist.specs.declared.gates.Gates.{Gates}
@@ -60,7 +61,7 @@ module _ {d : Dialect} {L : Limits} {t : List ℕ} where
       where
         go : (b : Bool) → andThen (ask 6 b (done (a .header .is))) (readGates (linesIn d (drop (headerLines d) (wordLines t))))
             ≡ (andThen (ask 6 b (gateLines (h .«input_bits») (h .wires) [] (linesIn d (wordLines (drop to t))))) λ gs. done (netlistOf (a .header .is) gs))
-        go true = simp (a .header .wires, a .header .inputBits, a .header .left)
+        go true = simp (a .header .wires, a .header .inputBits, header-left (a .header))
         go false = refl
 
     pub read-not : {q : ℕ} → GatesNot d t to (h .gates) (h .«input_bits») (h .wires) q → ReadNot d L t q

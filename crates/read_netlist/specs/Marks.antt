@@ -6,7 +6,7 @@ use mathlib.Core.List.{List}
 use lib.Dec.{eqb}
 use lib.ListN.{length, getD}
 use Rattle.netlist.specs.Read.{isGiven}
-use Rattle.netlist.proofs.Tests.{All}
+use Rattle.netlist.specs.Lists.{All}
 
 unfoldable pub marked : List ℕ → ℕ → Bool
 marked table x = eqb (getD table x 0) 1

@@ -106,7 +106,7 @@ pub fn read_in(
     read_text(text, l, inputs, outputs, marks, operands, results, d)
 }
 
-// The same of a text in Fashion.
+// Questions 1 to 9 of a text in Fashion.
 pub fn read(
     text: &[u8],
     inputs: &mut [u32; 17],

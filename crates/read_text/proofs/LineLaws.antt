@@ -1,5 +1,5 @@
 -- A line's end, and from one line to the next.
-use Prim.Native.Nat.{ℕ, suc, _+_, _-_, _<_, _≤_}
+use Prim.Native.Nat.{ℕ, zero, suc, _+_, _-_, _<_, _≤_}
 use mathlib.Core.Path.{_≡_, refl, sym, ap, _∙_}
 use mathlib.Core.Bool.{Bool, true, false, cond, not}
 use mathlib.Core.List.{List, [], _∷_}
@@ -8,7 +8,7 @@ use native.Mathlib.Omega.{arith}
 use lib.ListN.{length, drop, getD, length-drop, drop-of-length-le}
 use lib.Seq.{drop-cons, drop-drop}
 use Rattle.netlist.specs.Text.{isSpace, isLineEnd, words, wordLines}
-use Rattle.read_text.specs.Line.{isBlank, inWord, inLine, afterLine, takeWhile, dropWhile, lineWords, isEmpty, Scanned, EndAt, LineTaken}
+use Rattle.read_text.specs.Line.{isBlank, inWord, inLine, afterLine, behindLine, behindLines, takeWhile, dropWhile, lineWords, isEmpty, Scanned, EndAt, LineTaken}
 use Rattle.read_text.proofs.SplitLaws.{addLine, addWord, lines-step, words-front, end-no-space, skip-words, skip-after, blank-lines}
 use Rattle.read_text.proofs.ScanLaws.{scan-start, scan-stop, dropped-head}
 
@@ -142,6 +142,32 @@ word-line t i h a =
 pub no-line : (t : List ℕ) (i : ℕ) → length t ≤ i → wordLines (drop i t) ≡ []
 unfolding wordLines words
 no-line t i h = rw (drop-of-length-le t h)
+
+-- ---- places behind lines with words
+
+-- blank lines were skipped, and the line behind them passed
+pub line-passed : (t : List ℕ) (at from to : ℕ) → Scanned isBlank t at from → LineTaken t from to → drop to t ≡ behindLine (drop at t)
+unfolding behindLine
+line-passed t at from to s l = l .left ∙ ap afterLine (s .left)
+
+-- the lines there are all but the first
+pub behind-line : (s : List ℕ) → wordLines (behindLine s) ≡ drop 1 (wordLines s)
+unfolding behindLine wordLines words
+behind-line s = go (dropWhile isBlank s) refl
+  where
+    go : (u : List ℕ) → dropWhile isBlank s ≡ u → wordLines (afterLine u) ≡ drop 1 (wordLines s)
+    go [] e = ap (drop 1) (sym (ap wordLines e) ∙ blank-lines s)
+    go (x ∷ xs) e =
+        let still : AtWord (x ∷ xs) 0
+        = record { still = sym e ∙ sym (still-drop isBlank s) ∙ ap (dropWhile isBlank) e; within = omega arith } in
+        sym (ap (drop 1) (sym (blank-lines s) ∙ ap wordLines e ∙ word-line (x ∷ xs) 0 (omega arith) still))
+
+-- and all but the first n
+pub behind-lines : (n : ℕ) (s : List ℕ) → wordLines (behindLines n s) ≡ drop n (wordLines s)
+behind-lines zero s = refl
+behind-lines (suc n) s =
+    let z : 1 + n ≡ suc n = omega arith in
+    behind-lines n (behindLine s) ∙ ap (drop n) (behind-line s) ∙ drop-drop n 1 (wordLines s) ∙ ap (λ (m : ℕ). drop m (wordLines s)) z
 
 -- ---- lines counted
 

@@ -20,6 +20,7 @@ use Rattle.netlist.specs.Leak.{bit}
 use Rattle.netlist.specs.Services.{tablesLong, bools, outputList, outcomeOf, Answers}
 use Rattle.netlist.specs.Table.{Tables, Holds}
 use Rattle.netlist.proofs.Answering.{answers-as, answers-refused, delivers-short, delivers-done, call-refused, call-goes-on}
+use Rattle.netlist.proofs.Tests.{clash}
 use Rattle.netlist.proofs.Accepted.{accepted}
 use Rattle.netlist.proofs.Models.{length-runGates}
 use Rattle.evaluate.specs.Lane.{lane, lanes, outputWords}
@@ -95,9 +96,9 @@ module _ (s : Sizes) (text list out o r g w : List ℕ) where
       asked : (b c d : Bool) → eqb (length list) (inputBits N) ≡ c → done (take n x) ≡ ask 1 b (ask 11 c (ask 14 d (done (outputWords N list))))
           → (length list ≡ inputBits N) × (take n x ≡ outputWords N list)
       asked true true true k s = (eqb-true (length list) (inputBits N) k, cc)
-      asked true true false k s = let z : _≡_ {A = ℕ} 0 1 = cc in absurd (omega arith)
-      asked true false d k s = let z : _≡_ {A = ℕ} 0 1 = cc in absurd (omega arith)
-      asked false c d k s = let z : _≡_ {A = ℕ} 0 1 = cc in absurd (omega arith)
+      asked true true false k s = clash (cc)
+      asked true false d k s = clash (cc)
+      asked false c d k s = clash (cc)
 
   -- so each lane is a run
   pub call-lanes : {x : List ℕ} {a : Answer} → Answers (call s text list out o r g w) out x a

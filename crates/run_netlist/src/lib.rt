@@ -23,7 +23,7 @@ fn deliver(
     ensures { λ r. ⌜ ((N : Netlist) → Holds (tables (now (operands .entry)) (now (results .entry))) count (length (now (words .entry))) ins
         outs N → Answers (runOutcome (now (list .entry)) (length (now (out .entry))) N) (now (out .entry)) (now (out .exit)) r) ⌝ }
 {
-    if !lists::bits(list, ins) {
+    if !lists::valid_bits(list, ins) {
         return Answer::Refused(11);
     }
     if out.len() < outs {

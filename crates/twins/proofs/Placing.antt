@@ -20,7 +20,7 @@ use Rattle.netlist.proofs.Tests.{onBool}
 use Rattle.netlist.proofs.Answering.{answers-refused, take-sets}
 use Rattle.mask_pass.specs.State.{twinsOf}
 use Rattle.mask_pass.specs.Pass.{Finished}
-use Rattle.mask_pass.proofs.Carried.{length-finish}
+use Rattle.netlist.proofs.Carried.{length-finish}
 use Rattle.mask_pass.proofs.Made.{codes-length}
 use Rattle.twins.specs.Promise.{TwinLists, wireOf, codeOf, twinLists, listsOutcome, twinsOutcome, TwinsAnswers}
 

@@ -15,7 +15,7 @@ use Rattle.netlist.specs.Read.{readNetlist}
 use Rattle.netlist.specs.Mask.{isInputCode, finish}
 use Rattle.netlist.specs.Services.{tablesLong, listGood, holds, MaskedText, maskCall, Answers, Cleared}
 use Rattle.mask_pass.specs.State.{twinsOf}
-use Rattle.mask_pass.specs.Twins.{Twins}
+use Rattle.netlist.specs.Twins.{Twins}
 
 -- for each source wire its masked wire and its code
 pub record TwinLists : Type 0 where
@@ -49,7 +49,7 @@ twinsCall L tables text codes wireRoom codeRoom =
 -- the outcome of a call that is handed its sizes, a text, a code for each input bit (0 for a public one), a buffer for the wires and one
 -- for the codes, and tables of operands, results and given wires
 abbrev pub call : Sizes → List ℕ → List ℕ → List ℕ → List ℕ → List ℕ → List ℕ → List ℕ → Outcome TwinLists
-call s text codes wires ends o r g = twinsCall (small s) (length o ∷ length r ∷ length g ∷ []) text codes (length wires) (length ends)
+call s text codes wires outCodes o r g = twinsCall (small s) (length o ∷ length r ∷ length g ∷ []) text codes (length wires) (length outCodes)
 
 -- the wires, and the codes, of a call's outcome
 abbrev pub wiresIn : Outcome TwinLists → Outcome (List ℕ)
@@ -64,26 +64,26 @@ pub record TwinsAnswers (call : Outcome TwinLists) (e x f y : List ℕ) (a : Ans
   pub codes : Answers (codesIn call) f y a
 
 -- a masked text, and in the netlist that it reads as a twin of each wire of the source
-pub record TwinsIn (s : Sizes) (source : Netlist) (codes wires ends masked : List ℕ) : Type 0 where
+pub record TwinsIn (s : Sizes) (source : Netlist) (codes wires outCodes masked : List ℕ) : Type 0 where
   pub netlist : Netlist
   pub back : readNetlist (large s) masked ≡ done netlist
-  pub twins : Twins source codes netlist (twinsOf wires ends)
+  pub twins : Twins source codes netlist (twinsOf wires outCodes)
 
 -- what holds of the wires and codes given
-pub record Given (s : Sizes) (text codes wires ends : List ℕ) : Type 0 where
+pub record Given (s : Sizes) (text codes wires outCodes : List ℕ) : Type 0 where
   -- they are those of the masking steps of the source
   pub source : Netlist
   pub read : readNetlist (small s) text ≡ done source
-  pub steps : twinsOf wires ends ≡ finish source codes .twins
+  pub steps : twinsOf wires outCodes ≡ finish source codes .twins
   -- whatever Mask writes for this text and these input codes, under any wanted codes and with any tables and buffers: each source wire
   -- has its twin there
   pub masked : (tables wanted : List ℕ) (textRoom codeRoom : ℕ) (R : MaskedText)
-      → maskCall (small s) tables text codes wanted textRoom codeRoom ≡ done R → TwinsIn s source codes wires ends (R .text)
+      → maskCall (small s) tables text codes wanted textRoom codeRoom ≡ done R → TwinsIn s source codes wires outCodes (R .text)
 
 -- the sizes, the text and the list, then each result buffer and each table before and after the call
-pub record Promise (s : Sizes) (text codes wires wires′ ends ends′ o o′ r r′ g g′ : List ℕ) (a : Answer) : Type 0 where
-  pub answers : TwinsAnswers (call s text codes wires ends o r g) wires wires′ ends ends′ a
-  pub twins : (n : ℕ) → a ≡ Done n → Given s text codes (take n wires′) (take n ends′)
+pub record Promise (s : Sizes) (text codes wires wires′ outCodes outCodes′ o o′ r r′ g g′ : List ℕ) (a : Answer) : Type 0 where
+  pub answers : TwinsAnswers (call s text codes wires outCodes o r g) wires wires′ outCodes outCodes′ a
+  pub twins : (n : ℕ) → a ≡ Done n → Given s text codes (take n wires′) (take n outCodes′)
   pub operands : Cleared o o′
   pub results : Cleared r r′
   pub marks : Cleared g g′

@@ -50,9 +50,9 @@ fn scores(
     step: usize,
     ins: &[u8],
     wanted: &[u8],
-    ends: &[u8],
+    out_codes: &[u8],
 ) -> Masked {
-    let mut m = unedited(words::part(text, 0, n), file, step, ins, wanted, ends);
+    let mut m = unedited(words::part(text, 0, n), file, step, ins, wanted, out_codes);
     let e = verdicts::edits(text, n, ins);
     m.check = score::join(m.check, e.alike);
     let leaks = e.leaks;
@@ -67,11 +67,11 @@ fn unedited(
     step: usize,
     ins: &[u8],
     wanted: &[u8],
-    ends: &[u8],
+    out_codes: &[u8],
 ) -> Masked {
-    let mask = vectors::score(text, file, step, ins, ends, 4);
+    let mask = vectors::score(text, file, step, ins, out_codes, 4);
     Masked {
-        mask: score::case(mask, codes::suit(wanted, ends)),
+        mask: score::case(mask, codes::suit(wanted, out_codes)),
         rewrite: forms::score(text),
         check: judged(text, ins),
         leaks: score::none(),
@@ -112,7 +112,7 @@ pub(crate) fn scored(
     let shape = second::header(text);
     let mut ins = buffers::list();
     let mut wanted = buffers::list();
-    let mut ends = buffers::list();
+    let mut out_codes = buffers::list();
     let mut out = buffers::text();
     codes::turn(&mut ins, low, high);
     codes::turn(&mut wanted, least, most);
@@ -124,7 +124,7 @@ pub(crate) fn scored(
         words::part(&ins, 0, shape.ins),
         words::part(&wanted, 0, shape.outs),
         &mut out,
-        &mut ends,
+        &mut out_codes,
     )
 }
 
@@ -137,9 +137,9 @@ fn delivered(
     ins: &[u8],
     wanted: &[u8],
     out: &mut [u8],
-    ends: &mut [u8],
+    out_codes: &mut [u8],
 ) -> Masked {
-    match services::mask(text, ins, wanted, out, ends) {
+    match services::mask(text, ins, wanted, out, out_codes) {
         Answer::Done(n) => scores(
             out,
             n,
@@ -147,7 +147,7 @@ fn delivered(
             step,
             ins,
             wanted,
-            words::part(ends, 0, wanted.len()),
+            words::part(out_codes, 0, wanted.len()),
         ),
         Answer::Refused(q) => refused(q == question),
     }

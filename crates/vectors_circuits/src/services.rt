@@ -40,7 +40,7 @@ pub(crate) fn mask(
     codes: &[u8],
     wanted: &[u8],
     out: &mut [u8],
-    ends: &mut [u8],
+    out_codes: &mut [u8],
 ) -> Answer {
     let mut operands = buffers::words();
     let mut results = buffers::words();
@@ -51,7 +51,7 @@ pub(crate) fn mask(
         codes,
         wanted,
         out,
-        ends,
+        out_codes,
         &mut operands,
         &mut results,
         &mut wires,

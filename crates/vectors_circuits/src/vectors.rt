@@ -10,18 +10,18 @@ use crate::words;
 use netlist::Answer;
 
 // Whether Run gives the output bits of a vector from the input wires.
-fn service(text: &[u8], list: &[u8], ends: &[u8], m: u8, outputs: &[u8]) -> bool {
+fn service(text: &[u8], list: &[u8], out_codes: &[u8], m: u8, outputs: &[u8]) -> bool {
     let mut bits = buffers::list();
     match services::run(text, list, &mut bits) {
-        Answer::Done(n) => codes::agrees(words::part(&bits, 0, n), ends, m, outputs),
+        Answer::Done(n) => codes::agrees(words::part(&bits, 0, n), out_codes, m, outputs),
         Answer::Refused(_) => false,
     }
 }
 
 // Whether the last wires are the output bits of a vector.
-fn last(wires: &[u8], shape: Shape, ends: &[u8], m: u8, outputs: &[u8]) -> bool {
+fn last(wires: &[u8], shape: Shape, out_codes: &[u8], m: u8, outputs: &[u8]) -> bool {
     let from = std::num::wrapping_sub_usize(shape.wires, shape.outs);
-    codes::agrees(words::part(wires, from, shape.wires), ends, m, outputs)
+    codes::agrees(words::part(wires, from, shape.wires), out_codes, m, outputs)
 }
 
 // Whether Run and the second evaluator give the output bits of a vector under one mask setting.
@@ -31,15 +31,21 @@ fn case(
     inputs: &[u8],
     outputs: &[u8],
     ins: &[u8],
-    ends: &[u8],
+    out_codes: &[u8],
     m: u8,
     gates: &[u32],
     wires: &mut [u8],
 ) -> bool {
     codes::settle(wires, inputs, ins, m);
-    let marks = service(text, words::part(wires, 0, shape.ins), ends, m, outputs);
+    let marks = service(
+        text,
+        words::part(wires, 0, shape.ins),
+        out_codes,
+        m,
+        outputs,
+    );
     second::run(shape.gates, gates, wires);
-    marks && last(wires, shape, ends, m, outputs)
+    marks && last(wires, shape, out_codes, m, outputs)
 }
 
 // One vector under the first mask settings.
@@ -49,7 +55,7 @@ fn vector(
     inputs: &[u8],
     outputs: &[u8],
     ins: &[u8],
-    ends: &[u8],
+    out_codes: &[u8],
     settings: u8,
     gates: &[u32],
     wires: &mut [u8],
@@ -58,7 +64,17 @@ fn vector(
     for m in 0..settings {
         s = score::case(
             s,
-            case(text, shape, inputs, outputs, ins, ends, m, gates, wires),
+            case(
+                text,
+                shape,
+                inputs,
+                outputs,
+                ins,
+                out_codes,
+                m,
+                gates,
+                wires,
+            ),
         );
     }
     s
@@ -84,7 +100,7 @@ fn lines(
     file: &[u8],
     step: usize,
     ins: &[u8],
-    ends: &[u8],
+    out_codes: &[u8],
     settings: u8,
     gates: &[u32],
     wires: &mut [u8],
@@ -102,7 +118,7 @@ fn lines(
             inputs,
             words::word(file, middle),
             ins,
-            ends,
+            out_codes,
             tried(inputs, i, step, settings),
             gates,
             wires,
@@ -113,18 +129,27 @@ fn lines(
     s
 }
 
-// Each `step`-th vector of a file, with input bits under the codes `ins` and output bits under the codes `ends`, under the first
+// Each `step`-th vector of a file, with input bits under the codes `ins` and output bits under the codes `out_codes`, under the first
 // mask settings: one for a netlist without masks, which has no codes either, and four for a masked one.
 pub(crate) fn score(
     text: &[u8],
     file: &[u8],
     step: usize,
     ins: &[u8],
-    ends: &[u8],
+    out_codes: &[u8],
     settings: u8,
 ) -> Score {
     let mut gates = buffers::gates();
     let mut wires = buffers::bytes();
     second::gates(text, &mut gates);
-    lines(text, file, step, ins, ends, settings, &gates, &mut wires)
+    lines(
+        text,
+        file,
+        step,
+        ins,
+        out_codes,
+        settings,
+        &gates,
+        &mut wires,
+    )
 }

@@ -1,19 +1,19 @@
 -- Names looked up in their chains.
-use Prim.Native.Nat.{ℕ, zero, suc, _+_, _*_, _-_, _/_, _%_, _≤_, _<_}
+use Prim.Native.Nat.{ℕ, zero, suc, _+_, _*_, _-_, _%_, _≤_, _<_}
 use mathlib.Core.Path.{_≡_, refl, sym, ap, _∙_}
-use mathlib.Core.Bool.{Bool, true, false, cond}
-use mathlib.Core.List.{List, [], _∷_, _++_}
+use mathlib.Core.Bool.{true, false}
+use mathlib.Core.List.{List, [], _∷_}
 use native.Mathlib.Omega.{arith}
 use lib.Dec.{eqb}
-use lib.ListN.{length, drop, getD, set, drop-of-length-le}
+use lib.ListN.{length, drop, getD, drop-of-length-le}
 use lib.Seq.{drop-cons}
 use native.Mathlib.Numerals.{add-one}
 use borrow.Author.Tests.{eq-eqb, eqb-true}
 use Rattle.netlist.specs.Lists.{sameBytes}
 use Rattle.netlist.specs.Table.{half}
-use Rattle.netlist.proofs.Tests.{onBool}
+use Rattle.netlist.proofs.Tests.{clash, onBool}
 use Rattle.verilog.proofs.Listing.{same-equal}
-use Rattle.verilog_names.specs.Names.{numberFrom, number, nameAt, namesOf, chainAt, newest, found, Chained, entryOf, chainOf, Added}
+use Rattle.verilog_names.specs.Names.{numberFrom, number, nameAt, chainAt, newest, found, chainOf}
 
 module _ (t words : List ℕ) (size : ℕ) where
   pub newest-within : (k n : ℕ) → newest t words size k n ≤ n
@@ -43,7 +43,7 @@ module _ (t words : List ℕ) (size : ℕ) where
       (λ s. rw (e, s) (found-newest w n)))
     where
       never : true ≡ false → ⊥
-      never e = let z : _≡_ {A = ℕ} 0 1 = cc in omega arith
+      never e = clash (cc)
 
 -- ---- the number of a name
 

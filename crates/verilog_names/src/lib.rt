@@ -15,6 +15,9 @@ fn wide(b: u8) -> u64
     b as u64
 }
 
+// 2^32: the numbers of names are below it, and a name's end stands in the upper half of its entry of words, above its start.
+const HALF: u64 = 4294967296;
+
 // The number of a name.
 fn hash(w: &[u8]) -> u64
     ensures { λ r. ⌜ r ≡ number (now (w .entry)) ⌝ }
@@ -22,7 +25,7 @@ fn hash(w: &[u8]) -> u64
     let mut h: u64 = 0;
     let mut i = 0;
     while i < w.len() {
-        h = (h * 37 + wide(w[i])) % 4294967296;
+        h = (h * 37 + wide(w[i])) % HALF;
         i += 1;
     }
     h
@@ -41,8 +44,8 @@ fn is_name(text: &[u8], entry: u64, w: &[u8]) -> bool
     requires { ⌜ (entry % half ≤ entry / half) × (entry / half ≤ length (now text)) ⌝ }
     ensures { λ r. ⌜ r ≡ sameBytes (between (now (text .entry)) (entry % half) (entry / half)) (now (w .entry)) ⌝ }
 {
-    let from = (entry % 4294967296) as usize;
-    let to = (entry / 4294967296) as usize;
+    let from = (entry % HALF) as usize;
+    let to = (entry / HALF) as usize;
     same(&text[from..to], w)
 }
 
@@ -88,7 +91,7 @@ pub fn add(
         (now (links .entry)) (now (links .exit)) size count from to ⌝ }
 {
     let k = chain_of(&text[from..to], size);
-    words[count] = (from as u64) + (to as u64) * 4294967296;
+    words[count] = (from as u64) + (to as u64) * HALF;
     links[count] = heads[k];
     heads[k] = (count as u64) + 1;
 }

@@ -1,20 +1,19 @@
 -- The classes of bytes: which each byte has, and what each class means.
-use Prim.Native.Nat.{ℕ, zero, suc, _+_, _≤_, _<_}
+use Prim.Native.Nat.{ℕ, _≤_, _<_}
 use native.Mathlib.Omega.{arith}
 use mathlib.Core.Path.{_≡_, refl, subst, sym, ap, ap₂, _∙_}
-use mathlib.Core.Bool.{Bool, true, false, cond, not, _&&_, _||_}
+use mathlib.Core.Bool.{Bool, true, false, cond, not, _||_}
 use mathlib.Core.List.{List, [], _∷_}
-use lib.Dec.{T, eqb, leb, eqb→eq}
-use lib.ListN.{length, getD}
+use lib.Dec.{eqb, leb, eqb→eq}
 use Rattle.netlist.specs.Number.{isDigit}
 use Rattle.netlist.specs.Text.{space, lf}
-use Rattle.netlist.proofs.Tests.{onBool, both, true-T}
+use Rattle.netlist.proofs.Tests.{clash, onBool, true-T}
 use borrow.Author.Tests.{eq-eqb, ne-eqb, le-leb, lt-leb}
 use Rattle.verilog.specs.Tokens.{cr, isLetter, inWord, isSign, starts, isWhite, token}
 use Rattle.verilog_tokens.specs.Next.{signCode, classOf, tokenOf}
 
 pub never : true ≡ false → ⊥
-never e = let z : _≡_ {A = ℕ} 0 1 = cc in omega arith
+never e = clash (cc)
 
 -- ---- the class of a byte, by comparisons
 

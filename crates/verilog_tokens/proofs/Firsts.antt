@@ -8,14 +8,14 @@ use native.Mathlib.Omega.{arith}
 use lib.Dec.{eqb}
 use lib.ListN.{drop}
 use borrow.Author.Tests.{eqb-true, ne-eqb}
-use Rattle.netlist.specs.Lists.{sameBytes, ascii}
-use Rattle.netlist.proofs.Tests.{onBool}
+use Rattle.netlist.specs.Lists.{ascii}
+use Rattle.netlist.proofs.Tests.{clash, onBool}
 use Rattle.netlist.proofs.Questions.{none-some, some-same}
 use Rattle.verilog.specs.Tokens.{Token, name, mark, marks, consToken, tokens}
-use Rattle.verilog_tokens.specs.Next.{markOf, codeFrom, codeOf, tokenOf, between, tokensFrom, TokenAt}
+use Rattle.verilog_tokens.specs.Next.{markOf, codeOf, tokenOf, between, TokenAt}
 
 pub never : true ≡ false → ⊥
-never e = let z : _≡_ {A = ℕ} 0 1 = cc in omega arith
+never e = clash (cc)
 
 -- ---- the code of a token
 

@@ -11,14 +11,17 @@ ghost use mathlib.Core.List.{[], _∷_};
 ghost use Rattle.netlist.specs.Number.{decimal};
 ghost use Rattle.write_buffer.specs.Wrote.{Wrote, cap};
 
+// The largest place, 2^64 - 1, at which places stay: no buffer reaches so far.
+const TOP: usize = 18446744073709551615;
+
 // The place `by` bytes on; past the largest there is none, and it stays there.
 pub fn moved(at: usize, by: usize) -> usize
     ensures { λ r. ⌜ r ≡ cap (at + by) ⌝ }
 {
-    if by < 18446744073709551615 - at {
+    if by < TOP - at {
         return at + by;
     }
-    18446744073709551615
+    TOP
 }
 
 // One byte.

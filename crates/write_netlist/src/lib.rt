@@ -169,7 +169,7 @@ pub fn deliver_in(
     )
 }
 
-// The same in Fashion.
+// Question 14 and the written form of document 01.
 pub fn deliver(
     out: &mut [u8],
     count: usize,

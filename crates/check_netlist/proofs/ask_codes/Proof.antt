@@ -28,19 +28,19 @@ returns c = let a = c .before .before .before .before .args in
     let ten : endsInMasks (take (a .h .«input_values») (a .t2)) ≡ false = sym (c .before .ends-in-masks .ensures) ∙ not-true _ (c .if1 .taken) in
     sym (rw ten)
 
-sub-codes : tie.Need-sub-codes
-sub-codes c = let s = c .before .before .before .before in
+sub-valid-codes : tie.Need-sub-valid-codes
+sub-valid-codes c = let s = c .before .before .before .before in
     omega (arith, s .pre .1, masks-bits (take (s .args .h .«input_values») (s .args .t2)) (sym (c .before .ends-in-masks .ensures) ∙ not-false _ (c .if1 .left)))
 
-codes-requires : tie.Need-codes-requires
-codes-requires c κs = search needs
+valid-codes-requires : tie.Need-valid-codes-requires
+valid-codes-requires c κs = search needs
 
 returns-2 : tie.Need-returns-2
 returns-2 c = let s = c .before .before .before .before .before .before in
     let ws = take (s .args .h .«input_values») (s .args .t2) in
     let ten : endsInMasks ws ≡ true = sym (c .before .before .before .ends-in-masks .ensures) ∙ not-false _ (c .before .before .if1 .left) in
     let eleven : listGood isInputCode (sum ws - 2) (s .args .codes .now) ≡ false
-    = ap (λ (n : ℕ). listGood isInputCode (n - 2) (s .args .codes .now)) (sym (s .pre .1)) ∙ sym (c .before .codes .ensures) ∙ not-true _ (c .if2 .taken) in
+    = ap (λ (n : ℕ). listGood isInputCode (n - 2) (s .args .codes .now)) (sym (s .pre .1)) ∙ sym (c .before .valid-codes .ensures) ∙ not-true _ (c .if2 .taken) in
     sym (rw (ten, eleven))
 
 returns-3 : tie.Need-returns-3
@@ -48,7 +48,7 @@ returns-3 c = let s = c .before .before .before .before .before .before in
     let ws = take (s .args .h .«input_values») (s .args .t2) in
     let ten : endsInMasks ws ≡ true = sym (c .before .before .before .ends-in-masks .ensures) ∙ not-false _ (c .before .before .if1 .left) in
     let eleven : listGood isInputCode (sum ws - 2) (s .args .codes .now) ≡ true
-    = ap (λ (n : ℕ). listGood isInputCode (n - 2) (s .args .codes .now)) (sym (s .pre .1)) ∙ sym (c .before .codes .ensures) ∙ not-false _ (c .if2 .left) in
+    = ap (λ (n : ℕ). listGood isInputCode (n - 2) (s .args .codes .now)) (sym (s .pre .1)) ∙ sym (c .before .valid-codes .ensures) ∙ not-false _ (c .if2 .left) in
     sym (rw (ten, eleven))
 
 pub ask-codes-spec : {M : Type 1} → statement M
@@ -59,7 +59,7 @@ ask-codes-spec =
     slice-aggregate-ends-in-masks
     ends-in-masks-requires
     returns
-    sub-codes
-    codes-requires
+    sub-valid-codes
+    valid-codes-requires
     returns-2
     returns-3)

@@ -16,7 +16,7 @@ enum-known-a c = search needs
 slice-aggregate-digits : tie.Need-slice-aggregate-digits
 slice-aggregate-digits c =
     let s = c .before .before .before .before .before .before .before .before in
-    sym (length-take-le (s .args .codes) (s .args .ends .now) (s .pre .0 _ (c .before .before .before .a .given .1) .1))
+    sym (length-take-le (s .args .codes) (s .args .out-codes .now) (s .pre .0 _ (c .before .before .before .a .given .1) .1))
 
 digits-requires : tie.Need-digits-requires
 digits-requires c κs = search needs
@@ -34,8 +34,8 @@ returns : tie.Need-returns
 returns c =
     let s = c .before .before .before .before .before .before .before .before .before .before .before in
     let a = c .before .before .before .before .before .before .a .given in
-    let codes = take (s .args .codes) (s .args .ends .now) in
-    let few = length-take (s .args .codes) (s .args .ends .now) in
+    let codes = take (s .args .codes) (s .args .out-codes .now) in
+    let few = length-take (s .args .codes) (s .args .out-codes .now) in
     prints-as _ _ (Done _) (a .1)
     (prints-text codes _ _ (few-first (c .before .before .digits .ensures) (omega (arith, few, s .pre .1))) (s .pre .0 _ (a .1) .0))
 

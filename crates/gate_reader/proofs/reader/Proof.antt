@@ -72,7 +72,7 @@ module _ {M : Type 1} (𝓤 : URA M) (H : Heap 𝓤) (A : Atoms 𝓤) (W : Given
       suffices ! _
       (ends-at 𝓤 H A reader.ended stayed (reader.clauses 𝓤 H A mem run) W (((κ, tt), (q, tt), tt, (s, (n, tt)), at), tt) (T′.lowered made) made
       (tt, (tt, tt)) (tt, (tt, tt))) $
-      says ! (refl, refl) $
+      says ! (refl, refl, λ L k a. a) $
       frame ! $ fsplit ! $ use1 W (‵ Own ⊛ ‵ Own) (shr-slice-copy 𝓤 H A W (named 0) κ u8 .twice s (v ∷ [])) $ split ! $ move ! (0 ∷ 2 ∷ []) $
       fjoin ! $ frame ! $
       -- [what the text owns]: what the fields own together, of it and of the place's facts, is what the struct owns

@@ -53,7 +53,7 @@ same-length-3 c = search needs
 returns : tie.Need-returns
 returns c = let s = c .before .before .before .before .before .before .before .before .before .before .before .before .before .before .before .before .before .before .before .before .before .before .before .before .before .before .before .before .args in
     let t = c .before .before .before .before .before .before .before .before .before .read-block in
-    call-not (s .sizes) (s .first .now) (s .second .now) (s .codes .now) (s .ends .now) (s .inner .now) (s .out .now) (s .operands .now) (s .results .now) (s .marks .now) (s .words .now) (s .base .now) (c .before .before .before .before .before .before .before .before .before .before .before .before .before .before .before .shorter .ensures)
+    call-not (s .sizes) (s .first .now) (s .second .now) (s .codes .now) (s .out-codes .now) (s .inner .now) (s .out .now) (s .operands .now) (s .results .now) (s .marks .now) (s .words .now) (s .base .now) (c .before .before .before .before .before .before .before .before .before .before .before .before .before .before .before .shorter .ensures)
     (block-as (length (s .operands .now) ∷ length (s .results .now) ∷ length (s .marks .now) ∷ _ ∷ []) (s .first .now) (s .codes .now) (t .last .1 .1 .0) (t .last .1 .1 .1 .0)
     (tables (t .last .1 .1 .1 .1 .0) (t .last .1 .1 .1 .1 .1 .0)) (c .before .before .before .before .before .before .before .before .before .before .before .before .before .before .before .before .large .ensures) (c .before .question .given .1) (t .ensures))
 
@@ -80,9 +80,9 @@ returns-2 c = let s = c .before .before .before .before .before .before .before 
     let t = c .before .before .before .before .before .before .before .before .before .before .before .before .before .before .before .before .before .before .before .before .before .before .before .before .before .before .before .before .read-block in
     let k = block-as (length (s .operands .now) ∷ length (s .results .now) ∷ length (s .marks .now) ∷ _ ∷ []) (s .first .now) (s .codes .now) (t .last .1 .1 .0) (t .last .1 .1 .1 .0)
     (tables (t .last .1 .1 .1 .1 .0) (t .last .1 .1 .1 .1 .1 .0)) (c .before .before .before .before .before .before .before .before .before .before .before .before .before .before .before .before .before .before .before .before .before .before .before .before .before .before .before .before .before .before .before .before .before .before .before .large .ensures) (c .before .before .before .before .before .before .before .before .before .before .before .before .before .before .before .before .before .before .before .before .a .given .1) (t .ensures) in
-    call-read (s .sizes) (s .first .now) (s .second .now) (s .codes .now) (s .ends .now) (s .inner .now) (s .out .now) (s .operands .now) (s .results .now) (s .marks .now) (s .words .now) (s .base .now) (c .before .before .before .before .before .before .before .before .before .before .before .before .before .before .before .before .before .before .before .before .before .before .before .before .before .before .before .before .before .before .before .before .before .before .shorter .ensures)
+    call-read (s .sizes) (s .first .now) (s .second .now) (s .codes .now) (s .out-codes .now) (s .inner .now) (s .out .now) (s .operands .now) (s .results .now) (s .marks .now) (s .words .now) (s .base .now) (c .before .before .before .before .before .before .before .before .before .before .before .before .before .before .before .before .before .before .before .before .before .before .before .before .before .before .before .before .before .before .before .before .before .before .shorter .ensures)
     (k .0) (block-read (k .1))
-    (rest-as (s .second .now) (s .inner .now) (s .ends .now) (s .out .now) (k .1 .at .is) (c .before .before .before .before .before .before .before .before .before .before .before .before .before .before .before .before .before .before .before .before .before .before .before .before .before .before .before .before .before .before .before .before .before .before .before .large .ensures) (c .before .before .before .before .before .before .before .before .before .before .before .before .read-second .ensures (k .1 .at .is) (block-first (k .1))))
+    (rest-as (s .second .now) (s .inner .now) (s .out-codes .now) (s .out .now) (k .1 .at .is) (c .before .before .before .before .before .before .before .before .before .before .before .before .before .before .before .before .before .before .before .before .before .before .before .before .before .before .before .before .before .before .before .before .before .before .before .large .ensures) (c .before .before .before .before .before .before .before .before .before .before .before .before .read-second .ensures (k .1 .at .is) (block-first (k .1))))
 
 pub answer-spec : {M : Type 1} → statement M
 answer-spec =

@@ -48,7 +48,7 @@ returns c = let s = c .before .before .before .before .before .before .before .b
     let k = a .kept .1 .1 .1 .1 .1 .1 in
     record {
       answers = a .ensures;
-      delivered = call-delivered (s .sizes) (s .first .now) (s .second .now) (s .codes .now) (s .ends .now) (s .inner .now) (s .out .now) (s .operands .now) (s .results .now) (s .marks .now) (s .words .now) (s .base .now) (a .ensures);
+      delivered = call-delivered (s .sizes) (s .first .now) (s .second .now) (s .codes .now) (s .out-codes .now) (s .inner .now) (s .out .now) (s .operands .now) (s .results .now) (s .marks .now) (s .words .now) (s .base .now) (a .ensures);
       operands = zeros-same (c .before .before .before .before .before .before .before .before .before .before .before .before .before .before .before .before .before .before .words2 .ensures) (k .0);
       results = zeros-same (c .before .before .before .before .before .before .before .before .before .before .before .before .before .before .words3 .ensures) (k .1 .0);
       marks = zeros-same (c .before .before .before .before .before .before .before .before .before .before .bytes .ensures) (k .1 .1 .0);

@@ -41,7 +41,7 @@ returns c = λ A F. let s = c .before .before .before .before .before .before .b
     let t = c .before .before .before .before .before .before .before .before .before .read-block in
     let ls = length (s .words .now) ∷ length (s .base .now) ∷ length (s .marks .now) ∷ length (s .marks .now) ∷ [] in
     let p = c .before .before .before .before .before .before .before .before .before .before .before .before .before .before .before .before .before .before .before .before .before .before .before .before .pre .1 in
-    second-not (s .l) ls (s .second .now) (s .codes .now) (s .ends .now) (s .out .now) A (four-long (s .l) (p .3) (p .4) (p .2) (p .2))
+    second-not (s .l) ls (s .second .now) (s .codes .now) (s .out-codes .now) (s .out .now) A (four-long (s .l) (p .3) (p .4) (p .2) (p .2))
     (block-as ls (s .second .now) (s .codes .now) (t .last .1 .1 .0) (t .last .1 .1 .1 .0) (tables (t .last .1 .1 .1 .1 .0) (t .last .1 .1 .1 .1 .1 .0)) refl (c .before .question .given .1) (t .ensures))
 
 same-length-4 : tie.Need-same-length-4
@@ -68,7 +68,7 @@ returns-2 c = λ A F. let s = c .before .before .before .before .before .before 
     let ls = length (s .words .now) ∷ length (s .base .now) ∷ length (s .marks .now) ∷ length (s .marks .now) ∷ [] in
     let k = block-as ls (s .second .now) (s .codes .now) (t .last .1 .1 .0) (t .last .1 .1 .1 .0)
     (tables (t .last .1 .1 .1 .1 .0) (t .last .1 .1 .1 .1 .1 .0)) refl (c .before .before .before .before .before .before .before .before .before .before .before .before .before .b .given .1) (t .ensures) in
-    second-read (s .l) ls (s .second .now) (s .codes .now) (s .ends .now) (s .out .now) A (block-read (k .1))
+    second-read (s .l) ls (s .second .now) (s .codes .now) (s .out-codes .now) (s .out .now) A (block-read (k .1))
     (c .before .before .before .before .before .before .deliver .ensures A (k .1 .at .is) F (block-second (k .1)))
 
 pub read-second-spec : {M : Type 1} → statement M

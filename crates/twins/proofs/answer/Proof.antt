@@ -67,7 +67,7 @@ same-length-8 c = search needs
 returns-2 : tie.Need-returns-2
 returns-2 c = let s = c .before .before .before .before .before .before .before .before .before .before .before .before .before .before .before .before .before .before .before .before .before .before .before .before .before .before .before .before .before .before .before .before .args in
     let t = c .before .before .before .before .before .before .before .before .before .before .before .before .before .before .before .before .before .before .read in
-    call-read (s .sizes) (s .text .now) (s .codes .now) (s .wires .now) (s .ends .now) (s .operands .now) (s .results .now) (s .marks .now)
+    call-read (s .sizes) (s .text .now) (s .codes .now) (s .wires .now) (s .out-codes .now) (s .operands .now) (s .results .now) (s .marks .now)
     (read-is (length (s .operands .now) ∷ length (s .results .now) ∷ length (s .marks .now) ∷ length (s .marks .now) ∷ []) (s .text .now) (t .last .1 .0)
     (t .last .1 .1 .0) (tables (t .last .1 .1 .1 .0) (t .last .1 .1 .1 .1 .0)) (c .before .before .before .before .before .before .before .before .before .before .before .before .before .before .before .before .before .before .before .before .before .before .before .before .small .ensures) (c .before .before .before .before .before .before .before .before .before .before .h .given .1) (t .ensures))
     (c .before .before .before .before .deliver .ensures)

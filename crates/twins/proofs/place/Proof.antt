@@ -36,7 +36,7 @@ place-twins-requires : tie.Need-place-twins-requires
 place-twins-requires c κs = let s = c .before .before .before .before .before .before .before .before .before .before .before in
     let p = s .pre in
     let w = length-take-le (s .args .h .wires) (s .args .wires .now) (c .before .before .before .before .if1 .left) in
-    let v = length-take-le (s .args .h .wires) (s .args .ends .now) (c .before .before .before .if2 .left) in
+    let v = length-take-le (s .args .h .wires) (s .args .out-codes .now) (c .before .before .before .if2 .left) in
     record {
       wired = wired-same w (p .0);
       codes = v ∙ sym w;
@@ -57,7 +57,7 @@ returns-3 c = let s = c .before .before .before .before .before .before .before 
     let a = c .before .before .before .before .before .before .before .before .before .if1 .left in
     let b = c .before .before .before .before .before .before .before .before .if2 .left in
     let w = length-take-le (s .args .h .wires) (s .args .wires .now) a in
-    let v = length-take-le (s .args .h .wires) (s .args .ends .now) b in
+    let v = length-take-le (s .args .h .wires) (s .args .out-codes .now) b in
     λ N h. placed (s .args .codes .now) h (s .pre .3) a b (t .kept .1 .1 .1 .1 .0 ∙ w) (t .kept .1 .1 .1 .1 .1 .0 ∙ v) (finished-same (sym w) (t .ensures))
 
 pub place-spec : {M : Type 1} → statement M

@@ -39,7 +39,7 @@ returns c = let s = c .before .before .before .before .before .before .before .b
     record {
       answers = a .ensures;
       twins =
-          call-twins (s .sizes) (s .text .now) (s .codes .now) (s .wires .now) (s .ends .now) (s .operands .now) (s .results .now) (s .marks .now)
+          call-twins (s .sizes) (s .text .now) (s .codes .now) (s .wires .now) (s .out-codes .now) (s .operands .now) (s .results .now) (s .marks .now)
           (a .ensures);
       operands = zeros-same (c .before .before .before .before .before .before .before .before .before .before .words .ensures) (k .0);
       results = zeros-same (c .before .before .before .before .before .before .words2 .ensures) (k .1 .0);

@@ -14,16 +14,11 @@ abbrev μ-loop : tie.MeasureT-loop
 loop-holds : tie.Need-loop-holds Inv-loop μ-loop
 loop-holds c = calling-start _ _ _
 
-step-at-requires : tie.Need-step-at-requires Inv-loop μ-loop
-step-at-requires c κs = search needs
-
-place-after-requires : tie.Need-place-after-requires Inv-loop μ-loop
-place-after-requires c κs = search needs
+ask-requires : tie.Need-ask-requires Inv-loop μ-loop
+ask-requires c κs = search needs
 
 returns : tie.Need-returns Inv-loop μ-loop
-returns c =
-    calling-stays (c .before .before .before .before .loop .inv) (c .before .before .step-at .ensures) (c .before .place-after .ensures)
-    (c .if1 .taken)
+returns c = calling-stays (c .before .before .before .before .loop .inv) (c .before .before .ask .ensures) (c .if1 .taken)
 
 add-i : tie.Need-add-i Inv-loop μ-loop
 add-i c = search needs
@@ -32,15 +27,13 @@ loop-less : tie.Need-loop-less Inv-loop μ-loop
 loop-less c = search needs
 
 loop-again : tie.Need-loop-again Inv-loop μ-loop
-loop-again c =
-    calling-on (c .before .before .before .before .loop .inv) (c .before .before .step-at .ensures) (c .before .place-after .ensures)
-    (c .before .before .before .loop-test .taken) (c .if1 .left)
+loop-again c = calling-on (c .before .before .before .before .loop .inv) (c .before .before .ask .ensures) (c .before .before .before .loop-test .taken)
 
-step-at-requires-2 : tie.Need-step-at-requires-2 Inv-loop μ-loop
-step-at-requires-2 c κs = search needs
+ask-requires-2 : tie.Need-ask-requires-2 Inv-loop μ-loop
+ask-requires-2 c κs = search needs
 
 returns-2 : tie.Need-returns-2 Inv-loop μ-loop
-returns-2 c = calling-end (c .before .before .loop .inv) (c .before .loop-test .left) (c .step-at2 .ensures)
+returns-2 c = calling-end (c .before .before .loop .inv) (c .ask2 .ensures) (c .before .loop-test .left)
 
 pub call-at-spec : {M : Type 1} → statement M
 call-at-spec =
@@ -49,11 +42,10 @@ call-at-spec =
     Inv-loop
     μ-loop
     loop-holds
-    step-at-requires
-    place-after-requires
+    ask-requires
     returns
     add-i
     loop-less
     loop-again
-    step-at-requires-2
+    ask-requires-2
     returns-2)

@@ -24,7 +24,9 @@ call-at-requires : tie.Need-call-at-requires
 call-at-requires c κs = search needs
 
 returns : tie.Need-returns
-returns c = reader-no (open-is _ _ _ _ _ _ (c .before .question .given .1) (c .before .before .before .before .before .open-at .ensures))
+returns c =
+    reader-no (search needs) (search needs)
+    (open-is _ _ _ _ _ _ (c .before .question .given .1) (c .before .before .before .before .before .open-at .ensures))
 
 returns-2 : tie.Need-returns-2
 returns-2 c =

@@ -7,10 +7,10 @@ use Rattle.vectors_circuits.proofs.vectors.lines.Statement.{statement}
 use Rattle.vectors_circuits.proofs.vectors.lines.Tie as tie
 
 abbrev Inv-loop : tie.InvT-loop
-Inv-loop text file step ins ends settings gates wires₀ shape s₀ at₀ i₀ wires s at i = length wires ≡ length wires₀
+Inv-loop text file step ins outCodes settings gates wires₀ shape s₀ at₀ i₀ wires s at i = length wires ≡ length wires₀
 
 abbrev μ-loop : tie.MeasureT-loop
-μ-loop text file step ins ends settings gates wires₀ shape s₀ at₀ i₀ wires s at i = 4096 - i
+μ-loop text file step ins outCodes settings gates wires₀ shape s₀ at₀ i₀ wires s at i = 4096 - i
 
 pub lines-spec : {M : Type 1} → statement M
 lines-spec =

@@ -7,10 +7,10 @@ use Rattle.vectors_circuits.proofs.vectors.vector.Statement.{statement}
 use Rattle.vectors_circuits.proofs.vectors.vector.Tie as tie
 
 abbrev Inv-loop : tie.InvT-loop
-Inv-loop text shape inputs outputs ins ends settings gates wires₀ s₀ m₀ wires s m = length wires ≡ length wires₀
+Inv-loop text shape inputs outputs ins outCodes settings gates wires₀ s₀ m₀ wires s m = length wires ≡ length wires₀
 
 abbrev μ-loop : tie.MeasureT-loop
-μ-loop text shape inputs outputs ins ends settings gates wires₀ s₀ m₀ wires s m = settings - m
+μ-loop text shape inputs outputs ins outCodes settings gates wires₀ s₀ m₀ wires s m = settings - m
 
 pub vector-spec : {M : Type 1} → statement M
 vector-spec =
