@@ -1,24 +1,21 @@
+-- `answer_on`: the front of the table is handed on.
+use mathlib.Core.Path.{sym}
+use lib.Seq.{length-take-le}
+use Rattle.write_wires.proofs.Filling.{low-table}
 use native.Mathlib.Omega.{arith}
 use borrow.Author.Needs.{needs}
 use Rattle.write_netlist.proofs.answer_on.Statement.{statement}
 use Rattle.write_netlist.proofs.answer_on.Tie as tie
-use Rattle.write_netlist.proofs.answer_on.Reads as reads
-use Rattle.write_netlist.proofs.answer_on.Lts as lts
-use Rattle.write_netlist.proofs.answer.Reads as answer-reads
 
--- src/lib.rt:147:9
 slice-aggregate-answer : tie.Need-slice-aggregate-answer
-slice-aggregate-answer c = ?
+slice-aggregate-answer c = sym (length-take-le (c .before .before .before .before .before .before .before .args .k) (c .before .before .before .before .before .before .before .args .d .now) (c .before .before .before .before .before .before .before .pre .0 .long))
 
--- src/lib.rt:146:5
 answer-requires : tie.Need-answer-requires
-answer-requires c κs = ?
+answer-requires c κs = (low-table (c .before .before .before .before .before .before .before .before .args .d .now) (c .before .before .before .before .before .before .before .before .args .k) (c .before .before .before .before .before .before .before .before .pre .0), c .before .before .before .before .before .before .before .before .pre .1)
 
--- src/lib.rt:129:1
 same-length : tie.Need-same-length
 same-length c = search needs
 
--- src/lib.rt:129:1
 returns : tie.Need-returns
 returns c = search needs
 
