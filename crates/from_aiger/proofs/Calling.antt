@@ -1,7 +1,7 @@
 -- From a file that was read to the promise.
-use Prim.Native.Nat.{ℕ, _≤_}
+use Prim.Native.Nat.{ℕ}
 use mathlib.Core.Path.{_≡_, refl, sym, ap, ap₂, _∙_, subst}
-use mathlib.Core.Bool.{true, false}
+use mathlib.Core.Bool.{Bool, true, false}
 use mathlib.Core.List.{List, [], _∷_, _++_}
 use native.Mathlib.Omega.{arith}
 use lib.ListN.{length, take}
@@ -10,11 +10,11 @@ use Rattle.netlist.specs.declared.Sizes.{Sizes}
 use Rattle.netlist.specs.declared.Answer.{Answer}
 use Rattle.netlist.specs.declared.Answer.the-variants.{Done, Refused}
 use Rattle.netlist.specs.Netlist.{Netlist, small}
-use Rattle.netlist.specs.Outcome.{Outcome, refused, andThen}
+use Rattle.netlist.specs.Outcome.{Outcome, refused, ask, andThen}
 use Rattle.netlist.specs.Write.{writeNetlist, gateText}
 use Rattle.netlist.specs.Services.{tablesLong, rewriteOutcome, outcomeOf, Answers, Delivers}
 use Rattle.netlist.specs.Table.{Tables}
-use Rattle.netlist.proofs.Answering.{answers-as, answers-refused, answers-one, answers-rest}
+use Rattle.netlist.proofs.Answering.{answers-as, answers-refused}
 use Rattle.netlist.proofs.Puts.{length-gates}
 use Rattle.netlist.proofs.Size.{roomy-small}
 use Rattle.write_gates.specs.Header.{headerText}
@@ -23,7 +23,7 @@ use Rattle.write_netlist.specs.Form.{formText}
 use Rattle.aiger.specs.Call.{readAiger, aigerCall}
 use Rattle.aiger.specs.Delivered.{Delivered}
 use Rattle.aiger.proofs.Reading.{aiger-delivered}
-use Rattle.read_aiger.specs.WholeAnswers.{NetlistAt, NetlistIs}
+use Rattle.read_aiger.specs.WholeAnswers.{OneValue, askedAiger, NetlistAt, NetlistIs}
 use Rattle.read_aiger.specs.declared.read.NetlistNumbers.{NetlistNumbers}
 use Rattle.read_aiger.specs.declared.read.Reading.{Reading}
 use Rattle.read_aiger.specs.declared.read.Reading.the-variants as R
@@ -50,29 +50,35 @@ pub file-not : (o : Outcome Netlist) (e : List ℕ) (q : ℕ) → o ≡ refused 
 file-not o e q n = answers-refused e (ap (λ (o : Outcome Netlist). andThen o (rewriteOutcome (length e))) n)
 
 -- the answers of the reader, which was handed the limits of the sizes
-module _ {l L : Limits} (is : l ≡ L) (t : List ℕ) (tabs : Tables) (r : Reading) where
-  pub read-is : (m : NetlistNumbers) → r ≡ R.Done m → NetlistIs (readAiger l t) tabs r → NetlistAt (readAiger L t) tabs m
-  read-is m e h = subst (λ (k : Limits). NetlistAt (readAiger k t) tabs m) is (subst (NetlistIs (readAiger l t) tabs) e h)
+module _ {l L : Limits} (is : l ≡ L) (lengths t : List ℕ) (tabs : Tables) (r : Reading) where
+  pub read-is : (m : NetlistNumbers) → r ≡ R.Done m → NetlistIs (askedAiger l lengths t) tabs r → NetlistAt (askedAiger L lengths t) tabs m
+  read-is m e h = subst (λ (k : Limits). NetlistAt (askedAiger k lengths t) tabs m) is (subst (NetlistIs (askedAiger l lengths t) tabs) e h)
 
-  pub read-not : (q : ℕ) → r ≡ R.Refused q → NetlistIs (readAiger l t) tabs r → readAiger L t ≡ refused q
-  read-not q e h = subst (λ (k : Limits). readAiger k t ≡ refused q) is (subst (NetlistIs (readAiger l t) tabs) e h)
+  pub read-not : (q : ℕ) → r ≡ R.Refused q → NetlistIs (askedAiger l lengths t) tabs r → askedAiger L lengths t ≡ refused q
+  read-not q e h = subst (λ (k : Limits). askedAiger k lengths t ≡ refused q) is (subst (NetlistIs (askedAiger l lengths t) tabs) e h)
 
 -- what the reader requires of the limits of the sizes
-pub small-tables : (s : Sizes) → (small s .wires ≤ small s .table) × (1 ≤ small s .inputs) × (1 ≤ small s .outputs)
-small-tables s = (omega arith, omega arith, omega arith)
+pub one-value : (s : Sizes) → OneValue (small s)
+one-value s = record { inputs = omega arith; outputs = omega arith; wires = omega arith }
 
--- question 1
+-- the call
 module _ (s : Sizes) (text out o r v : List ℕ) where
-  pub call-one : tablesLong (small s) (length o ∷ length r ∷ length v ∷ []) ≡ false → Answers (call s text out o r v) out out (Refused 1)
-  unfolding aigerCall
-  call-one p = answers-one (tablesLong (small s) (length o ∷ length r ∷ length v ∷ [])) _ out p
+  abbrev lengths : List ℕ
+  lengths = length o ∷ length r ∷ length v ∷ []
 
-  pub call-rest : {x : List ℕ} {a : Answer} → tablesLong (small s) (length o ∷ length r ∷ length v ∷ []) ≡ true
-      → Answers (andThen (readAiger (small s) text) (rewriteOutcome (length out))) out x a → Answers (call s text out o r v) out x a
+  asked : andThen (askedAiger (small s) lengths text) (rewriteOutcome (length out)) ≡ call s text out o r v
   unfolding aigerCall
-  call-rest p h = answers-rest (tablesLong (small s) (length o ∷ length r ∷ length v ∷ [])) p h
+  asked = go (tablesLong (small s) lengths)
+    where
+      go : (b : Bool) → andThen (ask 1 b (readAiger (small s) text)) (rewriteOutcome (length out)) ≡ ask 1 b (andThen (readAiger (small s) text) (rewriteOutcome (length out)))
+      go true = refl
+      go false = refl
+
+  pub call-read : {x : List ℕ} {a : Answer} → Answers (andThen (askedAiger (small s) lengths text) (rewriteOutcome (length out))) out x a
+      → Answers (call s text out o r v) out x a
+  call-read h = answers-as asked h
 
   -- the result
   pub call-delivered : {x : List ℕ} {a : Answer} → Answers (call s text out o r v) out x a → (n : ℕ) → a ≡ Done n → Delivered (small s) text (take n x)
   call-delivered {x} {a} w n p =
-      aiger-delivered (roomy-small s) (length o ∷ length r ∷ length v ∷ []) text (length out) (take n x) (sym (w .outcome) ∙ ap (outcomeOf x) p)
+      aiger-delivered (roomy-small s) lengths text (length out) (take n x) (sym (w .outcome) ∙ ap (outcomeOf x) p)

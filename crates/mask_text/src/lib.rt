@@ -253,7 +253,7 @@ pub fn deliver(
     ) as usize;
     let gates = wires - (codes.len() + 2);
     if wires <= 100 {
-        let none = [0u64; 1];
+        let none = [0u64; 0];
         return answer(
             &none,
             out,
@@ -272,7 +272,7 @@ pub fn deliver(
         );
     }
     let mut table = [0u64; 2000];
-    write_wires::table::fill(&mut table);
+    write_wires::table::fill(&mut table, 100);
     answer(
         &table,
         out,

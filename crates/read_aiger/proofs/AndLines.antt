@@ -17,12 +17,12 @@ use Rattle.aiger.specs.File.{AndLine, literal, lineOf, plain}
 use Rattle.aiger.specs.Lines.{ifSome, variable, andLine, andForm}
 use Rattle.aiger.specs.Rules.{readable, fresh, canGive, andGood}
 use Rattle.aiger.specs.Made.{wireAt, andMade}
-use Rattle.read_aiger.specs.LineAnswers.{LineNot, atFront, firstNumbers, LineAt}
-use Rattle.read_aiger.specs.Places.{Standing, AndIs}
+use Rattle.aiger_lines.specs.LineAnswers.{LineNot, atFront, firstNumbers, LineAt}
+use Rattle.aiger_gates.specs.Places.{Standing, AndIs}
 use Rattle.read_aiger.specs.AndAnswers.{AndLineAt}
 use Rattle.aiger.proofs.Forms.{ifSome-some}
 use Rattle.aiger.proofs.Making.{located-more}
-use Rattle.read_aiger.proofs.Placing.{places-more}
+use Rattle.aiger_gates.proofs.Placing.{places-more}
 use Rattle.read_aiger.proofs.InputLines.{variable-plain, given-plain}
 
 front-and : (ls : List (List (List ℕ))) → atFront andForm ls ≡ andLine (firstNumbers ls)

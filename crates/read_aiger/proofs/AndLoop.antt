@@ -16,9 +16,9 @@ use Rattle.aiger.specs.File.{AndLine}
 use Rattle.aiger.specs.Lines.{formed, fileLines, andForm}
 use Rattle.aiger.specs.Rules.{giving, andGood, andsGood}
 use Rattle.aiger.specs.Made.{wireAt, andMade, Built, behind, build}
-use Rattle.read_aiger.specs.Stray.{strayAt}
-use Rattle.read_aiger.specs.LineAnswers.{atFront}
-use Rattle.read_aiger.specs.Places.{Standing}
+use Rattle.aiger_lines.specs.Stray.{strayAt}
+use Rattle.aiger_lines.specs.LineAnswers.{atFront}
+use Rattle.aiger_gates.specs.Places.{Standing}
 use Rattle.read_aiger.specs.AndAnswers.{AndLineAt, AndLineIs, AndsAt, gatesSaid, placeSaid}
 use Rattle.read_aiger.specs.declared.ands.AndStep.{AndStep}
 use Rattle.read_aiger.specs.declared.ands.AndStep.the-variants as S

@@ -18,12 +18,12 @@ use Rattle.netlist.proofs.Questions.{none-some, some-same}
 use Rattle.read_text.specs.declared.cursor.Cursor.{Cursor}
 use Rattle.aiger.specs.Lines.{fileLine, opens, Head, headOf, head, headGood}
 use Rattle.aiger.specs.Call.{headOutcome}
-use Rattle.read_aiger.specs.Stray.{strayAt}
-use Rattle.read_aiger.specs.LineAnswers.{NotSoMany, FileLineAt, FileLineIs}
+use Rattle.aiger_lines.specs.Stray.{strayAt}
+use Rattle.aiger_lines.specs.LineAnswers.{NotSoMany, FileLineAt, FileLineIs}
 use Rattle.read_aiger.specs.HeadAnswers.{headSaid, headAsked, LowHead, HeadAt}
 use Rattle.read_aiger.specs.declared.head.HeadNumbers.{HeadNumbers}
-use Rattle.read_aiger.specs.declared.numbers.Line.{Line}
-use Rattle.read_aiger.specs.declared.numbers.Line.the-variants as L
+use Rattle.aiger_lines.specs.declared.numbers.Line.{Line}
+use Rattle.aiger_lines.specs.declared.numbers.Line.the-variants as L
 use Rattle.read_aiger.proofs.NumberBound.{number-below}
 
 -- ---- the opening
@@ -138,5 +138,5 @@ module _ (t : List ℕ) (at n : ℕ) (xs : List ℕ) (r : Line) where
   pub file-line-is : (c : Cursor) → r ≡ L.Is c → FileLineIs t at n xs r → FileLineAt t at n xs (c .at)
   file-line-is c e h = subst (FileLineIs t at n xs) e h
 
-  pub file-line-not : r ≡ L.Not → FileLineIs t at n xs r → at ≤ strayAt t → NotSoMany (numbers (fileLine (drop at t))) n
+  pub file-line-not : r ≡ L.Not → FileLineIs t at n xs r → NotSoMany (numbers (fileLine (drop at t))) n
   file-line-not e h = subst (FileLineIs t at n xs) e h

@@ -17,15 +17,16 @@ use Rattle.aiger.specs.Lines.{ifSome, oneLiteral, variable, formed, inputLine, 
 use Rattle.aiger.specs.Rules.{fresh, canGive, giving, freshAll}
 use Rattle.aiger.specs.Outputs.{enter}
 use Rattle.aiger.specs.Made.{upFrom}
-use Rattle.read_aiger.specs.Stray.{strayAt}
-use Rattle.read_aiger.specs.LineAnswers.{LineNot, atFront, firstNumbers, LineAt}
-use Rattle.read_aiger.specs.Places.{Places}
+use Rattle.aiger_lines.specs.Stray.{strayAt}
+use Rattle.aiger_lines.specs.LineAnswers.{LineNot, atFront, firstNumbers, LineAt}
+use Rattle.aiger_gates.specs.Places.{Places}
 use Rattle.read_aiger.specs.StepAnswers.{InputAt, InputIs, InputsAt}
 use Rattle.read_aiger.specs.declared.inputs.Step.{Step}
 use Rattle.read_aiger.specs.declared.inputs.Step.the-variants as S
 use Rattle.read_text.specs.declared.cursor.Cursor.{Cursor}
 use Rattle.aiger.proofs.Making.{length-enter}
-use Rattle.read_aiger.proofs.Placing.{not-so, literal-low, literal-even, literal-odd, places-more}
+use Rattle.aiger_lines.proofs.NumberLines.{one-entry}
+use Rattle.aiger_gates.proofs.Placing.{not-so, literal-low, literal-even, literal-odd, places-more}
 use Rattle.read_aiger.proofs.LineByLine.{formed-snoc, Split, formed-split, giving-snoc, fresh-snoc, fresh-at, enter-snoc}
 
 -- ---- one line
@@ -52,11 +53,6 @@ given-plain M given x e = onBool (ltb x 2)
     (λ b. let h = ltb-false x 2 b in onBool (eqb (x % 2) 0)
     (λ z. literal-even x h (eqb-true (x % 2) 0 z))
     (λ z. not-so (sym (ap (canGive M given) (literal-odd x h (eqb-false (x % 2) 0 z))) ∙ e)))
-
-pub one-entry : (xs : List ℕ) → length xs ≡ 1 → xs ≡ getD xs 0 0 ∷ []
-one-entry [] e = absurd (omega arith)
-one-entry (x ∷ []) e = refl
-one-entry (x ∷ (y ∷ ys)) e = absurd (omega arith)
 
 -- no line of one number
 pub input-none : {ls : List (List (List ℕ))} (M : ℕ) (given : List ℕ) → LineNot ls 1

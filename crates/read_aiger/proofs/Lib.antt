@@ -1,9 +1,5 @@
 -- Laws of the readers.
-pub mod StrayLaws
 pub mod NumberBound
-pub mod NumberLines
-pub mod Placing
-pub mod Adding
 pub mod LineByLine
 pub mod InputLines
 pub mod AndLines

@@ -12,7 +12,7 @@ use Rattle.aiger.specs.Lines.{formed}
 use Rattle.aiger.specs.Rules.{fresh, giving, freshAll}
 use Rattle.aiger.specs.Outputs.{enter}
 use Rattle.aiger.specs.Made.{upFrom}
-use Rattle.read_aiger.specs.LineAnswers.{atFront}
+use Rattle.aiger_lines.specs.LineAnswers.{atFront}
 use Rattle.aiger.proofs.Forms.{ifSome-some}
 
 module _ {A : Type 0} (f : List (List ℕ) → Option A) where

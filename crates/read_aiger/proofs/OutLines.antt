@@ -18,22 +18,18 @@ use Rattle.aiger.specs.Lines.{oneLiteral, outputLine, formed, fileLines}
 use Rattle.aiger.specs.Rules.{readable}
 use Rattle.aiger.specs.Made.{wireAt, outGate, outGates}
 use Rattle.aiger.proofs.Forms.{formed-length}
-use Rattle.read_aiger.specs.Stray.{strayAt}
-use Rattle.read_aiger.specs.LineAnswers.{atFront, firstNumbers, LineAt, LineNot, OneAt, OneIs}
-use Rattle.read_aiger.specs.Places.{Standing}
+use Rattle.aiger_lines.specs.Stray.{strayAt}
+use Rattle.aiger_lines.specs.LineAnswers.{atFront, firstNumbers, LineAt, LineNot, OneAt, OneIs}
+use Rattle.aiger_gates.specs.Places.{Standing}
 use Rattle.read_aiger.specs.OutAnswers.{LiteralsAt, OutLineAt, OutLineIs, OutsAt}
 use Rattle.read_aiger.specs.declared.inputs.Step.{Step}
 use Rattle.read_aiger.specs.declared.inputs.Step.the-variants as S
-use Rattle.read_aiger.specs.declared.numbers.One.{One}
-use Rattle.read_aiger.specs.declared.numbers.One.the-variants as O
-use Rattle.read_aiger.proofs.Placing.{not-so}
+use Rattle.aiger_lines.specs.declared.numbers.One.{One}
+use Rattle.aiger_lines.specs.declared.numbers.One.the-variants as O
+use Rattle.aiger_gates.proofs.Placing.{not-so}
 use Rattle.read_aiger.proofs.LineByLine.{formed-snoc, Split, formed-split}
-use Rattle.read_aiger.proofs.InputLines.{one-entry}
 
 -- ---- a line of one number
-
-pub one-at : {ls : List (List (List ℕ))} {t xs : List ℕ} {to : ℕ} → LineAt ls t 1 xs to → OneAt ls t (getD xs 0 0) to
-one-at {xs = xs} L = record { line = L .line ∙ ap some (one-entry xs (L .size)); left = L .left; within = L .within }
 
 module _ (ls : List (List (List ℕ))) (t : List ℕ) (r : One) where
   pub one-is : (x : ℕ) (c : Cursor) → r ≡ O.Is x c → OneIs ls t r → OneAt ls t x (c .at)

@@ -11,9 +11,10 @@ use borrow.Author.Tests.{le-leb, lt-leb}
 use Rattle.netlist.specs.declared.Limits.{Limits}
 use Rattle.netlist.specs.Lists.{sum}
 use Rattle.netlist.specs.Netlist.{Netlist}
-use Rattle.netlist.specs.Outcome.{Outcome, refused, done, given, andThen}
+use Rattle.netlist.specs.Outcome.{Outcome, refused, done, ask, given, andThen}
 use Rattle.netlist.specs.Header.{withinLimits}
 use Rattle.netlist.specs.Read.{headerOf}
+use Rattle.netlist.specs.Services.{tablesLong}
 use Rattle.netlist.specs.Table.{Tables, gatesOf}
 use Rattle.netlist.proofs.Tests.{onBool}
 use Rattle.read_text.specs.declared.cursor.Cursor.{Cursor}
@@ -23,7 +24,7 @@ use Rattle.aiger.specs.Rules.{rulesKept}
 use Rattle.aiger.specs.Made.{netlistMade}
 use Rattle.aiger.specs.Call.{headOutcome, fileOutcome, linesRead, linesOutcome, readAiger}
 use Rattle.read_aiger.specs.HeadAnswers.{headSaid, HeadAt, HeadIs}
-use Rattle.read_aiger.specs.WholeAnswers.{LinesAt, LinesIs, gatesMade, NetlistAt, NetlistIs}
+use Rattle.read_aiger.specs.WholeAnswers.{askedAiger, LinesAt, LinesIs, gatesMade, NetlistAt, NetlistIs}
 use Rattle.read_aiger.specs.declared.head.HeadNumbers.{HeadNumbers}
 use Rattle.read_aiger.specs.declared.head.HeadStep.{HeadStep}
 use Rattle.read_aiger.specs.declared.head.HeadStep.the-variants as S
@@ -109,6 +110,14 @@ module _ (L : Limits) (t : List ℕ) where
     pub read-behind : {n : HeadNumbers} {to : ℕ} (tabs : Tables) (r : Reading) → HeadAt L t n to → NetlistIs (linesRead L (headSaid n) (fileLines (drop to t))) tabs r
         → NetlistIs (readAiger L t) tabs r
     read-behind tabs r A k = subst (λ (o : Outcome Netlist). NetlistIs o tabs r) (sym (behind A)) k
+
+-- question 1 before them
+pub read-after : (L : Limits) (lengths t : List ℕ) (tabs : Tables) (r : Reading) → tablesLong L lengths ≡ true → NetlistIs (readAiger L t) tabs r
+    → NetlistIs (askedAiger L lengths t) tabs r
+read-after L lengths t tabs r e h = subst (λ (o : Outcome Netlist). NetlistIs o tabs r) (sym (ask-yes 1 (tablesLong L lengths) (readAiger L t) e)) h
+  where
+    ask-yes : (q : ℕ) (b : Bool) (o : Outcome Netlist) → b ≡ true → ask q b o ≡ o
+    ask-yes q b o e = rw e
 
 -- ---- the answers
 

@@ -20,7 +20,7 @@ use Rattle.aiger.specs.Outputs.{enter, blank}
 use Rattle.aiger.specs.Made.{wireAt, Built, build, upFrom, withOutputs, netlistMade}
 use Rattle.aiger.proofs.Forms.{formed-length, Formed, file-formed, formed-file}
 use Rattle.aiger.proofs.Making.{length-enter, inputs-located}
-use Rattle.read_aiger.specs.Places.{Standing}
+use Rattle.aiger_gates.specs.Places.{Standing}
 use Rattle.read_aiger.specs.StepAnswers.{InputsAt, InputsIs}
 use Rattle.read_aiger.specs.AndAnswers.{AndsAt, AndsIs}
 use Rattle.read_aiger.specs.OutAnswers.{LiteralsAt, LiteralsIs, OutsAt, OutsIs}

@@ -11,9 +11,9 @@ use Rattle.aiger.specs.File.{AndLine}
 use Rattle.aiger.specs.Lines.{fileLines, andForm, formed}
 use Rattle.aiger.specs.Rules.{giving, andGood, andsGood}
 use Rattle.aiger.specs.Made.{wireAt, andMade, build}
-use Rattle.read_aiger.specs.Stray.{strayAt}
-use Rattle.read_aiger.specs.LineAnswers.{atFront}
-use Rattle.read_aiger.specs.Places.{Standing}
+use Rattle.aiger_lines.specs.Stray.{strayAt}
+use Rattle.aiger_lines.specs.LineAnswers.{atFront}
+use Rattle.aiger_gates.specs.Places.{Standing}
 use Rattle.read_aiger.specs.declared.ands.AndStep.{AndStep}
 use Rattle.read_aiger.specs.declared.ands.AndStep.the-variants as S
 

@@ -11,7 +11,7 @@ use Rattle.netlist.specs.Outcome.{refused, done}
 use Rattle.read_text.specs.Line.{afterLine}
 use Rattle.aiger.specs.Lines.{Head, headGood}
 use Rattle.aiger.specs.Call.{headOutcome}
-use Rattle.read_aiger.specs.Stray.{strayAt}
+use Rattle.aiger_lines.specs.Stray.{strayAt}
 use Rattle.read_aiger.specs.declared.head.HeadNumbers.{HeadNumbers}
 use Rattle.read_aiger.specs.declared.head.HeadStep.{HeadStep}
 use Rattle.read_aiger.specs.declared.head.HeadStep.the-variants as S

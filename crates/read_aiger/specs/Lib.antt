@@ -1,7 +1,4 @@
 -- What the answers of the readers mean.
-pub mod Stray
-pub mod LineAnswers
-pub mod Places
 pub mod StepAnswers
 pub mod AndAnswers
 pub mod OutAnswers

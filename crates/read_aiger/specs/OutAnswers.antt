@@ -12,9 +12,9 @@ use Rattle.aiger.specs.File.{Literal}
 use Rattle.aiger.specs.Lines.{fileLines, outputLine, formed}
 use Rattle.aiger.specs.Rules.{readable}
 use Rattle.aiger.specs.Made.{wireAt, outGate, outGates}
-use Rattle.read_aiger.specs.Stray.{strayAt}
-use Rattle.read_aiger.specs.LineAnswers.{atFront}
-use Rattle.read_aiger.specs.Places.{Standing}
+use Rattle.aiger_lines.specs.Stray.{strayAt}
+use Rattle.aiger_lines.specs.LineAnswers.{atFront}
+use Rattle.aiger_gates.specs.Places.{Standing}
 use Rattle.read_aiger.specs.declared.inputs.Step.{Step}
 use Rattle.read_aiger.specs.declared.inputs.Step.the-variants as S
 

@@ -9,9 +9,9 @@ use Rattle.aiger.specs.Lines.{fileLines, formed, inputLine}
 use Rattle.aiger.specs.Rules.{fresh, giving, freshAll}
 use Rattle.aiger.specs.Outputs.{enter}
 use Rattle.aiger.specs.Made.{upFrom}
-use Rattle.read_aiger.specs.Stray.{strayAt}
-use Rattle.read_aiger.specs.LineAnswers.{atFront}
-use Rattle.read_aiger.specs.Places.{Places}
+use Rattle.aiger_lines.specs.Stray.{strayAt}
+use Rattle.aiger_lines.specs.LineAnswers.{atFront}
+use Rattle.aiger_gates.specs.Places.{Places}
 use Rattle.read_aiger.specs.declared.inputs.Step.{Step}
 use Rattle.read_aiger.specs.declared.inputs.Step.the-variants as S
 

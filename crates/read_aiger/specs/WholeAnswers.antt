@@ -7,13 +7,15 @@ use mathlib.Core.Option.{some}
 use lib.ListN.{length}
 use Rattle.netlist.specs.declared.Limits.{Limits}
 use Rattle.netlist.specs.Netlist.{Netlist}
-use Rattle.netlist.specs.Outcome.{Outcome, refused, done}
+use Rattle.netlist.specs.Outcome.{Outcome, refused, done, ask}
+use Rattle.netlist.specs.Services.{tablesLong}
 use Rattle.netlist.specs.Table.{Tables, gatesOf, Wired}
 use Rattle.aiger.specs.File.{File}
 use Rattle.aiger.specs.Lines.{Head, file}
 use Rattle.aiger.specs.Rules.{rulesKept}
 use Rattle.aiger.specs.Made.{netlistMade}
-use Rattle.read_aiger.specs.Places.{Keeps}
+use Rattle.aiger.specs.Call.{readAiger}
+use Rattle.aiger_gates.specs.Places.{Keeps}
 use Rattle.read_aiger.specs.declared.body.Gates.{Gates}
 use Rattle.read_aiger.specs.declared.body.Gates.the-variants as G
 use Rattle.read_aiger.specs.declared.read.NetlistNumbers.{NetlistNumbers}
@@ -40,6 +42,16 @@ LinesIs H ls tabs G.Not = (F : File) → file H ls ≡ some F → rulesKept F �
 abbrev pub gatesMade : Gates → ℕ
 gatesMade (G.Made k) = k
 gatesMade G.Not = 0
+
+-- the limits that the reader works with: they admit a value of each kind, and tables long enough for the wires
+pub record OneValue (L : Limits) : Type 0 where
+  pub inputs : 1 ≤ L .inputs
+  pub outputs : 1 ≤ L .outputs
+  pub wires : L .wires ≤ L .table
+
+-- question 1 of tables of these lengths, then 2, 19, 20, 19 and 5
+abbrev pub askedAiger : Limits → List ℕ → List ℕ → Outcome Netlist
+askedAiger L lengths t = ask 1 (tablesLong L lengths) (readAiger L t)
 
 -- the tables hold the gates of the netlist that an outcome gives
 pub record NetlistAt (o : Outcome Netlist) (tabs : Tables) (m : NetlistNumbers) : Type 0 where

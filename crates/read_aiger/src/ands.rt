@@ -1,10 +1,10 @@
 // The AND lines: each puts its gates behind the others and gives its variable the last one's wire.
-use crate::gates::and_gates;
-use crate::numbers::Line;
-use crate::numbers::next_numbers;
-use crate::variables::can_give;
-use crate::variables::give;
-use crate::variables::is_readable;
+use aiger_gates::gates::and_gates;
+use aiger_gates::variables::can_give;
+use aiger_gates::variables::give;
+use aiger_gates::variables::is_readable;
+use aiger_lines::numbers::Line;
+use aiger_lines::numbers::next_numbers;
 use read_text::cursor::Cursor;
 ghost use mathlib.Core.Path.{_≡_};
 ghost use mathlib.Core.List.{List, []};
@@ -12,9 +12,9 @@ ghost use Prim.Native.Nat.{ℕ, _+_, _*_, _^_, _<_, _≤_};
 ghost use lib.ListN.{length, drop};
 ghost use Rattle.netlist.specs.declared.Gate.{Gate};
 ghost use Rattle.aiger.specs.Lines.{fileLines};
-ghost use Rattle.read_aiger.specs.Stray.{strayAt};
+ghost use Rattle.aiger_lines.specs.Stray.{strayAt};
 ghost use Rattle.netlist.specs.Table.{tables};
-ghost use Rattle.read_aiger.specs.Places.{Standing};
+ghost use Rattle.aiger_gates.specs.Places.{Standing};
 ghost use Rattle.read_aiger.specs.AndAnswers.{AndLineIs, AndsIs, gatesSaid, placeSaid};
 
 // How many gates there are behind a line, with the start of the next line; or no such line.
@@ -27,7 +27,6 @@ pub enum AndStep {
 fn and_line(
     text: &[u8],
     at: Cursor,
-    stray: usize,
     most: u32,
     n: u32,
     count: usize,
@@ -35,14 +34,14 @@ fn and_line(
     operands: &mut [u64],
     results: &mut [u64],
 ) -> AndStep
-    requires { ⌜ (at .at ≤ strayAt (now text)) × (stray ≡ strayAt (now text)) × (most < length (now table)) × (n + count + 4 < 2 ^ 32) ⌝ }
+    requires { ⌜ (at .at ≤ strayAt (now text)) × (most < length (now table)) × (n + count + 4 < 2 ^ 32) ⌝ }
     ensures { λ r. ⌜ ((given wires : List ℕ) (gs : List Gate) → length wires ≡ most + 1
         → Standing (now (table .entry)) (tables (now (operands .entry)) (now (results .entry))) n count given wires gs
         → AndLineIs (fileLines (drop (at .at) (now (text .entry)))) (now (text .entry)) most n count given wires gs (now (table .exit))
         (tables (now (operands .exit)) (now (results .exit))) r) × (gatesSaid r ≤ count + 3) × (placeSaid r ≤ strayAt (now (text .entry))) ⌝ }
 {
     let mut numbers = [0u32; 3];
-    let Line::Is(next) = next_numbers(text, at, stray, &mut numbers) else {
+    let Line::Is(next) = next_numbers(text, at, &mut numbers) else {
         return AndStep::Not;
     };
     let left = numbers[0];
@@ -66,7 +65,6 @@ fn and_line(
 pub fn ands(
     text: &[u8],
     from: Cursor,
-    stray: usize,
     lines: u32,
     most: u32,
     n: u32,
@@ -74,7 +72,7 @@ pub fn ands(
     operands: &mut [u64],
     results: &mut [u64],
 ) -> AndStep
-    requires { ⌜ (from .at ≤ strayAt (now text)) × (stray ≡ strayAt (now text)) × (most < length (now table)) × (n + 3 * lines + 4 < 2 ^ 32) ⌝ }
+    requires { ⌜ (from .at ≤ strayAt (now text)) × (most < length (now table)) × (n + 3 * lines + 4 < 2 ^ 32) ⌝ }
     ensures { λ r. ⌜ ((given wires : List ℕ) → length wires ≡ most + 1
         → Standing (now (table .entry)) (tables (now (operands .entry)) (now (results .entry))) n 0 given wires []
         → AndsIs (fileLines (drop (from .at) (now (text .entry)))) (now (text .entry)) lines most n given wires (now (table .exit))
@@ -87,7 +85,6 @@ pub fn ands(
         match and_line(
             text,
             Cursor { at },
-            stray,
             most,
             n,
             count,

@@ -12,7 +12,7 @@ ghost use Prim.Native.Nat.{_+_, _*_, _<_, _≤_};
 ghost use lib.ListN.{length, drop, replicate};
 ghost use Rattle.netlist.specs.Table.{tables};
 ghost use Rattle.aiger.specs.Lines.{fileLines};
-ghost use Rattle.read_aiger.specs.Stray.{strayAt};
+ghost use Rattle.aiger_lines.specs.Stray.{strayAt};
 ghost use Rattle.read_aiger.specs.HeadAnswers.{headSaid, LowHead};
 ghost use Rattle.read_aiger.specs.WholeAnswers.{LinesIs, gatesMade};
 
@@ -26,13 +26,12 @@ pub enum Gates {
 pub fn body(
     text: &[u8],
     at: Cursor,
-    stray: usize,
     h: HeadNumbers,
     table: &mut [u32],
     operands: &mut [u64],
     results: &mut [u64],
 ) -> Gates
-    requires { ⌜ (at .at ≤ strayAt (now text)) × (stray ≡ strayAt (now text)) × (h .most < length (now table))
+    requires { ⌜ (at .at ≤ strayAt (now text)) × (h .most < length (now table))
         × (now table ≡ replicate (length (now table)) 0) × LowHead h ⌝ }
     ensures { λ r. ⌜ LinesIs (headSaid h) (fileLines (drop (at .at) (now (text .entry))))
         (tables (now (operands .exit)) (now (results .exit))) r × (gatesMade r ≤ 3 * (h .ands) + h .outputs) ⌝ }
@@ -40,36 +39,17 @@ pub fn body(
     let most = h.most;
     let n = h.inputs;
     let outs = h.outputs as usize;
-    let Step::On(behind) = inputs(text, at, stray, n, most, table) else {
+    let Step::On(behind) = inputs(text, at, n, most, table) else {
         return Gates::Not;
     };
-    let Step::On(first) = skip(text, behind, stray, h.outputs) else {
+    let Step::On(first) = skip(text, behind, h.outputs) else {
         return Gates::Not;
     };
-    let AndStep::On(count, end) = ands(
-        text,
-        first,
-        stray,
-        h.ands,
-        most,
-        n,
-        table,
-        operands,
-        results,
-    ) else {
+    let AndStep::On(count, end) = ands(text, first, h.ands, most, n, table, operands, results)
+    else {
         return Gates::Not;
     };
-    if !outputs(
-        text,
-        behind,
-        stray,
-        outs,
-        n,
-        count,
-        table,
-        operands,
-        results,
-    ) {
+    if !outputs(text, behind, outs, n, count, table, operands, results) {
         return Gates::Not;
     }
     Gates::Made(count + outs)

@@ -1,12 +1,12 @@
 // The opening and the header.
-use crate::numbers::Line;
-use crate::numbers::line_numbers;
+use aiger_lines::numbers::Line;
+use aiger_lines::numbers::line_numbers;
 use netlist::Limits;
 use read_text::bytes::same;
 use read_text::cursor::Cursor;
 ghost use mathlib.Core.Path.{_≡_};
 ghost use Rattle.aiger.specs.Lines.{opens};
-ghost use Rattle.read_aiger.specs.Stray.{strayAt};
+ghost use Rattle.aiger_lines.specs.Stray.{strayAt};
 ghost use Rattle.read_aiger.specs.HeadAnswers.{headSaid, headAsked, HeadIs};
 
 // M I L O A.
@@ -54,15 +54,14 @@ fn question(h: HeadNumbers, l: Limits) -> u8
 }
 
 // 19 for the opening, then 19 and 20 for the header.
-pub fn head(text: &[u8], stray: usize, l: Limits) -> HeadStep
-    requires { ⌜ stray ≡ strayAt (now text) ⌝ }
+pub fn head(text: &[u8], l: Limits) -> HeadStep
     ensures { λ r. ⌜ HeadIs l (now (text .entry)) r ⌝ }
 {
     if !is_opening(text) {
         return HeadStep::Refused(19);
     }
     let mut numbers = [0u32; 5];
-    let Line::Is(next) = line_numbers(text, Cursor { at: 4 }, stray, &mut numbers) else {
+    let Line::Is(next) = line_numbers(text, Cursor { at: 4 }, &mut numbers) else {
         return HeadStep::Refused(19);
     };
     let h = HeadNumbers {

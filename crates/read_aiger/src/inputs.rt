@@ -1,16 +1,16 @@
 // The input lines: each gives a variable the next wire.
-use crate::numbers::Line;
-use crate::numbers::next_numbers;
-use crate::variables::can_give;
-use crate::variables::give;
+use aiger_gates::variables::can_give;
+use aiger_gates::variables::give;
+use aiger_lines::numbers::Line;
+use aiger_lines::numbers::next_numbers;
 use read_text::cursor::Cursor;
 ghost use mathlib.Core.Path.{_≡_};
 ghost use mathlib.Core.List.{List};
 ghost use Prim.Native.Nat.{ℕ, _+_, _^_, _<_, _≤_};
 ghost use lib.ListN.{length, drop, replicate};
 ghost use Rattle.aiger.specs.Lines.{fileLines};
-ghost use Rattle.read_aiger.specs.Stray.{strayAt};
-ghost use Rattle.read_aiger.specs.Places.{Places};
+ghost use Rattle.aiger_lines.specs.Stray.{strayAt};
+ghost use Rattle.aiger_gates.specs.Places.{Places};
 ghost use Rattle.read_aiger.specs.StepAnswers.{InputIs, InputsIs};
 
 // The place behind lines that were read, or no such lines.
@@ -20,14 +20,14 @@ pub enum Step {
 }
 
 // One input line.
-fn input(text: &[u8], at: Cursor, stray: usize, wire: u32, most: u32, table: &mut [u32]) -> Step
-    requires { ⌜ (at .at ≤ strayAt (now text)) × (stray ≡ strayAt (now text)) × (most < length (now table)) × (wire + 1 < 2 ^ 32) ⌝ }
+fn input(text: &[u8], at: Cursor, wire: u32, most: u32, table: &mut [u32]) -> Step
+    requires { ⌜ (at .at ≤ strayAt (now text)) × (most < length (now table)) × (wire + 1 < 2 ^ 32) ⌝ }
     ensures { λ r. ⌜ ((given wires : List ℕ) → Places (now (table .entry)) given wires
         → InputIs (fileLines (drop (at .at) (now (text .entry)))) (now (text .entry)) wire most given (now (table .entry))
         (now (table .exit)) r) ⌝ }
 {
     let mut numbers = [0u32; 1];
-    let Line::Is(next) = next_numbers(text, at, stray, &mut numbers) else {
+    let Line::Is(next) = next_numbers(text, at, &mut numbers) else {
         return Step::Not;
     };
     let x = numbers[0];
@@ -39,22 +39,15 @@ fn input(text: &[u8], at: Cursor, stray: usize, wire: u32, most: u32, table: &mu
 }
 
 // So many input lines from a place on, with a table that gives nothing yet.
-pub fn inputs(
-    text: &[u8],
-    from: Cursor,
-    stray: usize,
-    count: u32,
-    most: u32,
-    table: &mut [u32],
-) -> Step
-    requires { ⌜ (from .at ≤ strayAt (now text)) × (stray ≡ strayAt (now text)) × (most < length (now table))
+pub fn inputs(text: &[u8], from: Cursor, count: u32, most: u32, table: &mut [u32]) -> Step
+    requires { ⌜ (from .at ≤ strayAt (now text)) × (most < length (now table))
         × (now table ≡ replicate (length (now table)) 0) ⌝ }
     ensures { λ r. ⌜ InputsIs (fileLines (drop (from .at) (now (text .entry)))) (now (text .entry)) count most (now (table .exit)) r ⌝ }
 {
     let mut at = from.at;
     let mut i = 0;
     while i < count {
-        let Step::On(next) = input(text, Cursor { at }, stray, i, most, table) else {
+        let Step::On(next) = input(text, Cursor { at }, i, most, table) else {
             return Step::Not;
         };
         at = next.at;

@@ -34,7 +34,7 @@ pub fn is_blank(b: u8) -> bool
     is_space(b) || is_line_end(b)
 }
 
-// Whether a word of three bytes starts at a place and a blank stands behind it, as the name of a gate mostly does.
+// Whether three bytes above the space start at a place and a blank stands behind them, as the name of a gate mostly does.
 fn is_three_bytes(text: &[u8], at: usize) -> bool
     requires { ⌜ at ≤ length (now text) ⌝ }
     ensures { λ r. ⌜ (r ≡ true → ThreeBytes (now (text .entry)) at) ⌝ }
@@ -42,13 +42,13 @@ fn is_three_bytes(text: &[u8], at: usize) -> bool
     if text.len() - at < 4 {
         return false;
     }
-    if is_blank(text[at]) {
+    if text[at] <= b' ' {
         return false;
     }
-    if is_blank(text[at + 1]) {
+    if text[at + 1] <= b' ' {
         return false;
     }
-    if is_blank(text[at + 2]) {
+    if text[at + 2] <= b' ' {
         return false;
     }
     is_blank(text[at + 3])

@@ -43,7 +43,7 @@ fn is_full(v: u32) -> bool
 impl Cursor {
     // Takes the word at the cursor as a number, its value made while its end is looked for. The one space that mostly stands
     // behind it is passed with it; below a space stand the other bytes that end a word.
-    fn take_number(self, text: &[u8]) -> Number
+    pub fn take_number(self, text: &[u8]) -> Number
         ensures { λ r. ⌜ WholeIs (now (text .entry)) (self .at) r ⌝ }
     {
         let start = self.at;

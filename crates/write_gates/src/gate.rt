@@ -22,7 +22,7 @@ pub fn xor(d: &[u64], out: &mut [u8], at: usize, a: u32, b: u32, c: u32) -> usiz
         return write_parts::near2(out, at, a, b, c, b'X', b'O', b'R');
     }
     if write_parts::spelt2(d.len(), a, b, c) {
-        return write_parts::near2(out, at, a, b, c, b'X', b'O', b'R');
+        return write_parts::spell2(out, at, a, b, c, b'X', b'O', b'R');
     }
     let name = write_parts::front2(d, out, at, a, b, c);
     store::four(out, name, b'X', b'O', b'R', b'\n')
@@ -40,7 +40,7 @@ pub fn and(d: &[u64], out: &mut [u8], at: usize, a: u32, b: u32, c: u32) -> usiz
         return write_parts::near2(out, at, a, b, c, b'A', b'N', b'D');
     }
     if write_parts::spelt2(d.len(), a, b, c) {
-        return write_parts::near2(out, at, a, b, c, b'A', b'N', b'D');
+        return write_parts::spell2(out, at, a, b, c, b'A', b'N', b'D');
     }
     let name = write_parts::front2(d, out, at, a, b, c);
     store::four(out, name, b'A', b'N', b'D', b'\n')
@@ -58,7 +58,7 @@ pub fn inv(d: &[u64], out: &mut [u8], at: usize, a: u32, c: u32) -> usize
         return write_parts::near1(out, at, a, c, b'I', b'N', b'V');
     }
     if write_parts::spelt1(d.len(), a, c) {
-        return write_parts::near1(out, at, a, c, b'I', b'N', b'V');
+        return write_parts::spell1(out, at, a, c, b'I', b'N', b'V');
     }
     let name = write_parts::front1(d, out, at, a, c);
     store::four(out, name, b'I', b'N', b'V', b'\n')
@@ -76,7 +76,7 @@ pub fn eqw(d: &[u64], out: &mut [u8], at: usize, a: u32, c: u32) -> usize
         return write_parts::near1(out, at, a, c, b'E', b'Q', b'W');
     }
     if write_parts::spelt1(d.len(), a, c) {
-        return write_parts::near1(out, at, a, c, b'E', b'Q', b'W');
+        return write_parts::spell1(out, at, a, c, b'E', b'Q', b'W');
     }
     let name = write_parts::front1(d, out, at, a, c);
     store::four(out, name, b'E', b'Q', b'W', b'\n')

@@ -6,7 +6,7 @@ ghost use Prim.Native.Nat.{_≤_, _<_};
 ghost use mathlib.Core.Path.{_≡_};
 ghost use lib.Dec.{leb};
 ghost use lib.ListN.{length};
-ghost use Rattle.write_wires.specs.Packed.{WordTable};
+ghost use Rattle.write_wires.specs.Packed.{WordTable, LowTable};
 ghost use Rattle.netlist.specs.Services.{Delivers};
 ghost use Rattle.netlist.specs.Table.{tables, gatesOf, Wired};
 ghost use Rattle.write_buffer.specs.Wrote.{Wrote, top};
@@ -125,7 +125,39 @@ fn answer(
     Answer::Done(write(d, out, count, wires, ins, outs, operands, results, dialect))
 }
 
-// Question 14 and the text. No line on a hundred wires or fewer is stored by words, so there the table is not filled.
+// Question 14 and the text, by the words that the front of a table has.
+fn answer_on(
+    d: &[u64],
+    k: usize,
+    out: &mut [u8],
+    count: usize,
+    wires: usize,
+    ins: &[u32],
+    outs: &[u32],
+    operands: &[u64],
+    results: &[u64],
+    dialect: Dialect,
+) -> Answer
+    requires { ⌜ LowTable (now d) k ⌝ }
+    requires { ⌜ Wired (tables (now operands) (now results)) wires count ⌝ }
+    ensures { λ r. ⌜ Delivers (formTextIn dialect count wires (now (ins .entry)) (now (outs .entry))
+        (tables (now (operands .entry)) (now (results .entry)))) (now (out .entry)) (now (out .exit)) r ⌝ }
+{
+    answer(
+        &d[..k],
+        out,
+        count,
+        wires,
+        ins,
+        outs,
+        operands,
+        results,
+        dialect,
+    )
+}
+
+// Question 14 and the text. No line on a hundred wires or fewer is stored by words, so there no table is filled, and on few more
+// only the words of these.
 pub fn deliver_in(
     out: &mut [u8],
     count: usize,
@@ -142,8 +174,9 @@ pub fn deliver_in(
 {
     if wires <= 100 {
         let none = [0u64; 1];
-        return answer(
+        return answer_on(
             &none,
+            0,
             out,
             count,
             wires,
@@ -155,7 +188,23 @@ pub fn deliver_in(
         );
     }
     let mut table = [0u64; 2000];
-    write_wires::table::fill(&mut table);
+    if wires <= 1000 {
+        let tens = (wires + 9) / 10;
+        write_wires::table::fill(&mut table, tens);
+        return answer_on(
+            &table,
+            10 * tens,
+            out,
+            count,
+            wires,
+            ins,
+            outs,
+            operands,
+            results,
+            dialect,
+        );
+    }
+    write_wires::table::fill(&mut table, 100);
     answer(
         &table,
         out,

@@ -1,8 +1,9 @@
 -- A gate line: its front, the gate's name and LF; how long it is.
-use Prim.Native.Nat.{ℕ, _+_, _≤_}
-use mathlib.Core.Path.{_≡_, ap, _∙_}
+use Prim.Native.Nat.{ℕ, _+_, _/_, _%_, _≤_, _<_}
+use mathlib.Core.Path.{_≡_, sym, ap, _∙_}
 use mathlib.Core.Bool.{true, false}
 use mathlib.Core.List.{List, [], _∷_, _++_, append-assoc}
+use mathlib.Core.Logic.{inl, inr}
 use native.Mathlib.Omega.{arith}
 use lib.ListN.{length, length-append}
 use Rattle.netlist.specs.Text.{space, lf}
@@ -10,6 +11,8 @@ use Rattle.netlist.specs.Number.{decimal}
 use Rattle.netlist.specs.GateLine.{EQ}
 use Rattle.netlist.specs.Write.{line, one, two}
 use Rattle.write_buffer.specs.Wrote.{Wrote, top, cap}
+use Rattle.write_buffer.proofs.Decimals.{decimal-one, decimal-two}
+use Rattle.write_wires.specs.Packed.{Worded}
 use Rattle.write_wires.specs.Spilt.{Spilt}
 use Rattle.write_wires.proofs.Spilling.{spilt-all}
 use Rattle.write_parts.specs.Parts.{parted, frontOf1, frontOf2, words1, words2}
@@ -50,3 +53,19 @@ front2 a b c = simp append-assoc
 -- a test that is never passed
 pub untrue : {P : Type 0} → true ≡ false → P
 untrue e = let z : _≡_ {A = ℕ} 0 1 = cc in absurd (omega arith)
+
+-- numbers that have words
+pub worded-whole : {k n : ℕ} → k ≡ 2000 → n < 1000000 → Worded k n
+worded-whole e h = record { six = h; entry = λ l. omega arith; thousands = λ l. e; size = inl e }
+
+pub worded-low : {k n : ℕ} → k ≤ 1000 → n < k → Worded k n
+worded-low e h = record { six = omega arith; entry = λ l. h; thousands = λ l. absurd (omega arith); size = inr e }
+
+-- a number of one digit, and of two
+pub low-one : (n : ℕ) → n < 10 → (48 + n) ∷ (space ∷ []) ≡ parted (decimal n)
+low-one n h = sym (ap parted (decimal-one n h))
+
+pub low-two : (n : ℕ) → 10 ≤ n → n < 100 → ((48 + n / 10) ∷ ((48 + n % 10) ∷ [])) ++ (space ∷ []) ≡ parted (decimal n)
+low-two n h l =
+    let e : n / 10 % 10 ≡ n / 10 = omega arith in
+    sym (ap parted (decimal-two n h l ∙ ap (λ (x : ℕ). (48 + x) ∷ ((48 + n % 10) ∷ [])) e))

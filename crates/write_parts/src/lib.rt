@@ -1,55 +1,70 @@
-// The parts of gate lines. Where the buffer has room for the longest line they are stored straight; near
-// its end a line is written byte by byte as far as it fits; behind it only the line's length is added.
+// The parts of gate lines. Where the buffer has room for the longest line they are stored straight, by words or digit by digit;
+// near its end a line is written byte by byte as far as it fits; behind it only the line's length is added.
 use write_buffer::digits;
 use write_buffer::store;
 use write_wires::wire::wire;
-ghost use Prim.Native.Nat.{_+_, _≤_};
+ghost use Prim.Native.Nat.{ℕ, _+_, _≤_, _<_};
 ghost use mathlib.Core.Path.{_≡_};
-ghost use mathlib.Core.Bool.{false};
+ghost use mathlib.Core.Bool.{true, false};
 ghost use mathlib.Core.List.{[], _∷_};
 ghost use lib.ListN.{length};
 ghost use Rattle.netlist.specs.Text.{lf};
 ghost use Rattle.netlist.specs.Number.{decimal};
 ghost use Rattle.netlist.specs.Write.{line as lineOf};
 ghost use Rattle.write_buffer.specs.Wrote.{Wrote, cap};
-ghost use Rattle.write_wires.specs.Packed.{WordTable};
+ghost use Rattle.write_wires.specs.Packed.{WordTable, Worded};
 ghost use Rattle.write_wires.specs.Spilt.{Spilt};
-ghost use Rattle.write_parts.specs.Parts.{parted, frontOf1, frontOf2, words1, words2, Packable1, Packable2};
+ghost use Rattle.write_parts.specs.Parts.{parted, frontOf1, frontOf2, words1, words2, Packable1, Packable2, Low1, Low2};
 
-// Whether a line is spelt byte by byte: the table of words is not whole, a wire has more than six digits, or the word of the
-// result would reach past the line's end.
+// The entries of a whole table of words.
+const ENTRIES: usize = 2000;
+
+// The least result whose word ends within its line.
+const LEAST: u32 = 100;
+
+// Below this, each number has a word in a table of so many entries.
+fn reach(entries: usize) -> u32
+    ensures { λ r. ⌜ ((n : ℕ) → n < r → Worded entries n) ⌝ }
+{
+    if entries == ENTRIES {
+        return 1000000;
+    }
+    if 1000 < entries {
+        return 0;
+    }
+    entries as u32
+}
+
+// Whether a line is written without words: the table lacks the word of a wire, or the word of the result would reach past the
+// line's end.
 pub fn spelt1(entries: usize, a: u32, c: u32) -> bool
     ensures { λ r. ⌜ (r ≡ false → Packable1 entries a c) ⌝ }
 {
-    if entries != 2000 {
+    let end = reach(entries);
+    if end <= a {
         return true;
     }
-    if 1000000 <= a {
+    if c < LEAST {
         return true;
     }
-    if c < 100 {
-        return true;
-    }
-    1000000 <= c
+    end <= c
 }
 
 // The same of two operands.
 pub fn spelt2(entries: usize, a: u32, b: u32, c: u32) -> bool
     ensures { λ r. ⌜ (r ≡ false → Packable2 entries a b c) ⌝ }
 {
-    if entries != 2000 {
+    let end = reach(entries);
+    if end <= a {
         return true;
     }
-    if 1000000 <= a {
+    if end <= b {
         return true;
     }
-    if 1000000 <= b {
+    if c < LEAST {
         return true;
     }
-    if c < 100 {
-        return true;
-    }
-    1000000 <= c
+    end <= c
 }
 
 // What a line of one operand has before the gate's name.
@@ -110,6 +125,70 @@ pub fn near2(out: &mut [u8], at: usize, a: u32, b: u32, c: u32, x: u8, y: u8, z:
     let result = spaced(out, right, b);
     let last = spaced(out, result, c);
     name(out, last, x, y, z)
+}
+
+// Whether the wires of a line have at most two digits.
+fn low1(a: u32, c: u32) -> bool
+    ensures { λ r. ⌜ (r ≡ true → Low1 a c) ⌝ }
+{
+    if 100 <= a {
+        return false;
+    }
+    c < 100
+}
+
+// The same of two operands.
+fn low2(a: u32, b: u32, c: u32) -> bool
+    ensures { λ r. ⌜ (r ≡ true → Low2 a b c) ⌝ }
+{
+    if 100 <= a {
+        return false;
+    }
+    if 100 <= b {
+        return false;
+    }
+    c < 100
+}
+
+// A number of at most two digits and the space behind it.
+fn low(out: &mut [u8], at: usize, n: u32) -> usize
+    requires { ⌜ (n < 100) × (at + 3 ≤ length (now out)) ⌝ }
+    ensures { λ r. ⌜ Wrote (now (out .entry)) at (parted (decimal n)) (now (out .exit)) r × (r ≤ at + 3) ⌝ }
+{
+    if n < 10 {
+        return store::two(out, at, (48 + n) as u8, b' ');
+    }
+    let space = store::two(out, at, (48 + n / 10) as u8, (48 + n % 10) as u8);
+    store::one(out, space, b' ')
+}
+
+// A line of one operand that is written without words, where the longest line fits.
+pub fn spell1(out: &mut [u8], at: usize, a: u32, c: u32, x: u8, y: u8, z: u8) -> usize
+    requires { ⌜ at + 41 ≤ length (now out) ⌝ }
+    ensures { λ r. ⌜ Wrote (now (out .entry)) at (lineOf (words1 a c (x ∷ y ∷ z ∷ []))) (now (out .exit)) r ⌝ }
+{
+    if !low1(a, c) {
+        return near1(out, at, a, c, x, y, z);
+    }
+    let operand = store::four(out, at, b'1', b' ', b'1', b' ');
+    let result = low(out, operand, a);
+    let last = low(out, result, c);
+    store::four(out, last, x, y, z, b'\n')
+}
+
+// The same of two operands.
+pub fn spell2(out: &mut [u8], at: usize, a: u32, b: u32, c: u32, x: u8, y: u8, z: u8) -> usize
+    requires { ⌜ at + 41 ≤ length (now out) ⌝ }
+    ensures { λ r. ⌜ Wrote (now (out .entry)) at (lineOf (words2 a b c (x ∷ y ∷ z ∷ []))) (now (out .exit)) r ⌝ }
+{
+    if !low2(a, b, c) {
+        return near2(out, at, a, b, c, x, y, z);
+    }
+    let left = store::four(out, at, b'2', b' ', b'1', b' ');
+    let right = low(out, left, a);
+    let result = low(out, right, b);
+    let last = low(out, result, c);
+    store::four(out, last, x, y, z, b'\n')
 }
 
 // The place behind a line of one operand that starts behind the buffer's end.

@@ -3,14 +3,15 @@ use Prim.Native.Nat.{ℕ, _+_, _*_, _/_, _%_, _^_, _≤_, _<_}
 use mathlib.Core.Path.{_≡_, sym, ap, _∙_}
 use mathlib.Core.Bool.{true, false}
 use mathlib.Core.List.{List}
+use mathlib.Core.Logic.{⊎-elim}
 use native.Mathlib.Nat.{mul-add}
 use native.Mathlib.Omega.{arith}
 use lib.Dec.{ltb}
-use lib.ListN.{length, getD, set, length-set}
-use lib.Seq.{getD-set-same, getD-set-other}
+use lib.ListN.{length, take, getD, set, length-set}
+use lib.Seq.{getD-set-same, getD-set-other, getD-take, length-take-le}
 use borrow.Author.Tests.{ltb-true, ltb-false}
 use Rattle.netlist.proofs.Tests.{onBool}
-use Rattle.write_wires.specs.Packed.{packed, added, Filled, WordTable, Tens}
+use Rattle.write_wires.specs.Packed.{packed, added, Filled, WordTable, LowTable, Worded, Tens}
 use Rattle.write_wires.proofs.Packing.{packed-one, packed-two, packed-three, added-three}
 
 -- one entry of each half more
@@ -53,9 +54,30 @@ filled-more {d} {k} {x} {y} f h p q = record { long = long; words = words; more 
 pub filled-none : {d : List ℕ} → length d ≡ 2000 → Filled d 0
 filled-none l = record { long = l; words = λ i h. absurd (omega arith); more = λ i h. absurd (omega arith) }
 
--- a table that is not looked into
-pub short-table : {d : List ℕ} → length d < 2000 → WordTable d
-short-table l = record { filled = λ e. absurd (omega arith) }
+-- a whole table, one of no entries, and the front of a longer one
+pub whole-table : {d : List ℕ} → Filled d 1000 → WordTable d
+whole-table f = record { filled = λ e. f; low = λ h i l. absurd (omega (arith, f .long)) }
+
+pub empty-table : {d : List ℕ} → length d ≡ 0 → WordTable d
+empty-table l = record { filled = λ e. absurd (omega arith); low = λ h i k. absurd (omega arith) }
+
+pub low-table : (d : List ℕ) (k : ℕ) → LowTable d k → WordTable (take k d)
+low-table d k t =
+    let n : length (take k d) ≡ k = length-take-le k d (t .long) in
+    record {
+      filled = λ e. absurd (omega (arith, t .few));
+      low = λ h i l. getD-take k d i 0 (omega arith) ∙ t .words i (omega arith);
+    }
+
+pub none-low : (d : List ℕ) → LowTable d 0
+none-low d = record { few = omega arith; long = omega arith; words = λ i h. absurd (omega arith) }
+
+pub filled-low : {d : List ℕ} {k : ℕ} → Filled d k → k ≤ 1000 → LowTable d k
+filled-low f h = record { few = h; long = omega (arith, f .long); words = f .words }
+
+-- the word of a number below a thousand
+pub word-low : {d : List ℕ} (n : ℕ) → WordTable d → Worded (length d) n → n < 1000 → getD d n 0 ≡ packed n
+word-low n t w h = ⊎-elim (λ e. t .filled e .words n h) (λ l. t .low l n (w .entry h)) (w .size)
 
 pub filled-as : {d : List ℕ} {j k : ℕ} → j ≡ k → Filled d j → Filled d k
 filled-as e f = rw e at f

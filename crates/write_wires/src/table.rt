@@ -2,7 +2,7 @@
 ghost use mathlib.Core.Path.{_≡_};
 ghost use Prim.Native.Nat.{_<_, _≤_, _+_, _*_};
 ghost use lib.ListN.{length};
-ghost use Rattle.write_wires.specs.Packed.{packed, Filled, Tens, WordTable};
+ghost use Rattle.write_wires.specs.Packed.{packed, Filled, Tens, WordTable, Worded};
 
 // 2^56: how many bytes of text a word has stands in its top byte.
 const TOP: u64 = 72057594037927936;
@@ -48,13 +48,13 @@ fn ten(d: &mut [u64], t: usize)
     );
 }
 
-// All entries.
-pub fn fill(d: &mut [u64])
-    requires { ⌜ length (now d) ≡ 2000 ⌝ }
-    ensures { λ _. ⌜ WordTable (now (d .exit)) ⌝ }
+// The entries of so many tens, a hundred being all.
+pub fn fill(d: &mut [u64], tens: usize)
+    requires { ⌜ (length (now d) ≡ 2000) × (tens ≤ 100) ⌝ }
+    ensures { λ _. ⌜ Filled (now (d .exit)) (10 * tens) ⌝ }
 {
     let mut t = 0;
-    while t < 100 {
+    while t < tens {
         ten(d, t);
         t += 1;
     }
@@ -62,7 +62,7 @@ pub fn fill(d: &mut [u64])
 
 // The word of a number.
 pub fn look(d: &[u64], n: u32) -> u64
-    requires { ⌜ WordTable (now d) × (length (now d) ≡ 2000) × (n < 1000000) ⌝ }
+    requires { ⌜ WordTable (now d) × Worded (length (now d)) n ⌝ }
     ensures { λ r. ⌜ r ≡ packed n ⌝ }
 {
     if n < 1000 {

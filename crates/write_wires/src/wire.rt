@@ -1,11 +1,10 @@
 // Words stored.
 use crate::table;
 use write_buffer::store;
-ghost use Prim.Native.Nat.{_+_, _<_, _≤_};
-ghost use mathlib.Core.Path.{_≡_};
+ghost use Prim.Native.Nat.{_+_, _≤_};
 ghost use lib.ListN.{length};
 ghost use Rattle.write_buffer.specs.Wrote.{Wrote};
-ghost use Rattle.write_wires.specs.Packed.{text, bytesOf, WordTable};
+ghost use Rattle.write_wires.specs.Packed.{text, bytesOf, WordTable, Worded};
 ghost use Rattle.write_wires.specs.Spilt.{Stored};
 
 // 2^56.
@@ -36,7 +35,7 @@ fn eight(out: &mut [u8], at: usize, w: u64) -> usize
 
 // A number and the space behind it.
 pub fn wire(d: &[u64], out: &mut [u8], at: usize, n: u32) -> usize
-    requires { ⌜ WordTable (now d) × (length (now d) ≡ 2000) × (n < 1000000) × (at + 8 ≤ length (now out)) ⌝ }
+    requires { ⌜ WordTable (now d) × Worded (length (now d)) n × (at + 8 ≤ length (now out)) ⌝ }
     ensures { λ r. ⌜ Stored (now (out .entry)) at (text n) (now (out .exit)) r ⌝ }
 {
     let w = table::look(d, n);

@@ -1,6 +1,6 @@
 -- `deliver`: the wires are counted, the table of words is filled where there are many, and question 14 is put.
 use native.Mathlib.Omega.{arith}
-use Rattle.write_wires.proofs.Filling.{short-table}
+use Rattle.write_wires.proofs.Filling.{empty-table, whole-table}
 use Rattle.mask_text.proofs.Wholes.{least-counted, numbers-counted, ready-same, source-same}
 use borrow.Author.Needs.{needs}
 use Rattle.mask_text.proofs.deliver.Statement.{statement}
@@ -28,7 +28,7 @@ answer-requires c κs =
     let m = c .before .before .before .before .before .before .before .before .before .before .count in
     let l = m .last .1 .1 .1 .1 .1 in
     let k = m .kept .1 .1 .1 .1 .1 in
-    (short-table (omega arith), ready-same {ws′ = l .0} {es′ = l .1 .0} (k .0) (k .1 .0) (c .before .before .before .before .before .before .before .before .before .before .before .before .before .before .before .before .before .before .before .before .before .before .before .pre))
+    (empty-table (search needs), ready-same {ws′ = l .0} {es′ = l .1 .0} (k .0) (k .1 .0) (c .before .before .before .before .before .before .before .before .before .before .before .before .before .before .before .before .before .before .before .before .before .before .before .pre))
 
 same-length : tie.Need-same-length
 same-length c = search needs
@@ -62,7 +62,7 @@ answer-requires-2 c κs =
     let m = c .before .before .before .before .before .before .before .before .before .before .before .before .before .count in
     let l = m .last .1 .1 .1 .1 .1 in
     let k = m .kept .1 .1 .1 .1 .1 in
-    (c .before .before .before .before .before .before .fill .ensures, ready-same {ws′ = l .0} {es′ = l .1 .0} (k .0) (k .1 .0) (c .before .before .before .before .before .before .before .before .before .before .before .before .before .before .before .before .before .before .before .before .before .before .before .before .before .before .pre))
+    (whole-table (c .before .before .before .before .before .before .fill .ensures), ready-same {ws′ = l .0} {es′ = l .1 .0} (k .0) (k .1 .0) (c .before .before .before .before .before .before .before .before .before .before .before .before .before .before .before .before .before .before .before .before .before .before .before .before .before .before .pre))
 
 same-length-5 : tie.Need-same-length-5
 same-length-5 c = search needs

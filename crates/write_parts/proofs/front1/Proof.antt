@@ -22,8 +22,8 @@ returns : tie.Need-returns
 returns c = let a = c .before .before .before .before .before .before .before .before .before .before .before .before .before .before .args in
     let p = c .before .before .before .before .before .before .before .before .before .before .before .before .before .before .pre .1 in
     spilt-as (front1 (a .a) (a .c))
-    (spilt-result _ (p .least) (p .result)
-    (spilt-operand _ (p .operand) (spilt-none (c .before .before .before .before .before .before .before .before .before .before .four .ensures) (omega arith)) (c .before .before .before .before .before .before .wire .ensures) (omega arith))
+    (spilt-result _ (p .least) (p .result .six)
+    (spilt-operand _ (p .operand .six) (spilt-none (c .before .before .before .before .before .before .before .before .before .before .four .ensures) (omega arith)) (c .before .before .before .before .before .before .wire .ensures) (omega arith))
     (c .before .before .wire2 .ensures) (omega arith))
 
 pub front1-spec : {M : Type 1} → statement M

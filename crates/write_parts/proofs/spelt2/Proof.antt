@@ -1,9 +1,13 @@
 -- `spelt2`: a test for each bound.
+use borrow.Author.Tests.{leb-false}
 use Rattle.write_parts.proofs.Lines.{untrue}
 use native.Mathlib.Omega.{arith}
 use borrow.Author.Needs.{needs}
 use Rattle.write_parts.proofs.spelt2.Statement.{statement}
 use Rattle.write_parts.proofs.spelt2.Tie as tie
+
+reach-requires : tie.Need-reach-requires
+reach-requires c κs = search needs
 
 returns : tie.Need-returns
 returns c = λ e. untrue e
@@ -15,10 +19,7 @@ returns-3 : tie.Need-returns-3
 returns-3 c = λ e. untrue e
 
 returns-4 : tie.Need-returns-4
-returns-4 c = λ e. untrue e
-
-returns-5 : tie.Need-returns-5
-returns-5 c = search needs
+returns-4 c = λ e. record { left = c .before .before .before .reach .ensures _ (omega arith); right = c .before .before .before .reach .ensures _ (omega arith); result = c .before .before .before .reach .ensures _ (leb-false _ _ e); least = omega arith }
 
 pub spelt2-spec : {M : Type 1} → statement M
-spelt2-spec = tie.close (tie.spec returns returns-2 returns-3 returns-4 returns-5)
+spelt2-spec = tie.close (tie.spec reach-requires returns returns-2 returns-3 returns-4)

@@ -2,8 +2,8 @@
 use mathlib.Core.Path.{sym, _∙_}
 use native.Mathlib.Omega.{arith}
 use borrow.Author.Tests.{not-true, not-false}
-use Rattle.read_aiger.proofs.Placing.{not-so}
-use Rattle.read_aiger.proofs.NumberLines.{line-is, line-not}
+use Rattle.aiger_gates.proofs.Placing.{not-so}
+use Rattle.aiger_lines.proofs.NumberLines.{line-is, line-not}
 use Rattle.read_aiger.proofs.AndLines.{and-none, and-no, and-on}
 use native.Mathlib.Omega.{arith}
 use borrow.Author.Needs.{needs}
@@ -62,10 +62,10 @@ returns-4 : tie.Need-returns-4
 returns-4 c = (λ given wires gs l S. and-no (line-is _ _ _ _ _ _ (c .before .before .before .before .before .before .before .before .before .before .next .given .1) (c .before .before .before .before .before .before .before .before .before .before .before .before .before .next-numbers .ensures)) _ given (λ h. not-so (sym (not-true _ (c .if3 .taken)) ∙ c .before .can-give .ensures .0 given wires (S .places) ∙ h .2)), omega arith, omega arith)
 
 and-gates-requires : tie.Need-and-gates-requires
-and-gates-requires c κs = (omega (arith, c .before .before .before .before .before .before .before .before .before .before .before .before .before .before .before .before .before .before .before .before .before .before .pre .3), c .before .before .before .before .before .before .before .before .before .before .is-readable .ensures .1 (not-false _ (c .before .before .before .before .before .before .before .before .before .if1 .left)), c .before .before .before .before .before .before .before .is-readable2 .ensures .1 (not-false _ (c .before .before .before .before .before .before .if2 .left)))
+and-gates-requires c κs = (omega (arith, c .before .before .before .before .before .before .before .before .before .before .before .before .before .before .before .before .before .before .before .before .before .before .pre .2), c .before .before .before .before .before .before .before .before .before .before .is-readable .ensures .1 (not-false _ (c .before .before .before .before .before .before .before .before .before .if1 .left)), c .before .before .before .before .before .before .before .is-readable2 .ensures .1 (not-false _ (c .before .before .before .before .before .before .if2 .left)))
 
 give-requires : tie.Need-give-requires
-give-requires c κs = (omega (arith, c .before .before .before .before .before .before .before .before .before .before .can-give .ensures .1 (not-false _ (c .before .before .before .before .before .before .before .before .before .if3 .left)), c .before .before .before .before .before .before .before .before .before .before .before .before .before .before .before .before .before .before .before .before .before .before .before .before .before .before .before .before .pre .2), omega (arith, c .before .before .before .before .before .and-gates .ensures .2, c .before .before .before .before .before .before .before .before .before .before .before .before .before .before .before .before .before .before .before .before .before .before .before .before .before .before .before .before .pre .3))
+give-requires c κs = (omega (arith, c .before .before .before .before .before .before .before .before .before .before .can-give .ensures .1 (not-false _ (c .before .before .before .before .before .before .before .before .before .if3 .left)), c .before .before .before .before .before .before .before .before .before .before .before .before .before .before .before .before .before .before .before .before .before .before .before .before .before .before .before .before .pre .1), omega (arith, c .before .before .before .before .before .and-gates .ensures .2, c .before .before .before .before .before .before .before .before .before .before .before .before .before .before .before .before .before .before .before .before .before .before .before .before .before .before .before .before .pre .2))
 
 same-length-4 : tie.Need-same-length-4
 same-length-4 c = search needs
@@ -78,7 +78,7 @@ same-length-6 c = search needs
 
 returns-5 : tie.Need-returns-5
 returns-5 c = (
-  λ given wires gs l S. and-on (line-is _ _ _ _ _ _ (c .before .before .before .before .before .before .before .before .before .before .before .before .before .before .before .before .before .before .before .before .before .before .next .given .1) (c .before .before .before .before .before .before .before .before .before .before .before .before .before .before .before .before .before .before .before .before .before .before .before .before .before .next-numbers .ensures)) _ given (c .before .before .before .before .before .before .before .before .before .before .before .before .before .before .before .before .before .before .before .before .before .before .before .before .before .before .before .before .before .before .before .pre .2) l S
+  λ given wires gs l S. and-on (line-is _ _ _ _ _ _ (c .before .before .before .before .before .before .before .before .before .before .before .before .before .before .before .before .before .before .before .before .before .before .next .given .1) (c .before .before .before .before .before .before .before .before .before .before .before .before .before .before .before .before .before .before .before .before .before .before .before .before .before .next-numbers .ensures)) _ given (c .before .before .before .before .before .before .before .before .before .before .before .before .before .before .before .before .before .before .before .before .before .before .before .before .before .before .before .before .before .before .before .pre .1) l S
       (sym (c .before .before .before .before .before .before .before .before .before .before .before .before .before .before .before .before .before .before .before .is-readable .ensures .0 given wires (S .places)) ∙ not-false _ (c .before .before .before .before .before .before .before .before .before .before .before .before .before .before .before .before .before .before .if1 .left))
       (sym (c .before .before .before .before .before .before .before .before .before .before .before .before .before .before .before .before .is-readable2 .ensures .0 given wires (S .places)) ∙ not-false _ (c .before .before .before .before .before .before .before .before .before .before .before .before .before .before .before .if2 .left))
       (sym (c .before .before .before .before .before .before .before .before .before .before .before .before .before .can-give .ensures .0 given wires (S .places)) ∙ not-false _ (c .before .before .before .before .before .before .before .before .before .before .before .before .if3 .left))

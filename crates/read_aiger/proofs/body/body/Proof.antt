@@ -34,7 +34,7 @@ returns c =
     let t = s .text .now in
     let ls = fileLines (drop (s .at .at) t) in
     let i = c .before .before .before .before .inputs in
-    let v = i .last .1 .1 .1 .1 .1 .0 in
+    let v = i .last .1 .1 .1 .1 .0 in
     (lines-no-inputs H ls t (inputs-not ls t (H .inputs) (H .most) v (i .result) (c .enum-told .given .1) (i .ensures)), omega arith)
 
 skip-requires : tie.Need-skip-requires
@@ -44,9 +44,9 @@ skip-requires c κs =
     let t = s .text .now in
     let ls = fileLines (drop (s .at .at) t) in
     let i = c .before .before .before .before .before .inputs in
-    let v = i .last .1 .1 .1 .1 .1 .0 in
+    let v = i .last .1 .1 .1 .1 .0 in
     let A = inputs-is ls t (H .inputs) (H .most) v (i .result) _ (c .before .behind .given .1) (i .ensures) in
-    (A .within, c .before .before .before .before .before .before .before .before .before .before .before .before .pre .1)
+    A .within
 
 enum-known-first : tie.Need-enum-known-first
 enum-known-first c = search needs
@@ -64,7 +64,7 @@ returns-2 c =
     let t = s .text .now in
     let ls = fileLines (drop (s .at .at) t) in
     let i = c .before .before .before .before .before .before .before .before .inputs in
-    let v = i .last .1 .1 .1 .1 .1 .0 in
+    let v = i .last .1 .1 .1 .1 .0 in
     let A = inputs-is ls t (H .inputs) (H .most) v (i .result) _ (c .before .before .before .before .behind .given .1) (i .ensures) in
     (lines-no-outputs H ls t A (literals-not _ t (H .outputs) _ (c .enum-told2 .given .1) (c .before .before .skip .ensures)), omega arith)
 
@@ -75,11 +75,11 @@ ands-requires c κs =
     let t = s .text .now in
     let ls = fileLines (drop (s .at .at) t) in
     let i = c .before .before .before .before .before .before .before .before .before .before .before .before .inputs in
-    let v = i .last .1 .1 .1 .1 .1 .0 in
+    let v = i .last .1 .1 .1 .1 .0 in
     let A = inputs-is ls t (H .inputs) (H .most) v (i .result) _ (c .before .before .before .before .before .before .before .before .behind .given .1) (i .ensures) in
     let L = literals-is _ t (H .outputs) _ _ (c .before .before .before .before .first .given .1) (c .before .before .before .before .before .before .skip .ensures) in
     let p = c .before .before .before .before .before .before .before .before .before .before .before .before .before .before .before .before .before .before .before .pre in
-    (L .within, p .1, omega (arith, p .2, i .kept .1 .1 .1 .1 .1 .0), omega (arith, p .4 .inputs, p .4 .ands))
+    (L .within, omega (arith, p .1, i .kept .1 .1 .1 .1 .0), omega (arith, p .3 .inputs, p .3 .ands))
 
 enum-known-count : tie.Need-enum-known-count
 enum-known-count c = search needs
@@ -103,12 +103,12 @@ returns-3 c =
     let t = s .text .now in
     let ls = fileLines (drop (s .at .at) t) in
     let i = c .before .before .before .before .before .before .before .before .before .before .before .before .before .before .before .before .before .before .before .before .before .inputs in
-    let v = i .last .1 .1 .1 .1 .1 .0 in
+    let v = i .last .1 .1 .1 .1 .0 in
     let A = inputs-is ls t (H .inputs) (H .most) v (i .result) _ (c .before .before .before .before .before .before .before .before .before .before .before .before .before .before .before .before .before .behind .given .1) (i .ensures) in
     let L = literals-is _ t (H .outputs) _ _ (c .before .before .before .before .before .before .before .before .before .before .before .before .before .first .given .1) (c .before .before .before .before .before .before .before .before .before .before .before .before .before .before .before .skip .ensures) in
     let k = c .before .before .before .before .before .before .before .before .ands in
-    let w = k .last .1 .1 .1 .1 .1 .1 .0 in
-    let T = tables (k .last .1 .1 .1 .1 .1 .1 .1 .0) (k .last .1 .1 .1 .1 .1 .1 .1 .1 .0) in
+    let w = k .last .1 .1 .1 .1 .1 .0 in
+    let T = tables (k .last .1 .1 .1 .1 .1 .1 .0) (k .last .1 .1 .1 .1 .1 .1 .1 .0) in
     let a = k .ensures .0 _ _ (wires-length H ls t A) (standing-first H ls t A (tables (s .operands .now) (s .results .now))) in
     (lines-no-ands H ls t A L (ands-not _ t (H .ands) (H .most) (H .inputs) _ _ w T (k .result) (c .enum-told3 .given .1) a), omega arith)
 
@@ -119,20 +119,20 @@ outputs-requires c κs =
     let t = s .text .now in
     let ls = fileLines (drop (s .at .at) t) in
     let i = c .before .before .before .before .before .before .before .before .before .before .before .before .before .before .before .before .before .before .before .before .before .before .before .before .before .inputs in
-    let v = i .last .1 .1 .1 .1 .1 .0 in
+    let v = i .last .1 .1 .1 .1 .0 in
     let A = inputs-is ls t (H .inputs) (H .most) v (i .result) _ (c .before .before .before .before .before .before .before .before .before .before .before .before .before .before .before .before .before .before .before .before .before .behind .given .1) (i .ensures) in
     let L = literals-is _ t (H .outputs) _ _ (c .before .before .before .before .before .before .before .before .before .before .before .before .before .before .before .before .before .first .given .1) (c .before .before .before .before .before .before .before .before .before .before .before .before .before .before .before .before .before .before .before .skip .ensures) in
     let k = c .before .before .before .before .before .before .before .before .before .before .before .before .ands in
-    let w = k .last .1 .1 .1 .1 .1 .1 .0 in
-    let T = tables (k .last .1 .1 .1 .1 .1 .1 .1 .0) (k .last .1 .1 .1 .1 .1 .1 .1 .1 .0) in
+    let w = k .last .1 .1 .1 .1 .1 .0 in
+    let T = tables (k .last .1 .1 .1 .1 .1 .1 .0) (k .last .1 .1 .1 .1 .1 .1 .1 .0) in
     let a = k .ensures .0 _ _ (wires-length H ls t A) (standing-first H ls t A (tables (s .operands .now) (s .results .now))) in
     let D = ands-is _ t (H .ands) (H .most) (H .inputs) _ _ w T (k .result) _ _ (c .before .before .before .before .count .given .1) a in
     let said = said-is (k .result) _ _ (c .before .before .before .before .count .given .1) in
     let p = c .before .before .before .before .before .before .before .before .before .before .before .before .before .before .before .before .before .before .before .before .before .before .before .before .before .before .before .before .before .before .before .before .pre in
-    (A .within, p .1, omega (arith, p .4 .inputs, p .4 .ands, p .4 .outputs, k .ensures .1, said .0))
+    (A .within, omega (arith, p .3 .inputs, p .3 .ands, p .3 .outputs, k .ensures .1, said .0))
 
 same-length-6 : tie.Need-same-length-6
-same-length-6 c = c .before .before .before .before .before .before .before .before .before .before .before .before .before .before .before .before .before .before .ands .kept .1 .1 .1 .1 .1 .1 .0 ∙ c .before .before .before .before .before .before .before .before .before .before .before .before .before .before .before .before .before .before .before .before .before .before .before .before .before .before .before .before .before .before .before .inputs .kept .1 .1 .1 .1 .1 .0
+same-length-6 c = c .before .before .before .before .before .before .before .before .before .before .before .before .before .before .before .before .before .before .ands .kept .1 .1 .1 .1 .1 .0 ∙ c .before .before .before .before .before .before .before .before .before .before .before .before .before .before .before .before .before .before .before .before .before .before .before .before .before .before .before .before .before .before .before .inputs .kept .1 .1 .1 .1 .0
 
 same-length-7 : tie.Need-same-length-7
 same-length-7 c = search needs
@@ -147,22 +147,22 @@ returns-4 c =
     let t = s .text .now in
     let ls = fileLines (drop (s .at .at) t) in
     let i = c .before .before .before .before .before .before .before .before .before .before .before .before .before .before .before .before .before .before .before .before .before .before .before .before .before .before .before .before .before .before .before .inputs in
-    let v = i .last .1 .1 .1 .1 .1 .0 in
+    let v = i .last .1 .1 .1 .1 .0 in
     let A = inputs-is ls t (H .inputs) (H .most) v (i .result) _ (c .before .before .before .before .before .before .before .before .before .before .before .before .before .before .before .before .before .before .before .before .before .before .before .before .before .before .before .behind .given .1) (i .ensures) in
     let L = literals-is _ t (H .outputs) _ _ (c .before .before .before .before .before .before .before .before .before .before .before .before .before .before .before .before .before .before .before .before .before .before .before .first .given .1) (c .before .before .before .before .before .before .before .before .before .before .before .before .before .before .before .before .before .before .before .before .before .before .before .before .before .skip .ensures) in
     let k = c .before .before .before .before .before .before .before .before .before .before .before .before .before .before .before .before .before .before .ands in
-    let w = k .last .1 .1 .1 .1 .1 .1 .0 in
-    let T = tables (k .last .1 .1 .1 .1 .1 .1 .1 .0) (k .last .1 .1 .1 .1 .1 .1 .1 .1 .0) in
+    let w = k .last .1 .1 .1 .1 .1 .0 in
+    let T = tables (k .last .1 .1 .1 .1 .1 .1 .0) (k .last .1 .1 .1 .1 .1 .1 .1 .0) in
     let a = k .ensures .0 _ _ (wires-length H ls t A) (standing-first H ls t A (tables (s .operands .now) (s .results .now))) in
     let D = ands-is _ t (H .ands) (H .most) (H .inputs) _ _ w T (k .result) _ _ (c .before .before .before .before .before .before .before .before .before .before .count .given .1) a in
     let said = said-is (k .result) _ _ (c .before .before .before .before .before .before .before .before .before .before .count .given .1) in
     let o = c .before .before .before .before .before .outputs in
-    let U = tables (o .last .1 .1 .1 .1 .1 .1 .1 .0) (o .last .1 .1 .1 .1 .1 .1 .1 .1 .0) in
+    let U = tables (o .last .1 .1 .1 .1 .1 .1 .0) (o .last .1 .1 .1 .1 .1 .1 .1 .0) in
     let e = o .ensures _ _ _ (D .standing) in
     (lines-no-outs H ls t A L D (outs-not _ (H .outputs) (H .inputs) _ _ _ _ w U (o .result) (not-true _ (c .if1 .taken)) e), omega arith)
 
-add-t34 : tie.Need-add-t34
-add-t34 c =
+add-t33 : tie.Need-add-t33
+add-t33 c =
     let s = c .before .before .before .before .before .before .before .before .before .before .before .before .before .before .before .before .before .before .before .before .before .before .before .before .before .before .before .before .before .before .before .before .before .before .before .before .before .before .args in
     let H = headSaid (s .h) in
     let t = s .text .now in
@@ -170,10 +170,10 @@ add-t34 c =
     let k = c .before .before .before .before .before .before .before .before .before .before .before .before .before .before .before .before .before .before .ands in
     let said = said-is (k .result) _ _ (c .before .before .before .before .before .before .before .before .before .before .count .given .1) in
     let p = c .before .before .before .before .before .before .before .before .before .before .before .before .before .before .before .before .before .before .before .before .before .before .before .before .before .before .before .before .before .before .before .before .before .before .before .before .before .before .pre in
-    omega (arith, p .4 .ands, p .4 .outputs, k .ensures .1, said .0)
+    omega (arith, p .3 .ands, p .3 .outputs, k .ensures .1, said .0)
 
 same-length-9 : tie.Need-same-length-9
-same-length-9 c = c .before .before .before .before .before .before .before .before .before .before .before .before .before .before .before .before .before .before .ands .kept .1 .1 .1 .1 .1 .1 .0 ∙ c .before .before .before .before .before .before .before .before .before .before .before .before .before .before .before .before .before .before .before .before .before .before .before .before .before .before .before .before .before .before .before .inputs .kept .1 .1 .1 .1 .1 .0
+same-length-9 c = c .before .before .before .before .before .before .before .before .before .before .before .before .before .before .before .before .before .before .ands .kept .1 .1 .1 .1 .1 .0 ∙ c .before .before .before .before .before .before .before .before .before .before .before .before .before .before .before .before .before .before .before .before .before .before .before .before .before .before .before .before .before .before .before .inputs .kept .1 .1 .1 .1 .0
 
 same-length-10 : tie.Need-same-length-10
 same-length-10 c = search needs
@@ -188,17 +188,17 @@ returns-5 c =
     let t = s .text .now in
     let ls = fileLines (drop (s .at .at) t) in
     let i = c .before .before .before .before .before .before .before .before .before .before .before .before .before .before .before .before .before .before .before .before .before .before .before .before .before .before .before .before .before .before .before .inputs in
-    let v = i .last .1 .1 .1 .1 .1 .0 in
+    let v = i .last .1 .1 .1 .1 .0 in
     let A = inputs-is ls t (H .inputs) (H .most) v (i .result) _ (c .before .before .before .before .before .before .before .before .before .before .before .before .before .before .before .before .before .before .before .before .before .before .before .before .before .before .before .behind .given .1) (i .ensures) in
     let L = literals-is _ t (H .outputs) _ _ (c .before .before .before .before .before .before .before .before .before .before .before .before .before .before .before .before .before .before .before .before .before .before .before .first .given .1) (c .before .before .before .before .before .before .before .before .before .before .before .before .before .before .before .before .before .before .before .before .before .before .before .before .before .skip .ensures) in
     let k = c .before .before .before .before .before .before .before .before .before .before .before .before .before .before .before .before .before .before .ands in
-    let w = k .last .1 .1 .1 .1 .1 .1 .0 in
-    let T = tables (k .last .1 .1 .1 .1 .1 .1 .1 .0) (k .last .1 .1 .1 .1 .1 .1 .1 .1 .0) in
+    let w = k .last .1 .1 .1 .1 .1 .0 in
+    let T = tables (k .last .1 .1 .1 .1 .1 .1 .0) (k .last .1 .1 .1 .1 .1 .1 .1 .0) in
     let a = k .ensures .0 _ _ (wires-length H ls t A) (standing-first H ls t A (tables (s .operands .now) (s .results .now))) in
     let D = ands-is _ t (H .ands) (H .most) (H .inputs) _ _ w T (k .result) _ _ (c .before .before .before .before .before .before .before .before .before .before .count .given .1) a in
     let said = said-is (k .result) _ _ (c .before .before .before .before .before .before .before .before .before .before .count .given .1) in
     let o = c .before .before .before .before .before .outputs in
-    let U = tables (o .last .1 .1 .1 .1 .1 .1 .1 .0) (o .last .1 .1 .1 .1 .1 .1 .1 .1 .0) in
+    let U = tables (o .last .1 .1 .1 .1 .1 .1 .0) (o .last .1 .1 .1 .1 .1 .1 .1 .0) in
     let e = o .ensures _ _ _ (D .standing) in
     (lines-made H ls t A L D (outs-are _ (H .outputs) (H .inputs) _ _ _ _ w U (o .result) (not-false _ (c .if1 .left)) e), omega (arith, k .ensures .1, said .0))
 
@@ -229,7 +229,7 @@ body-spec =
     same-length-7
     same-length-8
     returns-4
-    add-t34
+    add-t33
     same-length-9
     same-length-10
     same-length-11

@@ -17,7 +17,7 @@ slice-aggregate-line-numbers : tie.Need-slice-aggregate-line-numbers
 slice-aggregate-line-numbers c = search needs
 
 line-numbers-requires : tie.Need-line-numbers-requires
-line-numbers-requires c κs = (opens-places (c .before .before .before .before .args .text .now) (sym (c .before .before .is-opening .ensures) ∙ not-false _ (c .before .if1 .left)) .0, c .before .before .before .before .pre)
+line-numbers-requires c κs = opens-places (c .before .before .before .before .args .text .now) (sym (c .before .before .is-opening .ensures) ∙ not-false _ (c .before .if1 .left)) .1
 
 enum-known-next : tie.Need-enum-known-next
 enum-known-next c = search needs
@@ -27,22 +27,22 @@ enum-told c = search needs
 
 returns-2 : tie.Need-returns-2
 returns-2 c = let o = sym (c .before .before .before .before .before .before .is-opening .ensures) ∙ not-false _ (c .before .before .before .before .before .if1 .left) in
-    head-not (c .before .before .before .before .before .before .before .before .args .l) (c .before .before .before .before .before .before .before .before .args .text .now) o (file-line-not _ _ _ _ _ (c .enum-told .given .1) (c .before .before .before .line-numbers .ensures) (opens-places (c .before .before .before .before .before .before .before .before .args .text .now) o .1))
+    head-not (c .before .before .before .before .before .before .before .before .args .l) (c .before .before .before .before .before .before .before .before .args .text .now) o (file-line-not _ _ _ _ _ (c .enum-told .given .1) (c .before .before .before .line-numbers .ensures))
 
-array-read-t16 : tie.Need-array-read-t16
-array-read-t16 c = search needs
+array-read-t15 : tie.Need-array-read-t15
+array-read-t15 c = search needs
 
-array-read-t19 : tie.Need-array-read-t19
-array-read-t19 c = search needs
+array-read-t18 : tie.Need-array-read-t18
+array-read-t18 c = search needs
 
-array-read-t22 : tie.Need-array-read-t22
-array-read-t22 c = search needs
+array-read-t21 : tie.Need-array-read-t21
+array-read-t21 c = search needs
 
-array-read-t25 : tie.Need-array-read-t25
-array-read-t25 c = search needs
+array-read-t24 : tie.Need-array-read-t24
+array-read-t24 c = search needs
 
-array-read-t28 : tie.Need-array-read-t28
-array-read-t28 c = search needs
+array-read-t27 : tie.Need-array-read-t27
+array-read-t27 c = search needs
 
 question-requires : tie.Need-question-requires
 question-requires c κs = search needs
@@ -66,11 +66,11 @@ head-spec =
     enum-known-next
     enum-told
     returns-2
-    array-read-t16
-    array-read-t19
-    array-read-t22
-    array-read-t25
-    array-read-t28
+    array-read-t15
+    array-read-t18
+    array-read-t21
+    array-read-t24
+    array-read-t27
     question-requires
     returns-3
     returns-4)

@@ -2,7 +2,7 @@
 use mathlib.Core.Path.{sym, _∙_}
 use native.Mathlib.Omega.{arith}
 use borrow.Author.Tests.{not-true, not-false}
-use Rattle.read_aiger.proofs.NumberLines.{line-is, line-not}
+use Rattle.aiger_lines.proofs.NumberLines.{line-is, line-not}
 use Rattle.read_aiger.proofs.InputLines.{input-none, input-no, input-on}
 use native.Mathlib.Omega.{arith}
 use borrow.Author.Needs.{needs}
@@ -37,7 +37,7 @@ returns-2 : tie.Need-returns-2
 returns-2 c = λ given wires P. input-no (line-is _ _ _ _ _ _ (c .before .before .before .before .next .given .1) (c .before .before .before .before .before .before .before .next-numbers .ensures)) _ given (sym (c .before .can-give .ensures .0 given wires P) ∙ not-true _ (c .if1 .taken))
 
 give-requires : tie.Need-give-requires
-give-requires c κs = (omega (arith, c .before .before .can-give .ensures .1 (not-false _ (c .before .if1 .left)), c .before .before .before .before .before .before .before .before .before .before .before .before .pre .2), c .before .before .before .before .before .before .before .before .before .before .before .before .pre .3)
+give-requires c κs = (omega (arith, c .before .before .can-give .ensures .1 (not-false _ (c .before .if1 .left)), c .before .before .before .before .before .before .before .before .before .before .before .before .pre .1), c .before .before .before .before .before .before .before .before .before .before .before .before .pre .2)
 
 same-length-2 : tie.Need-same-length-2
 same-length-2 c = search needs

@@ -26,7 +26,7 @@ returns-2 : tie.Need-returns-2
 returns-2 c = (λ given wires gs S. output-no (one-is _ _ _ _ _ (c .before .before .before .x .given .1) (c .before .before .before .before .before .one-number .ensures)) given (sym (c .before .is-readable .ensures .0 given wires (S .places)) ∙ not-true _ (c .if1 .taken)), omega arith)
 
 out-gate-requires : tie.Need-out-gate-requires
-out-gate-requires c κs = (c .before .before .before .before .before .before .before .before .before .before .before .before .pre .2, c .before .before .before .is-readable .ensures .1 (not-false _ (c .before .before .if1 .left)))
+out-gate-requires c κs = (c .before .before .before .before .before .before .before .before .before .before .before .before .pre .1, c .before .before .before .is-readable .ensures .1 (not-false _ (c .before .before .if1 .left)))
 
 same-length : tie.Need-same-length
 same-length c = search needs

@@ -12,19 +12,19 @@ use Rattle.read_aiger.proofs.outputs.outputs.Statement.{statement}
 use Rattle.read_aiger.proofs.outputs.outputs.Tie as tie
 
 abbrev Inv-loop : tie.InvT-loop
-Inv-loop text stray lines n before table operands₀ results₀ at₀ i₀ operands results at i = Putting (fileLines (drop at₀ text)) text n before table (tables operands₀ results₀) (tables operands results) at i × (i ≤ lines) × (length operands ≡ length operands₀) × (length results ≡ length results₀)
+Inv-loop text lines n before table operands₀ results₀ at₀ i₀ operands results at i = Putting (fileLines (drop at₀ text)) text n before table (tables operands₀ results₀) (tables operands results) at i × (i ≤ lines) × (length operands ≡ length operands₀) × (length results ≡ length results₀)
 
 abbrev μ-loop : tie.MeasureT-loop
-μ-loop text stray lines n before table operands₀ results₀ at₀ i₀ operands results at i = lines - i
+μ-loop text lines n before table operands₀ results₀ at₀ i₀ operands results at i = lines - i
 
 loop-holds : tie.Need-loop-holds Inv-loop μ-loop
 loop-holds c = (putting-start _ _ _ _ _ _ (c .before .before .before .before .pre .0), omega arith, search needs, search needs)
 
 add-output : tie.Need-add-output Inv-loop μ-loop
-add-output c = omega (arith, c .before .before .before .before .before .before .pre .2, c .loop-test .taken)
+add-output c = omega (arith, c .before .before .before .before .before .before .pre .1, c .loop-test .taken)
 
 output-requires : tie.Need-output-requires Inv-loop μ-loop
-output-requires c κs = (c .before .before .before .loop .inv .0 .within, c .before .before .before .before .before .before .before .before .pre .1, omega (arith, c .before .before .before .before .before .before .before .before .pre .2, c .before .before .loop-test .taken))
+output-requires c κs = (c .before .before .before .loop .inv .0 .within, omega (arith, c .before .before .before .before .before .before .before .before .pre .1, c .before .before .loop-test .taken))
 
 enum-known-next : tie.Need-enum-known-next Inv-loop μ-loop
 enum-known-next c = search needs
@@ -33,13 +33,13 @@ enum-told : tie.Need-enum-told Inv-loop μ-loop
 enum-told c = search needs
 
 same-length : tie.Need-same-length Inv-loop μ-loop
-same-length c = c .before .before .before .before .before .before .output .kept .1 .1 .1 .1 .1 .1 .0 ∙ c .before .before .before .before .before .before .before .before .before .before .loop .inv .2
+same-length c = c .before .before .before .before .before .before .output .kept .1 .1 .1 .1 .1 .0 ∙ c .before .before .before .before .before .before .before .before .before .before .loop .inv .2
 
 same-length-2 : tie.Need-same-length-2 Inv-loop μ-loop
-same-length-2 c = c .before .before .before .before .before .before .output .kept .1 .1 .1 .1 .1 .1 .1 .0 ∙ c .before .before .before .before .before .before .before .before .before .before .loop .inv .3
+same-length-2 c = c .before .before .before .before .before .before .output .kept .1 .1 .1 .1 .1 .1 .0 ∙ c .before .before .before .before .before .before .before .before .before .before .loop .inv .3
 
 returns : tie.Need-returns Inv-loop μ-loop
-returns c = putting-no (c .before .before .before .before .before .before .before .before .before .before .loop .inv .0) _ (c .before .before .before .before .before .before .before .before .before .loop-test .taken) (λ given wires gs S. out-not _ _ _ _ _ _ _ _ (tables (c .before .before .before .before .before .before .output .last .1 .1 .1 .1 .1 .1 .0) (c .before .before .before .before .before .before .output .last .1 .1 .1 .1 .1 .1 .1 .0)) _ (c .enum-told .given .1) (c .before .before .before .before .before .before .output .ensures .0 given wires gs S))
+returns c = putting-no (c .before .before .before .before .before .before .before .before .before .before .loop .inv .0) _ (c .before .before .before .before .before .before .before .before .before .loop-test .taken) (λ given wires gs S. out-not _ _ _ _ _ _ _ _ (tables (c .before .before .before .before .before .before .output .last .1 .1 .1 .1 .1 .0) (c .before .before .before .before .before .before .output .last .1 .1 .1 .1 .1 .1 .0)) _ (c .enum-told .given .1) (c .before .before .before .before .before .before .output .ensures .0 given wires gs S))
 
 add-i : tie.Need-add-i Inv-loop μ-loop
 add-i c = search needs
@@ -49,10 +49,10 @@ loop-less c = search needs
 
 loop-again : tie.Need-loop-again Inv-loop μ-loop
 loop-again c = (
-  putting-more (c .before .before .before .before .before .before .before .before .before .before .before .loop .inv .0) (λ given wires gs S. out-is _ _ _ _ _ _ _ _ (tables (c .before .before .before .before .before .before .before .output .last .1 .1 .1 .1 .1 .1 .0) (c .before .before .before .before .before .before .before .output .last .1 .1 .1 .1 .1 .1 .1 .0)) _ _ (c .before .next .given .1) (c .before .before .before .before .before .before .before .output .ensures .0 given wires gs S)) (omega (arith, ap stepPlace (c .before .next .given .1), c .before .before .before .before .before .before .before .output .ensures .1)),
+  putting-more (c .before .before .before .before .before .before .before .before .before .before .before .loop .inv .0) (λ given wires gs S. out-is _ _ _ _ _ _ _ _ (tables (c .before .before .before .before .before .before .before .output .last .1 .1 .1 .1 .1 .0) (c .before .before .before .before .before .before .before .output .last .1 .1 .1 .1 .1 .1 .0)) _ _ (c .before .next .given .1) (c .before .before .before .before .before .before .before .output .ensures .0 given wires gs S)) (omega (arith, ap stepPlace (c .before .next .given .1), c .before .before .before .before .before .before .before .output .ensures .1)),
   omega (arith, c .before .before .before .before .before .before .before .before .before .before .loop-test .taken),
-  c .before .before .before .before .before .before .before .output .kept .1 .1 .1 .1 .1 .1 .0 ∙ c .before .before .before .before .before .before .before .before .before .before .before .loop .inv .2,
-  c .before .before .before .before .before .before .before .output .kept .1 .1 .1 .1 .1 .1 .1 .0 ∙ c .before .before .before .before .before .before .before .before .before .before .before .loop .inv .3,
+  c .before .before .before .before .before .before .before .output .kept .1 .1 .1 .1 .1 .0 ∙ c .before .before .before .before .before .before .before .before .before .before .before .loop .inv .2,
+  c .before .before .before .before .before .before .before .output .kept .1 .1 .1 .1 .1 .1 .0 ∙ c .before .before .before .before .before .before .before .before .before .before .before .loop .inv .3,
 )
 
 same-length-3 : tie.Need-same-length-3 Inv-loop μ-loop

@@ -10,16 +10,16 @@ use Rattle.read_aiger.proofs.outputs.skip.Statement.{statement}
 use Rattle.read_aiger.proofs.outputs.skip.Tie as tie
 
 abbrev Inv-loop : tie.InvT-loop
-Inv-loop text stray lines at₀ i₀ at i = LiteralsAt (fileLines (drop at₀ text)) text i at × (i ≤ lines)
+Inv-loop text lines at₀ i₀ at i = LiteralsAt (fileLines (drop at₀ text)) text i at × (i ≤ lines)
 
 abbrev μ-loop : tie.MeasureT-loop
-μ-loop text stray lines at₀ i₀ at i = lines - i
+μ-loop text lines at₀ i₀ at i = lines - i
 
 loop-holds : tie.Need-loop-holds Inv-loop μ-loop
-loop-holds c = (literals-start _ _ (c .before .pre .0), omega arith)
+loop-holds c = (literals-start _ _ (c .before .pre), omega arith)
 
 one-number-requires : tie.Need-one-number-requires Inv-loop μ-loop
-one-number-requires c κs = (c .before .loop .inv .0 .within, c .before .before .before .pre .1)
+one-number-requires c κs = c .before .loop .inv .0 .within
 
 enum-known-x : tie.Need-enum-known-x Inv-loop μ-loop
 enum-known-x c = search needs

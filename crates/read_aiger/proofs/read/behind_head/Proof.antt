@@ -35,7 +35,7 @@ returns c =
     let H = headSaid (s .h) in
     let ls = fileLines (drop (s .at .at) (s .text .now)) in
     let b = c .before .before .before .before .before .before .before .before .body in
-    let T = tables (b .last .1 .1 .1 .1 .1 .0) (b .last .1 .1 .1 .1 .1 .1 .0) in
+    let T = tables (b .last .1 .1 .1 .1 .0) (b .last .1 .1 .1 .1 .1 .0) in
     lines-refused (s .l) H ls (lines-not H ls T (b .result) (c .enum-told .given .1) (b .ensures .0))
 
 cast-wires : tie.Need-cast-wires
@@ -44,7 +44,7 @@ cast-wires c = search needs
 add-wires : tie.Need-add-wires
 add-wires c =
     let b = c .before .before .before .before .before .before .before .before .before .before .body in
-    let p = c .before .before .before .before .before .before .before .before .before .before .before .before .before .before .before .before .before .before .pre .0 .4 in
+    let p = c .before .before .before .before .before .before .before .before .before .before .before .before .before .before .before .before .before .before .pre .0 .3 in
     omega (arith, p .ands, p .outputs, b .ensures .1, ap gatesMade (c .before .before .gates .given .1))
 
 cast-if1 : tie.Need-cast-if1
@@ -65,7 +65,7 @@ returns-2 c =
     let H = headSaid (s .h) in
     let ls = fileLines (drop (s .at .at) (s .text .now)) in
     let b = c .before .before .before .before .before .before .before .before .before .before .before .before .body in
-    let T = tables (b .last .1 .1 .1 .1 .1 .0) (b .last .1 .1 .1 .1 .1 .1 .0) in
+    let T = tables (b .last .1 .1 .1 .1 .0) (b .last .1 .1 .1 .1 .1 .0) in
     let A = lines-are H ls T (b .result) _ (c .before .before .before .before .gates .given .1) (b .ensures .0) in
     lines-large (s .l) H ls A (c .if1 .taken)
 
@@ -84,10 +84,10 @@ returns-3 c =
     let H = headSaid (s .h) in
     let ls = fileLines (drop (s .at .at) (s .text .now)) in
     let b = c .before .before .before .before .before .before .before .before .before .before .before .before .body in
-    let T = tables (b .last .1 .1 .1 .1 .1 .0) (b .last .1 .1 .1 .1 .1 .1 .0) in
+    let T = tables (b .last .1 .1 .1 .1 .0) (b .last .1 .1 .1 .1 .1 .0) in
     let A = lines-are H ls T (b .result) _ (c .before .before .before .before .gates .given .1) (b .ensures .0) in
     let p = c .before .before .before .before .before .before .before .before .before .before .before .before .before .before .before .before .before .before .before .before .pre .1 in
-    lines-taken (s .l) H ls A (c .if1 .left) (p .2) (p .3) (omega (arith, p .0, b .kept .1 .1 .1 .1 .1 .0)) (omega (arith, p .1, b .kept .1 .1 .1 .1 .1 .1 .0))
+    lines-taken (s .l) H ls A (c .if1 .left) (p .2) (p .3) (omega (arith, p .0, b .kept .1 .1 .1 .1 .0)) (omega (arith, p .1, b .kept .1 .1 .1 .1 .1 .0))
 
 pub behind-head-spec : {M : Type 1} → statement M
 behind-head-spec =

@@ -9,16 +9,16 @@ use Rattle.write_wires.proofs.table.fill.Statement.{statement}
 use Rattle.write_wires.proofs.table.fill.Tie as tie
 
 abbrev Inv-loop : tie.InvT-loop
-Inv-loop d₀ t₀ d t = Filled d (10 * t) × (t ≤ 100)
+Inv-loop d₀ tens t₀ d t = Filled d (10 * t) × (t ≤ tens)
 
 abbrev μ-loop : tie.MeasureT-loop
-μ-loop d₀ t₀ d t = 100 - t
+μ-loop d₀ tens t₀ d t = tens - t
 
 loop-holds : tie.Need-loop-holds Inv-loop μ-loop
-loop-holds c = (filled-none (c .before .pre), omega arith)
+loop-holds c = (filled-none (c .before .pre .0), omega arith)
 
 ten-requires : tie.Need-ten-requires Inv-loop μ-loop
-ten-requires c κs = (c .before .before .loop .inv .0, c .before .loop-test .taken)
+ten-requires c κs = (c .before .before .loop .inv .0, omega arith)
 
 add-t : tie.Need-add-t Inv-loop μ-loop
 add-t c = search needs
@@ -30,10 +30,10 @@ loop-again : tie.Need-loop-again Inv-loop μ-loop
 loop-again c = (filled-as (omega arith) (c .before .before .ten .ensures), omega arith)
 
 same-length : tie.Need-same-length Inv-loop μ-loop
-same-length c = c .before .loop .inv .0 .long ∙ sym (c .before .before .before .pre)
+same-length c = c .before .loop .inv .0 .long ∙ sym (c .before .before .before .pre .0)
 
 returns : tie.Need-returns Inv-loop μ-loop
-returns c = record { filled = λ e. filled-as (omega arith) (c .before .loop .inv .0) }
+returns c = filled-as (omega arith) (c .before .loop .inv .0)
 
 pub fill-spec : {M : Type 1} → statement M
 fill-spec =

@@ -1,0 +1,3 @@
+-- Laws of variables and gates.
+pub mod Placing
+pub mod Adding

@@ -1,0 +1,2 @@
+-- What the contracts of variables and gates cite.
+pub mod Places

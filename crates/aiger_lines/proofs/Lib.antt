@@ -1,0 +1,3 @@
+-- Laws of lines.
+pub mod StrayLaws
+pub mod NumberLines

@@ -1,0 +1,3 @@
+-- What the answers on lines mean.
+pub mod Stray
+pub mod LineAnswers
