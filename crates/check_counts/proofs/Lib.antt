@@ -5,5 +5,5 @@ pub mod Tallies
 pub mod Numbers
 pub mod Inputs
 pub mod Loads
-pub mod Sides
+pub mod BlockRuns
 pub mod Bases

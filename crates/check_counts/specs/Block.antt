@@ -41,7 +41,7 @@ pub record Counted (N : Netlist) (whole : Bool) (codes : List ℕ) (held : ℕ �
 
 -- where no bit is public, all settings have the same base, whose counts are held from the second block on
 abbrev pub Ready : Bool → Netlist → List ℕ → List ℕ → ℕ → Type 0
-Ready mixed N codes base block = mixed ≡ false → Secret codes × (block ≢ 0 → Counted N false codes (nibblesOf base) block)
+Ready publics N codes base block = publics ≡ false → Secret codes × (block ≢ 0 → Counted N false codes (nibblesOf base) block)
 
 -- the counts of wires below W in settings below S are the same
 abbrev pub Agree : (ℕ → ℕ → ℕ) → (ℕ → ℕ → ℕ) → ℕ → ℕ → Type 0

@@ -11,7 +11,7 @@ ghost use Rattle.evaluate.specs.Bare.{bare};
 ghost use Rattle.check_counts.specs.Block.{onesOf, nibblesOf, Evaluated, Counted, Ready};
 
 // The words of all wires in a block's settings, or in their bases.
-pub fn side(
+pub fn run_block(
     operands: &[u64],
     results: &[u64],
     count: usize,
@@ -73,7 +73,7 @@ pub fn refresh(
     results: &[u64],
     count: usize,
     codes: &[u8],
-    mixed: bool,
+    publics: bool,
     block: u64,
     words: &[u64],
     base: &mut [u64],
@@ -81,13 +81,13 @@ pub fn refresh(
     requires { ⌜ Wired (tables (now operands) (now results)) (length (now words)) count ⌝ }
     requires { ⌜ (length (now codes) < 64) × (length (now codes) + 2 ≤ length (now words)) × (length (now base) ≡ length (now words)) ⌝ }
     requires { ⌜ (let N = bare (tables (now operands) (now results)) count (length (now words)) in Counted N true (now codes)
-        (onesOf (now words)) block × Ready mixed N (now codes) (now base) block) ⌝ }
+        (onesOf (now words)) block × Ready publics N (now codes) (now base) block) ⌝ }
     ensures { λ _. ⌜ (let N = bare (tables (now (operands .entry)) (now (results .entry))) count (length (now (words .entry))) in Counted N
-        false (now (codes .entry)) (nibblesOf (now (base .exit))) block × Ready mixed N (now (codes .entry)) (now (base .exit)) (block + 1))
+        false (now (codes .entry)) (nibblesOf (now (base .exit))) block × Ready publics N (now (codes .entry)) (now (base .exit)) (block + 1))
         ⌝ }
 {
-    if mixed {
-        side(operands, results, count, codes, false, block, base);
+    if publics {
+        run_block(operands, results, count, codes, false, block, base);
         tally(base);
     } else if block == 0 {
         first(words, base);

@@ -23,12 +23,12 @@ pub enum Verdict {
 }
 
 // A block is run and searched, for wires below a limit.
-fn turn(
+fn search_block(
     operands: &[u64],
     results: &[u64],
     count: usize,
     codes: &[u8],
-    mixed: bool,
+    publics: bool,
     block: u64,
     words: &mut [u64],
     base: &mut [u64],
@@ -36,14 +36,14 @@ fn turn(
 ) -> Spot
     requires { ⌜ Wired (tables (now operands) (now results)) (length (now words)) count ⌝ }
     requires { ⌜ (length (now codes) < 64) × (length (now codes) + 2 ≤ length (now words)) × (length (now base) ≡ length (now words))
-        × (limit ≤ length (now words)) × Ready mixed (bare (tables (now operands) (now results)) count (length (now words))) (now codes)
+        × (limit ≤ length (now words)) × Ready publics (bare (tables (now operands) (now results)) count (length (now words))) (now codes)
         (now base) block ⌝ }
     ensures { λ r. ⌜ (let N = bare (tables (now (operands .entry)) (now (results .entry))) count (length (now (words .entry))) in Spotted
         (from (block * 16) (countIn N false (now (codes .entry)))) (from (block * 16) (countIn N true (now (codes .entry)))) limit 16 r
-        × Ready mixed N (now (codes .entry)) (now (base .exit)) (block + 1)) ⌝ }
+        × Ready publics N (now (codes .entry)) (now (base .exit)) (block + 1)) ⌝ }
 {
-    block::side(operands, results, count, codes, true, block, words);
-    block::refresh(operands, results, count, codes, mixed, block, words, base);
+    block::run_block(operands, results, count, codes, true, block, words);
+    block::refresh(operands, results, count, codes, publics, block, words, base);
     spot::scan(words, base, limit)
 }
 
@@ -64,17 +64,17 @@ fn find(
     ensures { λ r. ⌜ (let N = bare (tables (now (operands .entry)) (now (results .entry))) count (length (now (words .entry))) in Spotted
         (countIn N false (now (codes .entry))) (countIn N true (now (codes .entry))) (length (now (words .entry))) (blocks * 16) r) ⌝ }
 {
-    let mixed = block::public(codes);
+    let publics = block::public(codes);
     let mut best = spot::none(words.len());
     let mut block = 0;
     while block < blocks {
         let limit = best.wire;
-        let spot = turn(
+        let spot = search_block(
             operands,
             results,
             count,
             codes,
-            mixed,
+            publics,
             block,
             words,
             base,

@@ -62,17 +62,17 @@ abbrev ownOf : Tables → ℕ → ℕ → List ℕ → Counts
 ownOf t n W codes = countsOf (bare t n W) true codes
 
 -- the blocks before this one are searched, and the tables keep their lengths
-pub record Finding (t : Tables) (n W : ℕ) (codes ws : List ℕ) (mixed : Bool) (blocks : ℕ) (words bases base : List ℕ) (best : Best) (block : ℕ) : Type 0 where
+pub record Finding (t : Tables) (n W : ℕ) (codes ws : List ℕ) (publics : Bool) (blocks : ℕ) (words bases base : List ℕ) (best : Best) (block : ℕ) : Type 0 where
   pub passed : block ≤ blocks
   pub long-words : length words ≡ W
   pub long-bases : length bases ≡ W
   pub long-base : length base ≡ W
-  pub held : HeldOn mixed (bare t n W) codes bases base block
+  pub held : HeldOn publics (bare t n W) codes bases base block
   pub found : Found (baseOf t n W codes) (ownOf t n W codes) ws W (length ws / 2) (block * 16) best
 
-pub find-none : {t : Tables} {n W : ℕ} {codes : List ℕ} (ws : List ℕ) {mixed : Bool} (blocks : ℕ) {words bases base : List ℕ} {best : Best}
-    → length words ≡ W → length bases ≡ W → length base ≡ W → HeldOn mixed (bare t n W) codes bases base 0
-    → best .spot .wire ≡ W → best .pair ≡ length ws / 2 → Finding t n W codes ws mixed blocks words bases base best 0
+pub find-none : {t : Tables} {n W : ℕ} {codes : List ℕ} (ws : List ℕ) {publics : Bool} (blocks : ℕ) {words bases base : List ℕ} {best : Best}
+    → length words ≡ W → length bases ≡ W → length base ≡ W → HeldOn publics (bare t n W) codes bases base 0
+    → best .spot .wire ≡ W → best .pair ≡ length ws / 2 → Finding t n W codes ws publics blocks words bases base best 0
 find-none {t} {n} {W} {codes} ws blocks {best = best} a b c h w p = record {
   passed = omega arith;
   long-words = a;
@@ -87,18 +87,18 @@ find-none {t} {n} {W} {codes} ws blocks {best = best} a b c h w p = record {
 }
 
 -- a block is run and looked at
-pub find-more : {t : Tables} {n W : ℕ} {codes ws : List ℕ} {mixed : Bool} {blocks : ℕ} {words bases base : List ℕ} {best : Best} {block : ℕ}
-    → Finding t n W codes ws mixed blocks words bases base best block → block < blocks
+pub find-more : {t : Tables} {n W : ℕ} {codes ws : List ℕ} {publics : Bool} {blocks : ℕ} {words bases base : List ℕ} {best : Best} {block : ℕ}
+    → Finding t n W codes ws publics blocks words bases base best block → block < blocks
     → (us vs zs : List ℕ) (next : Best) → length us ≡ length words → length vs ≡ length bases → length zs ≡ length base
     → Evaluated (bare t n (length words)) true codes us block × Based (bare t n (length words)) codes vs zs block
-    × HeldOn mixed (bare t n (length words)) codes vs zs (block + 1)
+    × HeldOn publics (bare t n (length words)) codes vs zs (block + 1)
     → ((based own : Counts) (W n : ℕ) → Alike (heldBase vs zs) (onFrom (block * 16) based) → Alike (heldIn us) (onFrom (block * 16) own)
     → Found based own ws W n (block * 16) best → Found based own ws W n (block * 16 + 16) next)
-    → Finding t n W codes ws mixed blocks us vs zs next (block + 1)
-find-more {t} {n} {W} {codes} {ws} {mixed} {best = best} {block} r l us vs zs next a b c ran looked =
+    → Finding t n W codes ws publics blocks us vs zs next (block + 1)
+find-more {t} {n} {W} {codes} {ws} {publics} {best = best} {block} r l us vs zs next a b c ran looked =
     let q : block * 16 + 16 ≡ (block + 1) * 16 = omega arith in
-    let ran′ : Evaluated (bare t n W) true codes us block × Based (bare t n W) codes vs zs block × HeldOn mixed (bare t n W) codes vs zs (block + 1)
-    = subst (λ (k : ℕ). Evaluated (bare t n k) true codes us block × Based (bare t n k) codes vs zs block × HeldOn mixed (bare t n k) codes vs zs (block + 1))
+    let ran′ : Evaluated (bare t n W) true codes us block × Based (bare t n W) codes vs zs block × HeldOn publics (bare t n W) codes vs zs (block + 1)
+    = subst (λ (k : ℕ). Evaluated (bare t n k) true codes us block × Based (bare t n k) codes vs zs block × HeldOn publics (bare t n k) codes vs zs (block + 1))
     (r .long-words) ran in
     record {
       passed = omega arith;
@@ -110,8 +110,8 @@ find-more {t} {n} {W} {codes} {ws} {mixed} {best = best} {block} r l us vs zs ne
           (looked (baseOf t n W codes) (ownOf t n W codes) W (length ws / 2) (alike-base (ran′ .1)) (alike-own (ran′ .0)) (r .found));
     }
 
-pub find-all : {t : Tables} {n W : ℕ} {codes ws : List ℕ} {mixed : Bool} {blocks : ℕ} {words bases base : List ℕ} {best : Best} {block : ℕ}
-    → Finding t n W codes ws mixed blocks words bases base best block → blocks ≤ block
+pub find-all : {t : Tables} {n W : ℕ} {codes ws : List ℕ} {publics : Bool} {blocks : ℕ} {words bases base : List ℕ} {best : Best} {block : ℕ}
+    → Finding t n W codes ws publics blocks words bases base best block → blocks ≤ block
     → Found (baseOf t n W codes) (ownOf t n W codes) ws W (length ws / 2) (blocks * 16) best
 find-all {t} {n} {W} {codes} {ws} {blocks = blocks} {best = best} {block} r l =
     let e : block ≡ blocks = omega (arith, r .passed) in

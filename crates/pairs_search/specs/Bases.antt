@@ -15,4 +15,4 @@ pub record Based (N : Netlist) (codes bases base : List ℕ) (block : ℕ) : Typ
 
 -- where no bit is public, all settings have the same base, whose words and counts are held from the second block on
 abbrev pub HeldOn : Bool → Netlist → List ℕ → List ℕ → List ℕ → ℕ → Type 0
-HeldOn mixed N codes bases base block = mixed ≡ false → Secret codes × (block ≢ 0 → Based N codes bases base block)
+HeldOn publics N codes bases base block = publics ≡ false → Secret codes × (block ≢ 0 → Based N codes bases base block)

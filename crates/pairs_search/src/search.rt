@@ -45,7 +45,7 @@ fn run(
     results: &[u64],
     count: usize,
     codes: &[u8],
-    mixed: bool,
+    publics: bool,
     block: u64,
     words: &mut [u64],
     bases: &mut [u64],
@@ -54,19 +54,19 @@ fn run(
     requires { ⌜ Wired (tables (now operands) (now results)) (length (now words)) count ⌝ }
     requires { ⌜ (length (now codes) < 64) × (length (now codes) + 2 ≤ length (now words)) × (length (now bases) ≡ length (now words))
         × (length (now base) ≡ length (now words))
-        × HeldOn mixed (bare (tables (now operands) (now results)) count (length (now words))) (now codes) (now bases) (now base) block ⌝ }
+        × HeldOn publics (bare (tables (now operands) (now results)) count (length (now words))) (now codes) (now bases) (now base) block ⌝ }
     ensures { λ _. ⌜ (let N = bare (tables (now (operands .entry)) (now (results .entry))) count (length (now (words .entry))) in
         Evaluated N true (now (codes .entry)) (now (words .exit)) block
         × Based N (now (codes .entry)) (now (bases .exit)) (now (base .exit)) block
-        × HeldOn mixed N (now (codes .entry)) (now (bases .exit)) (now (base .exit)) (block + 1)) ⌝ }
+        × HeldOn publics N (now (codes .entry)) (now (bases .exit)) (now (base .exit)) (block + 1)) ⌝ }
 {
-    block::side(operands, results, count, codes, true, block, words);
+    block::run_block(operands, results, count, codes, true, block, words);
     base::refresh(
         operands,
         results,
         count,
         codes,
-        mixed,
+        publics,
         block,
         words,
         bases,
@@ -86,8 +86,8 @@ fn look(words: &[u64], bases: &[u64], base: &[u64], pairs: &[u32], best: Best, b
     let limit = best.spot.wire;
     let spot = spot::scan(words, base, limit);
     let first = best.pair;
-    let quiet = spot.wire == words.len();
-    let pair = pair::scan(pairs, first, words, bases, base, quiet);
+    let agreed = spot.wire == words.len();
+    let pair = pair::scan(pairs, first, words, bases, base, agreed);
     Best {
         spot: spot::better(best.spot, spot, block),
         pair: pair,
@@ -114,7 +114,7 @@ fn find(
         Found (countsOf N false (now (codes .entry))) (countsOf N true (now (codes .entry))) (now (pairs .entry)) (length (now (words .entry)))
         (length (now (pairs .entry)) / 2) (blocks * 16) r) ⌝ }
 {
-    let mixed = block::public(codes);
+    let publics = block::public(codes);
     let mut best = Best {
         spot: spot::none(words.len()),
         pair: pairs.len() / 2,
@@ -126,7 +126,7 @@ fn find(
             results,
             count,
             codes,
-            mixed,
+            publics,
             block,
             words,
             bases,

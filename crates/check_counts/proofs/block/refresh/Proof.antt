@@ -8,15 +8,15 @@ use Rattle.netlist.specs.Table.{tables}
 use Rattle.netlist.proofs.Puts.{wired-same}
 use Rattle.evaluate.specs.Bare.{bare}
 use Rattle.check_counts.specs.Block.{Evaluated}
-use Rattle.check_counts.proofs.Sides.{side-law}
+use Rattle.check_counts.proofs.BlockRuns.{run-block-law}
 use Rattle.check_counts.proofs.Bases.{counted-same, same-base, first-base}
 use native.Mathlib.Omega.{arith}
 use borrow.Author.Needs.{needs}
 use Rattle.check_counts.proofs.block.refresh.Statement.{statement}
 use Rattle.check_counts.proofs.block.refresh.Tie as tie
 
-side-requires : tie.Need-side-requires
-side-requires c κs =
+run-block-requires : tie.Need-run-block-requires
+run-block-requires c κs =
     let s = c .before .before .before .before .before .before .before in
     let e = s .pre .1 .0 .2 in
     (wired-same e (s .pre .0), (s .pre .1 .0 .0, omega (arith, s .pre .1 .0 .1, e)))
@@ -34,12 +34,12 @@ returns : tie.Need-returns
 returns c =
     let at-if1 = c .before .before .before .before .before .before .before .before in
     let s = at-if1 .before .before .before .before .before .before in
-    let side = c .before .before .before .before .before .before .side in
+    let run-block = c .before .before .before .before .before .before .run-block in
     let t = tables (s .args .operands .now) (s .args .results .now) in
     let ran = subst
-    (λ (W : ℕ). Evaluated (bare t (s .args .count) W) false (s .args .codes .now) (side .last .1 .1 .1 .1 .1 .1 .0) (s .args .block))
-    (s .pre .1 .0 .2) (side .ensures) in
-    (counted-same (side-law ran) (c .before .before .tally .ensures), λ e. absurd (subst T (sym (at-if1 .if1 .taken) ∙ e) tt))
+    (λ (W : ℕ). Evaluated (bare t (s .args .count) W) false (s .args .codes .now) (run-block .last .1 .1 .1 .1 .1 .1 .0) (s .args .block))
+    (s .pre .1 .0 .2) (run-block .ensures) in
+    (counted-same (run-block-law ran) (c .before .before .tally .ensures), λ e. absurd (subst T (sym (at-if1 .if1 .taken) ∙ e) tt))
 
 same-length-2 : tie.Need-same-length-2
 same-length-2 c = search needs
@@ -65,7 +65,7 @@ pub refresh-spec : {M : Type 1} → statement M
 refresh-spec =
     tie.close
     (tie.spec
-    side-requires
+    run-block-requires
     tally-requires
     first-requires
     same-length

@@ -13,11 +13,11 @@ use Rattle.check_leak.proofs.search.find.Statement.{statement}
 use Rattle.check_leak.proofs.search.find.Tie as tie
 
 abbrev Inv-loop : tie.InvT-loop
-Inv-loop operands results count codes blocks words₀ base₀ mixed best₀ block₀ words base best block =
-    Finding (tables operands results) count (length words₀) codes mixed blocks words base best block
+Inv-loop operands results count codes blocks words₀ base₀ publics best₀ block₀ words base best block =
+    Finding (tables operands results) count (length words₀) codes publics blocks words base best block
 
 abbrev μ-loop : tie.MeasureT-loop
-μ-loop operands results count codes blocks words₀ base₀ mixed best₀ block₀ words base best block =
+μ-loop operands results count codes blocks words₀ base₀ publics best₀ block₀ words base best block =
     blocks - block
 
 public-requires : tie.Need-public-requires Inv-loop μ-loop
@@ -31,8 +31,8 @@ loop-holds c =
     let s = c .before .before .before .before .before .before .before in
     find-none (s .args .blocks) refl (s .pre .1 .2) (λ m. (c .before .public .ensures .1 m, λ z. absurd (z refl))) (c .none .ensures)
 
-turn-requires : tie.Need-turn-requires Inv-loop μ-loop
-turn-requires c κs =
+search-block-requires : tie.Need-search-block-requires Inv-loop μ-loop
+search-block-requires c κs =
     let s = c .before .before .before .before .before .before .before .before .before .before .before in
     let at = c .before .before .before .loop in
     let t = tables (s .args .operands .now) (s .args .results .now) in
@@ -53,7 +53,7 @@ turn-requires c κs =
 better-requires : tie.Need-better-requires Inv-loop μ-loop
 better-requires c κs =
     let s = c .before .before .before .before .before .before .before .before .before .before .before .before .before .before .before .before in
-    (omega (arith, s .pre .1 .3), λ l. c .before .before .before .before .turn .ensures .0 .differs l .inside)
+    (omega (arith, s .pre .1 .3), λ l. c .before .before .before .before .search-block .ensures .0 .differs l .inside)
 
 add-block : tie.Need-add-block Inv-loop μ-loop
 add-block c =
@@ -69,10 +69,10 @@ loop-again : tie.Need-loop-again Inv-loop μ-loop
 loop-again c =
     let at-loop-test = c .before .before .before .before .before .before .before .before in
     let at = at-loop-test .before .loop in
-    let turn = c .before .before .before .before .before .turn in
-    find-more (at .inv) (at-loop-test .loop-test .taken) (turn .last .1 .1 .1 .1 .1 .1 .0) (turn .last .1 .1 .1 .1 .1 .1 .1 .0) (turn .result)
+    let search-block = c .before .before .before .before .before .search-block in
+    find-more (at .inv) (at-loop-test .loop-test .taken) (search-block .last .1 .1 .1 .1 .1 .1 .0) (search-block .last .1 .1 .1 .1 .1 .1 .1 .0) (search-block .result)
     (c .better .result)
-    (turn .kept .1 .1 .1 .1 .1 .1 .0) (turn .kept .1 .1 .1 .1 .1 .1 .1 .0) (turn .ensures .0) (turn .ensures .1) (c .better .ensures)
+    (search-block .kept .1 .1 .1 .1 .1 .1 .0) (search-block .kept .1 .1 .1 .1 .1 .1 .1 .0) (search-block .ensures .0) (search-block .ensures .1) (c .better .ensures)
 
 same-length : tie.Need-same-length Inv-loop μ-loop
 same-length c = c .before .loop .inv .long-words
@@ -92,7 +92,7 @@ find-spec =
     public-requires
     none-requires
     loop-holds
-    turn-requires
+    search-block-requires
     better-requires
     add-block
     loop-less

@@ -14,8 +14,8 @@ use borrow.Author.Needs.{needs}
 use Rattle.pairs_search.proofs.base.refresh.Statement.{statement}
 use Rattle.pairs_search.proofs.base.refresh.Tie as tie
 
-side-requires : tie.Need-side-requires
-side-requires c κs = let s = c .before .before .before .before .before .before .before .before in
+run-block-requires : tie.Need-run-block-requires
+run-block-requires c κs = let s = c .before .before .before .before .before .before .before .before in
     let e = s .pre .1 .0 .2 in
     (wired-same e (s .pre .0), (s .pre .1 .0 .0, omega (arith, s .pre .1 .0 .1, e)))
 
@@ -36,10 +36,10 @@ same-length-2 c = search needs
 
 returns : tie.Need-returns
 returns c = let s = c .before .before .before .before .before .before .before .before .before .before .before .before .before .before .before .before in
-    let side = c .before .before .before .before .before .before .before .side in
+    let run-block = c .before .before .before .before .before .before .before .run-block in
     let t = tables (s .args .operands .now) (s .args .results .now) in
-    let ran = subst (λ (W : ℕ). Evaluated (bare t (s .args .count) W) false (s .args .codes .now) (side .last .1 .1 .1 .1 .1 .1 .0) (s .args .block))
-    (s .pre .1 .0 .2) (side .ensures) in
+    let ran = subst (λ (W : ℕ). Evaluated (bare t (s .args .count) W) false (s .args .codes .now) (run-block .last .1 .1 .1 .1 .1 .1 .0) (s .args .block))
+    (s .pre .1 .0 .2) (run-block .ensures) in
     (record { words = ran; counts = c .before .before .tally .ensures }, λ e. absurd (subst T (sym (c .before .before .before .before .before .before .before .before .before .if1 .taken) ∙ e) tt))
 
 same-length-3 : tie.Need-same-length-3
@@ -73,7 +73,7 @@ pub refresh-spec : {M : Type 1} → statement M
 refresh-spec =
     tie.close
     (tie.spec
-    side-requires
+    run-block-requires
     tally-requires
     repeat-requires
     tally-requires-2

@@ -13,11 +13,11 @@ use Rattle.pairs_search.proofs.search.find.Statement.{statement}
 use Rattle.pairs_search.proofs.search.find.Tie as tie
 
 abbrev Inv-loop : tie.InvT-loop
-Inv-loop operands results count codes pairs blocks words₀ bases₀ base₀ mixed best₀ block₀ words bases base best block =
-    Finding (tables operands results) count (length words₀) codes pairs mixed blocks words bases base best block
+Inv-loop operands results count codes pairs blocks words₀ bases₀ base₀ publics best₀ block₀ words bases base best block =
+    Finding (tables operands results) count (length words₀) codes pairs publics blocks words bases base best block
 
 abbrev μ-loop : tie.MeasureT-loop
-μ-loop operands results count codes pairs blocks words₀ bases₀ base₀ mixed best₀ block₀ words bases base best block =
+μ-loop operands results count codes pairs blocks words₀ bases₀ base₀ publics best₀ block₀ words bases base best block =
     blocks - block
 
 public-requires : tie.Need-public-requires Inv-loop μ-loop

@@ -1,4 +1,4 @@
--- `check_leak::spot::quiet` meets its contract.
+-- `check_leak::spot::all_level` meets its contract.
 use mathlib.Core.Path.{_≡_, refl, sym, subst, _∙_}
 use Prim.Native.Nat.{_-_, _≤_}
 use lib.Dec.{T}
@@ -8,8 +8,8 @@ use Rattle.check_counts.specs.Block.{onesOf, nibblesOf, Agree}
 use Rattle.check_counts.proofs.Nibbles.{same-counts, no-nibble, or-none, or-both, all-same}
 use borrow.Author.Needs.{needs}
 use native.Mathlib.Omega.{arith}
-use Rattle.check_leak.proofs.spot.quiet.Statement.{statement}
-use Rattle.check_leak.proofs.spot.quiet.Tie as tie
+use Rattle.check_leak.proofs.spot.all_level.Statement.{statement}
+use Rattle.check_leak.proofs.spot.all_level.Tie as tie
 
 abbrev Inv-loop : tie.InvT-loop
 Inv-loop words base limit d₀ w₀ d w =
@@ -60,8 +60,8 @@ returns c =
       λ e all. subst T (sym (eq-eqb (at .d) 0 (at .inv .2 (λ w l. all w (omega arith)))) ∙ e) tt,
     )
 
-pub quiet-spec : {M : Type 1} → statement M
-quiet-spec =
+pub all-level-spec : {M : Type 1} → statement M
+all-level-spec =
     tie.close
     (tie.spec
     Inv-loop

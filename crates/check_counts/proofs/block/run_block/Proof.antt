@@ -1,4 +1,4 @@
--- `leak::block::side` meets its contract.
+-- `leak::block::run_block` meets its contract.
 use mathlib.Core.Path.{ap₂, _∙_}
 use mathlib.Core.List.{List}
 use mathlib.Core.Bool.{Bool}
@@ -9,8 +9,8 @@ use Rattle.netlist.specs.Eval.{wireBits}
 use Rattle.netlist.specs.Table.{tables}
 use Rattle.netlist.proofs.Puts.{wired-same}
 use Rattle.evaluate.specs.Bare.{bare}
-use Rattle.check_counts.proofs.block.side.Statement.{statement}
-use Rattle.check_counts.proofs.block.side.Tie as tie
+use Rattle.check_counts.proofs.block.run_block.Statement.{statement}
+use Rattle.check_counts.proofs.block.run_block.Tie as tie
 
 inputs-requires : tie.Need-inputs-requires
 inputs-requires c κs = search needs
@@ -38,5 +38,5 @@ returns c =
           ∙ ap₂ (λ (W : ℕ) (v : List Bool). wireBits (bare t (s .count) W) v) (inputs .kept .1 .1 .1 .0) (inputs .ensures j l);
     }
 
-pub side-spec : {M : Type 1} → statement M
-side-spec = tie.close (tie.spec inputs-requires add-wires wires-requires same-length returns)
+pub run-block-spec : {M : Type 1} → statement M
+run-block-spec = tie.close (tie.spec inputs-requires add-wires wires-requires same-length returns)

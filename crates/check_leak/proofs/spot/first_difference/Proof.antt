@@ -1,4 +1,4 @@
--- `check_leak::spot::walk` meets its contract.
+-- `check_leak::spot::first_difference` meets its contract.
 use Prim.Native.Nat.{_-_, _≤_}
 use borrow.Author.Count.{below-none, below-more}
 use Rattle.check_counts.specs.Block.{onesOf, nibblesOf, Agree}
@@ -6,8 +6,8 @@ use Rattle.check_counts.proofs.Nibbles.{same-counts, other-counts, no-nibble}
 use Rattle.check_leak.proofs.Spots.{spot-none}
 use borrow.Author.Needs.{needs}
 use native.Mathlib.Omega.{arith}
-use Rattle.check_leak.proofs.spot.walk.Statement.{statement}
-use Rattle.check_leak.proofs.spot.walk.Tie as tie
+use Rattle.check_leak.proofs.spot.first_difference.Statement.{statement}
+use Rattle.check_leak.proofs.spot.first_difference.Tie as tie
 
 abbrev Inv-loop : tie.InvT-loop
 Inv-loop words base limit w₀ w = (w ≤ limit) × Agree (nibblesOf base) (onesOf words) w 16
@@ -91,8 +91,8 @@ none-requires c κs = search needs
 returns-2 : tie.Need-returns-2 Inv-loop μ-loop
 returns-2 c = let at = c .before .before .loop in spot-none (c .none .ensures) (λ w l. at .inv .1 w (omega arith))
 
-pub walk-spec : {M : Type 1} → statement M
-walk-spec =
+pub first-difference-spec : {M : Type 1} → statement M
+first-difference-spec =
     tie.close
     (tie.spec
     Inv-loop

@@ -33,9 +33,9 @@ module _ {N : Netlist} {whole : Bool} {codes : List ℕ} {block : ℕ} {us : Lis
   one : (w s m : ℕ) → s < 16 → m < 4 → bit (lane (4 * s + m) (getD us w 0)) ≡ bit (bitsAt (wireBits N (masked (lane 0 m) (lane 1 m) codes (at s))) w)
   one w s m l k = ap bit (wire-lane w s m l k)
 
-  pub side-law : Counted N whole codes (onesOf us) block
+  pub run-block-law : Counted N whole codes (onesOf us) block
   unfolding count
-  side-law = record {
+  run-block-law = record {
     each = λ w s l.
         let z : 4 * s ≡ 4 * s + 0 = omega arith in
         ap₂ _+_
