@@ -3,6 +3,7 @@ pub mod Folds
 pub mod Nibbles
 pub mod Tallies
 pub mod Numbers
+pub mod Paints
 pub mod Inputs
 pub mod Loads
 pub mod BlockRuns

@@ -9,9 +9,10 @@ use lib.Dec.{eqb}
 use lib.ListN.{length, getD}
 use Rattle.netlist.specs.Netlist.{Netlist}
 use Rattle.netlist.specs.Eval.{wireBits, bitsAt}
-use Rattle.netlist.specs.Leak.{bit, masked, setting}
+use Rattle.netlist.specs.Leak.{bit, masked}
 use Rattle.evaluate.specs.Lane.{lane}
 use Rattle.evaluate.proofs.Lanes.{lane-and}
+use Rattle.check_counts.specs.Paint.{codesOf, paint}
 use Rattle.check_counts.specs.Base.{part}
 use Rattle.check_counts.specs.Block.{nibble, ones, onesOf, nibblesOf, Evaluated, Agree}
 use Rattle.check_counts.proofs.Nibbles.{same-counts, no-nibble, or-none, or-both, all-same}
@@ -22,18 +23,18 @@ use Rattle.pairs_search.specs.Bases.{Based}
 
 -- ---- the counts of two wires together
 
-module _ {N : Netlist} {whole : Bool} {codes : List ℕ} {block : ℕ} {us : List ℕ} (ran : Evaluated N whole codes us block) where
+module _ {N : Netlist} {whole : Bool} {ps : List ℕ} {block : ℕ} {us : List ℕ} (ran : Evaluated N whole ps us block) where
   abbrev at : ℕ → List Bool
-  at s = part whole codes (setting (length codes) (block * 16 + s))
+  at s = part whole (codesOf ps) (paint ps (block * 16 + s))
 
   -- both wires in lane m of setting s
   one : (u v s m : ℕ) → s < 16 → m < 4
       → bit (lane (4 * s + m) (bitAnd (getD us u 0) (getD us v 0)))
-      ≡ bit (bitsAt (wireBits N (masked (lane 0 m) (lane 1 m) codes (at s))) u && bitsAt (wireBits N (masked (lane 0 m) (lane 1 m) codes (at s))) v)
+      ≡ bit (bitsAt (wireBits N (masked (lane 0 m) (lane 1 m) (codesOf ps) (at s))) u && bitsAt (wireBits N (masked (lane 0 m) (lane 1 m) (codesOf ps) (at s))) v)
   one u v s m l k =
       ap bit (lane-and (4 * s + m) (getD us u 0) (getD us v 0) ∙ ap₂ _&&_ (wire-lane ran u s m l k) (wire-lane ran v s m l k))
 
-  pub both-law : (u v s : ℕ) → s < 16 → bothOnes us u v s ≡ countsOf N whole codes .both u v (block * 16 + s)
+  pub both-law : (u v s : ℕ) → s < 16 → bothOnes us u v s ≡ countsOf N whole ps .both u v (block * 16 + s)
   unfolding bothCount
   both-law u v s l =
       let z : 4 * s ≡ 4 * s + 0 = omega arith in
@@ -42,11 +43,11 @@ module _ {N : Netlist} {whole : Bool} {codes : List ℕ} {block : ℕ} {us : Lis
       (one u v s 2 l (omega arith)))
       (one u v s 3 l (omega arith))
 
-  pub alike-own : Alike (heldIn us) (onFrom (block * 16) (countsOf N whole codes))
+  pub alike-own : Alike (heldIn us) (onFrom (block * 16) (countsOf N whole ps))
   alike-own = record { one = run-block-law ran .each; both = both-law }
 
-pub alike-base : {N : Netlist} {codes bases base : List ℕ} {block : ℕ} → Based N codes bases base block
-    → Alike (heldBase bases base) (onFrom (block * 16) (countsOf N false codes))
+pub alike-base : {N : Netlist} {ps bases base : List ℕ} {block : ℕ} → Based N ps bases base block
+    → Alike (heldBase bases base) (onFrom (block * 16) (countsOf N false ps))
 alike-base b = record { one = λ w s l. b .counts w s l ∙ run-block-law (b .words) .each w s l; both = both-law (b .words) }
 
 -- ---- level by equal counts

@@ -22,7 +22,7 @@ wires-requires : tie.Need-wires-requires
 wires-requires c κs =
     let s = c .before .before .before .before .before .before .before .before .before in
     let k = c .before .before .before .inputs .kept .1 .1 .1 .0 in
-    (wired-same k (s .pre .0), omega (arith, s .pre .1 .1, k))
+    (wired-same k (s .pre .0), omega (arith, s .pre .1, k))
 
 same-length : tie.Need-same-length
 same-length c = search needs

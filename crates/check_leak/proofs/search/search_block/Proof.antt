@@ -24,11 +24,11 @@ refresh-requires c κs =
     let k = run-block .kept .1 .1 .1 .1 .1 .1 .0 in (
       wired-same k (s .pre .0),
       (
-        (s .pre .1 .0, omega (arith, s .pre .1 .1, k), s .pre .1 .2 ∙ sym k),
+        (omega (arith, s .pre .1 .0, k), s .pre .1 .1 ∙ sym k),
         subst
-            (λ (W : ℕ). Counted (bare t (s .args .count) W) true (s .args .codes .now) (onesOf (run-block .last .1 .1 .1 .1 .1 .1 .0)) (s .args .block)
-            × Ready (s .args .publics) (bare t (s .args .count) W) (s .args .codes .now) (s .args .base .now) (s .args .block))
-            (sym k) (run-block-law (run-block .ensures), s .pre .1 .4),
+            (λ (W : ℕ). Counted (bare t (s .args .count) W) true (s .args .paints .now) (onesOf (run-block .last .1 .1 .1 .1 .1 .1 .0)) (s .args .block)
+            × Ready (s .args .publics) (bare t (s .args .count) W) (s .args .paints .now) (s .args .base .now) (s .args .block))
+            (sym k) (run-block-law (run-block .ensures), s .pre .1 .3),
       ),
     )
 
@@ -50,8 +50,8 @@ returns c =
     let base = refresh .last .1 .1 .1 .1 .1 .1 .1 .0 in
     let t = tables (s .args .operands .now) (s .args .results .now) in
     let based = subst
-    (λ (W : ℕ). Counted (bare t (s .args .count) W) false (s .args .codes .now) (nibblesOf base) (s .args .block)
-    × Ready (s .args .publics) (bare t (s .args .count) W) (s .args .codes .now) base (s .args .block + 1))
+    (λ (W : ℕ). Counted (bare t (s .args .count) W) false (s .args .paints .now) (nibblesOf base) (s .args .block)
+    × Ready (s .args .publics) (bare t (s .args .count) W) (s .args .paints .now) base (s .args .block + 1))
     (run-block .kept .1 .1 .1 .1 .1 .1 .0) (refresh .ensures) in
     (search-block-law (run-block-law (run-block .ensures)) (based .0) (c .scan .ensures), based .1)
 

@@ -23,11 +23,11 @@ refresh-requires c κs = let s = c .before .before .before .before .before .befo
     let k = run-block .kept .1 .1 .1 .1 .1 .1 .0 in (
       wired-same k (s .pre .0),
       (
-        (s .pre .1 .0, omega (arith, s .pre .1 .1, k), s .pre .1 .2 ∙ sym k, s .pre .1 .3 ∙ sym k),
+        (omega (arith, s .pre .1 .0, k), s .pre .1 .1 ∙ sym k, s .pre .1 .2 ∙ sym k),
         subst
-            (λ (W : ℕ). Evaluated (bare t (a .count) W) true (a .codes .now) (run-block .last .1 .1 .1 .1 .1 .1 .0) (a .block)
-            × HeldOn (a .publics) (bare t (a .count) W) (a .codes .now) (a .bases .now) (a .base .now) (a .block))
-            (sym k) (run-block .ensures, s .pre .1 .4),
+            (λ (W : ℕ). Evaluated (bare t (a .count) W) true (a .paints .now) (run-block .last .1 .1 .1 .1 .1 .1 .0) (a .block)
+            × HeldOn (a .publics) (bare t (a .count) W) (a .paints .now) (a .bases .now) (a .base .now) (a .block))
+            (sym k) (run-block .ensures, s .pre .1 .3),
       ),
     )
 
@@ -49,8 +49,8 @@ returns c = let s = c .before .before .before .before .before .before .before .b
     let base = refresh .last .1 .1 .1 .1 .1 .1 .1 .1 .0 in
     let t = tables (a .operands .now) (a .results .now) in
     let based = subst
-    (λ (W : ℕ). Based (bare t (a .count) W) (a .codes .now) bases base (a .block)
-    × HeldOn (a .publics) (bare t (a .count) W) (a .codes .now) bases base (a .block + 1))
+    (λ (W : ℕ). Based (bare t (a .count) W) (a .paints .now) bases base (a .block)
+    × HeldOn (a .publics) (bare t (a .count) W) (a .paints .now) bases base (a .block + 1))
     (run-block .kept .1 .1 .1 .1 .1 .1 .0) (refresh .ensures) in
     (run-block .ensures, based .0, based .1)
 
