@@ -1,0 +1,5 @@
+-- Laws that several proofs cite.
+pub mod Packing
+pub mod Nexts
+pub mod Merging
+pub mod Starts
