@@ -1,20 +1,20 @@
 -- The rising list of the inputs that reach a gate's result, from its operands' lists.
-use Prim.Native.Nat.{ℕ, zero, suc, _+_, _<_}
-use mathlib.Core.Path.{_≡_, refl, sym, ap, ap₂, _∙_}
-use mathlib.Core.Bool.{Bool, true, false, _||_}
-use mathlib.Core.List.{List, [], _∷_}
+use Prim.Native.Nat.{ℕ, zero, suc, _+_, _≤_, _<_}
+use mathlib.Core.Path.{_≡_, refl, sym, ap, ap₂, _∙_, subst}
+use mathlib.Core.Bool.{Bool, true, false, cond, _||_}
+use mathlib.Core.List.{List, [], _∷_, _++_}
 use native.Mathlib.Omega.{arith}
-use lib.Dec.{ltb}
+use lib.Dec.{eqb, ltb}
 use lib.ListN.{length, getD}
-use borrow.Author.Tests.{lt-ltb, le-ltb}
+use borrow.Author.Tests.{lt-ltb, le-ltb, eqb-true, eqb-false, ne-eqb}
 use Rattle.netlist.specs.declared.Gate.{Gate}
 use Rattle.netlist.specs.declared.Gate.the-variants.{Xor, And, Inv, Eqw, Eq}
-use Rattle.netlist.specs.Netlist.{Netlist, result}
+use Rattle.netlist.specs.Netlist.{Netlist, result, inputBits}
 use Rattle.netlist.specs.Read.{WellFormed}
-use Rattle.netlist.proofs.Tests.{all-at}
+use Rattle.netlist.proofs.Tests.{onBool, All, all-head, all-split}
 use Rattle.wide.specs.Reach.{touched, reaches, marks, places}
 use Rattle.wide.specs.Sets.{mergeOnto, merge, gateSet, reachSet}
-use Rattle.wide.proofs.Marks.{reach-gates}
+use Rattle.wide.proofs.Marks.{reach-gates, reach-input}
 
 -- a list does not begin with i or less
 abbrev Above : ℕ → List ℕ → Type 0
@@ -68,9 +68,38 @@ touched-set r n (Inv a c) = refl
 touched-set r n (Eqw a c) = refl
 touched-set r n (Eq v c) = no-marks 0 n
 
--- line j makes its result's list of its operands' lists
-pub reach-line : {N : Netlist} → WellFormed N → (n j : ℕ) (d : Gate) → j < length (N .gates)
-    → reachSet N n (result (getD (N .gates) j d)) ≡ gateSet (reachSet N n) (getD (N .gates) j d)
-reach-line {N} F n j d l =
-    let g = getD (N .gates) j d in
-    (λ k. places 0 (marks (λ i. all-at (reach-gates F i) d j l k) 0 n)) ∙ touched-set (reaches N) n g
+-- a line makes its result's list of its operands' lists
+pub reach-line : {N : Netlist} → WellFormed N → (n : ℕ) (xs : List Gate) (g : Gate) (ys : List Gate) → N .gates ≡ xs ++ (g ∷ ys)
+    → reachSet N n (result g) ≡ gateSet (reachSet N n) g
+reach-line {N} F n xs g ys e =
+    (λ k. places 0 (marks (λ i. at i k) 0 n)) ∙ touched-set (reaches N) n g
+  where
+    at : (i : ℕ) → reaches N i (result g) ≡ touched (reaches N i) g
+    at i = all-head (all-split xs (subst (All (λ g. reaches N i (result g) ≡ touched (reaches N i) g)) e (reach-gates F i)) .1)
+
+-- ---- the input wires
+
+marks-same : (s t : ℕ → Bool) (k m : ℕ) → ((i : ℕ) → i < k + m → s i ≡ t i) → marks s k m ≡ marks t k m
+marks-same s t k zero h = refl
+marks-same s t k (suc m) h = ap₂ (λ (b : Bool) (x : List Bool). b ∷ x) (h k (omega arith)) (marks-same s t (k + 1) m (λ i l. h i (omega arith)))
+
+behind-own : (w k m : ℕ) → w < k → places k (marks (λ i. eqb w i) k m) ≡ []
+behind-own w k zero l = refl
+behind-own w k (suc m) l = rw (ne-eqb w k (λ e. omega arith)) (behind-own w (k + 1) m (omega arith))
+
+own-place : (w k m : ℕ) → k ≤ w → places k (marks (λ i. eqb w i) k m) ≡ cond (ltb w (k + m)) (w ∷ []) []
+own-place w k zero l = rw (le-ltb w (k + 0) (omega arith))
+own-place w k (suc m) l =
+    onBool (eqb w k)
+    (λ t. let e : w ≡ k = eqb-true w k t in
+    rw (t, behind-own w (k + 1) m (omega arith), lt-ltb w (k + suc m) (omega arith)) (ap (λ (i : ℕ). i ∷ []) (sym e)))
+    (λ t. let n = eqb-false w k t in
+    let q : k + 1 + m ≡ k + suc m = omega arith in
+    rw t (own-place w (k + 1) m (omega arith) ∙ ap (λ (j : ℕ). cond (ltb w j) (w ∷ []) []) q))
+
+-- of n inputs an input wire is reached by itself, and the mask pair by none
+pub reach-own : {N : Netlist} → WellFormed N → (n w : ℕ) → n ≤ N .wires → w < inputBits N → reachSet N n w ≡ cond (ltb w n) (w ∷ []) []
+reach-own {N} F n w l h =
+    ap (places 0) (marks-same (λ i. reaches N i w) (λ i. eqb w i) 0 n (λ i m. reach-input F i (omega arith) w h))
+    ∙ own-place w 0 n (omega arith)
+    ∙ ap (λ (j : ℕ). cond (ltb w j) (w ∷ []) []) (let z : 0 + n ≡ n = omega arith in z)

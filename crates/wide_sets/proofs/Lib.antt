@@ -3,3 +3,4 @@ pub mod Packing
 pub mod Nexts
 pub mod Merging
 pub mod Starts
+pub mod Reaching
