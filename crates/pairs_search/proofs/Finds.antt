@@ -123,27 +123,28 @@ find-all {t} {n} {W} {limit} {ps} {ws} {blocks = blocks} {best = best} {block} r
 
 -- ---- the pairs' answer
 
-module _ {t : Tables} {m W n o : ℕ} {N : Netlist} (h : Holds t m W n o N) (codes : List ℕ)
-    (small : (i : ℕ) → i < length codes → getD codes i 0 < 4) where
+module _ {t : Tables} {m W n o : ℕ} {N : Netlist} (h : Holds t m W n o N) (codes : List ℕ) where
   -- counts are those of the netlist that the tables hold
-  one-bare : (w : ℕ) (x : List Bool) → count (bare t m W) codes w x ≡ count N codes w x
+  pub one-bare : (w : ℕ) (x : List Bool) → count (bare t m W) codes w x ≡ count N codes w x
   unfolding count
   one-bare w x = simp (bare-wires h)
 
-  both-bare : (u v : ℕ) (x : List Bool) → bothCount (bare t m W) codes u v x ≡ bothCount N codes u v x
+  pub both-bare : (u v : ℕ) (x : List Bool) → bothCount (bare t m W) codes u v x ≡ bothCount N codes u v x
   unfolding bothCount
   both-bare u v x = simp (bare-wires h)
 
+module _ {t : Tables} {m W n o : ℕ} {N : Netlist} (h : Holds t m W n o N) (codes : List ℕ)
+    (small : (i : ℕ) → i < length codes → getD codes i 0 < 4) where
   -- and the paints give each number its own setting
   one-each : (whole : Bool) (w s : ℕ) → countsOf (bare t m W) whole (paintEach 0 codes) .one w s ≡ count N codes w (part whole codes (setting (length codes) s))
-  one-each whole w s = each-count (bare t m W) whole codes small w s ∙ one-bare w (part whole codes (setting (length codes) s))
+  one-each whole w s = each-count (bare t m W) whole codes small w s ∙ one-bare h codes w (part whole codes (setting (length codes) s))
 
   both-each : (whole : Bool) (u v s : ℕ)
       → countsOf (bare t m W) whole (paintEach 0 codes) .both u v s ≡ bothCount N codes u v (part whole codes (setting (length codes) s))
   both-each whole u v s =
       ap₂ (λ (es : List ℕ) (x : List Bool). bothCount (bare t m W) es u v (part whole es x)) (codes-each 0 codes small)
       (paint-each 0 codes s s small (λ i. let e : 0 + i ≡ i = omega arith in ap (λ (j : ℕ). lane j s) e))
-      ∙ both-bare u v (part whole codes (setting (length codes) s))
+      ∙ both-bare h codes u v (part whole codes (setting (length codes) s))
 
   module _ (u v : ℕ) where
     -- level settings, and those whose three counts are their base's
