@@ -38,7 +38,7 @@ fn all_below(list: &[u32], wires: usize) -> bool
 }
 
 // Question 21: an even number of entries, each a wire below `wires`.
-fn pairs_good(pairs: &[u32], wires: usize) -> bool
+pub fn pairs_good(pairs: &[u32], wires: usize) -> bool
     ensures { λ r. ⌜ r ≡ pairsGood wires (now (pairs .entry)) ⌝ }
 {
     if pairs.len() % 2 != 0 {

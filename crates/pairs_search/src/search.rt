@@ -141,7 +141,7 @@ pub fn find(
 }
 
 // What the first bad one of so many pairs says, or none.
-fn pairs_verdict_of(pair: usize, count: usize) -> PairsVerdict
+pub fn pairs_verdict_of(pair: usize, count: usize) -> PairsVerdict
     ensures { λ r. ⌜ badOf r ≡ badAt pair count ⌝ }
 {
     if pair < count {

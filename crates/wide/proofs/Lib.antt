@@ -8,3 +8,4 @@ pub mod Colours
 pub mod Picked
 pub mod Painted
 pub mod Lowest
+pub mod Places

@@ -29,14 +29,14 @@ pub fn set(pairs: &[u32], set0: &[u64], set1: &[u64], set2: &[u64], set3: &[u64]
 }
 
 // Whether an item is marked as served; one for which there is no mark is not.
-fn marked(marks: &[u8], x: usize) -> bool
+pub fn marked(marks: &[u8], x: usize) -> bool
     ensures { λ r. ⌜ r ≡ isMarked (now (marks .entry)) x ⌝ }
 {
     if x < marks.len() { marks[x] != 0 } else { false }
 }
 
 // Marks an item, where there is a mark for it.
-fn mark(marks: &mut [u8], x: usize)
+pub fn mark(marks: &mut [u8], x: usize)
     ensures { λ _. ⌜ now (marks .exit) ≡ put (now (marks .entry)) x 1 ⌝ }
 {
     if x < marks.len() {

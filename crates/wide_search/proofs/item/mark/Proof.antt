@@ -1,3 +1,6 @@
+-- `mark`: in range, or nothing.
+use mathlib.Core.Path.{sym}
+use lib.Seq.{set-out}
 use native.Mathlib.Omega.{arith}
 use borrow.Author.Needs.{needs}
 use Rattle.wide_search.proofs.item.mark.Statement.{statement}
@@ -5,21 +8,17 @@ use Rattle.wide_search.proofs.item.mark.Tie as tie
 use Rattle.wide_search.proofs.item.mark.Reads as reads
 use Rattle.wide_search.proofs.item.mark.Lts as lts
 
--- src/item.rt:43:9
 slice-write-marks : tie.Need-slice-write-marks
 slice-write-marks c = search needs
 
--- src/item.rt:39:1
 same-length : tie.Need-same-length
 same-length c = search needs
 
--- src/item.rt:39:1
 returns : tie.Need-returns
 returns c = search needs
 
--- src/item.rt:39:1
 returns-2 : tie.Need-returns-2
-returns-2 c = ?
+returns-2 c = sym (set-out (c .before .args .marks .now) (c .before .args .x) 1 (c .if1 .left))
 
 pub mark-spec : {M : Type 1} → statement M
 mark-spec = tie.close (tie.spec slice-write-marks same-length returns returns-2)
