@@ -21,8 +21,10 @@ use Rattle.wide.specs.Sets.{merge, reachSet, pairSet}
 use Rattle.wide.specs.Wide.{WideLeak, few, everyPair, fewReach, wideAnswers}
 use Rattle.wide.proofs.Merges.{merge-marks}
 use Rattle.wide.proofs.Picked.{length-places}
-use Rattle.wide_sets.specs.Packed.{Sets, setAt, sizeAt, Sized}
+use Rattle.wide_sets.specs.Packed.{threeOf, Sets, setAt, sizeAt, Sized}
+use Rattle.wide_sets.specs.declared.members.Members.{Members}
 use Rattle.wide_sets.specs.Reached.{Reached}
+use Rattle.wide_sets.specs.Together.{Together}
 use Rattle.wide_search.specs.Items.{pairAt, PairsFew}
 use Rattle.wide_search.specs.Judging.{Given}
 
@@ -30,6 +32,9 @@ length-take-upto : (k : ℕ) (is : List ℕ) → length (take k is) ≤ k
 length-take-upto zero is = omega arith
 length-take-upto (suc k) [] = omega arith
 length-take-upto (suc k) (x ∷ is) = let h = length-take-upto k is in omega arith
+
+set-upto : (S : Sets) (w : ℕ) → length (setAt S w) ≤ sizeAt S w
+set-upto S w = length-take-upto (sizeAt S w) (threeOf (getD (S .set0) w 0) (threeOf (getD (S .set1) w 0) (threeOf (getD (S .set2) w 0) (threeOf (getD (S .set3) w 0) []))))
 
 -- a test of every two of a list, pair by pair
 pub pair-every : (t : ℕ → ℕ → Bool) (ws : List ℕ) → T (everyPair t ws) → (j : ℕ) → j < length ws / 2 → T (t (getD ws (2 * j) 0) (getD ws (2 * j + 1) 0))
@@ -95,7 +100,7 @@ not-true-false : (b : Bool) → (T b → ⊥) → b ≡ false
 not-true-false true h = absurd (h tt)
 not-true-false false h = refl
 
-module _ {t : Tables} {m W o : ℕ} {N : Netlist} {S : Sets} (codes ws : List ℕ) (H : Holds t m W (length codes + 2) o N)
+module _ {t : Tables} {m W o : ℕ} {N : Netlist} (S : Sets) (codes ws : List ℕ) (H : Holds t m W (length codes + 2) o N)
     (below : (i : ℕ) → i < length ws → getD ws i 0 < W) where
   abbrev n : ℕ
   n = length codes
@@ -124,6 +129,23 @@ module _ {t : Tables} {m W o : ℕ} {N : Netlist} {S : Sets} (codes ws : List �
     pub all-few : Sized S W → PairsFew S ws → {a : Outcome (BothAnswers WideLeak)} → a ≡ answers → a ≡ ask 12 (fewReach N n ws) answers
     all-few Z P {a} e =
         let z : fewReach N n ws ≡ true = isTrue (fewReach N n ws) (few-all N n ws
-        (λ w l. let q = H .wires in let s = ap length (given .each w (omega arith)) in let k = length-take-upto (sizeAt S w) _ in let f = Z .few w in omega (arith, s, k, f))
+        (λ w l. let q = H .wires in let s = ap length (given .each w (omega arith)) in let k = set-upto S w in let f = Z .few w in omega (arith, s, k, f))
         (λ j l. let s = ap length (pair-given j l) in let k = P j l in omega arith)) in
         e ∙ sym (ap (λ (b : Bool). ask 12 b answers) z)
+
+-- ---- one pair
+
+module _ {x y : List ℕ} {r : Members} (S : Sets) (ws : List ℕ) (j : ℕ) (p : x ≡ setAt S (getD ws (2 * j) 0)) (q : y ≡ setAt S (getD ws (2 * j + 1) 0))
+    (U : Together x y r) where
+  pub pair-few : r .count ≤ 12 → length (pairAt S ws j) ≤ 12
+  pair-few l =
+      let e = ap length (U .few l ∙ ap₂ merge p q) in
+      let k = length-take-upto (r .count) (r .items) in
+      omega arith
+
+  pub pair-many : 12 < r .count → 12 < length (pairAt S ws j)
+  pair-many l = let e = ap length (ap₂ merge p q) in let k = U .many l in omega arith
+
+pub told-both : {l k : Option WideLeak} {b d : Option ℕ} → l ≡ k → b ≡ d
+    → _≡_ {A = Outcome (BothAnswers WideLeak)} (done (record { leak = l; pairs = b })) (done (record { leak = k; pairs = d }))
+told-both e f = λ i. done (record { leak = e i; pairs = f i })
