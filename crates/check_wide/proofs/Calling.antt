@@ -1,5 +1,5 @@
 -- From the netlist that was read to the outcome of a call, and what an answer says of it.
-use Prim.Native.Nat.{ℕ, min, _≤_}
+use Prim.Native.Nat.{ℕ, _-_, min, _≤_}
 use mathlib.Core.Path.{_≡_, refl, sym, ap, _∙_}
 use mathlib.Core.Bool.{Bool, true, false, _&&_}
 use mathlib.Core.List.{List, [], _∷_}
@@ -12,6 +12,7 @@ use Rattle.netlist.specs.declared.Sizes.the-variants.{Old, Whole}
 use Rattle.netlist.specs.Netlist.{Netlist, large, inputBits}
 use Rattle.netlist.specs.Outcome.{Outcome, refused, done, ask, andThen}
 use Rattle.netlist.specs.Read.{readNetlist, WellFormed}
+use Rattle.netlist.specs.Mask.{isInputCode}
 use Rattle.netlist.specs.Leak.{Found, leak}
 use Rattle.netlist.specs.Leak as L
 use Rattle.netlist.specs.Services.{tablesLong, listGood, endsInMasks}
@@ -38,8 +39,8 @@ use Rattle.wide_judge.specs.Judge.{outcomeIn}
 use Rattle.check_wide.specs.Promise.{call, WiresJudged, Judged}
 
 -- the shorter of a table and of those that stand for others
-pub shorter-also : (k x : ℕ) {m n : ℕ} {rest : Bool} → n ≡ min x m → (leb k m && true) ≡ rest → (leb k n && true) ≡ leb k x && rest
-shorter-also k x {m} e h =
+pub shorter-also : (k x m : ℕ) {n : ℕ} {rest : Bool} → n ≡ min x m → (leb k m && true) ≡ rest → (leb k n && true) ≡ leb k x && rest
+shorter-also k x m e h =
     ap (λ (j : ℕ). leb k j && true) e ∙ ap (λ (b : Bool). b && true) (shorter-long k x m) ∙ assoc (leb k x) (leb k m) ∙ ap (λ (b : Bool). leb k x && b) h
   where
     assoc : (x y : Bool) → (x && y) && true ≡ x && (y && true)
@@ -88,10 +89,13 @@ module _ (s : Sizes) (text codes ws o r g w b z s0 s1 s2 s3 p : List ℕ) where
 
   answers-are : (N : Netlist) (a : BothAnswers WideLeak) → wideOutcome codes ws N ≡ done a → wideAnswers N codes ws ≡ a
   answers-are N a e =
-      let ten = ask-done 10 _ _ a e .1 in
-      let eleven = ask-done 11 _ _ a ten .1 in
-      let more = ask-done 21 _ _ a eleven .1 in
-      let twelve = ask-done 12 _ _ a more .1 in
+      let q12 : Outcome (BothAnswers WideLeak) = ask 12 (fewReach N (length codes) ws) (done (wideAnswers N codes ws)) in
+      let q21 : Outcome (BothAnswers WideLeak) = ask 21 (pairsGood (N .wires) ws) q12 in
+      let q11 : Outcome (BothAnswers WideLeak) = ask 11 (listGood isInputCode (inputBits N - 2) codes) q21 in
+      let ten = ask-done 10 (endsInMasks (N .inputs)) q11 a e .1 in
+      let eleven = ask-done 11 (listGood isInputCode (inputBits N - 2) codes) q21 a ten .1 in
+      let more = ask-done 21 (pairsGood (N .wires) ws) q12 a eleven .1 in
+      let twelve = ask-done 12 (fewReach N (length codes) ws) (done (wideAnswers N codes ws)) a more .1 in
       done-same (wideAnswers N codes ws) a twelve
 
   no-leak : (n : ℕ) (f : Option Found) → none ≡ listed n f → f ≡ none

@@ -29,9 +29,14 @@ shorter-requires-7 c κs = search needs
 
 returns : tie.Need-returns
 returns c = let a = c .before .before .before .before .before .before .before .args in
-    λ k. shorter-also k (a .a) (c .shorter7 .ensures) (shorter-also k (a .b) (c .before .shorter6 .ensures) (shorter-also k (a .c) (c .before .before .shorter5 .ensures)
-    (shorter-also k (a .d) (c .before .before .before .shorter4 .ensures) (shorter-also k (a .e) (c .before .before .before .before .shorter3 .ensures) (shorter-also k (a .f) (c .before .before .before .before .before .shorter2 .ensures)
-    (shorter-also k (a .g) (c .before .before .before .before .before .before .shorter .ensures) refl))))))
+    λ k. (shorter-also k (a .a) (c .before .shorter6 .result) (c .shorter7 .ensures)
+    (shorter-also k (a .b) (c .before .before .shorter5 .result) (c .before .shorter6 .ensures)
+    (shorter-also k (a .c) (c .before .before .before .shorter4 .result) (c .before .before .shorter5 .ensures)
+    (shorter-also k (a .d) (c .before .before .before .before .shorter3 .result) (c .before .before .before .shorter4 .ensures)
+    (shorter-also k (a .e) (c .before .before .before .before .before .shorter2 .result) (c .before .before .before .before .shorter3 .ensures)
+    (shorter-also k (a .f) (c .before .before .before .before .before .before .shorter .result) (c .before .before .before .before .before .shorter2 .ensures)
+    (shorter-also k (a .g) (a .h) (c .before .before .before .before .before .before .shorter .ensures)
+    refl)))))))
 
 pub shortest-spec : {M : Type 1} → statement M
 shortest-spec =
