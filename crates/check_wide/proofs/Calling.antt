@@ -117,6 +117,7 @@ module _ (s : Sizes) (text codes ws o r g w b z s0 s1 s2 s3 p : List ℕ) where
   call-judged (Done v x) is e N read =
       let a : BothAnswers WideLeak = record { leak = toldOf v is; pairs = badOf x } in
       let d = call-done a e in
-      let h : wideAnswers N codes ws ≡ a = answers-are N a (ap (wideOutcome codes ws) (done-same N (d .0) (sym read ∙ d .1)) ∙ d .2) in
-      (wires-judged v is N (sym (ap (λ (x : BothAnswers WideLeak). x .leak) h)),
-      rw (ap (λ (x : BothAnswers WideLeak). x .pairs) h) at (pairs-judged N codes ws))
+      let h : wideAnswers N codes ws ≡ a = answers-are N a (ap (wideOutcome codes ws) (done-same N (d .0) (sym read ∙ d .1)) ∙ d .2) in (
+        wires-judged v is N (sym (ap (λ (x : BothAnswers WideLeak). x .leak) h)),
+        rw (ap (λ (x : BothAnswers WideLeak). x .pairs) h) at (pairs-judged N codes ws),
+      )

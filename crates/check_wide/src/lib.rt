@@ -115,7 +115,21 @@ pub fn check_wide(
         (now (paints .entry)) (now (paints .exit)) r ⌝ }
 {
     let r = answer(
-        text, codes, pairs, operands, results, marks, words, base, bases, set0, set1, set2, set3, paints, sizes,
+        text,
+        codes,
+        pairs,
+        operands,
+        results,
+        marks,
+        words,
+        base,
+        bases,
+        set0,
+        set1,
+        set2,
+        set3,
+        paints,
+        sizes,
     );
     clear::words(operands);
     clear::words(results);

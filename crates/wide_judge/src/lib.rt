@@ -110,7 +110,20 @@ fn within(
         return refuse(12);
     }
     let found = wide_search::search::search(
-        operands, results, count, codes, pairs, set0, set1, set2, set3, paints, marks, words, base, bases,
+        operands,
+        results,
+        count,
+        codes,
+        pairs,
+        set0,
+        set1,
+        set2,
+        set3,
+        paints,
+        marks,
+        words,
+        base,
+        bases,
     );
     let wires = found.wires;
     let pairs = found.pairs;

@@ -9,7 +9,14 @@ ghost use Rattle.wide_sets.specs.Packed.{sets, Sized, Items};
 ghost use Rattle.wide_search.specs.Items.{itemSet, PairsFew, isMarked};
 
 // The set of item k.
-pub fn set(pairs: &[u32], set0: &[u64], set1: &[u64], set2: &[u64], set3: &[u64], k: usize) -> Members
+pub fn set(
+    pairs: &[u32],
+    set0: &[u64],
+    set1: &[u64],
+    set2: &[u64],
+    set3: &[u64],
+    k: usize,
+) -> Members
     requires { ⌜ (k < length (now set0) + length (now pairs) / 2) × Sized (sets (now set0) (now set1) (now set2) (now set3)) (length (now set0))
         × ((i : ℕ) → i < length (now pairs) → getD (now pairs) i 0 < length (now set0))
         × PairsFew (sets (now set0) (now set1) (now set2) (now set3)) (now pairs) ⌝ }
@@ -32,7 +39,11 @@ pub fn set(pairs: &[u32], set0: &[u64], set1: &[u64], set2: &[u64], set3: &[u64]
 pub fn marked(marks: &[u8], x: usize) -> bool
     ensures { λ r. ⌜ r ≡ isMarked (now (marks .entry)) x ⌝ }
 {
-    if x < marks.len() { marks[x] != 0 } else { false }
+    if x < marks.len() {
+        marks[x] != 0
+    } else {
+        false
+    }
 }
 
 // Marks an item, where there is a mark for it.

@@ -1,7 +1,5 @@
 // Passes: the inputs are coloured for as many items as they can serve, and one search over the painted settings judges those.
 use crate::item;
-
-
 ghost use mathlib.Core.Path.{_≡_};
 ghost use mathlib.Core.Bool.{true, false};
 ghost use Prim.Native.Nat.{ℕ, _+_, _*_, _/_, _≤_, _<_};
@@ -71,9 +69,7 @@ fn serve_all(
     let mut x = count;
     while 0 < x {
         x -= 1;
-        serve(
-            pairs, set0, set1, set2, set3, start, x, paints, marks,
-        );
+        serve(pairs, set0, set1, set2, set3, start, x, paints, marks);
     }
 }
 
@@ -121,9 +117,7 @@ fn pass(
     wide_colours::lay(codes, paints);
     let m = item::set(pairs, set0, set1, set2, set3, start + x);
     wide_colours::seed(m, paints);
-    serve_all(
-        pairs, set0, set1, set2, set3, start, x, paints, marks,
-    );
+    serve_all(pairs, set0, set1, set2, set3, start, x, paints, marks);
     let blocks = check_leak::search::blocks_of(wide_colours::most(paints));
     let limit = worst.pair;
     let found = pairs_search::search::find(
@@ -187,7 +181,23 @@ pub fn passes(
     while 0 < x {
         x -= 1;
         worst = pass(
-            operands, results, count, codes, pairs, set0, set1, set2, set3, start, x, worst, paints, marks, words, base, bases,
+            operands,
+            results,
+            count,
+            codes,
+            pairs,
+            set0,
+            set1,
+            set2,
+            set3,
+            start,
+            x,
+            worst,
+            paints,
+            marks,
+            words,
+            base,
+            bases,
         );
     }
     worst

@@ -121,7 +121,23 @@ fn lowest(
     );
     clear::bytes(marks);
     pass::passes(
-        operands, results, count, codes, pairs, set0, set1, set2, set3, wires, listed, worst, paints, marks, words, base, bases,
+        operands,
+        results,
+        count,
+        codes,
+        pairs,
+        set0,
+        set1,
+        set2,
+        set3,
+        wires,
+        listed,
+        worst,
+        paints,
+        marks,
+        words,
+        base,
+        bases,
     )
 }
 
@@ -209,7 +225,20 @@ pub fn search(
         × (badOf (r .pairs) ≡ firstBad (cleanPair N (now (codes .entry))) (now (pairs .entry)))) ⌝ }
 {
     let worst = lowest(
-        operands, results, count, codes, pairs, set0, set1, set2, set3, paints, marks, words, base, bases,
+        operands,
+        results,
+        count,
+        codes,
+        pairs,
+        set0,
+        set1,
+        set2,
+        set3,
+        paints,
+        marks,
+        words,
+        base,
+        bases,
     );
     let bad = pairs_search::search::pairs_verdict_of(worst.pair, pairs.len() / 2);
     let wire = worst.wire;
@@ -221,7 +250,19 @@ pub fn search(
         };
     }
     let told = tell(
-        operands, results, count, codes, set0, set1, set2, set3, wire, paints, words, base, bases,
+        operands,
+        results,
+        count,
+        codes,
+        set0,
+        set1,
+        set2,
+        set3,
+        wire,
+        paints,
+        words,
+        base,
+        bases,
     );
     let ones = told.ones;
     let items = ones.items;

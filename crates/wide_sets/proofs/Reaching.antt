@@ -118,11 +118,12 @@ module _ {t : Tables} {m W n : ℕ} {S : Sets} {i : ℕ} (R : Reaching t m W n S
       let q : N .gates ≡ gatesOf t i ++ (g ∷ rest) = H .gates ∙ e in
       let good : T (gatesGood (n + 2) W [] (gatesOf t i ++ (g ∷ rest))) = subst (λ (gs : List Gate). T (gatesGood (n + 2) W [] gs)) q
       (subst (λ (k : ℕ). T (gatesGood k W [] (N .gates))) (H .ins) (subst (λ (k : ℕ). T (gatesGood (inputBits N) k [] (N .gates))) (H .wires) (F .good))) in
-      let G = good-split (n + 2) W [] (gatesOf t i) g rest good in
-      (set-same (isGiven (n + 2) (results [] (gatesOf t i))) (setAt S) (reachSet N n) g (G .operands) (R .known o N H F)
-      ∙ sym (reach-line F n (gatesOf t i) g rest q),
-      G .high,
-      λ w v. fresh-ne (n + 2) (results [] (gatesOf t i)) w (result g) v (G .low) (G .fresh))
+      let G = good-split (n + 2) W [] (gatesOf t i) g rest good in (
+        set-same (isGiven (n + 2) (results [] (gatesOf t i))) (setAt S) (reachSet N n) g (G .operands) (R .known o N H F)
+            ∙ sym (reach-line F n (gatesOf t i) g rest q),
+        G .high,
+        λ w v. fresh-ne (n + 2) (results [] (gatesOf t i)) w (result g) v (G .low) (G .fresh),
+      )
 
   pub reaching-more : {S′ : Sets} {c : ℕ} → c ≡ result g → Put S S′ c (gateSet (setAt S) g) → Reaching t m W n S′ (i + 1)
   reaching-more {S′} {c} e P = record {

@@ -28,7 +28,6 @@ started-more {n} {s} {t} {w} x h l e = record {
       (getD-set-same t w x 0 (omega (arith, h .long)) ∙ e);
 }
 
-
 module _ {n : ℕ} {s t : List ℕ} {w : ℕ} (h : Started n s t w) (all : length s ≤ w) (few : n ≤ 1048576) where
   entry : (v : ℕ) → v < length s → getD t v 0 ≡ ownEntry n v
   entry v l = h .done v (omega arith)

@@ -83,7 +83,14 @@ pub fn get(set0: &[u64], set1: &[u64], set2: &[u64], set3: &[u64], w: usize) -> 
 }
 
 // A set becomes that of wire w.
-pub fn put(set0: &mut [u64], set1: &mut [u64], set2: &mut [u64], set3: &mut [u64], w: usize, m: Members)
+pub fn put(
+    set0: &mut [u64],
+    set1: &mut [u64],
+    set2: &mut [u64],
+    set3: &mut [u64],
+    w: usize,
+    m: Members,
+)
     requires { ⌜ (w < length (now set0)) × (w < length (now set1)) × (w < length (now set2)) × (w < length (now set3))
         × (m .count ≤ 12) × Items (m .items) ⌝ }
     ensures { λ _. ⌜ Put (sets (now (set0 .entry)) (now (set1 .entry)) (now (set2 .entry)) (now (set3 .entry)))
@@ -97,7 +104,14 @@ pub fn put(set0: &mut [u64], set1: &mut [u64], set2: &mut [u64], set3: &mut [u64
 }
 
 // The set of wire `from` becomes that of wire `to` too.
-pub fn copy(set0: &mut [u64], set1: &mut [u64], set2: &mut [u64], set3: &mut [u64], from: usize, to: usize)
+pub fn copy(
+    set0: &mut [u64],
+    set1: &mut [u64],
+    set2: &mut [u64],
+    set3: &mut [u64],
+    from: usize,
+    to: usize,
+)
     requires { ⌜ (from < length (now set0)) × (from < length (now set1)) × (from < length (now set2)) × (from < length (now set3))
         × (to < length (now set0)) × (to < length (now set1)) × (to < length (now set2)) × (to < length (now set3))
         × (sizeAt (sets (now set0) (now set1) (now set2) (now set3)) from ≤ 12) ⌝ }

@@ -15,7 +15,15 @@ ghost use Rattle.wide_sets.specs.Packed.{sets, setAt, Sized};
 ghost use Rattle.wide_sets.specs.Reached.{Lined, Reached};
 
 // Wire c is reached by what reaches wire a or wire b. Says whether those are at most twelve.
-fn join(set0: &mut [u64], set1: &mut [u64], set2: &mut [u64], set3: &mut [u64], a: usize, b: usize, c: usize) -> bool
+fn join(
+    set0: &mut [u64],
+    set1: &mut [u64],
+    set2: &mut [u64],
+    set3: &mut [u64],
+    a: usize,
+    b: usize,
+    c: usize,
+) -> bool
     requires { ⌜ Sized (sets (now set0) (now set1) (now set2) (now set3)) (length (now set0))
         × (a < length (now set0)) × (b < length (now set0)) × (c < length (now set0)) ⌝ }
     ensures { λ r. ⌜ (let S = sets (now (set0 .entry)) (now (set1 .entry)) (now (set2 .entry)) (now (set3 .entry)) in

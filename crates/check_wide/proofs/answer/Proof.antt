@@ -44,11 +44,23 @@ judge-requires c κs = let s = c .before .before .before .before .before .before
     (c .before .before .before .before .before .before .before .before .before .before .before .before .before .before .before .before .before .before .before .before .before .before .before .before .before .before .before .large .ensures) (c .before .before .before .before .before .before .before .before .before .before .before .before .h .given .1) (t .ensures) in
     let a = k .1 in
     let L = large (s .sizes) in
-    let long = sym (all-long (s .sizes) (s .text .now) (s .codes .now) (s .pairs .now) (s .operands .now) (s .results .now) (s .marks .now) (s .words .now) (s .base .now) (s .bases .now) (s .set0 .now) (s .set1 .now) (s .set2 .now) (s .set3 .now) (s .paints .now) (n .result) (n .ensures)) ∙ k .0 in
-    (a .wired, (a .manyIn, read-bits a, a .inBits,
-    omega (arith, a .wires, table-at L all 3 long (lit< tt)), omega (arith, a .wires, table-at L all 4 long (lit< tt)), omega (arith, a .wires, table-at L all 5 long (lit< tt)),
-    omega (arith, a .wires, table-at L all 6 long (lit< tt)), omega (arith, a .wires, table-at L all 7 long (lit< tt)), omega (arith, a .wires, table-at L all 8 long (lit< tt)),
-    omega (arith, a .wires, table-at L all 9 long (lit< tt)), omega (arith, a .wires, table-at L all 10 long (lit< tt)), omega (arith, a .wires, wires-upto (s .sizes))))
+    let long = sym (all-long (s .sizes) (s .text .now) (s .codes .now) (s .pairs .now) (s .operands .now) (s .results .now) (s .marks .now) (s .words .now) (s .base .now) (s .bases .now) (s .set0 .now) (s .set1 .now) (s .set2 .now) (s .set3 .now) (s .paints .now) (n .result) (n .ensures)) ∙ k .0 in (
+      a .wired,
+      (
+        a .manyIn,
+        read-bits a,
+        a .inBits,
+        omega (arith, a .wires, table-at L all 3 long (lit< tt)),
+        omega (arith, a .wires, table-at L all 4 long (lit< tt)),
+        omega (arith, a .wires, table-at L all 5 long (lit< tt)),
+        omega (arith, a .wires, table-at L all 6 long (lit< tt)),
+        omega (arith, a .wires, table-at L all 7 long (lit< tt)),
+        omega (arith, a .wires, table-at L all 8 long (lit< tt)),
+        omega (arith, a .wires, table-at L all 9 long (lit< tt)),
+        omega (arith, a .wires, table-at L all 10 long (lit< tt)),
+        omega (arith, a .wires, wires-upto (s .sizes)),
+      ),
+    )
 
 same-length : tie.Need-same-length
 same-length c = c .before .before .before .before .before .before .before .before .before .before .read .kept .1 .1 .1 .0

@@ -46,9 +46,11 @@ loop-again c = let l = c .larger .ensures in
 
 returns : tie.Need-returns Inv-loop μ-loop
 returns c = let at = c .before .loop in
-    let ps = c .before .before .before .args .paints .now in
-    (at .inv .1, λ i. onBool (ltb i (length ps)) (λ t. at .inv .2 i (omega (arith, ltb-true i (length ps) t, c .loop-test .left)))
-    (λ t. let e = List·getD-eq-default ps 0 {n = i} (ltb-false i (length ps) t) in rw e (omega arith)))
+    let ps = c .before .before .before .args .paints .now in (
+      at .inv .1,
+      λ i. onBool (ltb i (length ps)) (λ t. at .inv .2 i (omega (arith, ltb-true i (length ps) t, c .loop-test .left)))
+          (λ t. let e = List·getD-eq-default ps 0 {n = i} (ltb-false i (length ps) t) in rw e (omega arith)),
+    )
 
 pub most-spec : {M : Type 1} → statement M
 most-spec =

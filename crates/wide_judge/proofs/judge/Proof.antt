@@ -108,10 +108,20 @@ within-requires c κs = let s = c .before .before .before .before .before .befor
     let good : pairsGood (a .h .wires) (a .pairs .now) ≡ true = sym (c .before .before .before .before .before .before .before .before .before .before .before .pairs-good .ensures) ∙ not-false _ (c .before .before .before .before .before .before .before .before .before .before .if1 .left) in
     let L : (l : List ℕ) → a .h .wires ≤ length l → length (take (a .h .wires) l) ≡ a .h .wires = λ l h. length-take-le (a .h .wires) l h in
     let w = L (a .words .now) (p .3) in
-    let n = length-take-le (length (a .codes .now)) (a .paints .now) (omega (arith, bits, p .1, p .2, p .10)) in
-    ((rw w (s .pre .0), (λ i l. omega (arith, good-below (a .h .wires) (a .pairs .now) good i l, w)), omega (arith, bits, p .1, p .2, p .11)),
-    (n, omega (arith, bits, p .1, p .2, w), L (a .bases .now) (p .5) ∙ sym w, L (a .base .now) (p .4) ∙ sym w, asked-codes vs (a .codes .now) asked,
-    L (a .set0 .now) (p .6) ∙ sym w, L (a .set1 .now) (p .7) ∙ sym w, L (a .set2 .now) (p .8) ∙ sym w, L (a .set3 .now) (p .9) ∙ sym w))
+    let n = length-take-le (length (a .codes .now)) (a .paints .now) (omega (arith, bits, p .1, p .2, p .10)) in (
+      (rw w (s .pre .0), (λ i l. omega (arith, good-below (a .h .wires) (a .pairs .now) good i l, w)), omega (arith, bits, p .1, p .2, p .11)),
+      (
+        n,
+        omega (arith, bits, p .1, p .2, w),
+        L (a .bases .now) (p .5) ∙ sym w,
+        L (a .base .now) (p .4) ∙ sym w,
+        asked-codes vs (a .codes .now) asked,
+        L (a .set0 .now) (p .6) ∙ sym w,
+        L (a .set1 .now) (p .7) ∙ sym w,
+        L (a .set2 .now) (p .8) ∙ sym w,
+        L (a .set3 .now) (p .9) ∙ sym w,
+      ),
+    )
 
 returns-2 : tie.Need-returns-2
 returns-2 c = let a = c .before .before .before .before .before .before .before .before .before .before .before .before .before .before .before .before .before .before .args in

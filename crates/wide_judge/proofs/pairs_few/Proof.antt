@@ -71,9 +71,11 @@ both-requires c κs = let s = c .before .before .before .before .before .before 
 returns : tie.Need-returns Inv-loop μ-loop
 returns c = let a = c .before .before .before .before .before .before .before .before .before .before .before .before .before .before .args in
     let S = sets (a .set0 .now) (a .set1 .now) (a .set2 .now) (a .set3 .now) in
-    let j = c .before .before .before .before .before .before .before .before .loop .j in
-    (λ e. absurd (subst T (sym e) tt), λ _ P. let k = pair-many S (a .pairs .now) j (c .before .before .before .before .get .ensures .0) (c .before .before .before .get2 .ensures .0) (c .before .before .both .ensures) (c .if1 .taken) in
-    let h = P j (c .before .before .before .before .before .before .before .loop-test .taken) in omega (arith, k, h))
+    let j = c .before .before .before .before .before .before .before .before .loop .j in (
+      λ e. absurd (subst T (sym e) tt),
+      λ _ P. let k = pair-many S (a .pairs .now) j (c .before .before .before .before .get .ensures .0) (c .before .before .before .get2 .ensures .0) (c .before .before .both .ensures) (c .if1 .taken) in
+          let h = P j (c .before .before .before .before .before .before .before .loop-test .taken) in omega (arith, k, h),
+    )
 
 add-j : tie.Need-add-j Inv-loop μ-loop
 add-j c = omega (arith, c .before .before .before .before .before .before .before .loop-test .taken)

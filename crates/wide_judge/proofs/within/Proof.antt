@@ -86,9 +86,10 @@ search-requires c κs = let s = c .before .before .before .before .before .befor
     let r = c .before .before .before .before .before .before .before .before .before .before .before .before .before .before .before .before .before .before .before .before .before .before .before .before .reach in
     let k = r .last .1 .1 .1 .1 in
     let S = sets (k .0) (k .1 .0) (k .1 .1 .0) (k .1 .1 .1 .0) in
-    let e = r .kept .1 .1 .1 .1 .0 in
-    ((p .0, subst (Sized S) (sym e) (r .ensures .0 (not-false _ (c .before .before .before .before .before .before .before .before .before .before .before .before .before .before .before .if1 .left))), λ i l. omega (arith, p .1 i l, q .5, e), c .before .before .before .before .before .before .before .before .before .before .pairs-few .ensures .0 (not-false _ (c .before .before .before .before .before .before .before .before .before .if2 .left))),
-    (q .0, e ∙ q .5, q .1, q .2, q .3, q .4))
+    let e = r .kept .1 .1 .1 .1 .0 in (
+      (p .0, subst (Sized S) (sym e) (r .ensures .0 (not-false _ (c .before .before .before .before .before .before .before .before .before .before .before .before .before .before .before .if1 .left))), λ i l. omega (arith, p .1 i l, q .5, e), c .before .before .before .before .before .before .before .before .before .before .pairs-few .ensures .0 (not-false _ (c .before .before .before .before .before .before .before .before .before .if2 .left))),
+      (q .0, e ∙ q .5, q .1, q .2, q .3, q .4),
+    )
 
 same-length-9 : tie.Need-same-length-9
 same-length-9 c = search needs

@@ -69,10 +69,18 @@ find-requires c κs = let s = c .before .before .before .before .before .before 
     let a = s .args in
     let long = c .before .before .before .before .before .before .before .before .before .before .before .before .serve-all .kept .1 .1 .1 .1 .1 .1 .1 .0 ∙ c .before .before .before .before .before .before .before .before .before .before .before .before .before .before .before .before .before .seed .kept .1 .0 ∙ c .before .before .before .before .before .before .before .before .before .before .before .before .before .before .before .before .before .before .before .before .before .before .lay .kept .1 .0 ∙ p .0 in
     let two : 2 * a .worst .pair ≤ length (a .pairs .now) = omega (arith, p .7) in
-    let e = length-take-le (2 * a .worst .pair) (a .pairs .now) two in
-    (s .pre .0 .0, (omega (arith, p .2, long), p .3, p .4, c .before .before .before .before .before .blocks-of .ensures .1, p .6,
-    λ i l. let g = getD-take (2 * a .worst .pair) (a .pairs .now) i 0 (omega (arith, l, e)) in
-    omega (arith, g, s .pre .0 .3 i (omega (arith, l, e, two)), p .1)))
+    let e = length-take-le (2 * a .worst .pair) (a .pairs .now) two in (
+      s .pre .0 .0,
+      (
+        omega (arith, p .2, long),
+        p .3,
+        p .4,
+        c .before .before .before .before .before .blocks-of .ensures .1,
+        p .6,
+        λ i l. let g = getD-take (2 * a .worst .pair) (a .pairs .now) i 0 (omega (arith, l, e)) in
+            omega (arith, g, s .pre .0 .3 i (omega (arith, l, e, two)), p .1),
+      ),
+    )
 
 same-length-2 : tie.Need-same-length-2
 same-length-2 c = c .before .before .before .before .before .before .before .before .before .before .before .before .before .before .before .before .before .before .before .before .serve-all .kept .1 .1 .1 .1 .1 .1 .1 .0 ∙ c .before .before .before .before .before .before .before .before .before .before .before .before .before .before .before .before .before .before .before .before .before .before .before .before .before .seed .kept .1 .0 ∙ c .before .before .before .before .before .before .before .before .before .before .before .before .before .before .before .before .before .before .before .before .before .before .before .before .before .before .before .before .before .before .lay .kept .1 .0
@@ -111,11 +119,12 @@ returns-2 c = let s = c .before .before .before .before .before .before .before 
     let t = tables (a .operands .now) (a .results .now) in
     let most = c .before .before .before .before .before .before .before .before .before .before .before .before .before .before .most in
     let even : 2 * a .worst .pair ≤ length ws = omega (arith, p .7) in
-    let find = c .before .before .before .before .before .before .before .find in
-    (lower-wire t (a .count) W S (a .codes .now) ws below (p .2) ps plain (most .result) (c .before .before .before .before .before .before .before .before .before .before .before .before .before .blocks-of .result) (a .worst .wire) (a .worst .pair) (most .ensures .1) (c .before .before .before .before .before .before .before .before .before .before .before .before .before .blocks-of .ensures .0) even (find .result) (find .ensures),
-    lower-pair t (a .count) W S (a .codes .now) ws below (p .2) ps plain (most .result) (c .before .before .before .before .before .before .before .before .before .before .before .before .before .blocks-of .result) (a .worst .wire) (a .worst .pair) (most .ensures .1) (c .before .before .before .before .before .before .before .before .before .before .before .before .before .blocks-of .ensures .0) even (find .result) (find .ensures),
-    λ o n N G l k J. passed t (a .count) W S (a .codes .now) ws below (p .2) ps plain (most .result) (c .before .before .before .before .before .before .before .before .before .before .before .before .before .blocks-of .result) (a .worst .wire) (a .worst .pair) (most .ensures .1) (c .before .before .before .before .before .before .before .before .before .before .before .before .before .blocks-of .ensures .0) even (find .result) (find .ensures)
-    G (a .start) (a .x) n l k (ap length (lay .ensures)) seeded served J)
+    let find = c .before .before .before .before .before .before .before .find in (
+      lower-wire t (a .count) W S (a .codes .now) ws below (p .2) ps plain (most .result) (c .before .before .before .before .before .before .before .before .before .before .before .before .before .blocks-of .result) (a .worst .wire) (a .worst .pair) (most .ensures .1) (c .before .before .before .before .before .before .before .before .before .before .before .before .before .blocks-of .ensures .0) even (find .result) (find .ensures),
+      lower-pair t (a .count) W S (a .codes .now) ws below (p .2) ps plain (most .result) (c .before .before .before .before .before .before .before .before .before .before .before .before .before .blocks-of .result) (a .worst .wire) (a .worst .pair) (most .ensures .1) (c .before .before .before .before .before .before .before .before .before .before .before .before .before .blocks-of .ensures .0) even (find .result) (find .ensures),
+      λ o n N G l k J. passed t (a .count) W S (a .codes .now) ws below (p .2) ps plain (most .result) (c .before .before .before .before .before .before .before .before .before .before .before .before .before .blocks-of .result) (a .worst .wire) (a .worst .pair) (most .ensures .1) (c .before .before .before .before .before .before .before .before .before .before .before .before .before .blocks-of .ensures .0) even (find .result) (find .ensures)
+          G (a .start) (a .x) n l k (ap length (lay .ensures)) seeded served J,
+    )
 
 pub pass-spec : {M : Type 1} → statement M
 pass-spec =

@@ -34,9 +34,10 @@ pass-requires c κs = let s = c .before .before .before .before .before .before 
     let h = c .before .before .before .before .before .before .loop .inv in
     let p = s .pre .0 in
     let q = s .pre .1 in
-    let w = h .same-words in
-    ((wired-same w (p .0), omega (arith, p .1, h .passed, c .before .before .before .before .before .loop-test .taken), p .2, p .3, p .4),
-    (h .same-paints ∙ q .0, q .1 ∙ sym w, omega (arith, q .2, w), h .same-bases ∙ q .3 ∙ sym w, h .same-base ∙ q .4 ∙ sym w, q .5, omega (arith, h .lower, q .6, w), omega (arith, h .fewer, q .7)))
+    let w = h .same-words in (
+      (wired-same w (p .0), omega (arith, p .1, h .passed, c .before .before .before .before .before .loop-test .taken), p .2, p .3, p .4),
+      (h .same-paints ∙ q .0, q .1 ∙ sym w, omega (arith, q .2, w), h .same-bases ∙ q .3 ∙ sym w, h .same-base ∙ q .4 ∙ sym w, q .5, omega (arith, h .lower, q .6, w), omega (arith, h .fewer, q .7)),
+    )
 
 loop-less : tie.Need-loop-less Inv-loop μ-loop
 loop-less c = omega (arith, c .before .before .before .before .before .before .before .before .before .before .before .before .before .before .before .before .loop-test .taken)

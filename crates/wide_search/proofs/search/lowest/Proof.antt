@@ -65,12 +65,14 @@ returns c = let s = c .before .before .before .before .before .before .before .b
     let ws = a .pairs .now in
     let P = length ws / 2 in
     let one = first .result in
-    let two = second .result in
-    (omega (arith, first .ensures .0, second .ensures .0), omega (arith, first .ensures .1, second .ensures .1),
-    λ o N G. all-judged (subst (λ (Y : ℕ). Judging N cs ws (second .last .1 .1 .1 .1 .1 .1 .1 .1 .1 .1 .1 .1 .1 .0) Y W P 0 (two .wire) (two .pair)) w
-    (second .ensures .2 o N (subst (λ (Y : ℕ). Given t (a .count) Y (length cs) S o N) (sym w) G)
-    (subst (λ (Y : ℕ). Judging N cs ws (c .before .before .before .before .before .before .before .before .before .before .before .before .before .before .before .before .before .before .bytes2 .last .0) Y W P P (one .wire) (one .pair)) (sym w)
-    (then-pairs (length (first .last .1 .1 .1 .1 .1 .1 .1 .1 .1 .1 .1 .1 .1 .0)) (c .before .before .before .before .before .before .before .before .before .before .before .before .before .before .before .before .before .before .bytes2 .ensures) (first .ensures .2 o N G (first-wires N cs ws W (length (a .marks .now)) (c .before .before .before .before .before .before .before .before .before .before .before .before .before .before .before .before .before .before .before .before .before .before .before .before .before .before .before .before .before .before .before .before .before .before .before .before .before .before .bytes .ensures))))))))
+    let two = second .result in (
+      omega (arith, first .ensures .0, second .ensures .0),
+      omega (arith, first .ensures .1, second .ensures .1),
+      λ o N G. all-judged (subst (λ (Y : ℕ). Judging N cs ws (second .last .1 .1 .1 .1 .1 .1 .1 .1 .1 .1 .1 .1 .1 .0) Y W P 0 (two .wire) (two .pair)) w
+          (second .ensures .2 o N (subst (λ (Y : ℕ). Given t (a .count) Y (length cs) S o N) (sym w) G)
+          (subst (λ (Y : ℕ). Judging N cs ws (c .before .before .before .before .before .before .before .before .before .before .before .before .before .before .before .before .before .before .bytes2 .last .0) Y W P P (one .wire) (one .pair)) (sym w)
+          (then-pairs (length (first .last .1 .1 .1 .1 .1 .1 .1 .1 .1 .1 .1 .1 .1 .0)) (c .before .before .before .before .before .before .before .before .before .before .before .before .before .before .before .before .before .before .bytes2 .ensures) (first .ensures .2 o N G (first-wires N cs ws W (length (a .marks .now)) (c .before .before .before .before .before .before .before .before .before .before .before .before .before .before .before .before .before .before .before .before .before .before .before .before .before .before .before .before .before .before .before .before .before .before .before .before .before .before .bytes .ensures))))))),
+    )
 
 pub lowest-spec : {M : Type 1} → statement M
 lowest-spec =

@@ -75,10 +75,11 @@ returns-2 c = let s = c .before .before .before .before .before .before .before 
     let t = tables (a .operands .now) (a .results .now) in
     let S = sets (a .set0 .now) (a .set1 .now) (a .set2 .now) (a .set3 .now) in
     λ o N G.
-    let L = low .ensures .2 o N G in
-    (c .before .before .before .before .before .before .before .before .before .before .tell .ensures o (low .result .pair) (a .pairs .now) N (subst (λ (Y : ℕ). Given t (a .count) Y (length (a .codes .now)) S o N) (sym w) G)
-    (subst (λ (Y : ℕ). Lowest N (a .codes .now) (a .pairs .now) Y (low .result .wire) (low .result .pair)) (sym w) L),
-    c .before .before .before .before .before .before .before .before .before .before .before .before .before .before .before .before .pairs-verdict-of .ensures ∙ pairs-told L)
+    let L = low .ensures .2 o N G in (
+      c .before .before .before .before .before .before .before .before .before .before .tell .ensures o (low .result .pair) (a .pairs .now) N (subst (λ (Y : ℕ). Given t (a .count) Y (length (a .codes .now)) S o N) (sym w) G)
+          (subst (λ (Y : ℕ). Lowest N (a .codes .now) (a .pairs .now) Y (low .result .wire) (low .result .pair)) (sym w) L),
+      c .before .before .before .before .before .before .before .before .before .before .before .before .before .before .before .before .pairs-verdict-of .ensures ∙ pairs-told L,
+    )
 
 pub search-spec : {M : Type 1} → statement M
 search-spec =

@@ -31,9 +31,17 @@ copy-requires : tie.Need-copy-requires
 copy-requires c κs = let p = c .before .before .before .before .before .before .before .before .before .before .pre in
     let z = p .0 in
     let l = p .1 .left in
-    let r = p .1 .result in
-    (l, omega (arith, l, z .long1), omega (arith, l, z .long2), omega (arith, l, z .long3),
-    r, omega (arith, r, z .long1), omega (arith, r, z .long2), omega (arith, r, z .long3), z .few (c .before .before .before .before .before .before .before .before .before .before .args .gate .left))
+    let r = p .1 .result in (
+      l,
+      omega (arith, l, z .long1),
+      omega (arith, l, z .long2),
+      omega (arith, l, z .long3),
+      r,
+      omega (arith, r, z .long1),
+      omega (arith, r, z .long2),
+      omega (arith, r, z .long3),
+      z .few (c .before .before .before .before .before .before .before .before .before .before .args .gate .left),
+    )
 
 same-length-2 : tie.Need-same-length-2
 same-length-2 c = search needs

@@ -55,9 +55,10 @@ line-requires : tie.Need-line-requires Inv-loop μ-loop
 line-requires c κs = let s = c .before .before .before .before .before .before .before .before .before .before .before .before .before .before .before .before .before .before .before in
     let at = c .before .before .before .before .before .before .before .before .loop in
     let S = sets (at .set0) (at .set1) (at .set2) (at .set3) in
-    let z = at .inv .sized .long0 in
-    (subst (Sized S) (sym z) (at .inv .sized),
-    subst (λ (W : ℕ). Within W (c .before .before .before .before .split .result)) (sym (z ∙ s .pre .1 .1)) (line-within (s .pre .0) (c .before .before .before .before .before .before .before .loop-test .taken) (c .before .before .before .before .split .ensures)))
+    let z = at .inv .sized .long0 in (
+      subst (Sized S) (sym z) (at .inv .sized),
+      subst (λ (W : ℕ). Within W (c .before .before .before .before .split .result)) (sym (z ∙ s .pre .1 .1)) (line-within (s .pre .0) (c .before .before .before .before .before .before .before .loop-test .taken) (c .before .before .before .before .split .ensures)),
+    )
 
 same-length : tie.Need-same-length Inv-loop μ-loop
 same-length c = c .before .before .before .before .before .before .before .before .before .line .kept .0 ∙ c .before .before .before .before .before .before .before .before .before .before .before .before .before .before .before .before .before .before .loop .inv .sized .long0 ∙ c .before .before .before .before .before .before .before .before .before .before .before .before .before .before .before .before .before .before .before .before .before .before .before .before .before .before .before .before .before .pre .1 .1
@@ -74,10 +75,11 @@ same-length-4 c = c .before .before .before .before .before .before .before .bef
 returns : tie.Need-returns Inv-loop μ-loop
 returns c = let line = c .before .before .before .before .before .before .before .before .before .line in
     let s = c .before .before .before .before .before .before .before .before .before .before .before .before .before .before .before .before .before .before .before .before .before .before .before .before .before .before .before .before .before in
-    let a = s .args in
-    (λ e. absurd (subst T (sym e) tt),
-    λ o N H F. line-full (c .before .before .before .before .before .before .before .before .before .before .before .before .before .before .before .before .before .before .loop .inv) (c .before .before .before .before .before .before .before .before .before .before .before .before .before .before .before .before .before .loop-test .taken) (c .before .before .before .before .before .before .before .before .before .before .before .before .before .before .split .ensures) (line .ensures) (not-true _ (c .if1 .taken)) o N
-    (subst (λ (W : ℕ). Holds (tables (a .operands .now) (a .results .now)) (a .count) W (a .n + 2) o N) (sym (s .pre .1 .1)) H) F)
+    let a = s .args in (
+      λ e. absurd (subst T (sym e) tt),
+      λ o N H F. line-full (c .before .before .before .before .before .before .before .before .before .before .before .before .before .before .before .before .before .before .loop .inv) (c .before .before .before .before .before .before .before .before .before .before .before .before .before .before .before .before .before .loop-test .taken) (c .before .before .before .before .before .before .before .before .before .before .before .before .before .before .split .ensures) (line .ensures) (not-true _ (c .if1 .taken)) o N
+          (subst (λ (W : ℕ). Holds (tables (a .operands .now) (a .results .now)) (a .count) W (a .n + 2) o N) (sym (s .pre .1 .1)) H) F,
+    )
 
 add-i : tie.Need-add-i Inv-loop μ-loop
 add-i c = omega (arith, c .before .before .before .before .before .before .before .before .before .before .before .before .before .before .before .before .before .loop-test .taken)
@@ -105,10 +107,11 @@ returns-2 : tie.Need-returns-2 Inv-loop μ-loop
 returns-2 c = let h = c .before .loop .inv in
     let s = c .before .before .before .before .before .before .before .before .before .before .before .before in
     let a = s .args in
-    let S = sets (c .before .loop .set0) (c .before .loop .set1) (c .before .loop .set2) (c .before .loop .set3) in
-    (λ _. subst (Sized S) (s .pre .1 .1) (h .sized),
-    λ o N H F. reaching-all h (c .loop-test .left) o N
-    (subst (λ (W : ℕ). Holds (tables (a .operands .now) (a .results .now)) (a .count) W (a .n + 2) o N) (sym (s .pre .1 .1)) H) F)
+    let S = sets (c .before .loop .set0) (c .before .loop .set1) (c .before .loop .set2) (c .before .loop .set3) in (
+      λ _. subst (Sized S) (s .pre .1 .1) (h .sized),
+      λ o N H F. reaching-all h (c .loop-test .left) o N
+          (subst (λ (W : ℕ). Holds (tables (a .operands .now) (a .results .now)) (a .count) W (a .n + 2) o N) (sym (s .pre .1 .1)) H) F,
+    )
 
 pub reach-spec : {M : Type 1} → statement M
 reach-spec =

@@ -30,9 +30,10 @@ slice-aggregate-unite-3 c = search needs
 unite-requires : tie.Need-unite-requires
 unite-requires c κs = let s = c .before .before .before .before .before in
     let p = s .pre in
-    let a = s .args in
-    (omega (arith, p .0, length-take-le (a .x .count) (a .x .items) (omega (arith, p .0, p .2 .long))),
-    omega (arith, p .1, length-take-le (a .y .count) (a .y .items) (omega (arith, p .1, p .3 .long))))
+    let a = s .args in (
+      omega (arith, p .0, length-take-le (a .x .count) (a .x .items) (omega (arith, p .0, p .2 .long))),
+      omega (arith, p .1, length-take-le (a .y .count) (a .y .items) (omega (arith, p .1, p .3 .long))),
+    )
 
 enum-known-k : tie.Need-enum-known-k
 enum-known-k c = search needs
