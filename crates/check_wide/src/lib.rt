@@ -12,7 +12,8 @@ ghost use Rattle.check_wide.specs.Promise.{call, Promise};
 
 // The shortest of the tables that the reader does not see.
 fn shortest(a: usize, b: usize, c: usize, d: usize, e: usize, f: usize, g: usize, h: usize) -> usize
-    ensures { λ r. ⌜ ((k : ℕ) → (leb k r && true) ≡ leb k a && (leb k b && (leb k c && (leb k d && (leb k e && (leb k f && (leb k g && (leb k h && true)))))))) ⌝ }
+    ensures { λ r. ⌜ ((k : ℕ) → (leb k r && true)
+        ≡ leb k a && (leb k b && (leb k c && (leb k d && (leb k e && (leb k f && (leb k g && (leb k h && true)))))))) ⌝ }
 {
     let g = checker::shorter(g, h);
     let f = checker::shorter(f, g);

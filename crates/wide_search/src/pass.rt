@@ -106,7 +106,8 @@ fn pass(
     ensures { λ r. ⌜ (r .wire ≤ worst .wire) × (r .pair ≤ worst .pair) × ((o n : ℕ) (N : Netlist) → Given (tables (now (operands .entry))
         (now (results .entry))) count (length (now (words .entry))) (length (now (codes .entry)))
         (sets (now (set0 .entry)) (now (set1 .entry)) (now (set2 .entry)) (now (set3 .entry))) o N → x < n
-        → start + n ≤ length (now (words .entry)) + length (now (pairs .entry)) / 2 → Judging N (now (codes .entry)) (now (pairs .entry)) (now (marks .entry)) (length (now (words .entry))) start n (x + 1)
+        → start + n ≤ length (now (words .entry)) + length (now (pairs .entry)) / 2
+        → Judging N (now (codes .entry)) (now (pairs .entry)) (now (marks .entry)) (length (now (words .entry))) start n (x + 1)
         (worst .wire) (worst .pair)
         → Judging N (now (codes .entry)) (now (pairs .entry)) (now (marks .exit)) (length (now (words .entry))) start n x
         (r .wire) (r .pair)) ⌝ }
