@@ -38,13 +38,39 @@ struct services {
     __typeof__(&fidrovelj_check_pairs) check_pairs;
 };
 
-static const struct services library = {fidrovelj_rewrite, fidrovelj_from_old, fidrovelj_to_old, fidrovelj_run, fidrovelj_run64,
-                                        fidrovelj_mask,    fidrovelj_check,    fidrovelj_twins, fidrovelj_join, fidrovelj_check_pairs};
-static const struct services baseline = {baseline_rewrite, baseline_from_old, baseline_to_old, baseline_run, baseline_run64,
-                                         baseline_mask,    baseline_check,    baseline_twins, baseline_join,
-                                         baseline_check_pairs};
+/* The services of one side by its prefix. */
+#define SERVICES_OF(side)                  \
+    {                                      \
+        .rewrite = side##_rewrite,         \
+        .from_old = side##_from_old,       \
+        .to_old = side##_to_old,           \
+        .run = side##_run,                 \
+        .run64 = side##_run64,             \
+        .mask = side##_mask,               \
+        .twins = side##_twins,             \
+        .check = side##_check,             \
+        .check_pairs = side##_check_pairs, \
+        .join = side##_join,               \
+    }
 
-enum service { READ_LARGE, READ_SMALL, REWRITE, FROM_OLD, TO_OLD, RUN, RUN64, MASK, MASK_UNWRITTEN, TWINS, CHECK, JOIN, CHECK_PAIRS };
+static const struct services library = SERVICES_OF(fidrovelj);
+static const struct services baseline = SERVICES_OF(baseline);
+
+enum service {
+    READ_LARGE,
+    READ_SMALL,
+    REWRITE,
+    FROM_OLD,
+    TO_OLD,
+    RUN,
+    RUN64,
+    MASK,
+    MASK_UNWRITTEN,
+    TWINS,
+    CHECK,
+    CHECK_PAIRS,
+    JOIN,
+};
 
 /* A call, and the work it stands for. */
 struct call {
