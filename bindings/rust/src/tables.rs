@@ -20,7 +20,7 @@ impl Sizes {
         }
     }
 
-    /// The most wires of Check, Join, Run, Run64 and Rewrite: as many entries question 1 asks of each of their tables.
+    /// The most wires of the checks, Join, Run, Run64 and Rewrite: as many entries question 1 asks of each of their tables.
     pub const fn large(self) -> usize {
         match self {
             Sizes::Old => 18_431,
@@ -67,12 +67,12 @@ pub struct Tables {
 }
 
 impl Tables {
-    /// Tables for the old limits: about 1.7 million bytes.
+    /// Tables for the old limits: about 2.1 million bytes.
     pub fn new() -> Tables {
         Tables::of(Sizes::Old)
     }
 
-    /// Tables for whole ciphers: about 80 million bytes.
+    /// Tables for whole ciphers: about 107 million bytes.
     ///
     /// ```
     /// use fidrovelj::{rewrite, Refused, Tables};
