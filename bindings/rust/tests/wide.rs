@@ -429,16 +429,18 @@ fn twelve_and_thirteen() {
     gates.push(Gate::Inv(bits, bits + 2 + gates.len()));
     let call = Call::new(Sizes::Old, &netlist(bits, &gates).write(), &[1; 30], &[]);
     assert_eq!(library.assert_call("a wire that nothing reads", &call), Err(12));
-    // Mask bits and constants reach nothing; a wire with itself is reached once.
-    let mut gates = chain(0, 11, bits + 2, Gate::And);
+    // Mask bits and constants reach nothing, and no constant is a wire's number; a wire with itself is reached once.
+    let mut gates = chain(2, 13, bits + 2, Gate::And);
     let at = |gates: &Vec<Gate>| bits + 2 + gates.len();
     gates.push(Gate::Xor(at(&gates) - 1, bits, at(&gates)));
     gates.push(Gate::And(at(&gates) - 1, bits + 1, at(&gates)));
-    gates.push(Gate::Eq(1, at(&gates)));
-    gates.push(Gate::Xor(at(&gates) - 2, at(&gates) - 1, at(&gates)));
+    for constant in [0, 1] {
+        gates.push(Gate::Eq(constant, at(&gates)));
+        gates.push(Gate::Xor(at(&gates) - 2, at(&gates) - 1, at(&gates)));
+    }
     gates.push(Gate::Xor(at(&gates) - 1, at(&gates) - 1, at(&gates)));
     let few = Call::new(Sizes::Old, &netlist(bits, &gates).write(), &[2; 30], &[]);
-    assert!(library.assert_call("masks, a constant and one wire twice", &few).is_ok());
+    assert!(library.assert_call("masks, constants and one wire twice", &few).is_ok());
     // a XOR a is always 0 and reached by a's inputs all the same.
     gates.push(Gate::Xor(at(&gates) - 1, 20, at(&gates)));
     let many = Call::new(Sizes::Old, &netlist(bits, &gates).write(), &[2; 30], &[]);
