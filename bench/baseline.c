@@ -931,6 +931,14 @@ int64_t baseline_twins(const uint8_t *text, size_t text_len,
 
 /* ---- Check */
 
+/* Questions 10 and 11, of Check and Join. */
+static int ask_block(const struct header *h, const uint8_t *codes, size_t codes_len)
+{
+    if (h->in.count < 2 || h->in.width[h->in.count - 1] != 2)
+        return 10;
+    return list_good(codes, codes_len, h->in.bits - 2, 3) ? 0 : 11;
+}
+
 /* A word holds 16 settings by 4 mask settings: of block b, lane j is setting 16 b + j / 4, with m0
  * the lowest bit of j and m1 the next. */
 #define M0 0xaaaaaaaaaaaaaaaaU
@@ -990,11 +998,10 @@ static int64_t check(const struct header *h, const uint64_t *operands, const uin
                      uint64_t *base, const uint8_t *codes, size_t codes_len, uint64_t *leak, size_t leak_len)
 {
     uint64_t told[4];
-    if (h->in.count < 2 || h->in.width[h->in.count - 1] != 2)
-        return -10;
+    int no = ask_block(h, codes, codes_len);
+    if (no != 0)
+        return -no;
     size_t bits = h->in.bits - 2;
-    if (!list_good(codes, codes_len, bits, 3))
-        return -11;
     if (bits > 12)
         return -12;
 
@@ -1093,11 +1100,10 @@ static int64_t check_pairs(const struct header *h, const uint64_t *operands, con
                            size_t codes_len, const uint32_t *pairs, size_t pairs_len, uint64_t *leak,
                            size_t leak_len, uint64_t *bad, size_t bad_len)
 {
-    if (h->in.count < 2 || h->in.width[h->in.count - 1] != 2)
-        return -10;
+    int no = ask_block(h, codes, codes_len);
+    if (no != 0)
+        return -no;
     size_t bits = h->in.bits - 2;
-    if (!list_good(codes, codes_len, bits, 3))
-        return -11;
     if (bits > 12)
         return -12;
     if (pairs_len % 2 != 0)
@@ -1173,6 +1179,363 @@ int64_t baseline_check_pairs(const uint8_t *text, size_t text_len,
     memset(words, 0, words_len * sizeof *words);
     memset(base, 0, base_len * sizeof *base);
     memset(bases, 0, bases_len * sizeof *bases);
+    return answer;
+}
+
+/* ---- Check of netlists with many inputs */
+
+#define MOST_REACHING 12
+
+/* The input bits that reach a wire through gate lines, rising. */
+struct reaching {
+    unsigned count;
+    uint32_t at[MOST_REACHING];
+};
+
+/* A wire's set lies in four tables: each input bit plus one in 20 bits, three to an entry, 0 behind the last. */
+struct sets {
+    uint64_t *parts[4];
+};
+
+static inline struct reaching unpack(const struct sets *s, uint32_t wire)
+{
+    struct reaching r = {0};
+    for (unsigned part = 0; part < 4; part++) {
+        for (uint64_t entry = s->parts[part][wire]; entry != 0; entry >>= 20)
+            r.at[r.count++] = (uint32_t)(entry & 0xfffff) - 1;
+    }
+    return r;
+}
+
+static inline void pack(struct sets *s, uint32_t wire, const struct reaching *r)
+{
+    for (unsigned part = 0, j = 0; part < 4; part++) {
+        uint64_t entry = 0;
+        for (unsigned shift = 0; shift < 60 && j < r->count; shift += 20)
+            entry |= (uint64_t)(r->at[j++] + 1) << shift;
+        s->parts[part][wire] = entry;
+    }
+}
+
+static inline void copy_set(struct sets *s, uint32_t from, uint32_t to)
+{
+    for (unsigned part = 0; part < 4; part++)
+        s->parts[part][to] = s->parts[part][from];
+}
+
+static inline bool same_set(const struct sets *s, uint32_t a, uint32_t b)
+{
+    uint64_t difference = 0;
+    for (unsigned part = 0; part < 4; part++)
+        difference |= s->parts[part][a] ^ s->parts[part][b];
+    return difference == 0;
+}
+
+/* The union of two wires' sets; false where it has more than twelve. */
+static bool unite(const struct sets *s, uint32_t a, uint32_t b, struct reaching *r)
+{
+    struct reaching x = unpack(s, a), y = unpack(s, b);
+    unsigned i = 0, j = 0;
+    r->count = 0;
+    while (i < x.count || j < y.count) {
+        if (r->count == MOST_REACHING)
+            return false;
+        bool left = j == y.count || (i < x.count && x.at[i] <= y.at[j]);
+        uint32_t least = left ? x.at[i] : y.at[j];
+        j += j < y.count && y.at[j] == least;
+        i += left;
+        r->at[r->count++] = least;
+    }
+    return true;
+}
+
+/* The sets of all wires; false where one has more than twelve. A set is copied where it is the other operand's
+ * too or the other has none. */
+static bool reach(const struct header *h, const uint64_t *operands, const uint64_t *results, struct sets *s)
+{
+    uint32_t bits = (uint32_t)h->in.bits - 2;
+    struct reaching r = {0};
+    pack(s, bits, &r);
+    pack(s, bits + 1, &r);
+    r.count = 1;
+    for (uint32_t i = 0; i < bits; i++) {
+        r.at[0] = i;
+        pack(s, i, &r);
+    }
+    for (uint32_t g = 0; g < h->gates; g++) {
+        uint32_t a = low(operands[g]), b = high(operands[g]), c = low(results[g]);
+        if (high(results[g]) >= EQ0) {
+            r.count = 0;
+            pack(s, c, &r);
+        } else if (s->parts[0][b] == 0 || same_set(s, a, b)) {
+            copy_set(s, a, c);
+        } else if (s->parts[0][a] == 0) {
+            copy_set(s, b, c);
+        } else {
+            if (!unite(s, a, b, &r))
+                return false;
+            pack(s, c, &r);
+        }
+    }
+    return true;
+}
+
+/* Gives the inputs of a set that have no colour the lowest free ones, unless two of the others share one. */
+static bool colour(const struct reaching *r, uint8_t *colours)
+{
+    uint32_t used = 1;
+    for (unsigned j = 0; j < r->count; j++) {
+        uint8_t c = colours[r->at[j]];
+        if (c != 0 && (used >> c & 1) != 0)
+            return false;
+        used |= 1U << c;
+    }
+    for (unsigned j = 0; j < r->count; j++) {
+        if (colours[r->at[j]] == 0) {
+            uint8_t free = 1;
+            while (used >> free & 1)
+                free++;
+            used |= 1U << free;
+            colours[r->at[j]] = free;
+        }
+    }
+    return true;
+}
+
+/* A search: the netlist, its codes and tables, the inputs' colours, and what is found: the lowest wire and the
+ * first pair so far whose counts differ. */
+struct search {
+    const struct header *h;
+    const uint64_t *operands, *results;
+    const uint8_t *codes;
+    const uint32_t *pairs;
+    uint64_t *words, *base, *bases;
+    uint8_t *colours, *served;
+    struct sets sets;
+    size_t bits, first;
+    uint32_t lowest;
+    bool public;
+};
+
+/* The input wires in a block's settings, each taking the bit of its colour and one without a colour 0; or in
+ * those with the same public bits and zero secrets. */
+static void load_coloured(const struct search *f, uint64_t *words, size_t block, bool secrets)
+{
+    static const uint64_t masks[4] = {0, M0, M1, M0 ^ M1};
+    uint64_t bit[MOST_REACHING + 1] = {0};
+    for (size_t c = 0; c < MOST_REACHING; c++)
+        bit[c + 1] = setting_bit(c, block);
+    for (size_t i = 0; i < f->bits; i++)
+        words[i] = (secrets || f->codes[i] == 0 ? bit[f->colours[i]] : 0) ^ masks[f->codes[i]];
+    words[f->bits] = M0;
+    words[f->bits + 1] = M1;
+}
+
+/* One block of settings in all wires, and what they are compared with: without public bits always setting 0,
+ * which is run once. */
+static void run_block(const struct search *f, size_t block)
+{
+    load_coloured(f, f->words, block, true);
+    evaluate(f->words, f->h->gates, f->operands, f->results);
+    if (f->public) {
+        load_coloured(f, f->bases, block, false);
+        evaluate(f->bases, f->h->gates, f->operands, f->results);
+        for (uint32_t w = 0; w < f->h->wires; w++)
+            f->base[w] = counts(f->bases[w]);
+    }
+}
+
+static void run_setting_0(const struct search *f)
+{
+    load_coloured(f, f->bases, 0, false);
+    evaluate(f->bases, f->h->gates, f->operands, f->results);
+    for (uint32_t w = 0; w < f->h->wires; w++)
+        f->base[w] = counts(f->bases[w]);
+}
+
+/* How many blocks the colours in use make. */
+static size_t coloured_blocks(const struct search *f)
+{
+    unsigned most = 0;
+    for (size_t i = 0; i < f->bits; i++)
+        most = f->colours[i] > most ? f->colours[i] : most;
+    return most > 4 ? (size_t)1 << (most - 4) : 1;
+}
+
+/* Every wire: a pass for the last line that none has served yet, which serves with it every line before it whose
+ * inputs can have different colours. */
+static void search_wires(struct search *f)
+{
+    memset(f->served, 0, f->h->gates);
+    for (uint32_t g = f->h->gates; g-- > 0;) {
+        if (f->served[g])
+            continue;
+        memset(f->colours, 0, f->bits);
+        for (uint32_t line = g + 1; line-- > 0;) {
+            if (!f->served[line]) {
+                struct reaching r = unpack(&f->sets, low(f->results[line]));
+                f->served[line] = colour(&r, f->colours);
+            }
+        }
+        size_t blocks = coloured_blocks(f);
+        for (size_t block = 0; block < blocks; block++) {
+            run_block(f, block);
+            if (!differs(f->words, f->base, f->lowest))
+                continue;
+            uint32_t w = 0;
+            while (counts(f->words[w]) == f->base[w])
+                w++;
+            f->lowest = w;
+        }
+    }
+}
+
+/* Every pair in the same way, as many at a time as the marks have entries. */
+static void search_pairs(struct search *f, size_t many, size_t room)
+{
+    f->first = many;
+    for (size_t from = 0; from < f->first; from += room) {
+        size_t to = many - from > room ? from + room : many;
+        memset(f->served, 0, to - from);
+        for (size_t last = to; last-- > from;) {
+            if (f->served[last - from])
+                continue;
+            memset(f->colours, 0, f->bits);
+            for (size_t j = last + 1; j-- > from;) {
+                struct reaching r;
+                if (!f->served[j - from]) {
+                    unite(&f->sets, f->pairs[2 * j], f->pairs[2 * j + 1], &r);
+                    f->served[j - from] = colour(&r, f->colours);
+                }
+            }
+            size_t blocks = coloured_blocks(f);
+            for (size_t block = 0; block < blocks; block++) {
+                run_block(f, block);
+                for (size_t j = from; j < to && j < f->first; j++) {
+                    if (pair_differs(f->pairs[2 * j], f->pairs[2 * j + 1], f->words, f->base, f->bases,
+                                     f->lowest == f->h->wires))
+                        f->first = j;
+                }
+            }
+        }
+    }
+}
+
+/* The smallest setting in which the lowest wire's count is not its base's: the inputs that are one, both counts. */
+static struct reaching witness(struct search *f, uint64_t *base_count, uint64_t *own_count)
+{
+    struct reaching r = unpack(&f->sets, f->lowest), ones = {0};
+    memset(f->colours, 0, f->bits);
+    for (unsigned j = 0; j < r.count; j++)
+        f->colours[r.at[j]] = (uint8_t)(j + 1);
+    for (size_t block = 0;; block++) {
+        run_block(f, block);
+        uint64_t own = counts(f->words[f->lowest]), difference = own ^ f->base[f->lowest];
+        for (unsigned place = 0; place < 16; place++) {
+            if ((difference >> 4 * place & 15) == 0)
+                continue;
+            for (unsigned j = 0; j < r.count; j++) {
+                if ((16 * block + place) >> j & 1)
+                    ones.at[ones.count++] = r.at[j];
+            }
+            *base_count = f->base[f->lowest] >> 4 * place & 15;
+            *own_count = own >> 4 * place & 15;
+            return ones;
+        }
+    }
+}
+
+static int64_t check_wide(struct search *f, size_t codes_len, size_t pairs_len, size_t room, uint64_t *leak,
+                          size_t leak_len, uint64_t *ones, size_t ones_len, uint64_t *bad, size_t bad_len)
+{
+    const struct header *h = f->h;
+    int no = ask_block(h, f->codes, codes_len);
+    if (no != 0)
+        return -no;
+    if (pairs_len % 2 != 0)
+        return -21;
+    for (size_t i = 0; i < pairs_len; i++) {
+        if (f->pairs[i] >= h->wires)
+            return -21;
+    }
+    if (!reach(h, f->operands, f->results, &f->sets))
+        return -12;
+    for (size_t j = 0; j < pairs_len / 2; j++) {
+        struct reaching r;
+        if (!unite(&f->sets, f->pairs[2 * j], f->pairs[2 * j + 1], &r))
+            return -12;
+    }
+
+    f->bits = h->in.bits - 2;
+    f->lowest = h->wires;
+    f->public = memchr(f->codes, 0, f->bits) != NULL;
+    memset(f->colours, 0, f->bits);
+    run_setting_0(f);
+    search_wires(f);
+    search_pairs(f, pairs_len / 2, room);
+
+    bool leaks = f->lowest < h->wires, pair_bad = f->first < pairs_len / 2;
+    uint64_t base_count = 0, own_count = 0;
+    struct reaching found = {0};
+    if (leaks)
+        found = witness(f, &base_count, &own_count);
+    if ((leaks && (leak_len < 4 || ones_len < found.count)) || (pair_bad && bad_len < 1))
+        return -14;
+    if (leaks) {
+        memcpy(leak, (uint64_t[4]){f->lowest, found.count, base_count, own_count}, 4 * sizeof *leak);
+        for (unsigned j = 0; j < found.count; j++)
+            ones[j] = found.at[j];
+    }
+    if (pair_bad)
+        bad[0] = f->first;
+    return leaks + 2 * pair_bad;
+}
+
+int64_t baseline_check_wide(const uint8_t *text, size_t text_len,
+                            const uint8_t *codes, size_t codes_len,
+                            const uint32_t *pairs, size_t pairs_len,
+                            uint64_t *leak, size_t leak_len,
+                            uint64_t *ones, size_t ones_len,
+                            uint64_t *bad, size_t bad_len,
+                            uint64_t *operands, size_t operands_len,
+                            uint64_t *results, size_t results_len,
+                            uint8_t *marks, size_t marks_len,
+                            uint64_t *words, size_t words_len,
+                            uint64_t *base, size_t base_len,
+                            uint64_t *bases, size_t bases_len,
+                            uint64_t *set0, size_t set0_len,
+                            uint64_t *set1, size_t set1_len,
+                            uint64_t *set2, size_t set2_len,
+                            uint64_t *set3, size_t set3_len,
+                            uint8_t *paints, size_t paints_len,
+                            uint8_t sizes)
+{
+    const struct limits *l = &large_limits[sizes != 0];
+    struct header h;
+    int64_t answer;
+    if (operands_len < l->table || results_len < l->table || marks_len < l->table || words_len < l->table
+        || base_len < l->table || bases_len < l->table || set0_len < l->table || set1_len < l->table
+        || set2_len < l->table || set3_len < l->table || paints_len < l->table)
+        answer = -1;
+    else
+        answer = -read_netlist(l, text, text_len, &h, operands, results, marks);
+    if (answer == 0) {
+        struct search f = {.h = &h, .operands = operands, .results = results, .codes = codes, .pairs = pairs,
+                           .words = words, .base = base, .bases = bases, .colours = paints, .served = marks,
+                           .sets = {{set0, set1, set2, set3}}};
+        answer = check_wide(&f, codes_len, pairs_len, l->table, leak, leak_len, ones, ones_len, bad, bad_len);
+    }
+    memset(operands, 0, operands_len * sizeof *operands);
+    memset(results, 0, results_len * sizeof *results);
+    memset(marks, 0, marks_len);
+    memset(words, 0, words_len * sizeof *words);
+    memset(base, 0, base_len * sizeof *base);
+    memset(bases, 0, bases_len * sizeof *bases);
+    memset(set0, 0, set0_len * sizeof *set0);
+    memset(set1, 0, set1_len * sizeof *set1);
+    memset(set2, 0, set2_len * sizeof *set2);
+    memset(set3, 0, set3_len * sizeof *set3);
+    memset(paints, 0, paints_len);
     return answer;
 }
 
@@ -1335,14 +1698,6 @@ int64_t baseline_from_aiger(const uint8_t *text, size_t text_len,
 }
 
 /* ---- Join */
-
-/* Questions 10 and 11, as for Check. */
-static int ask_block(const struct header *h, const uint8_t *codes, size_t codes_len)
-{
-    if (h->in.count < 2 || h->in.width[h->in.count - 1] != 2)
-        return 10;
-    return list_good(codes, codes_len, h->in.bits - 2, 3) ? 0 : 11;
-}
 
 /* Question 25. */
 static bool blocks_meet(const struct header *first, const uint8_t *ends, size_t ends_len, const struct header *second,

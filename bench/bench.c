@@ -36,15 +36,44 @@ struct services {
     __typeof__(&fidrovelj_twins) twins;
     __typeof__(&fidrovelj_join) join;
     __typeof__(&fidrovelj_check_pairs) check_pairs;
+    __typeof__(&fidrovelj_check_wide) check_wide;
 };
 
-static const struct services library = {fidrovelj_rewrite, fidrovelj_from_old, fidrovelj_to_old, fidrovelj_run, fidrovelj_run64,
-                                        fidrovelj_mask,    fidrovelj_check,    fidrovelj_twins, fidrovelj_join, fidrovelj_check_pairs};
-static const struct services baseline = {baseline_rewrite, baseline_from_old, baseline_to_old, baseline_run, baseline_run64,
-                                         baseline_mask,    baseline_check,    baseline_twins, baseline_join,
-                                         baseline_check_pairs};
+/* The services of one side by its prefix. */
+#define SERVICES_OF(side)                  \
+    {                                      \
+        .rewrite = side##_rewrite,         \
+        .from_old = side##_from_old,       \
+        .to_old = side##_to_old,           \
+        .run = side##_run,                 \
+        .run64 = side##_run64,             \
+        .mask = side##_mask,               \
+        .twins = side##_twins,             \
+        .check = side##_check,             \
+        .check_pairs = side##_check_pairs, \
+        .check_wide = side##_check_wide,   \
+        .join = side##_join,               \
+    }
 
-enum service { READ_LARGE, READ_SMALL, REWRITE, FROM_OLD, TO_OLD, RUN, RUN64, MASK, MASK_UNWRITTEN, TWINS, CHECK, JOIN, CHECK_PAIRS };
+static const struct services library = SERVICES_OF(fidrovelj);
+static const struct services baseline = SERVICES_OF(baseline);
+
+enum service {
+    READ_LARGE,
+    READ_SMALL,
+    REWRITE,
+    FROM_OLD,
+    TO_OLD,
+    RUN,
+    RUN64,
+    MASK,
+    MASK_UNWRITTEN,
+    TWINS,
+    CHECK,
+    CHECK_PAIRS,
+    CHECK_WIDE,
+    JOIN,
+};
 
 /* A call, and the work it stands for. */
 struct call {
@@ -58,8 +87,9 @@ struct call {
 };
 
 static uint64_t operands[TABLE], results[TABLE], words[TABLE], base[TABLE], bases[TABLE], leak[4], bad[1], word_list[TABLE], words_out[TABLE];
+static uint64_t sets[4][TABLE], ones[12];
 static uint32_t wires[TABLE], wires_out[TABLE];
-static uint8_t given[TABLE], out[ROOM], list_out[TABLE], list[TABLE], wanted[TABLE];
+static uint8_t paints[TABLE], given[TABLE], out[ROOM], list_out[TABLE], list[TABLE], wanted[TABLE];
 
 static void die(const char *what, const char *name)
 {
@@ -103,6 +133,10 @@ static int64_t perform(const struct services *s, const struct call *c)
     case CHECK_PAIRS:
         return s->check_pairs(c->text, c->length, list, c->inputs - 2, c->pairs, c->pairs_len, leak, 4, bad, 1,
                               operands, n, results, n, given, n, words, n, base, n, bases, n, c->sizes);
+    case CHECK_WIDE:
+        return s->check_wide(c->text, c->length, list, c->inputs - 2, c->pairs, c->pairs_len, leak, 4, ones, 12, bad, 1,
+                             operands, n, results, n, given, n, words, n, base, n, bases, n, sets[0], n, sets[1], n,
+                             sets[2], n, sets[3], n, paints, n, c->sizes);
     default:
         return s->check(c->text, c->length, list, c->inputs - 2, leak, 4, operands, n, results, n, given, n, words, n,
                         base, n, c->sizes);
@@ -217,6 +251,80 @@ static struct call with_pairs(struct call c, size_t many)
     return c;
 }
 
+/* The check of bytes in, bytes out with a register for each bit of a byte in and each of its byte out, as far as they
+ * are clean. */
+static struct call with_registers(struct call c)
+{
+    char name[sizeof c.name];
+    uint32_t wire_count = (uint32_t)strtoul(strchr((const char *)c.text, ' '), NULL, 10);
+    size_t kept = 0, bytes = c.outputs / 8;
+    c.pairs = malloc(bytes * 64 * 2 * sizeof *c.pairs);
+    for (uint32_t i = 0; i < bytes * 64; i++) {
+        struct call one = c;
+        one.pairs = c.pairs + 2 * kept;
+        one.pairs_len = 2;
+        one.pairs[0] = i / 8;
+        one.pairs[1] = wire_count - (uint32_t)c.outputs + i / 64 * 8 + i % 8;
+        kept += perform(&baseline, &one) == 0;
+    }
+    c.pairs_len = 2 * kept;
+    snprintf(name, sizeof name, "%.30s, %zu pairs", c.name, kept);
+    memcpy(c.name, name, sizeof name);
+    return c;
+}
+
+/* The check of so many copies of a masked netlist beside each other, over one mask pair, the lines of all in turn. */
+static struct call copies(struct call one, unsigned many)
+{
+    static char text[ROOM];
+    char *line = strchr(strchr(strchr((char *)one.text, '\n') + 1, '\n') + 1, '\n') + 2;
+    unsigned long gates = strtoul((char *)one.text, NULL, 10), bits = one.inputs - 2, all = bits * many;
+    size_t at = (size_t)snprintf(text, sizeof text, "%lu %lu\n2 %lu 2\n1 1\n\n", gates * many, all + 2 + gates * many, all);
+    for (; *line != '\0'; line = strchr(line, '\n') + 1) {
+        for (unsigned long copy = 0; copy < many; copy++) {
+            char *word = line;
+            unsigned long operands_of = strtoul(word, &word, 10), numbers = operands_of + 1;
+            at += (size_t)snprintf(text + at, sizeof text - at, "%lu %lu", operands_of, strtoul(word, &word, 10));
+            for (; numbers > 0; numbers--) {
+                unsigned long wire = strtoul(word, &word, 10);
+                wire = wire < bits ? copy * bits + wire : wire < bits + 2 ? all + wire - bits : all + 2 + copy * gates + wire - bits - 2;
+                at += (size_t)snprintf(text + at, sizeof text - at, " %lu", wire);
+            }
+            at += (size_t)snprintf(text + at, sizeof text - at, "%.5s", word);
+        }
+    }
+    char name[64];
+    snprintf(name, sizeof name, "%u of %.40s", many, one.name);
+    struct call c = call(CHECK_WIDE, name, text, at);
+    c.sizes = all + 2 + gates * many > FIDROVELJ_LARGE_TABLE ? FIDROVELJ_WHOLE : FIDROVELJ_OLD;
+    free(one.text);
+    return c;
+}
+
+/* The check of so many products of twelve bits each, drawn at random of forty: sets that overlap. */
+static struct call overlapping(unsigned many)
+{
+    static char text[ROOM];
+    char name[64];
+    uint64_t state = 1;
+    int wire = 42, at = snprintf(text, sizeof text, "%u %u\n2 40 2\n1 1\n\n", 11 * many, 42 + 11 * many);
+    for (unsigned i = 0; i < many; i++) {
+        uint64_t drawn = 0;
+        for (int count = 0, last = 0; count < 12;) {
+            state = state * 6364136223846793005U + 1442695040888963407U;
+            int bit = (int)((state >> 33) % 40);
+            if (drawn >> bit & 1)
+                continue;
+            drawn |= 1ULL << bit;
+            if (count++ > 0)
+                at += snprintf(text + at, sizeof text - (size_t)at, "2 1 %d %d %d AND\n", last, bit, wire++);
+            last = count > 1 ? wire - 1 : bit;
+        }
+    }
+    snprintf(name, sizeof name, "%u random sets of 12 of 40 bits", many);
+    return call(CHECK_WIDE, name, text, (size_t)at);
+}
+
 /* The same call with the limits for whole ciphers. */
 static struct call whole(struct call c)
 {
@@ -262,20 +370,23 @@ static void compare(const struct call *c)
     static uint8_t text[ROOM], entries[TABLE];
     static uint64_t lanes[TABLE];
     static uint32_t twins[TABLE];
-    uint64_t numbers[4], number;
+    uint64_t numbers[4], setting[12], number;
     memset(out, 1, sizeof out);
     memset(bad, 1, sizeof bad);
     memset(list_out, 1, sizeof list_out);
     memset(words_out, 1, sizeof words_out);
     memset(wires_out, 1, sizeof wires_out);
     memset(leak, 1, sizeof leak);
+    memset(ones, 1, sizeof ones);
     int64_t expected = perform(&baseline, c);
     memcpy(text, out, sizeof out);
     memcpy(entries, list_out, sizeof list_out);
     memcpy(lanes, words_out, sizeof words_out);
     memcpy(twins, wires_out, sizeof wires_out);
     memcpy(numbers, leak, sizeof leak);
+    memcpy(setting, ones, sizeof ones);
     number = bad[0];
+    memset(ones, 1, sizeof ones);
     memset(bad, 1, sizeof bad);
     memset(out, 1, sizeof out);
     memset(list_out, 1, sizeof list_out);
@@ -288,7 +399,7 @@ static void compare(const struct call *c)
         die("answers are not as they should be", c->name);
     if (memcmp(text, out, sizeof out) != 0 || memcmp(entries, list_out, sizeof list_out) != 0
         || memcmp(lanes, words_out, sizeof words_out) != 0 || memcmp(twins, wires_out, sizeof wires_out) != 0
-        || memcmp(numbers, leak, sizeof leak) != 0
+        || memcmp(numbers, leak, sizeof leak) != 0 || memcmp(setting, ones, sizeof ones) != 0
         || number != bad[0])
         die("results differ", c->name);
 }
@@ -433,6 +544,44 @@ static void join(const char *folder, const char *name, double s)
     struct call joined = masked(JOIN, circuit(MASK, folder, name));
     snprintf(joined.name, sizeof joined.name, "%.40s, joined", name);
     times(bench(joined, s), twice, "  times rewriting twice");
+}
+
+/* A masked circuit checked, and what that takes beyond reading it. */
+static void many_inputs(const char *folder, const char *name, double s)
+{
+    struct call reading = masked(READ_LARGE, circuit(MASK, folder, name));
+    snprintf(reading.name, sizeof reading.name, "%.40s, reading", name);
+    struct line read = bench(reading, s);
+    beyond(bench(masked(CHECK_WIDE, circuit(MASK, folder, name)), s), read);
+}
+
+static struct call first_public(struct call c)
+{
+    char name[sizeof c.name];
+    snprintf(name, sizeof name, "%.40s, a bit public", c.name);
+    memcpy(c.name, name, sizeof name);
+    return c;
+}
+
+/* What a check costs as netlists grow: copies of the masked AES S-box, with the time less a call on an empty text,
+ * which clears the tables, in nanoseconds a wire. */
+static void many_inputs_growth(const char *folder, double s)
+{
+    static const unsigned many[] = {3, 6, 13, 25, 49, 250, 2200};
+    printf("\n%-24s %8s %10s %10s   %6s   %8s %8s\n", "masked AES S-boxes", "wires", "library", "C", "best", "ns a wire", "C");
+    for (size_t i = 0; i < sizeof many / sizeof *many; i++) {
+        struct call c = copies(masked(CHECK_WIDE, circuit(MASK, folder, "aes_sbox")), many[i]), empty = c;
+        double wire_count = strtod(strchr((const char *)c.text, ' '), NULL);
+        empty.length = 0;
+        measure(&empty, s / 4);
+        double clear = best(&ours), clear_c = best(&theirs);
+        compare(&c);
+        measure(&c, s);
+        printf("%-24u %8.0f %10.1f %10.1f   %6.2f   %8.1f %8.1f\n", many[i], wire_count, best(&ours), best(&theirs),
+               best(&ours) / best(&theirs), (best(&ours) - clear) * 1000 / wire_count, (best(&theirs) - clear_c) * 1000 / wire_count);
+        fflush(stdout);
+        free(c.text);
+    }
 }
 
 /* A pass of sixty-four runs: its settings a second, its time in single runs, and what it saves beside
@@ -590,8 +739,23 @@ int main(int argc, char **argv)
     times(bench(with_pairs(masked(CHECK, circuit(MASK, folder, "aes_sbox")), 1000), s), sbox, "  times the check of its wires");
     times(bench(with_pairs(masked(CHECK, circuit(MASK, folder, "mult6")), 1000), s), mult6, "  times the check of its wires");
 
+    title("Checking netlists with many inputs");
+    many_inputs(folder, "present_round", s);
+    many_inputs(folder, "simon64_round", s);
+    many_inputs(folder, "ascon_sub_layer", s);
+    many_inputs(folder, "aes_sub_bytes", s);
+    bench(with_registers(masked(CHECK_WIDE, circuit(MASK, folder, "aes_sub_bytes"))), s);
+    list[0] = 0;
+    bench(first_public(masked(CHECK_WIDE, circuit(MASK, folder, "aes_sub_bytes"))), s);
+    list[0] = 1;
+    memset(list, 0, 40);
+    bench(overlapping(10), s);
+    bench(overlapping(100), s);
+    memset(list, 1, 40);
+
     call_clock = CLOCK_PROCESS_CPUTIME_ID;
     whole_cipher(argv[2], s);
     growth(s);
+    many_inputs_growth(folder, s);
     return EXIT_SUCCESS;
 }

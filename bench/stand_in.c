@@ -100,6 +100,31 @@ int64_t fidrovelj_check_pairs(const uint8_t *text, size_t text_len,
                                 base, base_len, bases, bases_len, sizes);
 }
 
+int64_t fidrovelj_check_wide(const uint8_t *text, size_t text_len,
+                             const uint8_t *codes, size_t codes_len,
+                             const uint32_t *pairs, size_t pairs_len,
+                             uint64_t *leak, size_t leak_len,
+                             uint64_t *ones, size_t ones_len,
+                             uint64_t *bad, size_t bad_len,
+                             uint64_t *operands, size_t operands_len,
+                             uint64_t *results, size_t results_len,
+                             uint8_t *marks, size_t marks_len,
+                             uint64_t *words, size_t words_len,
+                             uint64_t *base, size_t base_len,
+                             uint64_t *bases, size_t bases_len,
+                             uint64_t *set0, size_t set0_len,
+                             uint64_t *set1, size_t set1_len,
+                             uint64_t *set2, size_t set2_len,
+                             uint64_t *set3, size_t set3_len,
+                             uint8_t *paints, size_t paints_len,
+                             uint8_t sizes)
+{
+    return baseline_check_wide(text, text_len, codes, codes_len, pairs, pairs_len, leak, leak_len, ones, ones_len,
+                               bad, bad_len, operands, operands_len, results, results_len, marks, marks_len, words,
+                               words_len, base, base_len, bases, bases_len, set0, set0_len, set1, set1_len, set2,
+                               set2_len, set3, set3_len, paints, paints_len, sizes);
+}
+
 int64_t fidrovelj_from_aiger(const uint8_t *text, size_t text_len,
                              uint8_t *out, size_t out_len,
                              uint64_t *operands, size_t operands_len,

@@ -202,6 +202,34 @@ int64_t fidrovelj_check_pairs(const uint8_t *text, size_t text_len,
                               uint64_t *bases, size_t bases_len,
                               uint8_t sizes);
 
+/* Check of netlists with many inputs: decides what Check with pairs decides, of netlists of any number of input bits, as long as
+ * at most twelve of them, the mask pair aside, reach each wire and each listed pair through gate lines (public bits count; EQ is
+ * reached by none). Questions 1 to 11, then 21, then 12: more than twelve reach some wire or some listed pair. An empty list of
+ * pairs is a check of the wires alone. Both answers are those that Check with pairs would give without its question 12: returns 0
+ * where all is clean, 1 for a leak on a wire, 2 for a bad pair, and 3 for both. A leak's four numbers go to leak: its wire, how
+ * many input bits are one in its setting, the count of the setting with the same public bits and zero secrets, and its own. Those
+ * input bits go to ones, rising: one to twelve. The number of pairs before the first bad one goes to the first entry of bad. A
+ * list too short for what it is to be told, less than 4 entries of leak, the ones of ones, 1 of bad, is refused by 14, and then
+ * none is written. set0 to set3, paints are working tables as the others: at least 18,431 entries each (899,999). */
+int64_t fidrovelj_check_wide(const uint8_t *text, size_t text_len,
+                             const uint8_t *codes, size_t codes_len,
+                             const uint32_t *pairs, size_t pairs_len,
+                             uint64_t *leak, size_t leak_len,
+                             uint64_t *ones, size_t ones_len,
+                             uint64_t *bad, size_t bad_len,
+                             uint64_t *operands, size_t operands_len,
+                             uint64_t *results, size_t results_len,
+                             uint8_t *marks, size_t marks_len,
+                             uint64_t *words, size_t words_len,
+                             uint64_t *base, size_t base_len,
+                             uint64_t *bases, size_t bases_len,
+                             uint64_t *set0, size_t set0_len,
+                             uint64_t *set1, size_t set1_len,
+                             uint64_t *set2, size_t set2_len,
+                             uint64_t *set3, size_t set3_len,
+                             uint8_t *paints, size_t paints_len,
+                             uint8_t sizes);
+
 /* From AIGER: reads an ASCII AIGER file (its first four bytes are "aag ") and writes the netlist made
  * of it to out, in the written form. The inputs form one value in the order of the input lines, the
  * outputs one value. Before each AND gate stands an EQ for each constant operand and an INV for each

@@ -466,6 +466,80 @@ static void pairs_of_wires(void)
     expect(all(bases, sizeof bases, 0) && all(base, sizeof base, 0) && all(words, sizeof words, 0), "the tables are zero");
 }
 
+/* ---- netlists with many inputs */
+
+static uint64_t sets[4][LARGE], wide_leak[5], wide_ones[13], wide_bad[2];
+static uint8_t paints[LARGE];
+
+/* The answer with lists of these lengths; what is not told stays as it was, and the tables are zero. */
+static int64_t check_wide(const char *text, uint8_t code, size_t bits, const uint32_t *pairs, size_t entries,
+                          size_t leak_room, size_t ones_room, size_t bad_room)
+{
+    static uint8_t codes[LARGE];
+    fill();
+    memset(codes, code, sizeof codes);
+    memset(bases, PATTERN, sizeof bases);
+    memset(sets, PATTERN, sizeof sets);
+    memset(paints, PATTERN, sizeof paints);
+    memset(wide_leak, PATTERN, sizeof wide_leak);
+    memset(wide_ones, PATTERN, sizeof wide_ones);
+    memset(wide_bad, PATTERN, sizeof wide_bad);
+    int64_t answer = fidrovelj_check_wide((const uint8_t *)text, strlen(text), codes, bits, pairs, entries, wide_leak,
+                                          leak_room, wide_ones, ones_room, wide_bad, bad_room, operands, LARGE, results,
+                                          LARGE, given, LARGE, words, LARGE, base, LARGE, bases, LARGE, sets[0], LARGE,
+                                          sets[1], LARGE, sets[2], LARGE, sets[3], LARGE, paints, LARGE, FIDROVELJ_OLD);
+    expect(all(operands, sizeof operands, 0) && all(results, sizeof results, 0) && all(given, sizeof given, 0)
+               && all(words, sizeof words, 0) && all(base, sizeof base, 0) && all(bases, sizeof bases, 0)
+               && all(sets, sizeof sets, 0) && all(paints, sizeof paints, 0),
+           "many inputs: the tables are zero");
+    size_t told = answer > 0 && answer & 1 ? 4 : 0, one = told > 0 ? (size_t)wide_leak[1] : 0,
+           pair = answer > 0 && answer & 2 ? 1 : 0;
+    expect(all(wide_leak + told, sizeof wide_leak - told * 8, PATTERN) && one <= 12
+               && all(wide_ones + one, sizeof wide_ones - one * 8, PATTERN)
+               && all(wide_bad + pair, sizeof wide_bad - pair * 8, PATTERN),
+           "many inputs: only what is told is written");
+    return answer;
+}
+
+static void many_inputs(void)
+{
+    /* Forty bits, then m0 and m1, which are wires 40 and 41; masks come off bits 37 and 9, and wire 42 is their product. */
+    static const char open[] = "3 45\n2 40 2\n1 1\n2 1 37 40 43 XOR\n2 1 9 40 44 XOR\n2 1 43 44 42 AND\n";
+    static const char kept[] = "1 43\n2 40 2\n1 1\n2 1 37 41 42 XOR\n";
+    static const uint32_t good_then_bad[] = {37, 41, 37, 40}, odd[] = {0, 1, 2}, no_wire[] = {0, 43};
+
+    expect(check_wide(kept, 1, 40, odd, 0, 0, 0, 0) == 0, "many inputs: clean, nothing to tell");
+    expect(check_wide(open, 1, 40, odd, 0, 4, 2, 0) == 1, "many inputs: a leak");
+    expect(wide_leak[0] == 42 && wide_leak[1] == 2 && wide_leak[2] == 0 && wide_leak[3] == 4, "many inputs: its numbers");
+    expect(wide_ones[0] == 9 && wide_ones[1] == 37, "many inputs: its ones, rising");
+    expect(check_wide(open, 1, 40, odd, 0, 4, 1, 1) == -14, "many inputs: a list of one for two ones");
+    expect(check_wide(open, 1, 40, odd, 0, 3, 12, 1) == -14, "many inputs: a list of three for the leak");
+    expect(check_wide(kept, 1, 40, good_then_bad, 4, 0, 0, 1) == 2 && wide_bad[0] == 1, "many inputs: a bad pair");
+    expect(check_wide(kept, 1, 40, good_then_bad, 4, 4, 12, 0) == -14, "many inputs: no room for the bad pair");
+    expect(check_wide(open, 1, 40, good_then_bad, 4, 4, 12, 1) == 3 && wide_bad[0] == 1 && wide_leak[0] == 42,
+           "many inputs: both");
+    expect(check_wide(open, 1, 40, good_then_bad, 4, 4, 12, 0) == -14, "many inputs: both, one of them without room");
+    expect(check_wide(open, 0, 40, odd, 0, 0, 0, 0) == 0, "many inputs: public bits");
+    expect(check_wide(kept, 1, 40, odd, 3, 4, 12, 1) == -21, "many inputs: an odd list");
+    expect(check_wide(kept, 1, 40, no_wire, 2, 4, 12, 1) == -21, "many inputs: wire W");
+    expect(check_wide(kept, 1, 39, odd, 3, 4, 12, 1) == -11 && check_wide(kept, 4, 40, odd, 3, 4, 12, 1) == -11,
+           "many inputs: 11 before 21");
+    expect(check_wide(and_gate, 1, 0, odd, 3, 4, 12, 1) == -10, "many inputs: no mask pair");
+
+    /* A line of ANDs over the first bits: twelve and thirteen of them, and a pair that has thirteen together. */
+    for (int reaching = 12; reaching <= 13; reaching++) {
+        char text[1000];
+        int at = snprintf(text, sizeof text, "%d %d\n2 20 2\n1 1\n", reaching - 1, 22 + reaching - 1);
+        for (int bit = 1; bit < reaching; bit++)
+            at += snprintf(text + at, sizeof text - (size_t)at, "2 1 %d %d %d AND\n", bit == 1 ? 0 : 20 + bit, bit, 21 + bit);
+        const uint32_t last = (uint32_t)(20 + reaching);
+        const uint32_t within[] = {last, 11}, beyond[] = {last, 11, last, 12};
+        expect(check_wide(text, 0, 20, within, 2, 4, 12, 1) == (reaching == 12 ? 0 : -12), "many inputs: twelve, thirteen");
+        expect(check_wide(text, 0, 20, beyond, 4, 4, 12, 1) == -12, "many inputs: a pair of thirteen");
+        expect(check_wide(text, 0, 20, beyond, 3, 4, 12, 1) == -21, "many inputs: 21 before 12");
+    }
+}
+
 /* ---- the limits for whole ciphers */
 
 #define WHOLE FIDROVELJ_WHOLE_LARGE_TABLE
@@ -596,6 +670,7 @@ int main(void)
     source_wires();
     old_dialect();
     pairs_of_wires();
+    many_inputs();
     whole_limits();
     equations();
     printf("C: %d checks, %d failed\n", checks, failures);

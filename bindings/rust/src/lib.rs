@@ -5,7 +5,7 @@
 //! - [`mask`] turns a source netlist into a masked one, in which every bit travels under a mask,
 //! - [`twins`] says where each source wire stands in the masked netlist,
 //! - [`check`] says whether a netlist is clean, or names a leak on one of its wires; [`check_pairs`] also
-//!   whether listed pairs of wires leak together,
+//!   whether listed pairs of wires leak together, and [`check_wide`] both for netlists with many inputs,
 //! - [`run`] evaluates a netlist, [`run64`] on sixty-four settings at once,
 //! - [`rewrite`] gives a netlist in its written form; [`from_old`] and [`to_old`] convert from and to the older
 //!   Bristol dialect,
@@ -44,6 +44,7 @@ mod pairs;
 mod tables;
 mod twins;
 mod verilog;
+mod wide;
 mod words;
 
 pub use aiger::{from_aiger, from_aiger_lent};
@@ -53,6 +54,7 @@ pub use pairs::{check_pairs, check_pairs_lent, Pairs};
 pub use tables::{Sizes, Tables};
 pub use twins::{twins, twins_lent, Twin};
 pub use verilog::{from_verilog, from_verilog_lent, NameTables};
+pub use wide::{check_wide, check_wide_lent, Wide, WideLeak};
 pub use words::{from_words, to_words};
 
 /// The examples of README.md and docs/LIBRARY.md, as documentation tests.
@@ -74,7 +76,8 @@ struct Pages;
 /// 9. Is each result a wire that is no input and not yet given?
 /// 10. Check, Join: is the last of two or more input values of width 2?
 /// 11. Has the input list one fitting entry for each input bit?
-/// 12. Check: are there at most 12 input bits besides the mask pair?
+/// 12. Check: are there at most 12 input bits besides the mask pair? ([`check_wide`], after 21: do at most 12 of
+///     them reach each wire and each listed pair?)
 /// 13. Mask: has the wanted list one fitting entry for each output bit?
 /// 14. Can each result buffer hold its whole result?
 /// 15. To the older dialect, after 9: only XOR, AND and INV, at most two input values and one output value?

@@ -20,7 +20,7 @@ impl Sizes {
         }
     }
 
-    /// The most wires of Check, Join, Run, Run64 and Rewrite: as many entries question 1 asks of each of their tables.
+    /// The most wires of the checks, Join, Run, Run64 and Rewrite: as many entries question 1 asks of each of their tables.
     pub const fn large(self) -> usize {
         match self {
             Sizes::Old => 18_431,
@@ -57,6 +57,7 @@ pub struct Tables {
     pub(crate) words: Vec<u64>,
     pub(crate) base: Vec<u64>,
     pub(crate) bases: Vec<u64>,
+    pub(crate) sets: [Vec<u64>; 4],
     pub(crate) wires: Vec<u32>,
     pub(crate) links: Vec<u64>,
     pub(crate) states: Vec<u32>,
@@ -66,12 +67,12 @@ pub struct Tables {
 }
 
 impl Tables {
-    /// Tables for the old limits: about 1.7 million bytes.
+    /// Tables for the old limits: about 2.1 million bytes.
     pub fn new() -> Tables {
         Tables::of(Sizes::Old)
     }
 
-    /// Tables for whole ciphers: about 80 million bytes.
+    /// Tables for whole ciphers: about 107 million bytes.
     ///
     /// ```
     /// use fidrovelj::{rewrite, Refused, Tables};
@@ -94,6 +95,7 @@ impl Tables {
             words: vec![0; large],
             base: vec![0; large],
             bases: vec![0; large],
+            sets: [(); 4].map(|()| vec![0; large]),
             wires: vec![0; small],
             links: vec![0; 8 * small],
             states: vec![0; 8 * small],

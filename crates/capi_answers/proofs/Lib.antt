@@ -1,3 +1,4 @@
 -- What the proofs of several functions use.
 mod Signed
 pub mod Rooms
+pub mod Ones

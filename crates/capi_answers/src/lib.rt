@@ -1,6 +1,7 @@
 // What a program in C or Rust gets for an answer: one number, at least 0 for a result and minus the number of the refusing question
 // otherwise, and the numbers of a leak or of a bad pair at the front of a lent list.
 pub mod pairs;
+pub mod wide;
 
 use check_netlist::Checked;
 use netlist::Answer;

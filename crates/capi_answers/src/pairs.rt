@@ -31,7 +31,7 @@ fn bad_size(p: PairsVerdict) -> usize
 }
 
 // Question 14 of the lists for the numbers of both answers.
-fn room_for(leak: usize, bad: usize, a: CheckedPairs) -> CheckedPairs
+pub fn room_for(leak: usize, bad: usize, a: CheckedPairs) -> CheckedPairs
     ensures { λ r. ⌜ r ≡ roomFor leak bad a ⌝ }
 {
     match a {

@@ -5,29 +5,34 @@ use mathlib.Core.List.{List}
 use Prim.Native.Nat.{ℕ, _+_, _*_, _<_}
 use native.Mathlib.Omega.{arith}
 use Rattle.netlist.specs.Netlist.{Netlist}
-use Rattle.netlist.specs.Leak.{Secret}
-use Rattle.netlist.proofs.Secrets.{base-first}
+use Rattle.netlist.specs.Leak.{Secret, count}
+use Rattle.check_counts.specs.Paint.{codesOf, paint}
 use Rattle.check_counts.specs.Base.{countIn}
 use Rattle.check_counts.specs.Block.{Counted}
+use Rattle.check_counts.proofs.Paints.{zero-base}
 
 -- the same counts held in another way
-pub counted-same : {N : Netlist} {whole : Bool} {codes : List ℕ} {own held : ℕ → ℕ → ℕ} {block : ℕ} → Counted N whole codes own block
-    → ((w s : ℕ) → s < 16 → held w s ≡ own w s) → Counted N whole codes held block
+pub counted-same : {N : Netlist} {whole : Bool} {ps : List ℕ} {own held : ℕ → ℕ → ℕ} {block : ℕ} → Counted N whole ps own block
+    → ((w s : ℕ) → s < 16 → held w s ≡ own w s) → Counted N whole ps held block
 counted-same c h = record { each = λ w s l. h w s l ∙ c .each w s l }
 
 -- without public bits all blocks are compared with the same counts
-module _ (N : Netlist) (codes : List ℕ) (secret : Secret codes) where
-  pub same-base : {held : ℕ → ℕ → ℕ} (b block : ℕ) → Counted N false codes held b → Counted N false codes held block
+module _ (N : Netlist) (ps : List ℕ) (secret : Secret (codesOf ps)) where
+  -- every base is the setting of number 0
+  base-first : (w s : ℕ) → countIn N false ps w s ≡ countIn N true ps w 0
+  base-first w s = ap (count N (codesOf ps) w) (zero-base ps secret (paint ps s))
+
+  pub same-base : {held : ℕ → ℕ → ℕ} (b block : ℕ) → Counted N false ps held b → Counted N false ps held block
   same-base b block c = record {
-    each = λ w s l. c .each w s l ∙ base-first N codes secret w (b * 16 + s) ∙ sym (base-first N codes secret w (block * 16 + s));
+    each = λ w s l. c .each w s l ∙ base-first w (b * 16 + s) ∙ sym (base-first w (block * 16 + s));
   }
 
   -- those of the first setting
-  pub first-base : {own held : ℕ → ℕ → ℕ} {b : ℕ} (block : ℕ) → b ≡ 0 → Counted N true codes own b → ((w s : ℕ) → s < 16 → held w s ≡ own w 0)
-      → Counted N false codes held block
+  pub first-base : {own held : ℕ → ℕ → ℕ} {b : ℕ} (block : ℕ) → b ≡ 0 → Counted N true ps own b → ((w s : ℕ) → s < 16 → held w s ≡ own w 0)
+      → Counted N false ps held block
   first-base block e c h = record {
     each = λ w s l.
         h w s l ∙ c .each w 0 (omega arith)
-        ∙ ap (λ (b : ℕ). countIn N true codes w (b * 16 + 0)) e
-        ∙ sym (base-first N codes secret w (block * 16 + s));
+        ∙ ap (λ (b : ℕ). countIn N true ps w (b * 16 + 0)) e
+        ∙ sym (base-first w (block * 16 + s));
   }

@@ -1,5 +1,5 @@
 -- The input wires under the mask setting and the input setting of a number, bit by bit.
-use mathlib.Core.Path.{_≡_, refl, ap, _∙_}
+use mathlib.Core.Path.{_≡_, refl, sym, ap, ap₂, _∙_}
 use mathlib.Core.Bool.{Bool, true, false}
 use mathlib.Core.List.{List, [], _∷_}
 use Prim.Native.Nat.{ℕ, zero, suc, _+_, _/_, _<_}
@@ -8,21 +8,20 @@ use native.Mathlib.Numerals.{add-one}
 use native.Mathlib.Omega.{arith}
 use lib.ListN.{length, getD}
 use Rattle.netlist.specs.Eval.{differs}
-use Rattle.netlist.specs.Leak.{maskOf, masked, setting}
+use Rattle.netlist.specs.Leak.{maskOf, masked}
 use Rattle.netlist.proofs.Settings.{publicOnly-at}
 use Rattle.evaluate.specs.Lane.{lane}
+use Rattle.check_counts.specs.Paint.{codeOf, colourOf, codesOf, shade, paint}
 use Rattle.check_counts.specs.Base.{kept, part}
 use Rattle.check_counts.specs.Block.{inputsAt}
+use Rattle.check_counts.proofs.Paints.{length-codesOf, codesOf-at, paint-at}
 
-setting-at : (k s i : ℕ) → i < k → getD (setting k s) i false ≡ lane i s
-setting-at zero s i l = absurd (not-suc-le-zero l)
-setting-at (suc k) s zero l = refl
-setting-at (suc k) s (suc i) l = setting-at k (s / 2) i (le-of-suc-le-suc l)
-
-part-at : (whole : Bool) (codes : List ℕ) (s i : ℕ) → i < length codes
-    → getD (part whole codes (setting (length codes) s)) i false ≡ kept whole (getD codes i 0) (lane i s)
-part-at true codes s i l = setting-at (length codes) s i l
-part-at false codes s i l = publicOnly-at codes (setting (length codes) s) i l ∙ ap (kept false (getD codes i 0)) (setting-at (length codes) s i l)
+part-at : (whole : Bool) (ps : List ℕ) (s i : ℕ) → i < length ps
+    → getD (part whole (codesOf ps) (paint ps s)) i false ≡ kept whole (codeOf (getD ps i 0)) (shade (colourOf (getD ps i 0)) s)
+part-at true ps s i l = paint-at ps s i l
+part-at false ps s i l =
+    publicOnly-at (codesOf ps) (paint ps s) i (rw length-codesOf l)
+    ∙ ap₂ (kept false) (codesOf-at ps i l) (paint-at ps s i l)
 
 module _ (m0 m1 : Bool) where
   masked-long : (es : List ℕ) (x : List Bool) → length (masked m0 m1 es x) ≡ length es + 2
@@ -48,21 +47,25 @@ module _ (m0 m1 : Bool) where
   masked-m1 (e ∷ es) [] = masked-m1 es []
   masked-m1 (e ∷ es) (b ∷ x) = masked-m1 es x
 
-module _ (whole : Bool) (codes : List ℕ) (n : ℕ) where
+module _ (whole : Bool) (ps : List ℕ) (n : ℕ) where
   abbrev x : List Bool
-  x = part whole codes (setting (length codes) (n / 4))
+  x = part whole (codesOf ps) (paint ps (n / 4))
 
-  pub inputs-long : length (inputsAt whole codes n) ≡ length codes + 2
-  inputs-long = masked-long (lane 0 n) (lane 1 n) codes x
+  pub inputs-long : length (inputsAt whole ps n) ≡ length ps + 2
+  inputs-long = masked-long (lane 0 n) (lane 1 n) (codesOf ps) x ∙ ap (λ (k : ℕ). k + 2) (length-codesOf ps)
 
-  pub inputs-at : (i : ℕ) → i < length codes
-      → getD (inputsAt whole codes n) i false ≡ differs (kept whole (getD codes i 0) (lane i (n / 4))) (maskOf (lane 0 n) (lane 1 n) (getD codes i 0))
+  pub inputs-at : (i : ℕ) → i < length ps
+      → getD (inputsAt whole ps n) i false
+      ≡ differs (kept whole (codeOf (getD ps i 0)) (shade (colourOf (getD ps i 0)) (n / 4))) (maskOf (lane 0 n) (lane 1 n) (codeOf (getD ps i 0)))
   inputs-at i l =
-      masked-at (lane 0 n) (lane 1 n) codes x i l
-      ∙ ap (λ (b : Bool). differs b (maskOf (lane 0 n) (lane 1 n) (getD codes i 0))) (part-at whole codes (n / 4) i l)
+      masked-at (lane 0 n) (lane 1 n) (codesOf ps) x i (rw length-codesOf l)
+      ∙ ap₂ (λ (b : Bool) (e : ℕ). differs b (maskOf (lane 0 n) (lane 1 n) e)) (part-at whole ps (n / 4) i l) (codesOf-at ps i l)
 
-  pub inputs-m0 : getD (inputsAt whole codes n) (length codes) false ≡ lane 0 n
-  inputs-m0 = masked-m0 (lane 0 n) (lane 1 n) codes x
+  pub inputs-m0 : getD (inputsAt whole ps n) (length ps) false ≡ lane 0 n
+  inputs-m0 =
+      ap (λ (k : ℕ). getD (inputsAt whole ps n) k false) (sym (length-codesOf ps)) ∙ masked-m0 (lane 0 n) (lane 1 n) (codesOf ps) x
 
-  pub inputs-m1 : getD (inputsAt whole codes n) (length codes + 1) false ≡ lane 1 n
-  inputs-m1 = ap (λ (k : ℕ). getD (inputsAt whole codes n) k false) (add-one (length codes)) ∙ masked-m1 (lane 0 n) (lane 1 n) codes x
+  pub inputs-m1 : getD (inputsAt whole ps n) (length ps + 1) false ≡ lane 1 n
+  inputs-m1 =
+      ap (λ (k : ℕ). getD (inputsAt whole ps n) k false) (add-one (length ps) ∙ ap suc (sym (length-codesOf ps)))
+      ∙ masked-m1 (lane 0 n) (lane 1 n) (codesOf ps) x

@@ -2,10 +2,10 @@
 use Prim.Native.Nat.{ℕ}
 use mathlib.Core.Bool.{Bool, true, false, _&&_}
 use mathlib.Core.List.{List}
-use lib.ListN.{length}
 use Rattle.netlist.specs.Netlist.{Netlist}
 use Rattle.netlist.specs.Mask.{isPublic}
-use Rattle.netlist.specs.Leak.{count, publicOnly, setting}
+use Rattle.netlist.specs.Leak.{count, publicOnly}
+use Rattle.check_counts.specs.Paint.{codesOf, paint}
 
 -- one bit of a setting, or of its base
 abbrev pub kept : Bool → ℕ → Bool → Bool
@@ -17,6 +17,6 @@ abbrev pub part : Bool → List ℕ → List Bool → List Bool
 part true codes x = x
 part false codes x = publicOnly codes x
 
--- the count of wire w in setting number s, or in its base
+-- the count of wire w in the setting that the paints give to a number, or in its base
 abbrev pub countIn : Netlist → Bool → List ℕ → ℕ → ℕ → ℕ
-countIn N whole codes w s = count N codes w (part whole codes (setting (length codes) s))
+countIn N whole paints w s = count N (codesOf paints) w (part whole (codesOf paints) (paint paints s))

@@ -1,24 +1,25 @@
 -- Sixteen input settings by four mask settings in one word: lane j of block b belongs to the number b * 64 + j, whose bits 0 and
--- 1 are the mask bits and whose other bits are the input setting.
+-- 1 are the mask bits and whose other bits are the number that the paints give a setting to.
 use Prim.Native.Nat.{ℕ, _+_, _*_, _/_, _%_, _^_, _<_}
 use mathlib.Core.Bool.{Bool, false}
 use mathlib.Core.List.{List}
 use mathlib.Core.Logic.{_≢_}
 use mathlib.Core.Path.{_≡_}
-use lib.ListN.{length, getD}
+use lib.ListN.{getD}
 use Rattle.netlist.specs.Netlist.{Netlist}
-use Rattle.netlist.specs.Leak.{masked, bit, setting, Secret}
+use Rattle.netlist.specs.Leak.{masked, bit, Secret}
 use Rattle.netlist.specs.Eval.{wireBits}
 use Rattle.evaluate.specs.Lane.{lane, lanes}
+use Rattle.check_counts.specs.Paint.{codesOf, paint}
 use Rattle.check_counts.specs.Base.{part, countIn}
 
 -- the input wires under the mask setting and the input setting of a number, or that setting's base
 abbrev pub inputsAt : Bool → List ℕ → ℕ → List Bool
-inputsAt whole codes n = masked (lane 0 n) (lane 1 n) codes (part whole codes (setting (length codes) (n / 4)))
+inputsAt whole paints n = masked (lane 0 n) (lane 1 n) (codesOf paints) (part whole (codesOf paints) (paint paints (n / 4)))
 
 -- the words hold the bits of all wires in a block's settings, or in their bases, each lane for itself
-pub record Evaluated (N : Netlist) (whole : Bool) (codes words : List ℕ) (block : ℕ) : Type 0 where
-  pub each : (j : ℕ) → j < 64 → lanes j words ≡ wireBits N (inputsAt whole codes (block * 64 + j))
+pub record Evaluated (N : Netlist) (whole : Bool) (paints words : List ℕ) (block : ℕ) : Type 0 where
+  pub each : (j : ℕ) → j < 64 → lanes j words ≡ wireBits N (inputsAt whole paints (block * 64 + j))
 
 -- four bits of a word
 abbrev pub nibble : ℕ → ℕ → ℕ
@@ -36,12 +37,12 @@ abbrev pub nibblesOf : List ℕ → ℕ → ℕ → ℕ
 nibblesOf base w s = nibble (getD base w 0) s
 
 -- they are those of a block's settings, or of their bases
-pub record Counted (N : Netlist) (whole : Bool) (codes : List ℕ) (held : ℕ → ℕ → ℕ) (block : ℕ) : Type 0 where
-  pub each : (w s : ℕ) → s < 16 → held w s ≡ countIn N whole codes w (block * 16 + s)
+pub record Counted (N : Netlist) (whole : Bool) (paints : List ℕ) (held : ℕ → ℕ → ℕ) (block : ℕ) : Type 0 where
+  pub each : (w s : ℕ) → s < 16 → held w s ≡ countIn N whole paints w (block * 16 + s)
 
 -- where no bit is public, all settings have the same base, whose counts are held from the second block on
 abbrev pub Ready : Bool → Netlist → List ℕ → List ℕ → ℕ → Type 0
-Ready mixed N codes base block = mixed ≡ false → Secret codes × (block ≢ 0 → Counted N false codes (nibblesOf base) block)
+Ready publics N paints base block = publics ≡ false → Secret (codesOf paints) × (block ≢ 0 → Counted N false paints (nibblesOf base) block)
 
 -- the counts of wires below W in settings below S are the same
 abbrev pub Agree : (ℕ → ℕ → ℕ) → (ℕ → ℕ → ℕ) → ℕ → ℕ → Type 0

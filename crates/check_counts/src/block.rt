@@ -3,39 +3,40 @@ use crate::load;
 use crate::nibble;
 ghost use mathlib.Core.Path.{_≡_};
 ghost use mathlib.Core.Bool.{true, false};
-ghost use Prim.Native.Nat.{ℕ, _+_, _<_, _≤_};
+ghost use Prim.Native.Nat.{ℕ, _+_, _%_, _<_, _≤_};
 ghost use lib.ListN.{length};
 ghost use Rattle.netlist.specs.Leak.{Secret};
 ghost use Rattle.netlist.specs.Table.{tables, Wired};
 ghost use Rattle.evaluate.specs.Bare.{bare};
+ghost use Rattle.check_counts.specs.Paint.{codesOf};
 ghost use Rattle.check_counts.specs.Block.{onesOf, nibblesOf, Evaluated, Counted, Ready};
 
 // The words of all wires in a block's settings, or in their bases.
-pub fn side(
+pub fn run_block(
     operands: &[u64],
     results: &[u64],
     count: usize,
-    codes: &[u8],
+    paints: &[u8],
     whole: bool,
     block: u64,
     words: &mut [u64],
 )
     requires { ⌜ Wired (tables (now operands) (now results)) (length (now words)) count ⌝ }
-    requires { ⌜ (length (now codes) < 64) × (length (now codes) + 2 ≤ length (now words)) ⌝ }
+    requires { ⌜ (length (now paints) + 2 ≤ length (now words)) ⌝ }
     ensures { λ _. ⌜ (let N = bare (tables (now (operands .entry)) (now (results .entry))) count (length (now (words .entry))) in Evaluated
-        N whole (now (codes .entry)) (now (words .exit)) block) ⌝ }
+        N whole (now (paints .entry)) (now (words .exit)) block) ⌝ }
 {
-    load::inputs(codes, whole, block, words);
-    evaluate::wires(operands, results, count, codes.len() + 2, words);
+    load::inputs(paints, whole, block, words);
+    evaluate::wires(operands, results, count, paints.len() + 2, words);
 }
 
 // Is some input bit public?
-pub fn public(codes: &[u8]) -> bool
-    ensures { λ r. ⌜ (r ≡ true → Secret (now (codes .entry)) → ⊥) × (r ≡ false → Secret (now (codes .entry))) ⌝ }
+pub fn public(paints: &[u8]) -> bool
+    ensures { λ r. ⌜ (r ≡ true → Secret (codesOf (now (paints .entry))) → ⊥) × (r ≡ false → Secret (codesOf (now (paints .entry)))) ⌝ }
 {
     let mut i = 0;
-    while i < codes.len() {
-        if codes[i] == 0 {
+    while i < paints.len() {
+        if paints[i] % 4 == 0 {
             return true;
         }
         i += 1;
@@ -72,22 +73,22 @@ pub fn refresh(
     operands: &[u64],
     results: &[u64],
     count: usize,
-    codes: &[u8],
-    mixed: bool,
+    paints: &[u8],
+    publics: bool,
     block: u64,
     words: &[u64],
     base: &mut [u64],
 )
     requires { ⌜ Wired (tables (now operands) (now results)) (length (now words)) count ⌝ }
-    requires { ⌜ (length (now codes) < 64) × (length (now codes) + 2 ≤ length (now words)) × (length (now base) ≡ length (now words)) ⌝ }
-    requires { ⌜ (let N = bare (tables (now operands) (now results)) count (length (now words)) in Counted N true (now codes)
-        (onesOf (now words)) block × Ready mixed N (now codes) (now base) block) ⌝ }
+    requires { ⌜ (length (now paints) + 2 ≤ length (now words)) × (length (now base) ≡ length (now words)) ⌝ }
+    requires { ⌜ (let N = bare (tables (now operands) (now results)) count (length (now words)) in Counted N true (now paints)
+        (onesOf (now words)) block × Ready publics N (now paints) (now base) block) ⌝ }
     ensures { λ _. ⌜ (let N = bare (tables (now (operands .entry)) (now (results .entry))) count (length (now (words .entry))) in Counted N
-        false (now (codes .entry)) (nibblesOf (now (base .exit))) block × Ready mixed N (now (codes .entry)) (now (base .exit)) (block + 1))
+        false (now (paints .entry)) (nibblesOf (now (base .exit))) block × Ready publics N (now (paints .entry)) (now (base .exit)) (block + 1))
         ⌝ }
 {
-    if mixed {
-        side(operands, results, count, codes, false, block, base);
+    if publics {
+        run_block(operands, results, count, paints, false, block, base);
         tally(base);
     } else if block == 0 {
         first(words, base);

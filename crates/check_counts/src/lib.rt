@@ -2,3 +2,4 @@
 pub mod block;
 mod load;
 pub mod nibble;
+pub mod paint;

@@ -1,12 +1,13 @@
 // The words of the input wires in one block: sixteen input settings by four mask settings. Lane j of
-// block b belongs to the number b * 64 + j, whose bits 0 and 1 are the mask bits and whose other
-// bits are the input setting.
+// block b belongs to the number b * 64 + j, whose bits 0 and 1 are the mask bits; an input of colour
+// c + 1 takes bit c + 2.
 ghost use mathlib.Core.Path.{_≡_};
-ghost use Prim.Native.Nat.{ℕ, _+_, _*_, _/_, _<_, _≤_};
+ghost use Prim.Native.Nat.{ℕ, _+_, _*_, _/_, _%_, _<_, _≤_};
 ghost use lib.ListN.{length, take};
 ghost use Rattle.netlist.specs.Eval.{differs};
 ghost use Rattle.netlist.specs.Leak.{maskOf};
 ghost use Rattle.evaluate.specs.Lane.{lane, lanes};
+ghost use Rattle.check_counts.specs.Paint.{codeOf, colourOf, shade};
 ghost use Rattle.check_counts.specs.Base.{kept};
 ghost use Rattle.check_counts.specs.Block.{inputsAt};
 
@@ -44,7 +45,7 @@ fn mask(code: u8) -> u64
     }
 }
 
-// Bit i of the settings, or of their bases.
+// Bit i of the numbers, or zero where a base is asked for and the code is that of a secret bit.
 fn chosen(i: usize, code: u8, whole: bool, block: u64) -> u64
     requires { ⌜ i < 64 ⌝ }
     ensures { λ r. ⌜ ((j : ℕ) → j < 64 → lane j r ≡ kept whole code (lane i ((block * 64 + j) / 4))) ⌝ }
@@ -58,25 +59,29 @@ fn chosen(i: usize, code: u8, whole: bool, block: u64) -> u64
     }
 }
 
-// Input wire i: its bit, masked.
-fn input(i: usize, code: u8, whole: bool, block: u64) -> u64
-    requires { ⌜ i < 64 ⌝ }
-    ensures { λ r. ⌜ ((j : ℕ) → j < 64 → lane j r ≡ differs (kept whole code (lane i ((block * 64 + j) / 4)))
-        (maskOf (lane 0 (block * 64 + j)) (lane 1 (block * 64 + j)) code)) ⌝ }
+// An input wire by its paint: its bit, masked.
+fn input(paint: u8, whole: bool, block: u64) -> u64
+    ensures { λ r. ⌜ ((j : ℕ) → j < 64 → lane j r ≡ differs (kept whole (codeOf paint) (shade (colourOf paint) ((block * 64 + j) / 4)))
+        (maskOf (lane 0 (block * 64 + j)) (lane 1 (block * 64 + j)) (codeOf paint))) ⌝ }
 {
-    chosen(i, code, whole, block) ^ mask(code)
+    let code = paint % 4;
+    let colour = (paint / 4) as usize;
+    if colour == 0 {
+        return mask(code);
+    }
+    chosen(colour - 1, code, whole, block) ^ mask(code)
 }
 
 // All input wires of a block's settings, or of their bases: the masked bits, then the mask pair.
-pub fn inputs(codes: &[u8], whole: bool, block: u64, words: &mut [u64])
-    requires { ⌜ (length (now codes) < 64) × (length (now codes) + 2 ≤ length (now words)) ⌝ }
-    ensures { λ _. ⌜ ((j : ℕ) → j < 64 → lanes j (take (length (now (codes .entry)) + 2) (now (words .exit)))
-        ≡ inputsAt whole (now (codes .entry)) (block * 64 + j)) ⌝ }
+pub fn inputs(paints: &[u8], whole: bool, block: u64, words: &mut [u64])
+    requires { ⌜ length (now paints) + 2 ≤ length (now words) ⌝ }
+    ensures { λ _. ⌜ ((j : ℕ) → j < 64 → lanes j (take (length (now (paints .entry)) + 2) (now (words .exit)))
+        ≡ inputsAt whole (now (paints .entry)) (block * 64 + j)) ⌝ }
 {
-    let n = codes.len();
+    let n = paints.len();
     let mut i = 0;
     while i < n {
-        words[i] = input(i, codes[i], whole, block);
+        words[i] = input(paints[i], whole, block);
         i += 1;
     }
     words[n] = mask(1);

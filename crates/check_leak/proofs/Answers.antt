@@ -7,7 +7,7 @@ use Prim.Native.Nat.{ℕ, _%_, _^_, _≤_, _<_}
 use native.Mathlib.Nat.{mod-lt}
 use native.Mathlib.Omega.{arith}
 use lib.Dec.{ltb}
-use lib.ListN.{length}
+use lib.ListN.{length, getD}
 use lib.Pow.{pow-pos}
 use borrow.Author.Tests.{ltb-true, ltb-false}
 use Rattle.netlist.specs.Netlist.{Netlist}
@@ -19,7 +19,9 @@ use Rattle.netlist.proofs.Settings.{setting-mod}
 use Rattle.evaluate.specs.Bare.{bare}
 use Rattle.evaluate.proofs.Runs.{bare-wires}
 use Rattle.check_leak.specs.declared.spot.Spot.{Spot}
+use Rattle.check_counts.specs.Paint.{paintEach}
 use Rattle.check_counts.specs.Base.{part, countIn}
+use Rattle.check_counts.proofs.Paints.{each-count}
 use Rattle.check_leak.specs.Spot.{Spotted}
 use Rattle.check_leak.specs.Search.{foundAt}
 use Rattle.check_leak.proofs.Spots.{spot-same}
@@ -31,7 +33,8 @@ unfolding count
 count-bare h codes w x = simp (bare-wires h)
 
 module _ {t : Tables} {m W n o : ℕ} {N : Netlist} (h : Holds t m W n o N) (codes : List ℕ) (S : ℕ) (p : Spot)
-    (room : 2 ^ length codes ≤ S) (spotted : Spotted (countIn (bare t m W) false codes) (countIn (bare t m W) true codes) W S p) where
+    (room : 2 ^ length codes ≤ S) (small : (i : ℕ) → i < length codes → getD codes i 0 < 4)
+    (spotted : Spotted (countIn (bare t m W) false (paintEach 0 codes)) (countIn (bare t m W) true (paintEach 0 codes)) W S p) where
   abbrev f : ℕ → ℕ → ℕ
   f = baseAt N codes
 
@@ -39,13 +42,14 @@ module _ {t : Tables} {m W n o : ℕ} {N : Netlist} (h : Holds t m W n o N) (cod
   g = countAt N codes
 
   -- settings go round after the last
-  round : (whole : Bool) (w s : ℕ) → countIn N whole codes w s ≡ countIn N whole codes w (s % 2 ^ length codes)
+  round : (whole : Bool) (w s : ℕ)
+      → count N codes w (part whole codes (setting (length codes) s)) ≡ count N codes w (part whole codes (setting (length codes) (s % 2 ^ length codes)))
   round whole w s = ap (λ (x : List Bool). count N codes w (part whole codes x)) (setting-mod (length codes) s)
 
   spot : Spotted f g W S p
   spot =
-      spot-same (λ w s l. count-bare h codes w (part false codes (setting (length codes) s)))
-      (λ w s l. count-bare h codes w (part true codes (setting (length codes) s))) spotted
+      spot-same (λ w s l. each-count (bare t m W) false codes small w s ∙ count-bare h codes w (part false codes (setting (length codes) s)))
+      (λ w s l. each-count (bare t m W) true codes small w s ∙ count-bare h codes w (part true codes (setting (length codes) s))) spotted
 
   -- so the first that differs is one of them
   inside : p .wire < W → p .at < 2 ^ length codes

@@ -89,22 +89,22 @@ module _ {f g : ℕ → ℕ → ℕ} {W S T : ℕ} {best spot : Spot}
 -- ---- the loop over the blocks
 
 -- a scan of a block's counts and of those of its bases
-pub turn-law : {N : Netlist} {codes : List ℕ} {own held : ℕ → ℕ → ℕ} {block limit : ℕ} {p : Spot} → Counted N true codes own block
-    → Counted N false codes held block
-    → Spotted held own limit 16 p → Spotted (from (block * 16) (countIn N false codes)) (from (block * 16) (countIn N true codes)) limit 16 p
-turn-law own based scanned = spot-same (based .each) (own .each) scanned
+pub search-block-law : {N : Netlist} {ps : List ℕ} {own held : ℕ → ℕ → ℕ} {block limit : ℕ} {p : Spot} → Counted N true ps own block
+    → Counted N false ps held block
+    → Spotted held own limit 16 p → Spotted (from (block * 16) (countIn N false ps)) (from (block * 16) (countIn N true ps)) limit 16 p
+search-block-law own based scanned = spot-same (based .each) (own .each) scanned
 
 -- the blocks before this one are searched, and the tables keep their lengths
-pub record Finding (t : Tables) (n W : ℕ) (codes : List ℕ) (mixed : Bool) (blocks : ℕ) (words base : List ℕ) (best : Spot) (block : ℕ) : Type 0 where
+pub record Finding (t : Tables) (n W : ℕ) (ps : List ℕ) (publics : Bool) (blocks : ℕ) (words base : List ℕ) (best : Spot) (block : ℕ) : Type 0 where
   pub passed : block ≤ blocks
   pub long-words : length words ≡ W
   pub long-base : length base ≡ W
-  pub ready : Ready mixed (bare t n W) codes base block
-  pub spotted : Spotted (countIn (bare t n W) false codes) (countIn (bare t n W) true codes) W (block * 16) best
+  pub ready : Ready publics (bare t n W) ps base block
+  pub spotted : Spotted (countIn (bare t n W) false ps) (countIn (bare t n W) true ps) W (block * 16) best
 
-pub find-none : {t : Tables} {n W : ℕ} {codes : List ℕ} {mixed : Bool} (blocks : ℕ) {words base : List ℕ} {best : Spot} → length words ≡ W
-    → length base ≡ W → Ready mixed (bare t n W) codes base 0 → best .wire ≡ W
-    → Finding t n W codes mixed blocks words base best 0
+pub find-none : {t : Tables} {n W : ℕ} {ps : List ℕ} {publics : Bool} (blocks : ℕ) {words base : List ℕ} {best : Spot} → length words ≡ W
+    → length base ≡ W → Ready publics (bare t n W) ps base 0 → best .wire ≡ W
+    → Finding t n W ps publics blocks words base best 0
 find-none blocks e d r w = record {
   passed = omega arith;
   long-words = e;
@@ -114,33 +114,33 @@ find-none blocks e d r w = record {
 }
 
 -- a block is searched, and the better of two spots kept
-pub find-more : {t : Tables} {n W : ℕ} {codes : List ℕ} {mixed : Bool} {blocks : ℕ} {words base : List ℕ} {best : Spot} {block : ℕ}
-    → Finding t n W codes mixed blocks words base best block → block < blocks
+pub find-more : {t : Tables} {n W : ℕ} {ps : List ℕ} {publics : Bool} {blocks : ℕ} {words base : List ℕ} {best : Spot} {block : ℕ}
+    → Finding t n W ps publics blocks words base best block → block < blocks
     → (us vs : List ℕ) (spot next : Spot) → length us ≡ length words → length vs ≡ length base
-    → Spotted (from (block * 16) (countIn (bare t n (length words)) false codes)) (from (block * 16) (countIn (bare t n (length words)) true codes))
+    → Spotted (from (block * 16) (countIn (bare t n (length words)) false ps)) (from (block * 16) (countIn (bare t n (length words)) true ps))
     (best .wire) 16 spot
-    → Ready mixed (bare t n (length words)) codes vs (block + 1)
+    → Ready publics (bare t n (length words)) ps vs (block + 1)
     → ((f g : ℕ → ℕ → ℕ) (W : ℕ) → Spotted f g W (block * 16) best → Spotted (from (block * 16) f) (from (block * 16) g) (best .wire) 16 spot
     → Spotted f g W (block * 16 + 16) next)
-    → Finding t n W codes mixed blocks us vs next (block + 1)
-find-more {t} {n} {W} {codes} {mixed} {best = best} {block} r l us vs spot next e d turned ready better =
-    let f = countIn (bare t n W) false codes in
-    let g = countIn (bare t n W) true codes in
+    → Finding t n W ps publics blocks us vs next (block + 1)
+find-more {t} {n} {W} {ps} {publics} {best = best} {block} r l us vs spot next e d turned ready better =
+    let f = countIn (bare t n W) false ps in
+    let g = countIn (bare t n W) true ps in
     let q : block * 16 + 16 ≡ (block + 1) * 16 = omega arith in
-    let counts : Bool → ℕ → ℕ → ℕ → ℕ = λ whole k. from (block * 16) (countIn (bare t n k) whole codes) in
+    let counts : Bool → ℕ → ℕ → ℕ → ℕ = λ whole k. from (block * 16) (countIn (bare t n k) whole ps) in
     let turned′ : Spotted (from (block * 16) f) (from (block * 16) g) (best .wire) 16 spot =
     subst (λ (k : ℕ). Spotted (counts false k) (counts true k) (best .wire) 16 spot) (r .long-words) turned in
     record {
       passed = omega arith;
       long-words = e ∙ r .long-words;
       long-base = d ∙ r .long-base;
-      ready = subst (λ (k : ℕ). Ready mixed (bare t n k) codes vs (block + 1)) (r .long-words) ready;
+      ready = subst (λ (k : ℕ). Ready publics (bare t n k) ps vs (block + 1)) (r .long-words) ready;
       spotted = subst (λ (S : ℕ). Spotted f g W S next) q (better f g W (r .spotted) turned′);
     }
 
-pub find-all : {t : Tables} {n W : ℕ} {codes : List ℕ} {mixed : Bool} {blocks : ℕ} {words base : List ℕ} {best : Spot} {block : ℕ}
-    → Finding t n W codes mixed blocks words base best block → blocks ≤ block
-    → Spotted (countIn (bare t n W) false codes) (countIn (bare t n W) true codes) W (blocks * 16) best
-find-all {t} {n} {W} {codes} {blocks = blocks} {best = best} {block} r l =
+pub find-all : {t : Tables} {n W : ℕ} {ps : List ℕ} {publics : Bool} {blocks : ℕ} {words base : List ℕ} {best : Spot} {block : ℕ}
+    → Finding t n W ps publics blocks words base best block → blocks ≤ block
+    → Spotted (countIn (bare t n W) false ps) (countIn (bare t n W) true ps) W (blocks * 16) best
+find-all {t} {n} {W} {ps} {blocks = blocks} {best = best} {block} r l =
     let e : block ≡ blocks = omega (arith, r .passed) in
-    subst (λ (k : ℕ). Spotted (countIn (bare t n W) false codes) (countIn (bare t n W) true codes) W (k * 16) best) e (r .spotted)
+    subst (λ (k : ℕ). Spotted (countIn (bare t n W) false ps) (countIn (bare t n W) true ps) W (k * 16) best) e (r .spotted)

@@ -2,10 +2,11 @@
 use crate::spot;
 use crate::spot::Spot;
 use check_counts::block;
+use check_counts::paint;
 ghost use mathlib.Core.Path.{_≡_};
 ghost use mathlib.Core.Bool.{true, false};
 ghost use Prim.Native.Nat.{ℕ, _+_, _*_, _^_, _<_, _≤_};
-ghost use lib.ListN.{length};
+ghost use lib.ListN.{length, getD};
 ghost use Rattle.netlist.specs.Netlist.{Netlist};
 ghost use Rattle.netlist.specs.Leak.{leak};
 ghost use Rattle.netlist.specs.Services.{maxChecked};
@@ -23,27 +24,36 @@ pub enum Verdict {
 }
 
 // A block is run and searched, for wires below a limit.
-fn turn(
+fn search_block(
     operands: &[u64],
     results: &[u64],
     count: usize,
-    codes: &[u8],
-    mixed: bool,
+    paints: &[u8],
+    publics: bool,
     block: u64,
     words: &mut [u64],
     base: &mut [u64],
     limit: usize,
 ) -> Spot
     requires { ⌜ Wired (tables (now operands) (now results)) (length (now words)) count ⌝ }
-    requires { ⌜ (length (now codes) < 64) × (length (now codes) + 2 ≤ length (now words)) × (length (now base) ≡ length (now words))
-        × (limit ≤ length (now words)) × Ready mixed (bare (tables (now operands) (now results)) count (length (now words))) (now codes)
+    requires { ⌜ (length (now paints) + 2 ≤ length (now words)) × (length (now base) ≡ length (now words))
+        × (limit ≤ length (now words)) × Ready publics (bare (tables (now operands) (now results)) count (length (now words))) (now paints)
         (now base) block ⌝ }
     ensures { λ r. ⌜ (let N = bare (tables (now (operands .entry)) (now (results .entry))) count (length (now (words .entry))) in Spotted
-        (from (block * 16) (countIn N false (now (codes .entry)))) (from (block * 16) (countIn N true (now (codes .entry)))) limit 16 r
-        × Ready mixed N (now (codes .entry)) (now (base .exit)) (block + 1)) ⌝ }
+        (from (block * 16) (countIn N false (now (paints .entry)))) (from (block * 16) (countIn N true (now (paints .entry)))) limit 16 r
+        × Ready publics N (now (paints .entry)) (now (base .exit)) (block + 1)) ⌝ }
 {
-    block::side(operands, results, count, codes, true, block, words);
-    block::refresh(operands, results, count, codes, mixed, block, words, base);
+    block::run_block(operands, results, count, paints, true, block, words);
+    block::refresh(
+        operands,
+        results,
+        count,
+        paints,
+        publics,
+        block,
+        words,
+        base,
+    );
     spot::scan(words, base, limit)
 }
 
@@ -53,28 +63,28 @@ fn find(
     operands: &[u64],
     results: &[u64],
     count: usize,
-    codes: &[u8],
+    paints: &[u8],
     blocks: u64,
     words: &mut [u64],
     base: &mut [u64],
 ) -> Spot
     requires { ⌜ Wired (tables (now operands) (now results)) (length (now words)) count ⌝ }
-    requires { ⌜ (length (now codes) < 64) × (length (now codes) + 2 ≤ length (now words)) × (length (now base) ≡ length (now words))
+    requires { ⌜ (length (now paints) + 2 ≤ length (now words)) × (length (now base) ≡ length (now words))
         × (blocks < 65536) ⌝ }
     ensures { λ r. ⌜ (let N = bare (tables (now (operands .entry)) (now (results .entry))) count (length (now (words .entry))) in Spotted
-        (countIn N false (now (codes .entry))) (countIn N true (now (codes .entry))) (length (now (words .entry))) (blocks * 16) r) ⌝ }
+        (countIn N false (now (paints .entry))) (countIn N true (now (paints .entry))) (length (now (words .entry))) (blocks * 16) r) ⌝ }
 {
-    let mixed = block::public(codes);
+    let publics = block::public(paints);
     let mut best = spot::none(words.len());
     let mut block = 0;
     while block < blocks {
         let limit = best.wire;
-        let spot = turn(
+        let spot = search_block(
             operands,
             results,
             count,
-            codes,
-            mixed,
+            paints,
+            publics,
             block,
             words,
             base,
@@ -117,16 +127,19 @@ pub fn leaks(
     base: &mut [u64],
 ) -> Verdict
     requires { ⌜ Wired (tables (now operands) (now results)) (length (now words)) count ⌝ }
-    requires { ⌜ (length (now codes) ≤ maxChecked) × (length (now codes) + 2 ≤ length (now words)) × (length (now base) ≡ length (now words)) ⌝ }
+    requires { ⌜ (length (now codes) ≤ maxChecked) × (length (now codes) + 2 ≤ length (now words)) × (length (now base) ≡ length (now words))
+        × ((i : ℕ) → i < length (now codes) → getD (now codes) i 0 < 4) ⌝ }
     ensures { λ r. ⌜ ((n o : ℕ) (N : Netlist) → Holds (tables (now (operands .entry)) (now (results .entry))) count
         (length (now (words .entry))) n o N → foundOf r ≡ leak N (now (codes .entry))) ⌝ }
 {
+    let paints = paint::each(codes);
+    let n = codes.len();
     let spot = find(
         operands,
         results,
         count,
-        codes,
-        blocks_of(codes.len()),
+        &paints[..n],
+        blocks_of(n),
         words,
         base,
     );

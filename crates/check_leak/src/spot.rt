@@ -31,7 +31,7 @@ pub fn none(limit: usize) -> Spot
 
 // Whether all wires below a limit have the counts of their bases. The loop does not stop at the
 // first that has not, so that it can be compiled to compare many wires at a time.
-fn quiet(words: &[u64], base: &[u64], limit: usize) -> bool
+fn all_level(words: &[u64], base: &[u64], limit: usize) -> bool
     requires { ⌜ (limit ≤ length (now words)) × (limit ≤ length (now base)) ⌝ }
     ensures { λ r. ⌜ (r ≡ true → Agree (nibblesOf (now (base .entry))) (onesOf (now (words .entry))) limit 16)
         × (r ≡ false → Agree (nibblesOf (now (base .entry))) (onesOf (now (words .entry))) limit 16 → ⊥) ⌝ }
@@ -47,7 +47,7 @@ fn quiet(words: &[u64], base: &[u64], limit: usize) -> bool
 
 // The first wire below a limit whose counts are not those of its base, and the first of the block's
 // settings where they are not.
-fn walk(words: &[u64], base: &[u64], limit: usize) -> Spot
+fn first_difference(words: &[u64], base: &[u64], limit: usize) -> Spot
     requires { ⌜ (limit ≤ length (now words)) × (limit ≤ length (now base)) ⌝ }
     ensures { λ r. ⌜ Spotted (nibblesOf (now (base .entry))) (onesOf (now (words .entry))) limit 16 r ⌝ }
 {
@@ -73,10 +73,10 @@ pub fn scan(words: &[u64], base: &[u64], limit: usize) -> Spot
     requires { ⌜ (limit ≤ length (now words)) × (limit ≤ length (now base)) ⌝ }
     ensures { λ r. ⌜ Spotted (nibblesOf (now (base .entry))) (onesOf (now (words .entry))) limit 16 r ⌝ }
 {
-    if quiet(words, base, limit) {
+    if all_level(words, base, limit) {
         none(limit)
     } else {
-        walk(words, base, limit)
+        first_difference(words, base, limit)
     }
 }
 

@@ -5,7 +5,7 @@ use mathlib.Core.Bool.{Bool, true, false}
 use mathlib.Core.List.{List, [], _∷_}
 use mathlib.Core.Option.{Option}
 use native.Mathlib.Omega.{arith}
-use lib.Dec.{eqb, leb, eqb→eq}
+use lib.Dec.{eqb, leb, eqb→eq, leb→le}
 use lib.ListN.{length, getD}
 use borrow.Author.Tests.{le-leb, lt-leb}
 use Rattle.netlist.specs.Lists.{every, sum}
@@ -15,7 +15,7 @@ use Rattle.netlist.specs.Mask.{isInputCode}
 use Rattle.netlist.specs.Leak.{Found, leak}
 use Rattle.netlist.specs.Services.{listGood, endsInMasks, maxChecked, checkOutcome}
 use Rattle.netlist.specs.Table.{Tables, Holds}
-use Rattle.netlist.proofs.Tests.{both, isTrue, true-T}
+use Rattle.netlist.proofs.Tests.{both, isTrue, true-T, every-at}
 use Rattle.netlist.proofs.Questions.{ask-done}
 use Rattle.check_leak.specs.declared.search.Verdict.{Verdict}
 use Rattle.check_leak.specs.Search.{foundOf}
@@ -64,6 +64,13 @@ module _ (ws codes : List ℕ) where
       let p = asked-passed e in
       let m = masks-bits ws (p .0) in
       let l = codes-length (sum ws - 2) codes (p .1) in
+      omega arith
+
+  -- and each is one of the four codes
+  pub asked-codes : codesAsked ws codes ≡ done tt → (i : ℕ) → i < length codes → getD codes i 0 < 4
+  asked-codes e i l =
+      let g = both (eqb (length codes) (sum ws - 2)) (every isInputCode codes) (true-T (listGood isInputCode (sum ws - 2) codes) (asked-passed e .1)) in
+      let h = leb→le (getD codes i 0) 3 (every-at isInputCode codes (g .1) i l) in
       omega arith
 
   -- one of them refuses, whatever would follow

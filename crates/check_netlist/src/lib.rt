@@ -2,8 +2,8 @@
 use check_leak::search::Verdict;
 use read_header::HeaderNumbers;
 ghost use mathlib.Core.Path.{_≡_};
-ghost use Prim.Native.Nat.{ℕ, _+_, _≤_};
-ghost use lib.ListN.{length, take};
+ghost use Prim.Native.Nat.{ℕ, _+_, _<_, _≤_};
+ghost use lib.ListN.{length, take, getD};
 ghost use Rattle.netlist.specs.Lists.{sum};
 ghost use Rattle.netlist.specs.Leak.{leak as leakOf};
 ghost use Rattle.netlist.specs.Netlist.{Netlist};
@@ -66,7 +66,8 @@ fn verdict(
     base: &mut [u64],
 ) -> Checked
     requires { ⌜ Wired (tables (now operands) (now results)) wires count ⌝ }
-    requires { ⌜ (length (now codes) ≤ maxChecked) × (length (now codes) + 2 ≤ wires) × (wires ≤ length (now words)) × (wires ≤ length (now base)) ⌝ }
+    requires { ⌜ (length (now codes) ≤ maxChecked) × (length (now codes) + 2 ≤ wires) × (wires ≤ length (now words)) × (wires ≤ length (now base))
+        × ((i : ℕ) → i < length (now codes) → getD (now codes) i 0 < 4) ⌝ }
     ensures { λ r. ⌜ ((n o : ℕ) (N : Netlist) → Holds (tables (now (operands .entry)) (now (results .entry))) count wires n o N
         → outcomeOf r ≡ done (leakOf N (now (codes .entry)))) ⌝ }
 {

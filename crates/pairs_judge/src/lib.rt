@@ -38,7 +38,7 @@ fn all_below(list: &[u32], wires: usize) -> bool
 }
 
 // Question 21: an even number of entries, each a wire below `wires`.
-fn pairs_good(pairs: &[u32], wires: usize) -> bool
+pub fn pairs_good(pairs: &[u32], wires: usize) -> bool
     ensures { λ r. ⌜ r ≡ pairsGood wires (now (pairs .entry)) ⌝ }
 {
     if pairs.len() % 2 != 0 {
@@ -61,7 +61,8 @@ fn verdicts(
 ) -> CheckedPairs
     requires { ⌜ Wired (tables (now operands) (now results)) wires count ⌝ }
     requires { ⌜ (length (now codes) ≤ maxChecked) × (length (now codes) + 2 ≤ wires) × (wires ≤ length (now words)) × (wires ≤ length (now base))
-        × (wires ≤ length (now bases)) × ((i : ℕ) → i < length (now pairs) → getD (now pairs) i 0 < wires) ⌝ }
+        × (wires ≤ length (now bases)) × ((i : ℕ) → i < length (now pairs) → getD (now pairs) i 0 < wires)
+        × ((i : ℕ) → i < length (now codes) → getD (now codes) i 0 < 4) ⌝ }
     ensures { λ r. ⌜ ((n o : ℕ) (N : Netlist) → Holds (tables (now (operands .entry)) (now (results .entry))) count wires n o N
         → outcomeOf r ≡ done (record {
           leak = leakOf N (now (codes .entry));

@@ -1,5 +1,5 @@
 -- The search over the blocks, and its two answers.
-use mathlib.Core.Path.{_≡_, refl, sym, ap, _∙_, subst}
+use mathlib.Core.Path.{_≡_, refl, sym, ap, ap₂, _∙_, subst}
 use mathlib.Core.Bool.{Bool, true, false}
 use mathlib.Core.List.{List}
 use mathlib.Core.Option.{Option, none, some}
@@ -11,12 +11,16 @@ use lib.ListN.{length, getD}
 use lib.Pow.{pow-pos}
 use borrow.Author.Tests.{ltb-true, ltb-false}
 use Rattle.netlist.specs.Netlist.{Netlist}
-use Rattle.netlist.specs.Leak.{count, publicOnly, setting}
+use Rattle.netlist.specs.Leak.{count, setting}
 use Rattle.netlist.specs.Table.{Tables, Holds}
 use Rattle.netlist.proofs.Tests.{onBool}
 use Rattle.netlist.proofs.Settings.{setting-mod}
 use Rattle.evaluate.specs.Bare.{bare}
 use Rattle.evaluate.proofs.Runs.{bare-wires}
+use Rattle.evaluate.specs.Lane.{lane}
+use Rattle.check_counts.specs.Paint.{paintEach}
+use Rattle.check_counts.specs.Base.{part}
+use Rattle.check_counts.proofs.Paints.{codes-each, paint-each, each-count}
 use Rattle.check_counts.specs.Block.{onesOf, nibblesOf, Evaluated}
 use Rattle.check_leak.specs.declared.spot.Spot.{Spot}
 use Rattle.check_leak.specs.Spot.{Spotted, from}
@@ -56,24 +60,24 @@ look-law words bases base ws block scanned uneven better based own W n a b past 
 -- ---- the loop over the blocks
 
 abbrev baseOf : Tables → ℕ → ℕ → List ℕ → Counts
-baseOf t n W codes = countsOf (bare t n W) false codes
+baseOf t n W ps = countsOf (bare t n W) false ps
 
 abbrev ownOf : Tables → ℕ → ℕ → List ℕ → Counts
-ownOf t n W codes = countsOf (bare t n W) true codes
+ownOf t n W ps = countsOf (bare t n W) true ps
 
 -- the blocks before this one are searched, and the tables keep their lengths
-pub record Finding (t : Tables) (n W : ℕ) (codes ws : List ℕ) (mixed : Bool) (blocks : ℕ) (words bases base : List ℕ) (best : Best) (block : ℕ) : Type 0 where
+pub record Finding (t : Tables) (n W limit : ℕ) (ps ws : List ℕ) (publics : Bool) (blocks : ℕ) (words bases base : List ℕ) (best : Best) (block : ℕ) : Type 0 where
   pub passed : block ≤ blocks
   pub long-words : length words ≡ W
   pub long-bases : length bases ≡ W
   pub long-base : length base ≡ W
-  pub held : HeldOn mixed (bare t n W) codes bases base block
-  pub found : Found (baseOf t n W codes) (ownOf t n W codes) ws W (length ws / 2) (block * 16) best
+  pub held : HeldOn publics (bare t n W) ps bases base block
+  pub found : Found (baseOf t n W ps) (ownOf t n W ps) ws limit (length ws / 2) (block * 16) best
 
-pub find-none : {t : Tables} {n W : ℕ} {codes : List ℕ} (ws : List ℕ) {mixed : Bool} (blocks : ℕ) {words bases base : List ℕ} {best : Best}
-    → length words ≡ W → length bases ≡ W → length base ≡ W → HeldOn mixed (bare t n W) codes bases base 0
-    → best .spot .wire ≡ W → best .pair ≡ length ws / 2 → Finding t n W codes ws mixed blocks words bases base best 0
-find-none {t} {n} {W} {codes} ws blocks {best = best} a b c h w p = record {
+pub find-none : {t : Tables} {n W limit : ℕ} {ps : List ℕ} (ws : List ℕ) {publics : Bool} (blocks : ℕ) {words bases base : List ℕ} {best : Best}
+    → length words ≡ W → length bases ≡ W → length base ≡ W → HeldOn publics (bare t n W) ps bases base 0
+    → best .spot .wire ≡ limit → best .pair ≡ length ws / 2 → Finding t n W limit ps ws publics blocks words bases base best 0
+find-none {t} {n} {W} {limit} {ps} ws blocks {best = best} a b c h w p = record {
   passed = omega arith;
   long-words = a;
   long-bases = b;
@@ -81,24 +85,24 @@ find-none {t} {n} {W} {codes} ws blocks {best = best} a b c h w p = record {
   held = h;
   found = record {
     spotted = spot-none w (λ w l s m. absurd (omega arith));
-    uneven = subst (FirstUneven (LevelAt (baseOf t n W codes) (ownOf t n W codes) ws) (length ws / 2) 0) (sym p)
-        (uneven-none (LevelAt (baseOf t n W codes) (ownOf t n W codes) ws) (length ws / 2));
+    uneven = subst (FirstUneven (LevelAt (baseOf t n W ps) (ownOf t n W ps) ws) (length ws / 2) 0) (sym p)
+        (uneven-none (LevelAt (baseOf t n W ps) (ownOf t n W ps) ws) (length ws / 2));
   };
 }
 
 -- a block is run and looked at
-pub find-more : {t : Tables} {n W : ℕ} {codes ws : List ℕ} {mixed : Bool} {blocks : ℕ} {words bases base : List ℕ} {best : Best} {block : ℕ}
-    → Finding t n W codes ws mixed blocks words bases base best block → block < blocks
+pub find-more : {t : Tables} {n W limit : ℕ} {ps ws : List ℕ} {publics : Bool} {blocks : ℕ} {words bases base : List ℕ} {best : Best} {block : ℕ}
+    → Finding t n W limit ps ws publics blocks words bases base best block → block < blocks
     → (us vs zs : List ℕ) (next : Best) → length us ≡ length words → length vs ≡ length bases → length zs ≡ length base
-    → Evaluated (bare t n (length words)) true codes us block × Based (bare t n (length words)) codes vs zs block
-    × HeldOn mixed (bare t n (length words)) codes vs zs (block + 1)
+    → Evaluated (bare t n (length words)) true ps us block × Based (bare t n (length words)) ps vs zs block
+    × HeldOn publics (bare t n (length words)) ps vs zs (block + 1)
     → ((based own : Counts) (W n : ℕ) → Alike (heldBase vs zs) (onFrom (block * 16) based) → Alike (heldIn us) (onFrom (block * 16) own)
     → Found based own ws W n (block * 16) best → Found based own ws W n (block * 16 + 16) next)
-    → Finding t n W codes ws mixed blocks us vs zs next (block + 1)
-find-more {t} {n} {W} {codes} {ws} {mixed} {best = best} {block} r l us vs zs next a b c ran looked =
+    → Finding t n W limit ps ws publics blocks us vs zs next (block + 1)
+find-more {t} {n} {W} {limit} {ps} {ws} {publics} {best = best} {block} r l us vs zs next a b c ran looked =
     let q : block * 16 + 16 ≡ (block + 1) * 16 = omega arith in
-    let ran′ : Evaluated (bare t n W) true codes us block × Based (bare t n W) codes vs zs block × HeldOn mixed (bare t n W) codes vs zs (block + 1)
-    = subst (λ (k : ℕ). Evaluated (bare t n k) true codes us block × Based (bare t n k) codes vs zs block × HeldOn mixed (bare t n k) codes vs zs (block + 1))
+    let ran′ : Evaluated (bare t n W) true ps us block × Based (bare t n W) ps vs zs block × HeldOn publics (bare t n W) ps vs zs (block + 1)
+    = subst (λ (k : ℕ). Evaluated (bare t n k) true ps us block × Based (bare t n k) ps vs zs block × HeldOn publics (bare t n k) ps vs zs (block + 1))
     (r .long-words) ran in
     record {
       passed = omega arith;
@@ -106,60 +110,71 @@ find-more {t} {n} {W} {codes} {ws} {mixed} {best = best} {block} r l us vs zs ne
       long-bases = b ∙ r .long-bases;
       long-base = c ∙ r .long-base;
       held = ran′ .2;
-      found = subst (λ (S : ℕ). Found (baseOf t n W codes) (ownOf t n W codes) ws W (length ws / 2) S next) q
-          (looked (baseOf t n W codes) (ownOf t n W codes) W (length ws / 2) (alike-base (ran′ .1)) (alike-own (ran′ .0)) (r .found));
+      found = subst (λ (S : ℕ). Found (baseOf t n W ps) (ownOf t n W ps) ws limit (length ws / 2) S next) q
+          (looked (baseOf t n W ps) (ownOf t n W ps) limit (length ws / 2) (alike-base (ran′ .1)) (alike-own (ran′ .0)) (r .found));
     }
 
-pub find-all : {t : Tables} {n W : ℕ} {codes ws : List ℕ} {mixed : Bool} {blocks : ℕ} {words bases base : List ℕ} {best : Best} {block : ℕ}
-    → Finding t n W codes ws mixed blocks words bases base best block → blocks ≤ block
-    → Found (baseOf t n W codes) (ownOf t n W codes) ws W (length ws / 2) (blocks * 16) best
-find-all {t} {n} {W} {codes} {ws} {blocks = blocks} {best = best} {block} r l =
+pub find-all : {t : Tables} {n W limit : ℕ} {ps ws : List ℕ} {publics : Bool} {blocks : ℕ} {words bases base : List ℕ} {best : Best} {block : ℕ}
+    → Finding t n W limit ps ws publics blocks words bases base best block → blocks ≤ block
+    → Found (baseOf t n W ps) (ownOf t n W ps) ws limit (length ws / 2) (blocks * 16) best
+find-all {t} {n} {W} {limit} {ps} {ws} {blocks = blocks} {best = best} {block} r l =
     let e : block ≡ blocks = omega (arith, r .passed) in
-    subst (λ (k : ℕ). Found (baseOf t n W codes) (ownOf t n W codes) ws W (length ws / 2) (k * 16) best) e (r .found)
+    subst (λ (k : ℕ). Found (baseOf t n W ps) (ownOf t n W ps) ws limit (length ws / 2) (k * 16) best) e (r .found)
 
 -- ---- the pairs' answer
 
 module _ {t : Tables} {m W n o : ℕ} {N : Netlist} (h : Holds t m W n o N) (codes : List ℕ) where
   -- counts are those of the netlist that the tables hold
-  one-bare : (w : ℕ) (x : List Bool) → count (bare t m W) codes w x ≡ count N codes w x
+  pub one-bare : (w : ℕ) (x : List Bool) → count (bare t m W) codes w x ≡ count N codes w x
   unfolding count
   one-bare w x = simp (bare-wires h)
 
-  both-bare : (u v : ℕ) (x : List Bool) → bothCount (bare t m W) codes u v x ≡ bothCount N codes u v x
+  pub both-bare : (u v : ℕ) (x : List Bool) → bothCount (bare t m W) codes u v x ≡ bothCount N codes u v x
   unfolding bothCount
   both-bare u v x = simp (bare-wires h)
 
+module _ {t : Tables} {m W n o : ℕ} {N : Netlist} (h : Holds t m W n o N) (codes : List ℕ)
+    (small : (i : ℕ) → i < length codes → getD codes i 0 < 4) where
+  -- and the paints give each number its own setting
+  one-each : (whole : Bool) (w s : ℕ) → countsOf (bare t m W) whole (paintEach 0 codes) .one w s ≡ count N codes w (part whole codes (setting (length codes) s))
+  one-each whole w s = each-count (bare t m W) whole codes small w s ∙ one-bare h codes w (part whole codes (setting (length codes) s))
+
+  both-each : (whole : Bool) (u v s : ℕ)
+      → countsOf (bare t m W) whole (paintEach 0 codes) .both u v s ≡ bothCount N codes u v (part whole codes (setting (length codes) s))
+  both-each whole u v s =
+      ap₂ (λ (es : List ℕ) (x : List Bool). bothCount (bare t m W) es u v (part whole es x)) (codes-each 0 codes small)
+      (paint-each 0 codes s s small (λ i. let e : 0 + i ≡ i = omega arith in ap (λ (j : ℕ). lane j s) e))
+      ∙ both-bare h codes u v (part whole codes (setting (length codes) s))
+
   module _ (u v : ℕ) where
     -- level settings, and those whose three counts are their base's
-    level-three : (s : ℕ) → Level (baseOf t m W codes) (ownOf t m W codes) u v s → ThreeAsBase N codes u v (setting (length codes) s)
+    level-three : (s : ℕ) → Level (baseOf t m W (paintEach 0 codes)) (ownOf t m W (paintEach 0 codes)) u v s → ThreeAsBase N codes u v (setting (length codes) s)
     level-three s l =
-        let x = setting (length codes) s in
         record {
-          left = sym (one-bare u (publicOnly codes x)) ∙ l .first ∙ one-bare u x;
-          right = sym (one-bare v (publicOnly codes x)) ∙ l .second ∙ one-bare v x;
-          both = sym (both-bare u v (publicOnly codes x)) ∙ l .both ∙ both-bare u v x;
+          left = sym (one-each false u s) ∙ l .first ∙ one-each true u s;
+          right = sym (one-each false v s) ∙ l .second ∙ one-each true v s;
+          both = sym (both-each false u v s) ∙ l .both ∙ both-each true u v s;
         }
 
-    three-level : (s : ℕ) → ThreeAsBase N codes u v (setting (length codes) s) → Level (baseOf t m W codes) (ownOf t m W codes) u v s
+    three-level : (s : ℕ) → ThreeAsBase N codes u v (setting (length codes) s) → Level (baseOf t m W (paintEach 0 codes)) (ownOf t m W (paintEach 0 codes)) u v s
     three-level s l =
-        let x = setting (length codes) s in
         record {
-          first = one-bare u (publicOnly codes x) ∙ l .left ∙ sym (one-bare u x);
-          second = one-bare v (publicOnly codes x) ∙ l .right ∙ sym (one-bare v x);
-          both = both-bare u v (publicOnly codes x) ∙ l .both ∙ sym (both-bare u v x);
+          first = one-each false u s ∙ l .left ∙ sym (one-each true u s);
+          second = one-each false v s ∙ l .right ∙ sym (one-each true v s);
+          both = both-each false u v s ∙ l .both ∙ sym (both-each true u v s);
         }
 
     -- level in all numbered settings, which go round after the last
-    level-clean : (S : ℕ) → 2 ^ length codes ≤ S → ((s : ℕ) → s < S → Level (baseOf t m W codes) (ownOf t m W codes) u v s) → T (cleanPair N codes u v)
+    level-clean : (S : ℕ) → 2 ^ length codes ≤ S → ((s : ℕ) → s < S → Level (baseOf t m W (paintEach 0 codes)) (ownOf t m W (paintEach 0 codes)) u v s) → T (cleanPair N codes u v)
     level-clean S room all = three-passes N codes u v (λ s l. level-three s (all s (omega arith)))
 
-    clean-level : T (cleanPair N codes u v) → (s : ℕ) → Level (baseOf t m W codes) (ownOf t m W codes) u v s
+    clean-level : T (cleanPair N codes u v) → (s : ℕ) → Level (baseOf t m W (paintEach 0 codes)) (ownOf t m W (paintEach 0 codes)) u v s
     clean-level c s =
         three-level s (subst (ThreeAsBase N codes u v) (sym (setting-mod (length codes) s))
         (passes-three N codes u v c (s % 2 ^ length codes) (mod-lt s (pow-pos (length codes)))))
 
   module _ (ws : List ℕ) (S k : ℕ) (room : 2 ^ length codes ≤ S)
-      (uneven : FirstUneven (LevelAt (baseOf t m W codes) (ownOf t m W codes) ws) (length ws / 2) S k) where
+      (uneven : FirstUneven (LevelAt (baseOf t m W (paintEach 0 codes)) (ownOf t m W (paintEach 0 codes)) ws) (length ws / 2) S k) where
     before-clean : (j : ℕ) → j < k → T (cleanPair N codes (getD ws (2 * j) 0) (getD ws (2 * j + 1) 0))
     before-clean j l = level-clean (getD ws (2 * j) 0) (getD ws (2 * j + 1) 0) S room (uneven .before j l)
 

@@ -11,12 +11,14 @@ use borrow.Author.Count.{below-more}
 use borrow.Author.Tests.{ltb-true, ltb-false}
 use Rattle.netlist.specs.Netlist.{Netlist}
 use Rattle.netlist.specs.Eval.{wireBits}
-use Rattle.netlist.specs.Leak.{masked, publicOnly, Secret, setting}
+use Rattle.netlist.specs.Leak.{masked, Secret}
 use Rattle.netlist.proofs.Tests.{onBool}
 use Rattle.evaluate.specs.Lane.{lane, lanes}
 use Rattle.evaluate.proofs.Lanes.{lane-zero}
 use Rattle.evaluate.proofs.Steps.{getD-lanes}
+use Rattle.check_counts.specs.Paint.{codesOf, paint}
 use Rattle.check_counts.specs.Block.{nibble, inputsAt, Evaluated}
+use Rattle.check_counts.proofs.Paints.{zero-base}
 use Rattle.check_counts.proofs.Numbers.{lane-shift, low-lane}
 
 -- ---- a nibble's lanes
@@ -64,25 +66,19 @@ repeated-all {words} {bases₀} {bases} {w} r e l v j k =
     ap (lane j) (List·getD-eq-default bases 0 {n = v} (omega (arith, r .long))) ∙ lane-zero j
     ∙ sym (ap (lane (j % 4)) (List·getD-eq-default words 0 {n = v} (omega arith)) ∙ lane-zero (j % 4)))
 
--- ---- all bases are setting 0
+-- ---- without public bits all bases are the setting of number 0
 
-base-zero : (es : List ℕ) → Secret es → (x : List Bool) → publicOnly es x ≡ setting (length es) 0
-base-zero [] h x = refl
-base-zero (e ∷ es) h [] = ap (λ (y : List Bool). false ∷ y) (base-zero es (λ i l. h (suc i) (omega arith)) [])
-base-zero (e ∷ es) h (b ∷ x) =
-    ap₂ (λ (c : Bool) (y : List Bool). c ∷ y) (ap (λ (c : Bool). c && b) (h 0 (omega arith))) (base-zero es (λ i l. h (suc i) (omega arith)) x)
-
-module _ (codes : List ℕ) (secret : Secret codes) where
+module _ (ps : List ℕ) (secret : Secret (codesOf ps)) where
   -- the inputs of the bases depend on the mask bits alone
-  base-inputs : (n : ℕ) → inputsAt false codes n ≡ masked (lane 0 n) (lane 1 n) codes (setting (length codes) 0)
-  base-inputs n = ap (masked (lane 0 n) (lane 1 n) codes) (base-zero codes secret (setting (length codes) (n / 4)))
+  base-inputs : (n : ℕ) → inputsAt false ps n ≡ masked (lane 0 n) (lane 1 n) (codesOf ps) (paint ps 0)
+  base-inputs n = ap (masked (lane 0 n) (lane 1 n) (codesOf ps)) (zero-base ps secret (paint ps (n / 4)))
 
-  masks-same : (n m : ℕ) → lane 0 n ≡ lane 0 m → lane 1 n ≡ lane 1 m → inputsAt false codes n ≡ inputsAt false codes m
+  masks-same : (n m : ℕ) → lane 0 n ≡ lane 0 m → lane 1 n ≡ lane 1 m → inputsAt false ps n ≡ inputsAt false ps m
   masks-same n m p q =
-      base-inputs n ∙ ap₂ (λ (a b : Bool). masked a b codes (setting (length codes) 0)) p q ∙ sym (base-inputs m)
+      base-inputs n ∙ ap₂ (λ (a b : Bool). masked a b (codesOf ps) (paint ps 0)) p q ∙ sym (base-inputs m)
 
   -- so the words of all blocks' bases are the same
-  pub same-words : {N : Netlist} {bases : List ℕ} (b block : ℕ) → Evaluated N false codes bases b → Evaluated N false codes bases block
+  pub same-words : {N : Netlist} {bases : List ℕ} (b block : ℕ) → Evaluated N false ps bases b → Evaluated N false ps bases block
   same-words {N} b block r = record {
     each = λ j l.
         r .each j l
@@ -91,7 +87,7 @@ module _ (codes : List ℕ) (secret : Secret codes) where
   }
 
   -- they are those of the first block's first setting
-  first-inputs : (j : ℕ) → j < 64 → inputsAt true codes (0 * 64 + j % 4) ≡ inputsAt false codes (0 * 64 + j)
+  first-inputs : (j : ℕ) → j < 64 → inputsAt true ps (0 * 64 + j % 4) ≡ inputsAt false ps (0 * 64 + j)
   first-inputs j l =
       let n = 0 * 64 + j % 4 in
       let z : n / 4 ≡ 0 = omega arith in
@@ -99,12 +95,12 @@ module _ (codes : List ℕ) (secret : Secret codes) where
       let d : n ≡ j % 4 = omega arith in
       let same : (i : ℕ) → i < 2 → lane i n ≡ lane i (0 * 64 + j)
       = λ i k. ap (lane i) d ∙ sym (ap (lane i) e ∙ low-lane 2 i (j / 4) (j % 4) k) in
-      ap (λ (s : ℕ). masked (lane 0 n) (lane 1 n) codes (setting (length codes) s)) z
-      ∙ ap₂ (λ (a b : Bool). masked a b codes (setting (length codes) 0)) (same 0 (omega arith)) (same 1 (omega arith))
+      ap (λ (s : ℕ). masked (lane 0 n) (lane 1 n) (codesOf ps) (paint ps s)) z
+      ∙ ap₂ (λ (a b : Bool). masked a b (codesOf ps) (paint ps 0)) (same 0 (omega arith)) (same 1 (omega arith))
       ∙ sym (base-inputs (0 * 64 + j))
 
-  repeated-words : {N : Netlist} {words bases : List ℕ} → Evaluated N true codes words 0 → length bases ≡ length words
-      → ((w j : ℕ) → j < 64 → lane j (getD bases w 0) ≡ lane (j % 4) (getD words w 0)) → Evaluated N false codes bases 0
+  repeated-words : {N : Netlist} {words bases : List ℕ} → Evaluated N true ps words 0 → length bases ≡ length words
+      → ((w j : ℕ) → j < 64 → lane j (getD bases w 0) ≡ lane (j % 4) (getD words w 0)) → Evaluated N false ps bases 0
   repeated-words {N} {words} {bases} r e h = record {
     each = λ j l.
         let lists : lanes j bases ≡ lanes (j % 4) words
@@ -113,6 +109,6 @@ module _ (codes : List ℕ) (secret : Secret codes) where
         lists ∙ r .each (j % 4) (omega arith) ∙ ap (wireBits N) (first-inputs j l);
   }
 
-  pub first-words : {N : Netlist} {words bases : List ℕ} {b : ℕ} (block : ℕ) → b ≡ 0 → Evaluated N true codes words b → length bases ≡ length words
-      → ((w j : ℕ) → j < 64 → lane j (getD bases w 0) ≡ lane (j % 4) (getD words w 0)) → Evaluated N false codes bases block
+  pub first-words : {N : Netlist} {words bases : List ℕ} {b : ℕ} (block : ℕ) → b ≡ 0 → Evaluated N true ps words b → length bases ≡ length words
+      → ((w j : ℕ) → j < 64 → lane j (getD bases w 0) ≡ lane (j % 4) (getD words w 0)) → Evaluated N false ps bases block
   first-words block z r e h = same-words 0 block (repeated-words (rw z at r) e h)

@@ -9,31 +9,32 @@ use lib.Dec.{eqb}
 use lib.ListN.{length, getD}
 use Rattle.netlist.specs.Netlist.{Netlist}
 use Rattle.netlist.specs.Eval.{wireBits, bitsAt}
-use Rattle.netlist.specs.Leak.{bit, masked, setting}
+use Rattle.netlist.specs.Leak.{bit, masked}
 use Rattle.evaluate.specs.Lane.{lane}
 use Rattle.evaluate.proofs.Lanes.{lane-and}
+use Rattle.check_counts.specs.Paint.{codesOf, paint}
 use Rattle.check_counts.specs.Base.{part}
 use Rattle.check_counts.specs.Block.{nibble, ones, onesOf, nibblesOf, Evaluated, Agree}
 use Rattle.check_counts.proofs.Nibbles.{same-counts, no-nibble, or-none, or-both, all-same}
-use Rattle.check_counts.proofs.Sides.{wire-lane, side-law}
+use Rattle.check_counts.proofs.BlockRuns.{wire-lane, run-block-law}
 use Rattle.pairs.specs.Pairs.{bothCount}
 use Rattle.pairs_search.specs.Level.{Counts, countsOf, bothOnes, heldIn, heldBase, onFrom, Alike, Level}
 use Rattle.pairs_search.specs.Bases.{Based}
 
 -- ---- the counts of two wires together
 
-module _ {N : Netlist} {whole : Bool} {codes : List ℕ} {block : ℕ} {us : List ℕ} (ran : Evaluated N whole codes us block) where
+module _ {N : Netlist} {whole : Bool} {ps : List ℕ} {block : ℕ} {us : List ℕ} (ran : Evaluated N whole ps us block) where
   abbrev at : ℕ → List Bool
-  at s = part whole codes (setting (length codes) (block * 16 + s))
+  at s = part whole (codesOf ps) (paint ps (block * 16 + s))
 
   -- both wires in lane m of setting s
   one : (u v s m : ℕ) → s < 16 → m < 4
       → bit (lane (4 * s + m) (bitAnd (getD us u 0) (getD us v 0)))
-      ≡ bit (bitsAt (wireBits N (masked (lane 0 m) (lane 1 m) codes (at s))) u && bitsAt (wireBits N (masked (lane 0 m) (lane 1 m) codes (at s))) v)
+      ≡ bit (bitsAt (wireBits N (masked (lane 0 m) (lane 1 m) (codesOf ps) (at s))) u && bitsAt (wireBits N (masked (lane 0 m) (lane 1 m) (codesOf ps) (at s))) v)
   one u v s m l k =
       ap bit (lane-and (4 * s + m) (getD us u 0) (getD us v 0) ∙ ap₂ _&&_ (wire-lane ran u s m l k) (wire-lane ran v s m l k))
 
-  pub both-law : (u v s : ℕ) → s < 16 → bothOnes us u v s ≡ countsOf N whole codes .both u v (block * 16 + s)
+  pub both-law : (u v s : ℕ) → s < 16 → bothOnes us u v s ≡ countsOf N whole ps .both u v (block * 16 + s)
   unfolding bothCount
   both-law u v s l =
       let z : 4 * s ≡ 4 * s + 0 = omega arith in
@@ -42,12 +43,12 @@ module _ {N : Netlist} {whole : Bool} {codes : List ℕ} {block : ℕ} {us : Lis
       (one u v s 2 l (omega arith)))
       (one u v s 3 l (omega arith))
 
-  pub alike-own : Alike (heldIn us) (onFrom (block * 16) (countsOf N whole codes))
-  alike-own = record { one = side-law ran .each; both = both-law }
+  pub alike-own : Alike (heldIn us) (onFrom (block * 16) (countsOf N whole ps))
+  alike-own = record { one = run-block-law ran .each; both = both-law }
 
-pub alike-base : {N : Netlist} {codes bases base : List ℕ} {block : ℕ} → Based N codes bases base block
-    → Alike (heldBase bases base) (onFrom (block * 16) (countsOf N false codes))
-alike-base b = record { one = λ w s l. b .counts w s l ∙ side-law (b .words) .each w s l; both = both-law (b .words) }
+pub alike-base : {N : Netlist} {ps bases base : List ℕ} {block : ℕ} → Based N ps bases base block
+    → Alike (heldBase bases base) (onFrom (block * 16) (countsOf N false ps))
+alike-base b = record { one = λ w s l. b .counts w s l ∙ run-block-law (b .words) .each w s l; both = both-law (b .words) }
 
 -- ---- level by equal counts
 
@@ -78,12 +79,12 @@ module _ (words bases base : List ℕ) (u v held both : ℕ)
     (kept : (s : ℕ) → s < 16 → nibble held s ≡ ones (bitAnd (getD bases u 0) (getD bases v 0)) s)
     (three : (s : ℕ) → s < 16 → eqb (nibble both s) 0 ≡ eqb (nibble held s) (ones (bitAnd (getD words u 0) (getD words v 0)) s)) where
   -- where single wires agree, both together decide
-  pub quiet-level : Agree (nibblesOf base) (onesOf words) (length words) 16 → u < length words → v < length words → both ≡ 0
+  pub agreed-level : Agree (nibblesOf base) (onesOf words) (length words) 16 → u < length words → v < length words → both ≡ 0
       → (s : ℕ) → s < 16 → Level (heldBase bases base) (heldIn words) u v s
-  quiet-level a l m z s k = record { first = a u l s k; second = a v m s k; both = sym (kept s k) ∙ same-counts (three s k) (no-nibble s z) }
+  agreed-level a l m z s k = record { first = a u l s k; second = a v m s k; both = sym (kept s k) ∙ same-counts (three s k) (no-nibble s z) }
 
-  pub level-quiet : both < 2 ^ 64 → ((s : ℕ) → s < 16 → Level (heldBase bases base) (heldIn words) u v s) → both ≡ 0
-  level-quiet h all = all-same h three (λ s l. kept s l ∙ all s l .both)
+  pub level-agreed : both < 2 ^ 64 → ((s : ℕ) → s < 16 → Level (heldBase bases base) (heldIn words) u v s) → both ≡ 0
+  level-agreed h all = all-same h three (λ s l. kept s l ∙ all s l .both)
 
   module _ (first second : ℕ) (one : (s : ℕ) → s < 16 → eqb (nibble first s) 0 ≡ eqb (nibble (getD base u 0) s) (ones (getD words u 0) s))
       (two : (s : ℕ) → s < 16 → eqb (nibble second s) 0 ≡ eqb (nibble (getD base v 0) s) (ones (getD words v 0) s)) where

@@ -4,9 +4,9 @@ use mathlib.Core.Bool.{Bool}
 use mathlib.Core.List.{List}
 use mathlib.Core.Path.{_≡_}
 use lib.Bits.{bitAnd}
-use lib.ListN.{length, getD}
+use lib.ListN.{getD}
 use Rattle.netlist.specs.Netlist.{Netlist}
-use Rattle.netlist.specs.Leak.{setting}
+use Rattle.check_counts.specs.Paint.{codesOf, paint}
 use Rattle.check_counts.specs.Base.{part, countIn}
 use Rattle.check_counts.specs.Block.{ones, onesOf, nibblesOf}
 use Rattle.pairs.specs.Pairs.{bothCount}
@@ -16,11 +16,11 @@ pub record Counts : Type 0 where
   pub one : ℕ → ℕ → ℕ
   pub both : ℕ → ℕ → ℕ → ℕ
 
--- those of a netlist in setting number s, or in its base
+-- those of a netlist in the setting that the paints give to number s, or in its base
 abbrev pub countsOf : Netlist → Bool → List ℕ → Counts
-countsOf N whole codes = record {
-  one = countIn N whole codes;
-  both = λ u v s. bothCount N codes u v (part whole codes (setting (length codes) s));
+countsOf N whole paints = record {
+  one = countIn N whole paints;
+  both = λ u v s. bothCount N (codesOf paints) u v (part whole (codesOf paints) (paint paints s));
 }
 
 -- those of two words' lanes

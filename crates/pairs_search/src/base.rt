@@ -41,24 +41,24 @@ pub fn refresh(
     operands: &[u64],
     results: &[u64],
     count: usize,
-    codes: &[u8],
-    mixed: bool,
+    paints: &[u8],
+    publics: bool,
     block: u64,
     words: &[u64],
     bases: &mut [u64],
     base: &mut [u64],
 )
     requires { ⌜ Wired (tables (now operands) (now results)) (length (now words)) count ⌝ }
-    requires { ⌜ (length (now codes) < 64) × (length (now codes) + 2 ≤ length (now words)) × (length (now bases) ≡ length (now words))
+    requires { ⌜ (length (now paints) + 2 ≤ length (now words)) × (length (now bases) ≡ length (now words))
         × (length (now base) ≡ length (now words)) ⌝ }
     requires { ⌜ (let N = bare (tables (now operands) (now results)) count (length (now words)) in
-        Evaluated N true (now codes) (now words) block × HeldOn mixed N (now codes) (now bases) (now base) block) ⌝ }
+        Evaluated N true (now paints) (now words) block × HeldOn publics N (now paints) (now bases) (now base) block) ⌝ }
     ensures { λ _. ⌜ (let N = bare (tables (now (operands .entry)) (now (results .entry))) count (length (now (words .entry))) in
-        Based N (now (codes .entry)) (now (bases .exit)) (now (base .exit)) block
-        × HeldOn mixed N (now (codes .entry)) (now (bases .exit)) (now (base .exit)) (block + 1)) ⌝ }
+        Based N (now (paints .entry)) (now (bases .exit)) (now (base .exit)) block
+        × HeldOn publics N (now (paints .entry)) (now (bases .exit)) (now (base .exit)) (block + 1)) ⌝ }
 {
-    if mixed {
-        block::side(operands, results, count, codes, false, block, bases);
+    if publics {
+        block::run_block(operands, results, count, paints, false, block, bases);
         tally(bases, base);
     } else if block == 0 {
         repeat(words, bases);

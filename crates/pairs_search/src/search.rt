@@ -2,6 +2,7 @@
 use crate::base;
 use crate::pair;
 use check_counts::block;
+use check_counts::paint;
 use check_leak::search::Verdict;
 use check_leak::spot;
 use check_leak::spot::Spot;
@@ -44,29 +45,29 @@ fn run(
     operands: &[u64],
     results: &[u64],
     count: usize,
-    codes: &[u8],
-    mixed: bool,
+    paints: &[u8],
+    publics: bool,
     block: u64,
     words: &mut [u64],
     bases: &mut [u64],
     base: &mut [u64],
 )
     requires { ⌜ Wired (tables (now operands) (now results)) (length (now words)) count ⌝ }
-    requires { ⌜ (length (now codes) < 64) × (length (now codes) + 2 ≤ length (now words)) × (length (now bases) ≡ length (now words))
+    requires { ⌜ (length (now paints) + 2 ≤ length (now words)) × (length (now bases) ≡ length (now words))
         × (length (now base) ≡ length (now words))
-        × HeldOn mixed (bare (tables (now operands) (now results)) count (length (now words))) (now codes) (now bases) (now base) block ⌝ }
+        × HeldOn publics (bare (tables (now operands) (now results)) count (length (now words))) (now paints) (now bases) (now base) block ⌝ }
     ensures { λ _. ⌜ (let N = bare (tables (now (operands .entry)) (now (results .entry))) count (length (now (words .entry))) in
-        Evaluated N true (now (codes .entry)) (now (words .exit)) block
-        × Based N (now (codes .entry)) (now (bases .exit)) (now (base .exit)) block
-        × HeldOn mixed N (now (codes .entry)) (now (bases .exit)) (now (base .exit)) (block + 1)) ⌝ }
+        Evaluated N true (now (paints .entry)) (now (words .exit)) block
+        × Based N (now (paints .entry)) (now (bases .exit)) (now (base .exit)) block
+        × HeldOn publics N (now (paints .entry)) (now (bases .exit)) (now (base .exit)) (block + 1)) ⌝ }
 {
-    block::side(operands, results, count, codes, true, block, words);
+    block::run_block(operands, results, count, paints, true, block, words);
     base::refresh(
         operands,
         results,
         count,
-        codes,
-        mixed,
+        paints,
+        publics,
         block,
         words,
         bases,
@@ -86,37 +87,38 @@ fn look(words: &[u64], bases: &[u64], base: &[u64], pairs: &[u32], best: Best, b
     let limit = best.spot.wire;
     let spot = spot::scan(words, base, limit);
     let first = best.pair;
-    let quiet = spot.wire == words.len();
-    let pair = pair::scan(pairs, first, words, bases, base, quiet);
+    let agreed = spot.wire == words.len();
+    let pair = pair::scan(pairs, first, words, bases, base, agreed);
     Best {
         spot: spot::better(best.spot, spot, block),
         pair: pair,
     }
 }
 
-// The first wire and the first pair whose counts are not those of the base, over all settings of these blocks.
-fn find(
+// The first wire below a limit and the first pair whose counts are not those of the base, over all settings of these blocks.
+pub fn find(
     operands: &[u64],
     results: &[u64],
     count: usize,
-    codes: &[u8],
+    paints: &[u8],
     pairs: &[u32],
+    limit: usize,
     blocks: u64,
     words: &mut [u64],
     bases: &mut [u64],
     base: &mut [u64],
 ) -> Best
     requires { ⌜ Wired (tables (now operands) (now results)) (length (now words)) count ⌝ }
-    requires { ⌜ (length (now codes) < 64) × (length (now codes) + 2 ≤ length (now words)) × (length (now bases) ≡ length (now words))
-        × (length (now base) ≡ length (now words)) × (blocks < 65536)
+    requires { ⌜ (length (now paints) + 2 ≤ length (now words)) × (length (now bases) ≡ length (now words))
+        × (length (now base) ≡ length (now words)) × (blocks < 65536) × (limit ≤ length (now words))
         × ((i : ℕ) → i < length (now pairs) → getD (now pairs) i 0 < length (now words)) ⌝ }
     ensures { λ r. ⌜ (let N = bare (tables (now (operands .entry)) (now (results .entry))) count (length (now (words .entry))) in
-        Found (countsOf N false (now (codes .entry))) (countsOf N true (now (codes .entry))) (now (pairs .entry)) (length (now (words .entry)))
+        Found (countsOf N false (now (paints .entry))) (countsOf N true (now (paints .entry))) (now (pairs .entry)) limit
         (length (now (pairs .entry)) / 2) (blocks * 16) r) ⌝ }
 {
-    let mixed = block::public(codes);
+    let publics = block::public(paints);
     let mut best = Best {
-        spot: spot::none(words.len()),
+        spot: spot::none(limit),
         pair: pairs.len() / 2,
     };
     let mut block = 0;
@@ -125,8 +127,8 @@ fn find(
             operands,
             results,
             count,
-            codes,
-            mixed,
+            paints,
+            publics,
             block,
             words,
             bases,
@@ -139,7 +141,7 @@ fn find(
 }
 
 // What the first bad one of so many pairs says, or none.
-fn pairs_verdict_of(pair: usize, count: usize) -> PairsVerdict
+pub fn pairs_verdict_of(pair: usize, count: usize) -> PairsVerdict
     ensures { λ r. ⌜ badOf r ≡ badAt pair count ⌝ }
 {
     if pair < count {
@@ -163,19 +165,24 @@ pub fn search(
 ) -> Verdicts
     requires { ⌜ Wired (tables (now operands) (now results)) (length (now words)) count ⌝ }
     requires { ⌜ (length (now codes) ≤ maxChecked) × (length (now codes) + 2 ≤ length (now words)) × (length (now bases) ≡ length (now words))
-        × (length (now base) ≡ length (now words)) × ((i : ℕ) → i < length (now pairs) → getD (now pairs) i 0 < length (now words)) ⌝ }
+        × (length (now base) ≡ length (now words)) × ((i : ℕ) → i < length (now pairs) → getD (now pairs) i 0 < length (now words))
+        × ((i : ℕ) → i < length (now codes) → getD (now codes) i 0 < 4) ⌝ }
     ensures { λ r. ⌜ ((n o : ℕ) (N : Netlist) → Holds (tables (now (operands .entry)) (now (results .entry))) count
         (length (now (words .entry))) n o N
         → (foundOf (r .wires) ≡ leakOf N (now (codes .entry))) ×
         (badOf (r .pairs) ≡ firstBad (cleanPair N (now (codes .entry))) (now (pairs .entry)))) ⌝ }
 {
+    let paints = paint::each(codes);
+    let n = codes.len();
+    let wires = words.len();
     let best = find(
         operands,
         results,
         count,
-        codes,
+        &paints[..n],
         pairs,
-        check_leak::search::blocks_of(codes.len()),
+        wires,
+        check_leak::search::blocks_of(n),
         words,
         bases,
         base,

@@ -134,7 +134,7 @@ pub fn checkable(random: &mut Random) -> (Netlist, Vec<u8>) {
 }
 
 /// Other numbers for the wires that are no inputs, so that low wires may be given late.
-fn renumber(random: &mut Random, netlist: &mut Netlist) {
+pub fn renumber(random: &mut Random, netlist: &mut Netlist) {
     let inputs = netlist.input_bits();
     let mut numbers: Vec<usize> = (0..netlist.wires).collect();
     random.shuffle(&mut numbers[inputs..]);
@@ -150,7 +150,7 @@ fn renumber(random: &mut Random, netlist: &mut Netlist) {
 }
 
 /// Another kind or another operand for one of the last gates of a netlist whose results rise.
-fn change_gate(random: &mut Random, netlist: &mut Netlist) {
+pub fn change_gate(random: &mut Random, netlist: &mut Netlist) {
     let place = netlist.gates.len() - 1 - random.below(netlist.gates.len().min(8));
     let gate = &mut netlist.gates[place];
     let other = random.below(gate.result());

@@ -9,6 +9,8 @@ pub mod evaluate;
 pub mod mask;
 pub mod netlist;
 pub mod text;
+#[allow(dead_code)]
+pub mod wide;
 
 use netlist::{Limits, Netlist, Sizes};
 

@@ -2,7 +2,7 @@
 use mathlib.Core.Path.{sym, ap, _∙_}
 use lib.ListN.{take}
 use Rattle.check_netlist.specs.Judge.{askedOf}
-use Rattle.check_netlist.proofs.Judging.{asked-bits, outcome-refused, outcome-twelve, outcome-told}
+use Rattle.check_netlist.proofs.Judging.{asked-bits, asked-codes, outcome-refused, outcome-twelve, outcome-told}
 use native.Mathlib.Omega.{arith}
 use borrow.Author.Needs.{needs}
 use Rattle.check_netlist.proofs.judge.Statement.{statement}
@@ -30,8 +30,10 @@ cast-verdict-2 c = search needs
 verdict-requires : tie.Need-verdict-requires
 verdict-requires c κs = let s = c .before .before .before .before .before .before .before .before .before .before .before .before .before in
     let p = s .pre in
-    let bits = asked-bits (take (s .args .h .«input_values») (s .args .widths)) (s .args .codes .now) (sym (c .before .before .before .before .before .before .before .ask-codes .ensures) ∙ ap askedOf (c .before .before .before .before .before .enum-told .given .1)) in
-    (p .0, (c .before .before .before .before .if1 .left, omega arith, p .1 .3, p .1 .4))
+    let ws = take (s .args .h .«input_values») (s .args .widths) in
+    let asked = (sym (c .before .before .before .before .before .before .before .ask-codes .ensures) ∙ ap askedOf (c .before .before .before .before .before .enum-told .given .1)) in
+    let bits = asked-bits ws (s .args .codes .now) asked in
+    (p .0, (c .before .before .before .before .if1 .left, omega arith, p .1 .3, p .1 .4, asked-codes ws (s .args .codes .now) asked))
 
 returns-2 : tie.Need-returns-2
 returns-2 c N h e = let a = c .before .before .before .before .before .before .before .before .before .args in

@@ -26,7 +26,7 @@ leaks-requires c κs =
     let p = s .pre in
     let w = length-take-le (s .args .wires) (s .args .words .now) (p .1 .2) in
     let b = length-take-le (s .args .wires) (s .args .base .now) (p .1 .3) in
-    (rw w (p .0), (p .1 .0, omega arith, b ∙ sym w))
+    (rw w (p .0), (p .1 .0, omega arith, b ∙ sym w, p .1 .4))
 
 enum-told : tie.Need-enum-told
 enum-told c = search needs

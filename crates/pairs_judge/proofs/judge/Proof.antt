@@ -4,7 +4,7 @@ use mathlib.Core.Bool.{true, false}
 use lib.ListN.{take}
 use borrow.Author.Tests.{not-true, not-false}
 use Rattle.check_netlist.specs.Judge.{askedOf}
-use Rattle.check_netlist.proofs.Judging.{asked-bits}
+use Rattle.check_netlist.proofs.Judging.{asked-bits, asked-codes}
 use Rattle.pairs.specs.Call.{pairsGood}
 use Rattle.pairs_judge.proofs.Judging.{good-below, refused-asked, refused-twelve, refused-pairs, answered}
 use native.Mathlib.Omega.{arith}
@@ -46,9 +46,11 @@ verdicts-requires : tie.Need-verdicts-requires
 verdicts-requires c κs = let s = c .before .before .before .before .before .before .before .before .before .before .before .before .before .before .before .before .before .before .before in
     let p = s .pre in
     let a = s .args in
-    let bits = asked-bits (take (a .h .«input_values») (a .widths)) (a .codes .now) (sym (c .before .before .before .before .before .before .before .before .before .before .before .ask-codes .ensures) ∙ ap askedOf (c .before .before .before .before .before .before .before .before .before .enum-told .given .1)) in
+    let ws = take (a .h .«input_values») (a .widths) in
+    let asked = (sym (c .before .before .before .before .before .before .before .before .before .before .before .ask-codes .ensures) ∙ ap askedOf (c .before .before .before .before .before .before .before .before .before .enum-told .given .1)) in
+    let bits = asked-bits ws (a .codes .now) asked in
     let good : pairsGood (a .h .wires) (a .pairs .now) ≡ true = sym (c .before .before .before .before .before .before .pairs-good .ensures) ∙ not-false _ (c .before .before .before .before .before .if2 .left) in
-    (p .0, (c .before .before .before .before .before .before .before .before .if1 .left, omega (arith, bits, p .1 .1, p .1 .2), p .1 .3, p .1 .4, p .1 .5, good-below (a .h .wires) (a .pairs .now) good))
+    (p .0, (c .before .before .before .before .before .before .before .before .if1 .left, omega (arith, bits, p .1 .1, p .1 .2), p .1 .3, p .1 .4, p .1 .5, good-below (a .h .wires) (a .pairs .now) good, asked-codes ws (a .codes .now) asked))
 
 returns-3 : tie.Need-returns-3
 returns-3 c N h e = let a = c .before .before .before .before .before .before .before .before .before .before .before .args in

@@ -31,7 +31,7 @@ search-requires c κs = let s = c .before .before .before .before .before .befor
     let w = length-take-le (s .args .wires) (s .args .words .now) (p .1 .2) in
     let b = length-take-le (s .args .wires) (s .args .base .now) (p .1 .3) in
     let z = length-take-le (s .args .wires) (s .args .bases .now) (p .1 .4) in
-    (rw w (p .0), (p .1 .0, omega arith, z ∙ sym w, b ∙ sym w, λ i l. omega (arith, p .1 .5 i l, w)))
+    (rw w (p .0), (p .1 .0, omega arith, z ∙ sym w, b ∙ sym w, λ i l. omega (arith, p .1 .5 i l, w), p .1 .6))
 
 same-length : tie.Need-same-length
 same-length c = search needs

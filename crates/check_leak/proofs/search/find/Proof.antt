@@ -13,11 +13,11 @@ use Rattle.check_leak.proofs.search.find.Statement.{statement}
 use Rattle.check_leak.proofs.search.find.Tie as tie
 
 abbrev Inv-loop : tie.InvT-loop
-Inv-loop operands results count codes blocks words₀ base₀ mixed best₀ block₀ words base best block =
-    Finding (tables operands results) count (length words₀) codes mixed blocks words base best block
+Inv-loop operands results count paints blocks words₀ base₀ publics best₀ block₀ words base best block =
+    Finding (tables operands results) count (length words₀) paints publics blocks words base best block
 
 abbrev μ-loop : tie.MeasureT-loop
-μ-loop operands results count codes blocks words₀ base₀ mixed best₀ block₀ words base best block =
+μ-loop operands results count paints blocks words₀ base₀ publics best₀ block₀ words base best block =
     blocks - block
 
 public-requires : tie.Need-public-requires Inv-loop μ-loop
@@ -29,22 +29,21 @@ none-requires c κs = search needs
 loop-holds : tie.Need-loop-holds Inv-loop μ-loop
 loop-holds c =
     let s = c .before .before .before .before .before .before .before in
-    find-none (s .args .blocks) refl (s .pre .1 .2) (λ m. (c .before .public .ensures .1 m, λ z. absurd (z refl))) (c .none .ensures)
+    find-none (s .args .blocks) refl (s .pre .1 .1) (λ m. (c .before .public .ensures .1 m, λ z. absurd (z refl))) (c .none .ensures)
 
-turn-requires : tie.Need-turn-requires Inv-loop μ-loop
-turn-requires c κs =
+search-block-requires : tie.Need-search-block-requires Inv-loop μ-loop
+search-block-requires c κs =
     let s = c .before .before .before .before .before .before .before .before .before .before .before in
     let at = c .before .before .before .loop in
     let t = tables (s .args .operands .now) (s .args .results .now) in
     let w = at .inv .long-words in (
       wired-same w (s .pre .0),
       (
-        s .pre .1 .0,
-        omega (arith, s .pre .1 .1, w),
+        omega (arith, s .pre .1 .0, w),
         at .inv .long-base ∙ sym w,
         omega (arith, at .inv .spotted .within, w),
         subst
-            (λ (W : ℕ). Ready (c .before .before .before .before .before .public .result) (bare t (s .args .count) W) (s .args .codes .now) (at .base)
+            (λ (W : ℕ). Ready (c .before .before .before .before .before .public .result) (bare t (s .args .count) W) (s .args .paints .now) (at .base)
             (at .block))
             (sym w) (at .inv .ready),
       ),
@@ -53,13 +52,13 @@ turn-requires c κs =
 better-requires : tie.Need-better-requires Inv-loop μ-loop
 better-requires c κs =
     let s = c .before .before .before .before .before .before .before .before .before .before .before .before .before .before .before .before in
-    (omega (arith, s .pre .1 .3), λ l. c .before .before .before .before .turn .ensures .0 .differs l .inside)
+    (omega (arith, s .pre .1 .2), λ l. c .before .before .before .before .search-block .ensures .0 .differs l .inside)
 
 add-block : tie.Need-add-block Inv-loop μ-loop
 add-block c =
     omega (
       arith,
-      c .before .before .before .before .before .before .before .before .before .before .before .before .before .before .before .before .before .pre .1 .3,
+      c .before .before .before .before .before .before .before .before .before .before .before .before .before .before .before .before .before .pre .1 .2,
     )
 
 loop-less : tie.Need-loop-less Inv-loop μ-loop
@@ -69,16 +68,16 @@ loop-again : tie.Need-loop-again Inv-loop μ-loop
 loop-again c =
     let at-loop-test = c .before .before .before .before .before .before .before .before in
     let at = at-loop-test .before .loop in
-    let turn = c .before .before .before .before .before .turn in
-    find-more (at .inv) (at-loop-test .loop-test .taken) (turn .last .1 .1 .1 .1 .1 .1 .0) (turn .last .1 .1 .1 .1 .1 .1 .1 .0) (turn .result)
+    let search-block = c .before .before .before .before .before .search-block in
+    find-more (at .inv) (at-loop-test .loop-test .taken) (search-block .last .1 .1 .1 .1 .1 .1 .0) (search-block .last .1 .1 .1 .1 .1 .1 .1 .0) (search-block .result)
     (c .better .result)
-    (turn .kept .1 .1 .1 .1 .1 .1 .0) (turn .kept .1 .1 .1 .1 .1 .1 .1 .0) (turn .ensures .0) (turn .ensures .1) (c .better .ensures)
+    (search-block .kept .1 .1 .1 .1 .1 .1 .0) (search-block .kept .1 .1 .1 .1 .1 .1 .1 .0) (search-block .ensures .0) (search-block .ensures .1) (c .better .ensures)
 
 same-length : tie.Need-same-length Inv-loop μ-loop
 same-length c = c .before .loop .inv .long-words
 
 same-length-2 : tie.Need-same-length-2 Inv-loop μ-loop
-same-length-2 c = c .before .loop .inv .long-base ∙ sym (c .before .before .before .before .before .before .before .before .before .pre .1 .2)
+same-length-2 c = c .before .loop .inv .long-base ∙ sym (c .before .before .before .before .before .before .before .before .before .pre .1 .1)
 
 returns : tie.Need-returns Inv-loop μ-loop
 returns c = find-all (c .before .loop .inv) (c .loop-test .left)
@@ -92,7 +91,7 @@ find-spec =
     public-requires
     none-requires
     loop-holds
-    turn-requires
+    search-block-requires
     better-requires
     add-block
     loop-less

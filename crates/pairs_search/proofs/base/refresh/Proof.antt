@@ -14,10 +14,10 @@ use borrow.Author.Needs.{needs}
 use Rattle.pairs_search.proofs.base.refresh.Statement.{statement}
 use Rattle.pairs_search.proofs.base.refresh.Tie as tie
 
-side-requires : tie.Need-side-requires
-side-requires c κs = let s = c .before .before .before .before .before .before .before .before in
-    let e = s .pre .1 .0 .2 in
-    (wired-same e (s .pre .0), (s .pre .1 .0 .0, omega (arith, s .pre .1 .0 .1, e)))
+run-block-requires : tie.Need-run-block-requires
+run-block-requires c κs = let s = c .before .before .before .before .before .before .before .before in
+    let e = s .pre .1 .0 .1 in
+    (wired-same e (s .pre .0), omega (arith, s .pre .1 .0 .0, e))
 
 tally-requires : tie.Need-tally-requires
 tally-requires c κs = search needs
@@ -36,10 +36,10 @@ same-length-2 c = search needs
 
 returns : tie.Need-returns
 returns c = let s = c .before .before .before .before .before .before .before .before .before .before .before .before .before .before .before .before in
-    let side = c .before .before .before .before .before .before .before .side in
+    let run-block = c .before .before .before .before .before .before .before .run-block in
     let t = tables (s .args .operands .now) (s .args .results .now) in
-    let ran = subst (λ (W : ℕ). Evaluated (bare t (s .args .count) W) false (s .args .codes .now) (side .last .1 .1 .1 .1 .1 .1 .0) (s .args .block))
-    (s .pre .1 .0 .2) (side .ensures) in
+    let ran = subst (λ (W : ℕ). Evaluated (bare t (s .args .count) W) false (s .args .paints .now) (run-block .last .1 .1 .1 .1 .1 .1 .0) (s .args .block))
+    (s .pre .1 .0 .1) (run-block .ensures) in
     (record { words = ran; counts = c .before .before .tally .ensures }, λ e. absurd (subst T (sym (c .before .before .before .before .before .before .before .before .before .if1 .taken) ∙ e) tt))
 
 same-length-3 : tie.Need-same-length-3
@@ -53,13 +53,13 @@ returns-2 c = let s = c .before .before .before .before .before .before .before 
     let a = s .args in
     let first = c .before .before .before .before .before .before .before .repeat in
     let secret = s .pre .1 .1 .1 (c .before .before .before .before .before .before .before .before .before .before .if1 .left) .0 in
-    let long = first .kept .1 .0 ∙ s .pre .1 .0 .2 in
+    let long = first .kept .1 .0 ∙ s .pre .1 .0 .1 in
     let zero = c .before .before .before .before .before .before .before .before .before .if2 .taken in
     let counts = c .before .before .tally2 .ensures in (
-      record { words = first-words (a .codes .now) secret (a .block) zero (s .pre .1 .1 .0) long (first .ensures); counts = counts },
+      record { words = first-words (a .paints .now) secret (a .block) zero (s .pre .1 .1 .0) long (first .ensures); counts = counts },
       λ _. (
         secret,
-        λ _. record { words = first-words (a .codes .now) secret (a .block + 1) zero (s .pre .1 .1 .0) long (first .ensures); counts = counts },
+        λ _. record { words = first-words (a .paints .now) secret (a .block + 1) zero (s .pre .1 .1 .0) long (first .ensures); counts = counts },
       ),
     )
 
@@ -67,13 +67,13 @@ returns-3 : tie.Need-returns-3
 returns-3 c = let s = c .before .before .before .before .before .before .before .before in
     let r = s .pre .1 .1 .1 (c .before .if1 .left) in
     let held = r .1 (c .if2 .left) in
-    (held, λ _. (r .0, λ _. record { words = same-words (s .args .codes .now) (r .0) (s .args .block) (s .args .block + 1) (held .words); counts = held .counts }))
+    (held, λ _. (r .0, λ _. record { words = same-words (s .args .paints .now) (r .0) (s .args .block) (s .args .block + 1) (held .words); counts = held .counts }))
 
 pub refresh-spec : {M : Type 1} → statement M
 refresh-spec =
     tie.close
     (tie.spec
-    side-requires
+    run-block-requires
     tally-requires
     repeat-requires
     tally-requires-2

@@ -2,7 +2,7 @@
 use mathlib.Core.Path.{sym, subst, _∙_}
 use lib.Dec.{T}
 use borrow.Author.Tests.{eqb-true, eq-eqb}
-use Rattle.pairs_search.proofs.Levels.{quiet-level, level-quiet, none-level, level-none}
+use Rattle.pairs_search.proofs.Levels.{agreed-level, level-agreed, none-level, level-none}
 use native.Mathlib.Omega.{arith}
 use borrow.Author.Needs.{needs}
 use Rattle.pairs_search.proofs.pair.level.Statement.{statement}
@@ -43,9 +43,9 @@ returns c = let s = c .before .before .before .before .before .before .before .b
     let a = s .args in
     let held = c .before .before .before .before .counts in
     let both = c .before .differ in (
-      λ e. quiet-level (a .words .now) (a .bases .now) (a .base .now) (a .u) (a .v) (held .result) (both .result) (held .ensures) (both .ensures)
+      λ e. agreed-level (a .words .now) (a .bases .now) (a .base .now) (a .u) (a .v) (held .result) (both .result) (held .ensures) (both .ensures)
           (s .pre .4 (c .if1 .taken)) (s .pre .0) (s .pre .1) (eqb-true _ 0 e),
-      λ e all. subst T (sym (eq-eqb _ 0 (level-quiet (a .words .now) (a .bases .now) (a .base .now) (a .u) (a .v) (held .result) (both .result) (held .ensures)
+      λ e all. subst T (sym (eq-eqb _ 0 (level-agreed (a .words .now) (a .bases .now) (a .base .now) (a .u) (a .v) (held .result) (both .result) (held .ensures)
           (both .ensures) (search needs) all)) ∙ e) tt,
     )
 

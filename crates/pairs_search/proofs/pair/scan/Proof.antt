@@ -8,10 +8,10 @@ use Rattle.pairs_search.proofs.pair.scan.Statement.{statement}
 use Rattle.pairs_search.proofs.pair.scan.Tie as tie
 
 abbrev Inv-loop : tie.InvT-loop
-Inv-loop pairs limit words bases base quiet j₀ j = (j ≤ limit) × ((i : ℕ) → i < j → (s : ℕ) → s < 16 → LevelAt (heldBase bases base) (heldIn words) pairs i s)
+Inv-loop pairs limit words bases base agreed j₀ j = (j ≤ limit) × ((i : ℕ) → i < j → (s : ℕ) → s < 16 → LevelAt (heldBase bases base) (heldIn words) pairs i s)
 
 abbrev μ-loop : tie.MeasureT-loop
-μ-loop pairs limit words bases base quiet j₀ j = limit - j
+μ-loop pairs limit words bases base agreed j₀ j = limit - j
 
 loop-holds : tie.Need-loop-holds Inv-loop μ-loop
 loop-holds c = (omega arith, below-none _)

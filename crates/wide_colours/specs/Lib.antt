@@ -1,0 +1,2 @@
+-- What the contracts of the colours cite.
+pub mod Colours

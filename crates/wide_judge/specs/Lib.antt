@@ -1,0 +1,2 @@
+-- What the contracts of the verdicts cite.
+pub mod Judge

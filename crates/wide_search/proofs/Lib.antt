@@ -1,0 +1,5 @@
+-- Laws that several proofs cite.
+pub mod Items
+pub mod Servings
+pub mod Passes
+pub mod Answers

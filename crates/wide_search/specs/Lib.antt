@@ -1,0 +1,4 @@
+-- What the contracts of the search cite.
+pub mod Items
+pub mod Judging
+pub mod Told

@@ -1,0 +1,4 @@
+-- What the contracts of the sets cite.
+pub mod Packed
+pub mod Together
+pub mod Reached

@@ -1,0 +1,4 @@
+// The inputs that reach each wire, as sets of at most twelve in four lent tables.
+pub mod members;
+pub mod reach;
+pub mod unite;
