@@ -1,0 +1,5 @@
+-- Laws of the search.
+pub mod Redoing
+pub mod Advancing
+pub mod Trying
+pub mod Searching
