@@ -20,41 +20,8 @@ use Rattle.mask_changes.specs.Changes.{oneChange, changedOperands, maskChanges}
 use Rattle.fewest.specs.Fewest.{twice, twices, changesUnder, changesAt, given, floor, FirstLeast}
 use Rattle.fewest.proofs.Digits.{number, product-positive, number-below, digits-number, digits-take}
 use Rattle.fewest.proofs.Least.{firstLeast-is}
-use Rattle.fewest.proofs.Chosen.{on-way}
+use Rattle.fewest.proofs.Twices.{twices-below}
 use Rattle.fewest.proofs.Same.{Agree, codes-same, gates-same}
-
--- ---- a gate that names one wire twice costs a change under every choice
-
-twice-bit : (S : State) (a b : ℕ) → bit (eqb a b) ≤ bit (eqb (twin S a .code) (twin S b .code))
-twice-bit S a b =
-    onBool (eqb a b)
-    (λ e. let q = eqb-true a b e in rw (e, eq-eqb (twin S a .code) (twin S b .code) (ap (λ w. twin S w .code) q)) (omega arith))
-    (λ e. rw e (omega arith))
-
-twice-other : (a b : ℕ) → bit (eqb a b) ≤ bit (eqb b a)
-twice-other a b =
-    onBool (eqb a b) (λ e. rw (e, eq-eqb b a (sym (eqb-true a b e))) (omega arith)) (λ e. rw e (omega arith))
-
-twice-changes : (S : State) (d : ℕ) (g : Gate) → bit (twice g) ≤ oneChange S (chosenGate d g)
-twice-changes S d (Xor a b c) = twice-bit S a b
-twice-changes S d (And a b c) =
-    on-way (λ g. bit (eqb a b) ≤ oneChange S g) d a b c (let h = twice-other a b in let k = twice-bit S b a in omega arith) (twice-bit S a b)
-twice-changes S d (Inv a c) = omega arith
-twice-changes S d (Eqw a c) = omega arith
-twice-changes S d (Eq v c) = omega arith
-
-twices-changes : (S : State) (d : Choice) (p : ℕ) (gs : List Gate) → twices gs ≤ changedOperands S (chosenGates d p gs)
-twices-changes S d p [] = omega arith
-twices-changes S d p (g ∷ gs) =
-    let h = twice-changes S (d p) g in
-    let k = twices-changes (advance S (chosenGate (d p) g)) d (suc p) gs in
-    omega arith
-
-pub twices-below : (N : Netlist) (codes wanted : List ℕ) (d : Choice) → twices (N .gates) ≤ changesUnder N codes wanted d
-unfolding maskChanges
-twices-below N codes wanted d =
-    let h = twices-changes (start (chosenSource N d) (chosenInputs codes d)) d (inputBits N) (N .gates) in
-    omega arith
 
 -- ---- the ways are one or more
 

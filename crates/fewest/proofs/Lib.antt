@@ -3,8 +3,9 @@ pub mod Digits
 pub mod Least
 pub mod Chosen
 pub mod Same
-pub mod Floor
 pub mod OnlyCodes
+pub mod Twices
+pub mod Floor
 pub mod Retried
 pub mod Order
 pub mod Cuts

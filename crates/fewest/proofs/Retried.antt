@@ -19,10 +19,11 @@ use Rattle.netlist.proofs.Tests.{both, onBool}
 use Rattle.netlist.proofs.GoodGates.{GoodGate, goodGate, fresh-ne, given-none, given-more, given-cases, results, every-wire-given}
 use Rattle.fewest.specs.Choice.{Choice, chosenGate, chosenGates, chosenSource, chosenInputs}
 use Rattle.fewest.specs.Fewest.{changesUnder}
-use Rattle.fewest.specs.Codes.{codeAt, secondCode, gateCode, gateChange, coded, codedAll, codeChanges, inputCode, firstCodes, endChanges, codesBefore, changesBefore, gatesFrom}
+use Rattle.fewest.specs.Codes.{codeAt, secondCode, gateCode, gateChange, coded, codedAll, codeChanges, inputCode, firstCodes, endChanges, codesBefore, changesBefore, gatesFrom, leastBefore}
 use Rattle.fewest.proofs.Chosen.{on-way, chosen-result, chosen-good, length-chosenCodes}
 use Rattle.fewest.proofs.Same.{Agree, codes-same, gates-same, chosen-append}
 use Rattle.fewest.proofs.OnlyCodes.{mask-changes}
+use Rattle.fewest.proofs.Twices.{way-change, twices-changes}
 
 -- ---- gates one after another
 
@@ -103,13 +104,6 @@ module _ (n W : ℕ) where
   good-behind rs (suc i) [] t = tt
   good-behind rs (suc i) (g ∷ gs) t = let G : GoodGate n W rs g gs = goodGate t in good-behind (result g ∷ rs) i gs (G .rest)
 
--- what is given before gate i is given in the end
-given-later : (n : ℕ) (rs : List ℕ) (i : ℕ) (gs : List Gate) (w : ℕ) → T (isGiven n (results rs (take i gs)) w) → T (isGiven n (results rs gs) w)
-given-later n rs zero [] w h = h
-given-later n rs zero (g ∷ gs) w h = given-later n (result g ∷ rs) zero gs w (given-more n rs (result g) w h)
-given-later n rs (suc i) [] w h = h
-given-later n rs (suc i) (g ∷ gs) w h = given-later n (result g ∷ rs) i gs w h
-
 results-snoc : (rs : List ℕ) (gs : List Gate) (g : Gate) → results rs (gs ++ (g ∷ [])) ≡ result g ∷ results rs gs
 results-snoc rs [] g = refl
 results-snoc rs (x ∷ gs) g = results-snoc (result x ∷ rs) gs g
@@ -138,17 +132,6 @@ idle-code u d (And a b c) e = on-way (λ g. gateCode u g ≡ u a) d a b c (sym e
 idle-code u d (Inv a c) e = refl
 idle-code u d (Eqw a c) e = refl
 idle-code u d (Eq v c) e = refl
-
-eqb-sym : (a b : ℕ) → eqb a b ≡ eqb b a
-eqb-sym a b = onBool (eqb b a) (λ e. eq-eqb a b (sym (eqb-true b a e)) ∙ sym e) (λ e. ne-eqb a b (λ q. eqb-false b a e (sym q)) ∙ sym e)
-
--- whichever way an AND is taken, it costs the same change
-pub way-change : (u : ℕ → ℕ) (d : ℕ) (g : Gate) → gateChange u (chosenGate d g) ≡ gateChange u g
-way-change u d (Xor a b c) = refl
-way-change u d (And a b c) = on-way (λ g. gateChange u g ≡ bit (eqb (u a) (u b))) d a b c (ap bit (eqb-sym (u b) (u a))) refl
-way-change u d (Inv a c) = refl
-way-change u d (Eqw a c) = refl
-way-change u d (Eq v c) = refl
 
 -- ---- the law of trying again
 
@@ -219,6 +202,22 @@ module _ {N : Netlist} (F : WellFormed N) (codes : List ℕ) (l : length codes �
       → changesBefore N codes d (suc i) ≡ changesBefore N codes d i + (gateChange (codeAt (codesBefore N codes d i)) (chosenGate (d (inputBits N + i)) (getD (N .gates) i z)) + 0)
   changes-next d i z b = ap (codeChanges (firstCodes N (chosenInputs codes d))) (before-next d i z b) ∙ changes-append _ (before d i) _
 
+  -- gate i is good behind the results of those before, and its result is given with them
+  gate-good : (d : Choice) (i : ℕ) (z : Gate) → i < length (N .gates)
+      → GoodGate n (N .wires) (results [] (take i (N .gates))) (chosenGate (d (inputBits N + i)) (getD (N .gates) i z)) (gatesFrom N d (suc i))
+  gate-good d i z b =
+      let s : inputBits N + suc i ≡ suc (inputBits N + i) = omega arith in
+      let cons : gatesFrom N d i ≡ chosenGate (d (n + i)) (getD (N .gates) i z) ∷ gatesFrom N d (suc i) =
+      ap (chosenGates d (n + i)) (drop-cons (N .gates) i z b)
+      ∙ ap (λ (p : ℕ). chosenGate (d (n + i)) (getD (N .gates) i z) ∷ chosenGates d p (drop (suc i) (N .gates))) (sym s) in
+      goodGate (rw cons at (good-from d i))
+
+  results-next : (d : Choice) (i : ℕ) (z : Gate) → i < length (N .gates)
+      → results [] (take (suc i) (N .gates)) ≡ result (chosenGate (d (inputBits N + i)) (getD (N .gates) i z)) ∷ results [] (take i (N .gates))
+  results-next d i z b =
+      ap (results []) (take-suc (N .gates) i z b) ∙ results-snoc [] (take i (N .gates)) (getD (N .gates) i z)
+      ∙ ap (λ (r : ℕ). r ∷ results [] (take i (N .gates))) (sym (chosen-result (d (n + i)) (getD (N .gates) i z)))
+
   -- a table with the inputs' codes is ready for the first gate
   pub ready-first : (d : Choice) (u : List ℕ) → N .wires ≤ length u
       → ((w : ℕ) → w < inputBits N → codeAt u w ≡ codeAt (firstCodes N (chosenInputs codes d)) w) → Ready N codes d 0 u
@@ -229,44 +228,47 @@ module _ {N : Netlist} (F : WellFormed N) (codes : List ℕ) (l : length codes �
       → Ready N codes d (suc i) (coded u (chosenGate (d (inputBits N + i)) (getD (N .gates) i z)))
       × (changesBefore N codes d (suc i) ≡ changesBefore N codes d i + gateChange (codeAt u) (chosenGate (d (inputBits N + i)) (getD (N .gates) i z)))
   ready-next d i u z b R =
-      let g₀ = getD (N .gates) i z in
-      let g = chosenGate (d (n + i)) g₀ in
+      let g = chosenGate (d (n + i)) (getD (N .gates) i z) in
       let rs = results [] (take i (N .gates)) in
       let v = codesBefore N codes d i in
-      let first = firstCodes N (chosenInputs codes d) in
-      let lv : length v ≡ N .wires = length-codedAll first (before d i) ∙ length-first d in
-      let cons : gatesFrom N d i ≡ g ∷ gatesFrom N d (suc i) =
-      ap (chosenGates d (n + i)) (drop-cons (N .gates) i z b) ∙ shifted d i (drop (suc i) (N .gates)) g in
-      let G : GoodGate n (N .wires) rs g (gatesFrom N d (suc i)) = goodGate (rw cons at (good-from d i)) in
-      let rs′ : results [] (take (suc i) (N .gates)) ≡ result g ∷ rs =
-      ap (results []) (take-suc (N .gates) i z b) ∙ results-snoc [] (take i (N .gates)) g₀ ∙ ap (λ (r : ℕ). r ∷ rs) (sym (chosen-result (d (n + i)) g₀)) in
-      let codes′ = codes-next d i z b in
+      let lv : length v ≡ N .wires = length-codedAll (firstCodes N (chosenInputs codes d)) (before d i) ∙ length-first d in
+      let G = gate-good d i z b in
       let changes′ = changes-next d i z b in
       let same = change-looks (isGiven n rs) (codeAt u) (codeAt v) g (G .operands) (R .same) in (
         record {
           long = rw length-set (R .long);
-          same = rw (rs′, codes′) (same-gate n (N .wires) rs g (gatesFrom N d (suc i)) u v G (R .long) (omega arith) (R .same));
+          same = rw (results-next d i z b, codes-next d i z b) (same-gate n (N .wires) rs g (gatesFrom N d (suc i)) u v G (R .long) (omega arith) (R .same));
         },
         omega arith,
       )
-    where
-      shifted : (d : Choice) (i : ℕ) (gs : List Gate) (g : Gate) → g ∷ chosenGates d (suc (inputBits N + i)) gs ≡ g ∷ chosenGates d (inputBits N + suc i) gs
-      shifted d i gs g = let z : inputBits N + suc i ≡ suc (inputBits N + i) = omega arith in rw z
 
-  -- behind the last gate the table is ready for every choice that agrees before gate i's place, from gate i on
-  pub ready-again : (d f : Choice) (i : ℕ) (u : List ℕ) → i ≤ length (N .gates) → Agree (inputBits N + i) d f
-      → Ready N codes d (length (N .gates)) u → Ready N codes f i u
-  ready-again d f i u b a R = record {
-    long = R .long;
-    same = λ w t.
-        let whole = take-length (N .gates) in
-        let t′ : T (isGiven n (results [] (N .gates)) w) = given-later n [] i (N .gates) w t in
-        R .same w (rw whole t′)
-        ∙ ap (λ (gs : List Gate). codeAt (codedAll (firstCodes N (chosenInputs codes d)) (chosenGates d n gs)) w) whole
-        ∙ ap (λ (v : List ℕ). codeAt v w) (codes-from d i b)
-        ∙ coded-keeps n (N .wires) (results [] (take i (N .gates))) (gatesFrom N d i) (codesBefore N codes d i) (good-from d i) w t
-        ∙ ap (λ (v : List ℕ). codeAt v w) (before-same d f i b a .0);
-  }
+  -- a table that is ready for a gate is ready for each one before it: each wire is given once
+  ready-before : (d : Choice) (i e : ℕ) (u : List ℕ) → i + e ≤ length (N .gates) → Ready N codes d (i + e) u → Ready N codes d i u
+  ready-before d i zero u b R = let z : i + 0 ≡ i = omega arith in rw z at R
+  ready-before d i (suc e) u b R =
+      let noGate : Gate = Eq 0 0 in
+      let k = i + e in
+      let s : i + suc e ≡ suc (i + e) = omega arith in
+      let rs = results [] (take k (N .gates)) in
+      let g = chosenGate (d (n + k)) (getD (N .gates) k noGate) in
+      let v = codesBefore N codes d k in
+      let G = gate-good d k noGate (omega arith) in
+      let R′ : Ready N codes d (suc k) u = rw s at R in
+      ready-before d i e u (omega arith) (record {
+        long = R .long;
+        same = λ w t.
+            R′ .same w (rw (results-next d k noGate (omega arith)) (given-more n rs (result g) w t))
+            ∙ ap (λ (x : List ℕ). codeAt x w) (codes-next d k noGate (omega arith))
+            ∙ getD-set-other v (result g) w (gateCode (codeAt v) g) 0 (fresh-ne n rs w (result g) t (G .low) (G .fresh));
+      })
+
+  -- and so, from gate i on, for every choice that agrees before gate i's place
+  pub ready-again : (d f : Choice) (i k : ℕ) (u : List ℕ) → i ≤ k → k ≤ length (N .gates) → Agree (inputBits N + i) d f
+      → Ready N codes d k u → Ready N codes f i u
+  ready-again d f i k u h b a R =
+      let z : k ≡ i + (k - i) = omega arith in
+      let R′ = ready-before d i (k - i) u (omega arith) (rw z at R) in
+      record { long = R .long; same = λ w t. R′ .same w t ∙ ap (λ (v : List ℕ). codeAt v w) (before-same d f i (omega arith) a .0) }
 
   -- then the changes up to the last gate and those of the outputs are the changes of the choice
   pub ready-changes : (wanted : List ℕ) (d : Choice) (u : List ℕ) → Ready N codes d (length (N .gates)) u
@@ -299,13 +301,15 @@ module _ {N : Netlist} (F : WellFormed N) (codes : List ℕ) (l : length codes �
           ∙ ap (λ (gs : List Gate). codeAt (codedAll (firstCodes N (chosenInputs codes d)) (chosenGates d n gs)) (k + j)) whole)
           ∙ sym (getD-take (outputBits N) (drop k u) j 0 (omega arith) ∙ getD-drop k u j 0)
 
-  -- ---- what need not be tried: choices that agree before gate i's place cost the changes up to it at least
+  -- ---- what need not be tried: choices that agree before gate i's place cost the changes up to it at least, and one for each gate
+  -- from there on that names one wire twice
   pub up-to-least : (wanted : List ℕ) (d f : Choice) (i : ℕ) → i ≤ length (N .gates) → Agree (inputBits N + i) d f
-      → changesBefore N codes d i ≤ changesUnder N codes wanted f
+      → leastBefore N codes d i ≤ changesUnder N codes wanted f
   up-to-least wanted d f i b a =
       let s = before-same d f i b a .1 in
       let m = mask-changes (chosenSource N f) (chosenInputs codes f) wanted in
       let k = changes-from f i b in
+      let t = twices-changes (codesBefore N codes f i) f (n + i) (drop i (N .gates)) in
       omega arith
 
   -- and an AND whose operands have equal codes costs the same both ways

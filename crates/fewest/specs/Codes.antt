@@ -10,6 +10,7 @@ use Rattle.netlist.specs.Netlist.{Netlist, inputBits, result}
 use Rattle.netlist.specs.Mask.{third, after, isPublic}
 use Rattle.netlist.specs.Leak.{bit}
 use Rattle.fewest.specs.Choice.{Choice, chosenGates, chosenInputs}
+use Rattle.fewest.specs.Fewest.{twices}
 use Rattle.mask_changes.specs.Changes.{outputChange}
 
 -- the code of each wire
@@ -67,6 +68,11 @@ codesBefore N codes d i = codedAll (firstCodes N (chosenInputs codes d)) (chosen
 
 abbrev pub changesBefore : Netlist → List ℕ → Choice → ℕ → ℕ
 changesBefore N codes d i = codeChanges (firstCodes N (chosenInputs codes d)) (chosenGates d (inputBits N) (take i (N .gates)))
+
+-- so many at least under every choice that agrees before gate i: the changes before it, and one for each gate from i on that names
+-- one wire twice
+abbrev pub leastBefore : Netlist → List ℕ → Choice → ℕ → ℕ
+leastBefore N codes d i = changesBefore N codes d i + twices (drop i (N .gates))
 
 -- the gates from i on under a choice
 abbrev pub gatesFrom : Netlist → Choice → ℕ → List Gate
