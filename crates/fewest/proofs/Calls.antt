@@ -44,18 +44,21 @@ worth s tables text codes wanted budget room R e =
     let b = leb→le 1 budget (k₂₂ .0) in
     let C : CallInputs N codes wanted = record { source = A .formed; codesLength = l; codesGood = c .1; wantedLength = eqb→eq _ _ (w .0); wantedGood = w .1 } in
     let t = given-takes N codes wanted l budget b in
-    subst (λ (R : Result). Worth s text codes wanted budget R × T (roomFor room R)) (done-same Q R (k₁₄ .1)) (record {
-      source = N;
-      read = k .1;
-      number = j;
-      first = given-first N codes wanted l budget b;
-      inputs = refl;
-      changes = refl;
-      netlist = maskedUnder N codes wanted d .netlist;
-      back = masked-reads s (chosen-inputs C d t) (chosen-within C d t (A .within));
-      steps = refl;
-      unmasks = chosen-unmask C d t;
-      equalCounts = chosen-clean C d t;
-      least = above-floor N codes wanted l budget b;
-      near = distance N codes wanted l budget b;
-    }, k₁₄ .0)
+    subst (λ (R : Result). Worth s text codes wanted budget R × T (roomFor room R)) (done-same Q R (k₁₄ .1)) (
+      record {
+        source = N;
+        read = k .1;
+        number = j;
+        first = given-first N codes wanted l budget b;
+        inputs = refl;
+        changes = refl;
+        netlist = maskedUnder N codes wanted d .netlist;
+        back = masked-reads s (chosen-inputs C d t) (chosen-within C d t (A .within));
+        steps = refl;
+        unmasks = chosen-unmask C d t;
+        equalCounts = chosen-clean C d t;
+        least = above-floor N codes wanted l budget b;
+        near = distance N codes wanted l budget b;
+      },
+      k₁₄ .0,
+    )

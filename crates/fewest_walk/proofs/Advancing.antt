@@ -28,11 +28,21 @@ module _ (codes results : List ℕ) (p : ℕ) where
   pub ways-other : length codes ≤ p → (getD results (p - length codes) 0 / half ≡ 2 → ⊥) → 1 ≡ waysAt codes results p
   ways-other h n = sym (rw (le-ltb p (length codes) h, ne-eqb (getD results (p - length codes) 0 / half) 2 n) refl)
 
-ways-some : (codes results : List ℕ) (p : ℕ) → 1 ≤ waysAt codes results p
+pub ways-some : (codes results : List ℕ) (p : ℕ) → 1 ≤ waysAt codes results p
 ways-some codes results p =
     go (ltb p (length codes)) (eqb (getD codes p 0) 4) (eqb (getD results (p - length codes) 0 / half) 2)
   where
     go : (a b c : Bool) → 1 ≤ cond a (cond b 3 1) (cond c 2 1)
+    go true true c = omega arith
+    go true false c = omega arith
+    go false b true = omega arith
+    go false b false = omega arith
+
+pub ways-few : (codes results : List ℕ) (p : ℕ) → waysAt codes results p ≤ 3
+ways-few codes results p =
+    go (ltb p (length codes)) (eqb (getD codes p 0) 4) (eqb (getD results (p - length codes) 0 / half) 2)
+  where
+    go : (a b c : Bool) → cond a (cond b 3 1) (cond c 2 1) ≤ 3
     go true true c = omega arith
     go true false c = omega arith
     go false b true = omega arith
@@ -55,6 +65,7 @@ pub record Advancing (w : ℕ → ℕ) (P : ℕ) (way₀ way : List ℕ) (p : �
   pub last : (q : ℕ) → p ≤ q → q < P → w q ≤ suc (choiceOf way₀ q)
   pub first : (q : ℕ) → p ≤ q → q < P → choiceOf way q ≡ 0
   pub kept : (q : ℕ) → q < p → choiceOf way q ≡ choiceOf way₀ q
+  pub rest : (q : ℕ) → P ≤ q → choiceOf way q ≡ choiceOf way₀ q
   pub size : length way ≡ length way₀
 
 pub advancing-none : (w : ℕ → ℕ) (P : ℕ) (way : List ℕ) → Advancing w P way way P
@@ -63,6 +74,7 @@ advancing-none w P way = record {
   last = λ q h l. absurd (omega arith);
   first = λ q h l. absurd (omega arith);
   kept = λ q h. refl;
+  rest = λ q h. refl;
   size = refl;
 }
 
@@ -82,6 +94,7 @@ module _ {w : ℕ → ℕ} {P : ℕ} {way₀ way : List ℕ} where
             (λ e. rw (eqb-true q (p - 1) e) (getD-set-same way (p - 1) 0 0 (omega arith)))
             (λ e. let n : q ≡ p - 1 → ⊥ = eqb-false q (p - 1) e in getD-set-other way (p - 1) q 0 0 n ∙ A .first q (omega arith) r);
         kept = λ q m. getD-set-other way (p - 1) q 0 0 (λ e. omega arith) ∙ A .kept q (omega arith);
+        rest = λ q m. getD-set-other way (p - 1) q 0 0 (λ e. omega arith) ∙ A .rest q m;
         size = length-set way (p - 1) 0 ∙ s;
       }
 
@@ -103,6 +116,7 @@ module _ {w : ℕ → ℕ} {P : ℕ} {way₀ way : List ℕ} where
             onBool (ltb q p)
             (λ u. let m = ltb-true q p u in A .kept q m ∙ moved-before (choiceOf way₀) (p - 1) q (omega arith))
             (λ u. let m = ltb-false q p u in A .first q m r ∙ sym (moved-behind (choiceOf way₀) (p - 1) q (omega arith)))));
+        kept = λ q m. getD-set-other way (p - 1) q (choiceOf way (p - 1) + 1) 0 (λ e. omega arith) ∙ A .rest q m;
         size = length-set way (p - 1) _ ∙ s;
       }
 
@@ -112,5 +126,6 @@ module _ {w : ℕ → ℕ} {P : ℕ} {way₀ way : List ℕ} where
     last = λ q m r. A .last q (omega arith) r;
     further = λ o e. absurd (omega arith);
     moves = λ o e q r. absurd (omega arith);
+    kept = A .rest;
     size = A .size;
   }

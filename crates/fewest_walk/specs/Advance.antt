@@ -18,11 +18,12 @@ waysAt codes results p =
 abbrev pub choiceOf : List ℕ → Choice
 choiceOf way p = getD way p 0
 
--- with w ways of each of P places: r is 0 where every place takes its last way, otherwise one more than the last place that does
--- not; there the choice has moved
+-- with w ways of each of the first P places: r is 0 where every place takes its last way, otherwise one more than the last place that
+-- does not; there the choice has moved. The places from P on are kept
 pub record Advanced (w : ℕ → ℕ) (P : ℕ) (way₀ way : List ℕ) (r : ℕ) : Type 0 where
   pub within : r ≤ P
   pub last : (q : ℕ) → r ≤ q → q < P → w q ≤ suc (choiceOf way₀ q)
   pub further : (p : ℕ) → r ≡ suc p → suc (choiceOf way₀ p) < w p
   pub moves : (p : ℕ) → r ≡ suc p → (q : ℕ) → q < P → choiceOf way q ≡ moved (choiceOf way₀) p q
+  pub kept : (q : ℕ) → P ≤ q → choiceOf way q ≡ choiceOf way₀ q
   pub size : length way ≡ length way₀

@@ -8,7 +8,7 @@ ghost use Rattle.fewest_walk.specs.Advance.{waysAt, Advanced};
 const HALF: u64 = 4294967296;
 
 // How many ways a place has: an input by its code, a gate by its kind.
-fn ways(codes: &[u8], results: &[u64], p: usize) -> u8
+pub fn ways(codes: &[u8], results: &[u64], p: usize) -> u8
     requires { ⌜ p < length (now codes) + length (now results) ⌝ }
     ensures { λ r. ⌜ r ≡ waysAt (now (codes .entry)) (now (results .entry)) p ⌝ }
 {
@@ -19,16 +19,18 @@ fn ways(codes: &[u8], results: &[u64], p: usize) -> u8
         }
         return 1;
     }
-    if results[p - n] / HALF == 2 {
+    if results[p - n] / HALF == gate_table::AND {
         return 2;
     }
     1
 }
 
-// The next choice in the table of ways: one more than the place that moved, or 0 where the last choice was reached.
+// The next choice of the inputs and the first gates in the table of ways, where the places behind take their first way: one more
+// than the place that moved, or 0 where there is none.
 pub fn next(codes: &[u8], results: &[u64], count: usize, way: &mut [u8]) -> usize
     requires { ⌜ (count ≤ length (now results)) × (length (now codes) + count ≤ length (now way)) ⌝ }
-    ensures { λ r. ⌜ Advanced (waysAt (now (codes .entry)) (now (results .entry))) (length (now (codes .entry)) + count) (now (way .entry)) (now (way .exit)) r ⌝ }
+    ensures { λ r. ⌜ Advanced (waysAt (now (codes .entry)) (now (results .entry))) (length (now (codes .entry)) + count) (now (way .entry))
+        (now (way .exit)) r ⌝ }
 {
     let mut p = codes.len() + count;
     while p > 0 {
