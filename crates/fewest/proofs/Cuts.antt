@@ -12,12 +12,11 @@ use Rattle.netlist.specs.declared.Gate.{Gate}
 use Rattle.netlist.specs.Netlist.{Netlist, inputBits}
 use Rattle.netlist.specs.Read.{WellFormed}
 use Rattle.netlist.proofs.Tests.{onBool}
-use Rattle.fewest.specs.Choice.{Choice, Takes, ways, product, digits, choices, choice}
+use Rattle.fewest.specs.Choice.{Choice, Takes, ways, product, digits, choices, choice, Agree}
 use Rattle.fewest.specs.Fewest.{FirstLeast, changesAt}
 use Rattle.fewest.specs.Codes.{codeAt, codesBefore, leastBefore, moved}
 use Rattle.fewest.proofs.Digits.{number, digits-take}
 use Rattle.fewest.proofs.Least.{least-skip}
-use Rattle.fewest.proofs.Same.{Agree}
 use Rattle.fewest.proofs.Floor.{ways-positive, length-ways}
 use Rattle.fewest.proofs.Retried.{Idle, before-same, up-to-least, idle-swap}
 use Rattle.fewest.proofs.Order.{moved-before, moved-at, moved-behind, number-same, number-moved, number-digits, digits-shared, digits-behind}

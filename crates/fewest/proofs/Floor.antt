@@ -15,13 +15,13 @@ use Rattle.netlist.specs.Mask.{State, twin, advance, start}
 use Rattle.netlist.specs.Leak.{bit}
 use Rattle.netlist.proofs.Tests.{onBool, pair}
 use Rattle.mask_changes.specs.GateCount.{andGates}
-use Rattle.fewest.specs.Choice.{Choice, isFree, inputWays, gateWays, ways, product, choices, choice, chosenGate, chosenGates, chosenSource, chosenInputs, Takes}
+use Rattle.fewest.specs.Choice.{Choice, isFree, inputWays, gateWays, ways, product, choices, choice, chosenGate, chosenGates, chosenSource, chosenInputs, Takes, Agree}
 use Rattle.mask_changes.specs.Changes.{oneChange, changedOperands, maskChanges}
 use Rattle.fewest.specs.Fewest.{twice, twices, changesUnder, changesAt, given, floor, FirstLeast}
 use Rattle.fewest.proofs.Digits.{number, product-positive, number-below, digits-number, digits-take}
 use Rattle.fewest.proofs.Least.{firstLeast-is}
 use Rattle.fewest.proofs.Twices.{twices-below}
-use Rattle.fewest.proofs.Same.{Agree, codes-same, gates-same}
+use Rattle.fewest.proofs.Same.{codes-same, gates-same}
 
 -- ---- the ways are one or more
 

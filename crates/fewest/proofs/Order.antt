@@ -10,10 +10,9 @@ use borrow.Author.Tests.{ltb-true, ltb-false, lt-ltb, le-ltb, eqb-true, eqb-fals
 use lib.ListN.{length, getD, drop}
 use Rattle.netlist.specs.Lists.{every}
 use Rattle.netlist.proofs.Tests.{both, onBool}
-use Rattle.fewest.specs.Choice.{Choice, product, digits, Takes}
+use Rattle.fewest.specs.Choice.{Choice, product, digits, Takes, Agree}
 use Rattle.fewest.specs.Codes.{moved}
 use Rattle.fewest.proofs.Digits.{behind, number, product-positive, number-below, carried, digits-take, digits-number}
-use Rattle.fewest.proofs.Same.{Agree}
 
 -- ---- the choice moved at p, place by place
 

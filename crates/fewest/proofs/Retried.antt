@@ -17,11 +17,11 @@ use Rattle.netlist.specs.Mask.{third}
 use Rattle.netlist.specs.Leak.{bit}
 use Rattle.netlist.proofs.Tests.{both, onBool}
 use Rattle.netlist.proofs.GoodGates.{GoodGate, goodGate, fresh-ne, given-none, given-more, given-cases, results, every-wire-given}
-use Rattle.fewest.specs.Choice.{Choice, chosenGate, chosenGates, chosenSource, chosenInputs}
+use Rattle.fewest.specs.Choice.{Choice, chosenGate, chosenGates, chosenSource, chosenInputs, Agree}
 use Rattle.fewest.specs.Fewest.{changesUnder}
 use Rattle.fewest.specs.Codes.{codeAt, secondCode, gateCode, gateChange, coded, codedAll, codeChanges, inputCode, firstCodes, endChanges, codesBefore, changesBefore, gatesFrom, leastBefore}
-use Rattle.fewest.proofs.Chosen.{on-way, chosen-result, chosen-good, length-chosenCodes}
-use Rattle.fewest.proofs.Same.{Agree, codes-same, gates-same, chosen-append}
+use Rattle.fewest.proofs.Chosen.{on-way, chosen-result, chosen-given, chosen-good, length-chosenCodes}
+use Rattle.fewest.proofs.Same.{codes-same, gates-same, chosen-append}
 use Rattle.fewest.proofs.OnlyCodes.{mask-changes}
 use Rattle.fewest.proofs.Twices.{way-change, twices-changes}
 
@@ -125,6 +125,13 @@ Idle u (And a b c) = u a ≡ u b
 Idle u (Inv a c) = Unit {0}
 Idle u (Eqw a c) = Unit {0}
 Idle u (Eq v c) = Unit {0}
+
+idle-looks : (has : ℕ → _) (u v : ℕ → ℕ) (g : Gate) → T (operandsGiven has g) → ((a : ℕ) → T (has a) → u a ≡ v a) → Idle u g → Idle v g
+idle-looks has u v (Xor a b c) t h e = tt
+idle-looks has u v (And a b c) t h e = sym (h a (both (has a) (has b) t .0)) ∙ e ∙ h b (both (has a) (has b) t .1)
+idle-looks has u v (Inv a c) t h e = tt
+idle-looks has u v (Eqw a c) t h e = tt
+idle-looks has u v (Eq k c) t h e = tt
 
 idle-code : (u : ℕ → ℕ) (d : ℕ) (g : Gate) → Idle u g → gateCode u (chosenGate d g) ≡ gateCode u g
 idle-code u d (Xor a b c) e = refl
@@ -241,6 +248,15 @@ module _ {N : Netlist} (F : WellFormed N) (codes : List ℕ) (l : length codes �
         },
         omega arith,
       )
+
+  -- whether a gate is idle can be told from the table
+  pub ready-idle : (d : Choice) (i : ℕ) (u : List ℕ) (z : Gate) → i < length (N .gates) → Ready N codes d i u → Idle (codeAt u) (getD (N .gates) i z)
+      → Idle (codeAt (codesBefore N codes d i)) (getD (N .gates) i z)
+  ready-idle d i u z b R e =
+      let g = getD (N .gates) i z in
+      let G = gate-good d i z b in
+      let has = isGiven n (results [] (take i (N .gates))) in
+      idle-looks has (codeAt u) (codeAt (codesBefore N codes d i)) g (rw (chosen-given has (d (n + i)) g) at (G .operands)) (R .same) e
 
   -- a table that is ready for a gate is ready for each one before it: each wire is given once
   ready-before : (d : Choice) (i e : ℕ) (u : List ℕ) → i + e ≤ length (N .gates) → Ready N codes d (i + e) u → Ready N codes d i u

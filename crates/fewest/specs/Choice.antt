@@ -1,6 +1,7 @@
 -- The choices of a call (document 02, No. 12): a code for each free input, then written or swapped operands for each AND.
 use Prim.Native.Nat.{ℕ, suc, _+_, _*_, _/_, _%_, _<_}
 use mathlib.Core.Bool.{Bool, cond}
+use mathlib.Core.Path.{_≡_}
 use mathlib.Core.List.{List, [], _∷_, _++_, map}
 use lib.Dec.{eqb, leb}
 use lib.ListN.{length, getD}
@@ -37,6 +38,10 @@ product (b ∷ bs) = b * product bs
 -- a choice: which of its ways each place takes, counted from 0
 abbrev pub Choice : Type 0
 Choice = ℕ → ℕ
+
+-- two choices that agree in the places before k
+abbrev pub Agree : ℕ → Choice → Choice → Type 0
+Agree k d f = (p : ℕ) → p < k → d p ≡ f p
 
 -- each place takes one of its ways
 abbrev pub Takes : List ℕ → Choice → Type 0

@@ -1,5 +1,3 @@
 -- Laws of the search.
-pub mod Redoing
-pub mod Advancing
-pub mod Trying
+pub mod Turning
 pub mod Searching

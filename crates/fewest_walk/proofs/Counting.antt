@@ -8,6 +8,7 @@ use native.Mathlib.Omega.{arith}
 use lib.Dec.{eqb}
 use mir.Val.{boolByte}
 use borrow.Author.Tests.{eq-eqb, ne-eqb}
+use lib.ListN.{length}
 use Rattle.netlist.specs.declared.Gate.{Gate}
 use Rattle.netlist.specs.declared.Gate.the-variants.{Xor, And, Inv, Eqw, Eq}
 use Rattle.netlist.specs.Table.{Tables, half, gateOf, gateIn, gateAt, gatesOf}
@@ -52,6 +53,10 @@ module _ (o r : ℕ) {g : Parts} (e : g ≡ partsOf o r) where
 twices-append : (xs ys : List Gate) → twices (xs ++ ys) ≡ twices xs + twices ys
 twices-append [] ys = omega arith
 twices-append (x ∷ xs) ys = let h = twices-append xs ys in omega arith
+
+pub twices-most : (gs : List Gate) → twices gs ≤ length gs
+twices-most [] = omega arith
+twices-most (g ∷ gs) = omega (arith, bit-most (twice g), twices-most gs)
 
 pub record Counting (t : Tables) (i sum : ℕ) : Type 0 where
   pub so : sum ≡ twices (gatesOf t i)

@@ -147,6 +147,23 @@ added-change u g =
 pub stepped-small : {u v : List ℕ} {d : ℕ} {g : Gate} {r : ℕ} → Stepped u d g v r → r ≤ 1
 stepped-small {u} {g = g} S = let c = S .added in let m = change-most (codeAt u) g in let e = added-change (codeAt u) g in omega arith
 
+pub added-most : (t : Tables) (n : ℕ) (way : List ℕ) (from : ℕ) (u : List ℕ) (k : ℕ) → addedTo t n way from u k ≤ k
+added-most t n way from u zero = omega arith
+added-most t n way from u (suc k) =
+    let v = codesTo t n way from u k in
+    omega (arith, added-most t n way from u k, change-most (codeAt v) (gateAt t (from + k)), added-change (codeAt v) (gateAt t (from + k)))
+
+-- the least changes before the last gate that is done
+pub walked-most : {t : Tables} {count n : ℕ} {way : List ℕ} {from bound : ℕ} {u₀ b₀ u b : List ℕ} {r : ℕ} → Walked t count n way from bound u₀ b₀ u b r
+    → getD b r 0 ≤ getD b₀ from 0 + count
+walked-most {t} {count} {n} {way} {from} {bound} {u₀} {b₀} {u} {b} {r} W =
+    let l = W .low in
+    let h = W .high in
+    let z : from + (r - from) ≡ r = omega arith in
+    let e : getD b r 0 ≡ getD b₀ from 0 + addedTo t n way from u₀ (r - from) = ap (λ (k : ℕ). getD b k 0) (sym z) ∙ W .done .lows (r - from) (omega arith) in
+    let m = added-most t n way from u₀ (r - from) in
+    omega arith
+
 -- ---- one gate more
 
 pub done-none : (t : Tables) (n : ℕ) (way : List ℕ) (from : ℕ) (u b : List ℕ) → Done t from n way from u b u b
