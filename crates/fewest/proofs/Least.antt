@@ -37,6 +37,10 @@ least-skip {f} {k} {j} m F h = record {
   first = F .first;
 }
 
+-- the first of some is the first of fewer, if it is among them
+pub least-some : {f : ℕ → ℕ} {k j : ℕ} (i : ℕ) → FirstLeast f k j → i ≤ k → j < i → FirstLeast f i j
+least-some i F h b = record { below = b; least = λ x l. F .least x (omega arith); first = F .first }
+
 pub firstLeast-is : (f : ℕ → ℕ) (k : ℕ) → FirstLeast f (suc k) (firstLeast f k)
 firstLeast-is f zero = record {
   below = omega arith;

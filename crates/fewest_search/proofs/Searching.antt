@@ -107,7 +107,7 @@ module _ {t : Tables} {m : ℕ} {codes wanted : List ℕ} {W : ℕ} {N : Netlist
   l : length codes ≡ inputBits N
   l = sym (Q .holds .ins)
 
-  held-length : length (N .gates) ≡ m
+  pub held-length : length (N .gates) ≡ m
   held-length = ap length (Q .holds .gates) ∙ length-gates t m
 
   pos : T (every (leb 1) (ways codes (N .gates)))
@@ -134,12 +134,18 @@ module _ {t : Tables} {m : ℕ} {codes wanted : List ℕ} {W : ℕ} {N : Netlist
       ∙ sym (rw (le-ltb q (length codes) b) refl))
 
   -- how many choices share the places before P, from the table
-  span-at : {s₀ s : List ℕ} → Spanned (waysAt codes (t .results)) (length codes + m) s₀ s → (P : ℕ) → 1 ≤ P → P ≤ length codes + m
+  pub span-at : {s₀ s : List ℕ} → Spanned (waysAt codes (t .results)) (length codes + m) s₀ s → (P : ℕ) → 1 ≤ P → P ≤ length codes + m
       → getD s (P - 1) 0 ≡ capped (product (drop P (ways codes (N .gates))))
   span-at S P a b =
       let z : suc (P - 1) ≡ P = omega arith in
       let e = span-product (waysAt codes (t .results)) bs (λ q h. ways-at q (let p = places in omega arith)) (length codes + m - P) P (let p = places in omega arith) in
       S .each (P - 1) (omega arith) ∙ ap (λ (k : ℕ). capped (spanOf (waysAt codes (t .results)) k (length codes + m - k))) z ∙ ap capped (sym e)
+
+  -- no other choice shares all places
+  pub last-block : (P : ℕ) → P ≡ length codes + m → product (drop P (ways codes (N .gates))) ≡ 1
+  last-block P e =
+      let y : P ≡ length (ways codes (N .gates)) = (let pl = places in omega arith) in
+      ap product (ap (λ (q : ℕ). drop q bs) y ∙ drop-length bs)
 
   -- ---- a choice whose place p has moved, and one that is passed, with those that share its places before gate `stop`
 
@@ -166,7 +172,7 @@ module _ {t : Tables} {m : ℕ} {codes wanted : List ℕ} {W : ℕ} {N : Netlist
   rest-at : {k P i : ℕ} {way code lows : List ℕ} → At k P i way code lows → (q : ℕ) → P ≤ q → q < length (ways codes (N .gates)) → choice N codes k q ≡ 0
   rest-at A q h b = let p = places in sym (A .same q (omega arith)) ∙ A .rest q h (omega arith)
 
-  product-behind : (P : ℕ) → 1 ≤ product (drop P (ways codes (N .gates)))
+  pub product-behind : (P : ℕ) → 1 ≤ product (drop P (ways codes (N .gates)))
   product-behind P = product-positive (drop P bs) (every-drop P bs pos)
 
   module _ {k P i : ℕ} {way code lows : List ℕ} (A : At k P i way code lows) where
@@ -270,11 +276,11 @@ module _ {t : Tables} {m : ℕ} {codes wanted : List ℕ} {W : ℕ} {N : Netlist
 
   -- ---- a turn at choice k, whose place p has moved
 
-  module _ {k p : ℕ} {way code lows : List ℕ} (A : At k (suc p) (p - length codes) way code lows) {best : List ℕ} {least : ℕ} (B : Best k k best least) where
+  module _ {k p : ℕ} {way code lows : List ℕ} (A : At k (suc p) (p - length codes) way code lows) where
     -- its AND is idle
-    pub turned-idle : idleAt (t .operands) (length codes) p code ≡ true → length codes ≤ p → 1 ≤ choiceOf way p
+    pub turned-idle : {best : List ℕ} {least : ℕ} → Best k k best least → idleAt (t .operands) (length codes) p code ≡ true → length codes ≤ p → 1 ≤ choiceOf way p
         → Best (k + product (drop (suc p) (ways codes (N .gates)))) k best least
-    turned-idle e h one =
+    turned-idle B e h one =
         let i = p - length codes in
         let w = A .within in
         let pl = places in
@@ -329,8 +335,8 @@ module _ {t : Tables} {m : ℕ} {codes wanted : List ℕ} {W : ℕ} {N : Netlist
           let nl = l in
           let R = ready-walked F codes l t m (Q .holds .gates) way from (E .table) start-ready in (
             (let r = R (stop - from) (omega arith) .0 in
-            let c : codesTo t (inputBits N) way from (E .table) (stop - from) ≡ code′ = ap (λ (b : ℕ). codesTo t b way from (E .table) (stop - from)) (sym l) ∙ sym (W .done .codes) in
-            rw (z, c) at r),
+                let c : codesTo t (inputBits N) way from (E .table) (stop - from) ≡ code′ = ap (λ (b : ℕ). codesTo t b way from (E .table) (stop - from)) (sym l) ∙ sym (W .done .codes) in
+                rw (z, c) at r),
             λ j h. onBool (ltb j from)
                 (λ e. let b = ltb-true j from e in W .done .kept j (omega arith) ∙ A .upTo j (omega arith))
                 (λ e. let b = ltb-false j from e in
@@ -364,9 +370,9 @@ module _ {t : Tables} {m : ℕ} {codes wanted : List ℕ} {W : ℕ} {N : Netlist
           }
 
       -- there are as many changes as the best has: the choices that share its places up to there are left out
-      pub turned-cut : 1 ≤ length codes → least ≤ bound → bound ≤ getD lows′ stop 0
+      pub turned-cut : {best : List ℕ} {least : ℕ} → Best k k best least → 1 ≤ length codes → least ≤ bound → bound ≤ getD lows′ stop 0
           → Best (k + product (drop (length codes + stop) (ways codes (N .gates)))) k best least
-      turned-cut one h b =
+      turned-cut B one h b =
           let P = length codes + stop in
           let hi = E .walked .high in
           let gl = held-length in
@@ -384,12 +390,6 @@ module _ {t : Tables} {m : ℕ} {codes wanted : List ℕ} {W : ℕ} {N : Netlist
 
       -- all its gates are done
       module _ (z : stop ≡ m) where
-        one-more : product (drop (length codes + stop) (ways codes (N .gates))) ≡ 1
-        one-more =
-            let pl = places in
-            let y : length codes + stop ≡ length (ways codes (N .gates)) = omega arith in
-            ap product (ap (λ (q : ℕ). drop q bs) y ∙ drop-length bs)
-
         pub cost-is : length code′ ≡ N .wires → costOf code′ lows′ m wanted ≡ changesAt N codes wanted k
         cost-is lc =
             let W = whole in
@@ -412,22 +412,22 @@ module _ {t : Tables} {m : ℕ} {codes wanted : List ℕ} {W : ℕ} {N : Netlist
             ∙ sym (ready-changes F codes l wanted (choiceOf way) code′ R)
             ∙ changes-same N codes wanted l (choiceOf way) (choice N codes k) (λ q h. A .same q (let pl = places in omega arith))
 
-        pub turned-same : {c : ℕ} → c ≡ changesAt N codes wanted k → least ≤ c
+        pub turned-same : {best : List ℕ} {least c : ℕ} → Best k k best least → c ≡ changesAt N codes wanted k → least ≤ c
             → Best (k + product (drop (length codes + stop) (ways codes (N .gates)))) k best least
-        turned-same e h =
+        turned-same B e h =
             let c = B .count in
             let y : ltb (changesAt N codes wanted k) (changesAt N codes wanted (B .number)) ≡ false =
             le-ltb (changesAt N codes wanted k) (changesAt N codes wanted (B .number)) (omega arith) in
-            let o : k + product (drop (length codes + stop) bs) ≡ suc k = (let x = one-more in omega arith) in
+            let o : k + product (drop (length codes + stop) bs) ≡ suc k = (let x = last-block (length codes + stop) (omega arith) in omega arith) in
             record { number = B .number; first = rw o (rw y at (least-more f k (B .number) (B .first))); early = B .early; kept = B .kept; count = B .count }
 
-        pub turned-fewer : {c : ℕ} → c ≡ changesAt N codes wanted k → c < least
+        pub turned-fewer : {best : List ℕ} {least c : ℕ} → Best k k best least → c ≡ changesAt N codes wanted k → c < least
             → Best (k + product (drop (length codes + stop) (ways codes (N .gates)))) k way c
-        turned-fewer e h =
+        turned-fewer B e h =
             let c = B .count in
             let y : ltb (changesAt N codes wanted k) (changesAt N codes wanted (B .number)) ≡ true =
             lt-ltb (changesAt N codes wanted k) (changesAt N codes wanted (B .number)) (omega arith) in
-            let o : k + product (drop (length codes + stop) bs) ≡ suc k = (let x = one-more in omega arith) in
+            let o : k + product (drop (length codes + stop) bs) ≡ suc k = (let x = last-block (length codes + stop) (omega arith) in omega arith) in
             record { number = k; first = rw o (rw y at (least-more f k (B .number) (B .first))); early = omega arith; kept = A .same; count = e }
 
   -- ---- the first choice
@@ -436,12 +436,12 @@ module _ {t : Tables} {m : ℕ} {codes wanted : List ℕ} {W : ℕ} {N : Netlist
   zero-choice : (q : ℕ) → q < length codes + m → 0 ≡ choice N codes 0 q
   zero-choice q h = sym (digits-zero bs pos q)
 
-  pub at-first : (way code lows : List ℕ) → way ≡ replicate (length way) 0 → N .wires ≤ length code → getD lows 0 0 ≡ twices (N .gates) → 1 ≤ length codes
-      → At 0 1 0 way code lows
-  at-first way code lows w lc z one = record {
+  pub at-first : (x : ℕ) {way code lows : List ℕ} → way ≡ replicate x 0 → N .wires ≤ length code → getD lows 0 0 ≡ twices (N .gates) → 1 ≤ length codes
+      → At 0 1 (0 - length codes) way code lows
+  at-first x w lc z one = record {
     below = product-positive bs pos;
-    same = λ q h. ap (λ (x : List ℕ). getD x q 0) w ∙ replicate-zero (length way) q ∙ zero-choice q h;
-    rest = λ q a h. ap (λ (x : List ℕ). getD x q 0) w ∙ replicate-zero (length way) q;
+    same = λ q h. ap (λ (v : List ℕ). getD v q 0) w ∙ replicate-zero x q ∙ zero-choice q h;
+    rest = λ q a h. ap (λ (v : List ℕ). getD v q 0) w ∙ replicate-zero x q;
     within = omega arith;
     long = lc;
     ready = λ h. absurd (omega arith);
@@ -451,16 +451,27 @@ module _ {t : Tables} {m : ℕ} {codes wanted : List ℕ} {W : ℕ} {N : Netlist
 
   -- ---- the end: as many tried as the budget allows
 
-  pub found : {budget k : ℕ} {best : List ℕ} {j : ℕ} {r : Tally} → 1 ≤ budget → k ≡ min budget (choices N codes) → (B : Best k j best (r .changes))
-      → r .floor ≡ floor N codes wanted budget → Found N codes wanted budget best r
-  found {budget} {k} {best} {j} {r} one e B fl =
-      let g = least-one (rw e at (B .first)) (given-first N codes wanted l budget one) in
-      let w = wires-are in
-      record {
-        choice = λ p h. B .kept p (omega arith) ∙ ap (λ (x : ℕ). choice N codes x p) g;
-        changes = B .count ∙ ap (changesAt N codes wanted) g;
+  wires-are : N .wires ≡ length codes + m
+  wires-are = let g = F .gateCount in let h = held-length in let i = l in let b = F .inputsFit in omega arith
+
+  module _ {budget k j : ℕ} {best : List ℕ} {least : ℕ} (one : 1 ≤ budget) (e : k ≡ min budget (choices N codes)) (B : Best k j best least) where
+    number-given : B .number ≡ given N codes wanted budget
+    number-given = least-one (rw e at (B .first)) (given-first N codes wanted l budget one)
+
+    least-given : least ≡ changesAt N codes wanted (given N codes wanted budget)
+    least-given = B .count ∙ ap (changesAt N codes wanted) number-given
+
+    module _ (r : Tally) (c : r .changes ≡ least) where
+      found : r .floor ≡ floor N codes wanted budget → Found N codes wanted budget best r
+      found fl = record {
+        choice = λ p h. B .kept p (let w = wires-are in omega arith) ∙ ap (λ (x : ℕ). choice N codes x p) number-given;
+        changes = c ∙ least-given;
         floor = fl;
       }
-    where
-      wires-are : N .wires ≡ length codes + m
-      wires-are = let g = F .gateCount in let h = held-length in let i = l in let b = F .inputsFit in omega arith
+
+      -- all choices were tried, or not
+      pub found-all : choices N codes ≤ budget → r .floor ≡ least → Found N codes wanted budget best r
+      found-all h fl = found (fl ∙ least-given ∙ sym (rw (le-leb (choices N codes) budget h) refl))
+
+      pub found-some : budget < choices N codes → r .floor ≡ twices (N .gates) → Found N codes wanted budget best r
+      found-some h fl = found (fl ∙ sym (rw (lt-leb (choices N codes) budget h) refl))

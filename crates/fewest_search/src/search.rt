@@ -67,7 +67,18 @@ pub fn search(
         → Found N (now (codes .entry)) (now (wanted .entry)) budget (now (best .exit)) r) ⌝ }
 {
     let n = codes.len();
-    let mut least = start(operands, results, count, codes, wanted, way, best, code, lows, spans);
+    let mut least = start(
+        operands,
+        results,
+        count,
+        codes,
+        wanted,
+        way,
+        best,
+        code,
+        lows,
+        spans,
+    );
     let mut stop = count;
     let mut left = budget;
     loop {

@@ -52,7 +52,17 @@ pub fn enter(
         fewest_walk::inputs::inputs(codes, way, code);
         return fewest_walk::walk::walk(operands, results, count, n, way, code, lows, 0, bound);
     }
-    fewest_walk::walk::walk(operands, results, count, n, way, code, lows, place - n, bound)
+    fewest_walk::walk::walk(
+        operands,
+        results,
+        count,
+        n,
+        way,
+        code,
+        lows,
+        place - n,
+        bound,
+    )
 }
 
 // The changes of a choice whose gates are all done.
@@ -105,7 +115,17 @@ pub fn turn(
             least,
         };
     }
-    let stop = enter(operands, results, count, codes, way, code, lows, place, least);
+    let stop = enter(
+        operands,
+        results,
+        count,
+        codes,
+        way,
+        code,
+        lows,
+        place,
+        least,
+    );
     if stop < count {
         return Step { stop, least };
     }

@@ -1,3 +1,10 @@
+-- `search::search`: where the search stands.
+use Prim.Native.Nat.{suc, _+_, _-_, _<_}
+use mathlib.Core.Path.{_≡_, refl, sym, _∙_}
+use lib.ListN.{length}
+use Rattle.netlist.specs.Table.{tables}
+use Rattle.netlist.proofs.Puts.{wired-same}
+use Rattle.fewest_search.proofs.Standing.{moved-some, left-some, Standing, standing-first, standing-turned, span-some, found-short, found-end, found-spent, low-here}
 use borrow.Author.Needs.{needs}
 use native.Mathlib.Omega.{arith}
 use Rattle.fewest_search.proofs.search.search.Statement.{statement}
@@ -10,135 +17,159 @@ use Rattle.fewest_walk.proofs.next.next.Reads as next-reads
 
 abbrev Inv-loop : tie.InvT-loop
 Inv-loop operands results count codes wanted budget way₀ best₀ code₀ lows₀ spans n least₀ stop₀ left₀ way best code lows least stop left =
-    ?
+    Standing (tables operands results) count codes wanted (length codes + count) budget way best code lows least stop left
 
 abbrev μ-loop : tie.MeasureT-loop
 μ-loop operands results count codes wanted budget way₀ best₀ code₀ lows₀ spans n least₀ stop₀ left₀ way best code lows least stop left =
-    ?
+    left
 
--- src/search.rt:70:9
 start-requires : tie.Need-start-requires Inv-loop μ-loop
-start-requires c κs = ?
+start-requires c κs = let p = c .before .before .before .before .before .before .before .before .before .before .before .before .before .before .pre .0 in (p .fits, p .spanned)
 
--- src/search.rt:73:5
 loop-holds : tie.Need-loop-holds Inv-loop μ-loop
-loop-holds c = ?
+loop-holds c =
+    let s = c .before .before .before .before .before .before .before .before .before .before .before .before .before .before .before .before .before .before .before .before .before .before .before .before .before in
+    let p = s .pre .0 .fits in
+    let G = c .before .before .before .before .before .before .before .before .before .before .start in
+    standing-first (s .args .budget) (p .some) (s .pre .1) (G .ensures) (p .ways ∙ sym (p .places)) (sym (p .places))
+    (G .kept .1 .1 .1 .1 .1 .1 .1 .0 ∙ sym (p .places)) (omega (arith, p .some, p .places, p .lowest))
+    (G .kept .1 .1 .1 .1 .1 .1 .1 .1 .0 ∙ p .lowest ∙ sym (p .places))
 
--- src/search.rt:74:26
 add-span : tie.Need-add-span Inv-loop μ-loop
-add-span c = ?
+add-span c = let p = c .before .before .before .before .before .before .before .before .before .before .before .before .before .before .before .before .before .before .before .before .before .before .before .before .before .before .pre .0 .fits in omega (arith, p .small, p .places, c .loop .inv .high)
 
--- src/search.rt:74:26
 sub-span : tie.Need-sub-span Inv-loop μ-loop
-sub-span c = ?
+sub-span c = let p = c .before .before .before .before .before .before .before .before .before .before .before .before .before .before .before .before .before .before .before .before .before .before .before .before .before .before .pre .0 .fits in omega (arith, p .some)
 
--- src/search.rt:74:20
 mul-span : tie.Need-mul-span Inv-loop μ-loop
-mul-span c = ?
+mul-span c = let p = c .before .before .before .before .before .before .before .before .before .before .before .before .before .before .before .before .before .before .before .before .before .before .before .before .before .before .pre .0 .fits in omega (arith, p .small, p .places, c .loop .inv .high)
 
--- src/search.rt:74:20
 slice-read-span : tie.Need-slice-read-span Inv-loop μ-loop
-slice-read-span c = ?
+slice-read-span c = let s = c .before .before .before .before .before .before .before .before .before .before .before .before .before .before .before .before .before .before .before .before .before .before .before .before .before .before .before in let p = s .pre .0 in omega (arith, p .fits .some, p .fits .places, p .spanned, c .before .loop .inv .high, c .before .before .before .before .before .before .before .before .before .before .before .before .start .kept .1 .1 .1 .1 .1 .1 .1 .1 .1 .0)
 
--- src/search.rt:78:24
 slice-read-t36 : tie.Need-slice-read-t36 Inv-loop μ-loop
-slice-read-t36 c = ?
+slice-read-t36 c = let p = c .before .before .before .before .before .before .before .before .before .before .before .before .before .before .before .before .before .before .before .before .before .before .before .before .before .before .before .before .before .pre .0 .fits in omega (arith, c .before .before .before .loop .inv .lows-long, p .some)
 
--- src/search.rt:76:13
 same-length : tie.Need-same-length Inv-loop μ-loop
-same-length c = ?
+same-length c = let p = c .before .before .before .before .before .before .before .before .before .before .before .before .before .before .before .before .before .before .before .before .before .before .before .before .before .before .before .before .before .pre .0 .fits in c .before .before .before .loop .inv .ways-long ∙ p .places ∙ sym (p .ways)
 
--- src/search.rt:76:13
 same-length-2 : tie.Need-same-length-2 Inv-loop μ-loop
-same-length-2 c = ?
+same-length-2 c = let p = c .before .before .before .before .before .before .before .before .before .before .before .before .before .before .before .before .before .before .before .before .before .before .before .before .before .before .before .before .before .pre .0 .fits in c .before .before .before .loop .inv .bests-long ∙ p .places ∙ sym (p .bests)
 
--- src/search.rt:76:13
 same-length-3 : tie.Need-same-length-3 Inv-loop μ-loop
-same-length-3 c = ?
+same-length-3 c = let p = c .before .before .before .before .before .before .before .before .before .before .before .before .before .before .before .before .before .before .before .before .before .before .before .before .before .before .before .before .before .pre .0 .fits in c .before .before .before .loop .inv .codes-long ∙ p .places
 
--- src/search.rt:76:13
 same-length-4 : tie.Need-same-length-4 Inv-loop μ-loop
-same-length-4 c = ?
+same-length-4 c = let p = c .before .before .before .before .before .before .before .before .before .before .before .before .before .before .before .before .before .before .before .before .before .before .before .before .before .before .before .before .before .pre .0 .fits in c .before .before .before .loop .inv .lows-long ∙ p .places ∙ sym (p .lowest)
 
--- src/search.rt:76:13
 same-length-5 : tie.Need-same-length-5 Inv-loop μ-loop
-same-length-5 c = ?
+same-length-5 c = c .before .before .before .before .before .before .before .before .before .before .before .before .before .before .start .kept .1 .1 .1 .1 .1 .1 .1 .1 .1 .0
 
--- src/search.rt:76:13
 returns : tie.Need-returns Inv-loop μ-loop
-returns c = ?
+returns c =
+    let s = c .before .before .before .before .before .before .before .before .before .before .before .before .before .before .before .before .before .before .before .before .before .before .before .before .before .before .before .before .before in
+    let p = s .pre .0 .fits in
+    λ N Q. found-short (p .some) (omega arith) (c .before .before .before .before .before .before .before .before .before .before .before .before .before .before .start .ensures .spans) (c .before .before .before .loop .inv) (rw (sym (p .places)) at Q) _ (c .before .if1 .taken) refl refl
 
--- src/search.rt:82:13
 next-requires : tie.Need-next-requires Inv-loop μ-loop
-next-requires c κs = ?
+next-requires c κs = let p = c .before .before .before .before .before .before .before .before .before .before .before .before .before .before .before .before .before .before .before .before .before .before .before .before .before .before .before .before .before .pre .0 .fits in (omega (arith, c .before .before .before .loop .inv .high, p .wired .results), omega (arith, c .before .before .before .loop .inv .high, c .before .before .before .loop .inv .ways-long))
 
--- src/search.rt:84:13
 same-length-6 : tie.Need-same-length-6 Inv-loop μ-loop
-same-length-6 c = ?
+same-length-6 c = let p = c .before .before .before .before .before .before .before .before .before .before .before .before .before .before .before .before .before .before .before .before .before .before .before .before .before .before .before .before .before .before .before .before .before .pre .0 .fits in c .before .before .before .next .kept .1 .1 .1 .0 ∙ c .before .before .before .before .before .before .before .loop .inv .ways-long ∙ p .places ∙ sym (p .ways)
 
--- src/search.rt:84:13
 same-length-7 : tie.Need-same-length-7 Inv-loop μ-loop
-same-length-7 c = ?
+same-length-7 c = let p = c .before .before .before .before .before .before .before .before .before .before .before .before .before .before .before .before .before .before .before .before .before .before .before .before .before .before .before .before .before .before .before .before .before .pre .0 .fits in c .before .before .before .before .before .before .before .loop .inv .bests-long ∙ p .places ∙ sym (p .bests)
 
--- src/search.rt:84:13
 same-length-8 : tie.Need-same-length-8 Inv-loop μ-loop
-same-length-8 c = ?
+same-length-8 c = let p = c .before .before .before .before .before .before .before .before .before .before .before .before .before .before .before .before .before .before .before .before .before .before .before .before .before .before .before .before .before .before .before .before .before .pre .0 .fits in c .before .before .before .before .before .before .before .loop .inv .codes-long ∙ p .places
 
--- src/search.rt:84:13
 same-length-9 : tie.Need-same-length-9 Inv-loop μ-loop
-same-length-9 c = ?
+same-length-9 c = let p = c .before .before .before .before .before .before .before .before .before .before .before .before .before .before .before .before .before .before .before .before .before .before .before .before .before .before .before .before .before .before .before .before .before .pre .0 .fits in c .before .before .before .before .before .before .before .loop .inv .lows-long ∙ p .places ∙ sym (p .lowest)
 
--- src/search.rt:84:13
 same-length-10 : tie.Need-same-length-10 Inv-loop μ-loop
-same-length-10 c = ?
+same-length-10 c = c .before .before .before .before .before .before .before .before .before .before .before .before .before .before .before .before .before .before .start .kept .1 .1 .1 .1 .1 .1 .1 .1 .1 .0
 
--- src/search.rt:84:13
 returns-2 : tie.Need-returns-2 Inv-loop μ-loop
-returns-2 c = ?
+returns-2 c =
+    let s = c .before .before .before .before .before .before .before .before .before .before .before .before .before .before .before .before .before .before .before .before .before .before .before .before .before .before .before .before .before .before .before .before .before in
+    let p = s .pre .0 .fits in
+    let M = rw (c .if2 .taken) at (c .before .before .before .next .ensures) in
+    λ N Q. found-end (p .some) (omega arith) (c .before .before .before .before .before .before .before .before .before .before .before .before .before .before .before .before .before .before .start .ensures .spans) (c .before .before .before .before .before .before .before .loop .inv) (rw (sym (p .places)) at Q) (c .before .before .before .before .before .if1 .left) _ M refl refl
 
--- src/search.rt:92:24
 slice-read-t40 : tie.Need-slice-read-t40 Inv-loop μ-loop
-slice-read-t40 c = ?
+slice-read-t40 c = let p = c .before .before .before .before .before .before .before .before .before .before .before .before .before .before .before .before .before .before .before .before .before .before .before .before .before .before .before .before .before .before .before .before .before .before .before .pre .0 .fits in omega (arith, c .before .before .before .before .before .before .before .before .before .loop .inv .lows-long, p .some)
 
--- src/search.rt:90:13
 same-length-11 : tie.Need-same-length-11 Inv-loop μ-loop
-same-length-11 c = ?
+same-length-11 c = let p = c .before .before .before .before .before .before .before .before .before .before .before .before .before .before .before .before .before .before .before .before .before .before .before .before .before .before .before .before .before .before .before .before .before .before .before .pre .0 .fits in c .before .before .before .before .before .next .kept .1 .1 .1 .0 ∙ c .before .before .before .before .before .before .before .before .before .loop .inv .ways-long ∙ p .places ∙ sym (p .ways)
 
--- src/search.rt:90:13
 same-length-12 : tie.Need-same-length-12 Inv-loop μ-loop
-same-length-12 c = ?
+same-length-12 c = let p = c .before .before .before .before .before .before .before .before .before .before .before .before .before .before .before .before .before .before .before .before .before .before .before .before .before .before .before .before .before .before .before .before .before .before .before .pre .0 .fits in c .before .before .before .before .before .before .before .before .before .loop .inv .bests-long ∙ p .places ∙ sym (p .bests)
 
--- src/search.rt:90:13
 same-length-13 : tie.Need-same-length-13 Inv-loop μ-loop
-same-length-13 c = ?
+same-length-13 c = let p = c .before .before .before .before .before .before .before .before .before .before .before .before .before .before .before .before .before .before .before .before .before .before .before .before .before .before .before .before .before .before .before .before .before .before .before .pre .0 .fits in c .before .before .before .before .before .before .before .before .before .loop .inv .codes-long ∙ p .places
 
--- src/search.rt:90:13
 same-length-14 : tie.Need-same-length-14 Inv-loop μ-loop
-same-length-14 c = ?
+same-length-14 c = let p = c .before .before .before .before .before .before .before .before .before .before .before .before .before .before .before .before .before .before .before .before .before .before .before .before .before .before .before .before .before .before .before .before .before .before .before .pre .0 .fits in c .before .before .before .before .before .before .before .before .before .loop .inv .lows-long ∙ p .places ∙ sym (p .lowest)
 
--- src/search.rt:90:13
 same-length-15 : tie.Need-same-length-15 Inv-loop μ-loop
-same-length-15 c = ?
+same-length-15 c = c .before .before .before .before .before .before .before .before .before .before .before .before .before .before .before .before .before .before .before .before .start .kept .1 .1 .1 .1 .1 .1 .1 .1 .1 .0
 
--- src/search.rt:90:13
 returns-3 : tie.Need-returns-3 Inv-loop μ-loop
-returns-3 c = ?
+returns-3 c =
+    let s = c .before .before .before .before .before .before .before .before .before .before .before .before .before .before .before .before .before .before .before .before .before .before .before .before .before .before .before .before .before .before .before .before .before .before .before in
+    let p = s .pre .0 .fits in
+    let r = c .before .before .before .before .before .next .result in
+    let e : r ≡ suc (r - 1) = moved-some r (c .before .before .if2 .left) in
+    let M = rw e at (c .before .before .before .before .before .next .ensures) in
+    λ N Q. found-spent (p .some) (omega arith) (c .before .before .before .before .before .before .before .before .before .before .before .before .before .before .before .before .before .before .before .before .start .ensures .spans) (c .before .before .before .before .before .before .before .before .before .loop .inv) (rw (sym (p .places)) at Q) (c .before .before .before .before .before .before .before .if1 .left) (r - 1) M _
+    (c .before .if3 .taken) refl refl
 
--- src/search.rt:105:13
 sub-turn : tie.Need-sub-turn Inv-loop μ-loop
-sub-turn c = ?
+sub-turn c = let r = c .before .before .before .before .before .before .before .before .next .result in let e : r ≡ suc (r - 1) = moved-some r (c .before .before .before .before .before .if2 .left) in omega arith
 
--- src/search.rt:95:13
 turn-requires : tie.Need-turn-requires Inv-loop μ-loop
-turn-requires c κs = ?
+turn-requires c κs =
+    let s = c .before .before .before .before .before .before .before .before .before .before .before .before .before .before .before .before .before .before .before .before .before .before .before .before .before .before .before .before .before .before .before .before .before .before .before .before .before .before in
+    let p = s .pre .0 .fits in
+    let I = c .before .before .before .before .before .before .before .before .before .before .before .before .loop .inv in
+    let r = c .before .before .before .before .before .before .before .before .next .result in
+    let e : r ≡ suc (r - 1) = moved-some r (c .before .before .before .before .before .if2 .left) in
+    let M = rw e at (c .before .before .before .before .before .before .before .before .next .ensures) in
+    let Q = rw (sym (p .places)) at (s .pre .0 .source) in
+    let b : r - 1 < length (s .args .codes .now) + s .args .count = omega (arith, M .within, I .high) in (
+      record {
+        wired = wired-same (I .codes-long ∙ p .places) (p .wired);
+        places = sym (I .codes-long);
+        some = p .some;
+        outs = omega (arith, p .outs, p .places, I .codes-long);
+        small = omega (arith, p .small, p .places, I .codes-long);
+        ways = M .size ∙ I .ways-long ∙ sym (I .codes-long);
+        bests = I .bests-long ∙ sym (I .codes-long);
+        lowest = I .lows-long ∙ sym (I .codes-long);
+      },
+      (b, low-here (p .some) (omega arith) (c .before .before .before .before .before .before .before .before .before .before .before .before .before .before .before .before .before .before .before .before .before .before .before .start .ensures .spans) I Q (c .before .before .before .before .before .before .before .before .before .before .if1 .left) (r - 1) M b),
+    )
 
--- src/search.rt:73:5
 loop-less : tie.Need-loop-less Inv-loop μ-loop
-loop-less c = ?
+loop-less c =
+    let s = c .before .before .before .before .before .before .before .before .before .before .before .before .before .before .before .before .before .before .before .before .before .before .before .before .before .before .before .before .before .before .before .before .before .before .before .before .before .before .before .before .before .before .before .before .before in
+    let p = s .pre .0 .fits in
+    let h = span-some (p .some) (omega arith) (c .before .before .before .before .before .before .before .before .before .before .before .before .before .before .before .before .before .before .before .before .before .before .before .before .before .before .before .before .before .before .start .ensures .spans) (c .before .before .before .before .before .before .before .before .before .before .before .before .before .before .before .before .before .before .before .loop .inv) (rw (sym (p .places)) at (s .pre .0 .source)) in
+    omega (arith, c .before .before .before .before .before .before .before .before .before .before .before .before .before .before .before .before .before .if1 .left)
 
--- src/search.rt:73:5
 loop-again : tie.Need-loop-again Inv-loop μ-loop
-loop-again c = ?
+loop-again c =
+    let s = c .before .before .before .before .before .before .before .before .before .before .before .before .before .before .before .before .before .before .before .before .before .before .before .before .before .before .before .before .before .before .before .before .before .before .before .before .before .before .before .before .before .before .before .before .before in
+    let p = s .pre .0 .fits in
+    let I = c .before .before .before .before .before .before .before .before .before .before .before .before .before .before .before .before .before .before .before .loop .inv in
+    let r = c .before .before .before .before .before .before .before .before .before .before .before .before .before .before .before .next .result in
+    let e : r ≡ suc (r - 1) = moved-some r (c .before .before .before .before .before .before .before .before .before .before .before .before .if2 .left) in
+    let M = rw e at (c .before .before .before .before .before .before .before .before .before .before .before .before .before .before .before .next .ensures) in
+    let S = c .before .before .before .before .before .before .before .before .before .before .before .before .before .before .before .before .before .before .before .before .before .before .before .before .before .before .before .before .before .before .start .ensures .spans in
+    let some = span-some (p .some) (omega arith) S I (rw (sym (p .places)) at (s .pre .0 .source)) in
+    let T = c .before .before .before .before .before .before .turn in
+    standing-turned (p .some) (omega arith) S I (r - 1) (c .before .before .before .before .before .before .before .before .before .before .before .before .before .before .before .before .before .if1 .left) M some (left-some _ (c .before .before .before .before .before .before .before .before .before .before .before .if3 .left)) (T .ensures)
+    (T .kept .1 .1 .1 .1 .1 .1 .0 ∙ I .bests-long) (T .kept .1 .1 .1 .1 .1 .1 .1 .0 ∙ I .codes-long) (T .kept .1 .1 .1 .1 .1 .1 .1 .1 .0 ∙ I .lows-long)
 
 pub search-spec : {M : Type 1} → statement M
 search-spec =
