@@ -26,7 +26,7 @@ pub record Gives (s : Sizes) (text codes wanted : List ℕ) (budget : ℕ) (outc
   pub text-is : masked ≡ result .text
   pub inputs : take (length (result .inputs)) is ≡ result .inputs
   pub outputs : take (length (result .outputs)) es ≡ result .outputs
-  pub tally : take 2 ts ≡ result .tally
+  pub tally : take (length (result .tally)) ts ≡ result .tally
   pub worth : Worth s text codes wanted budget result
 
 -- the sizes, the text, the two lists and the budget, then each result buffer and each table before and after the call

@@ -111,3 +111,197 @@ fn give(
     }
 }
 
+// Questions 11, 13, 22 and 14, and the masked netlist.
+fn deliver(
+    out: &mut [u8],
+    ins: &mut [u8],
+    ends: &mut [u8],
+    tally: &mut [u64],
+    h: HeaderNumbers,
+    codes: &[u8],
+    wanted: &[u8],
+    budget: u64,
+    mut inputs: [u32; 17],
+    outputs: [u32; 16],
+    operands: &mut [u64],
+    results: &[u64],
+    wires: &mut [u32],
+    marks: &mut [u8],
+    ways: &mut [u8],
+    best: &mut [u8],
+    spans: &mut [u64],
+) -> Answer
+    requires { ⌜ Room h (tables (now operands) (now results)) inputs outputs (now wires) (now marks) (now ways) (now best) (now spans) ⌝ }
+    ensures { λ a. ⌜ ((N : Netlist)
+        → Read h (tables (now (operands .entry)) (now (results .entry))) inputs outputs N
+        → FewestAnswers (fewestOutcome (now (codes .entry)) (now (wanted .entry)) budget
+        (room (now (out .entry)) (now (ins .entry)) (now (ends .entry)) (now (tally .entry))) N) (now (out .entry)) (now (out .exit))
+        (now (ins .entry)) (now (ins .exit)) (now (ends .entry)) (now (ends .exit)) (now (tally .entry)) (now (tally .exit)) a) ⌝ }
+{
+    if !lists::free_codes(codes, h.input_bits as usize) {
+        return Answer::Refused(11);
+    }
+    if !lists::wanted(wanted, h.output_bits as usize) {
+        return Answer::Refused(13);
+    }
+    if budget == 0 {
+        return Answer::Refused(22);
+    }
+    if ins.len() < codes.len() {
+        return Answer::Refused(14);
+    }
+    if tally.len() < 2 {
+        return Answer::Refused(14);
+    }
+    let last = h.input_values;
+    inputs[last] = 2;
+    let r = choose(
+        codes,
+        wanted,
+        budget,
+        h,
+        operands,
+        results,
+        wires,
+        marks,
+        ways,
+        best,
+        spans,
+    );
+    give(
+        out,
+        ins,
+        ends,
+        tally,
+        h,
+        r,
+        codes.len(),
+        wanted,
+        inputs,
+        outputs,
+        operands,
+        results,
+        wires,
+        marks,
+        ways,
+    )
+}
+
+// The answer, with tables that are still to be cleared.
+fn answer(
+    text: &[u8],
+    codes: &[u8],
+    wanted: &[u8],
+    budget: u64,
+    out: &mut [u8],
+    ins: &mut [u8],
+    ends: &mut [u8],
+    tally: &mut [u64],
+    operands: &mut [u64],
+    results: &mut [u64],
+    wires: &mut [u32],
+    marks: &mut [u8],
+    ways: &mut [u8],
+    best: &mut [u8],
+    spans: &mut [u64],
+    sizes: Sizes,
+) -> Answer
+    ensures { λ a. ⌜ FewestAnswers (call sizes (now (text .entry)) (now (codes .entry)) (now (wanted .entry)) budget
+        (room (now (out .entry)) (now (ins .entry)) (now (ends .entry)) (now (tally .entry))) (now (operands .entry)) (now (results .entry))
+        (now (wires .entry)) (now (marks .entry)) (now (ways .entry)) (now (best .entry)) (now (spans .entry))) (now (out .entry))
+        (now (out .exit)) (now (ins .entry)) (now (ins .exit)) (now (ends .entry)) (now (ends .exit)) (now (tally .entry))
+        (now (tally .exit)) a ⌝ }
+{
+    let l = netlist::small(sizes);
+    let mut inputs = [0u32; 17];
+    let mut outputs = [0u32; 16];
+    let two = checker::shorter(wires.len(), ways.len());
+    let others = checker::shorter(best.len(), spans.len());
+    let shortest = checker::shorter(two, others);
+    match read_netlist::read::read(
+        text,
+        &mut inputs,
+        &mut outputs,
+        operands,
+        results,
+        marks,
+        shortest,
+        l,
+    ) {
+        Reading::Refused(question) => Answer::Refused(question),
+        Reading::Done(h) => deliver(
+            out,
+            ins,
+            ends,
+            tally,
+            h,
+            codes,
+            wanted,
+            budget,
+            inputs,
+            outputs,
+            operands,
+            results,
+            wires,
+            marks,
+            ways,
+            best,
+            spans,
+        ),
+    }
+}
+
+// The masked netlist of `text` under the first choice with the fewest mask changes among as many as `budget` allows, at the front of
+// `out`; the codes of its input bits at the front of `ins`, those of its output bits at the front of `ends`, and its changes and the floor
+// at the front of `tally`. The tables, of any content, are zero on return.
+pub fn mask_fewest(
+    text: &[u8],
+    codes: &[u8],
+    wanted: &[u8],
+    budget: u64,
+    out: &mut [u8],
+    ins: &mut [u8],
+    ends: &mut [u8],
+    tally: &mut [u64],
+    operands: &mut [u64],
+    results: &mut [u64],
+    wires: &mut [u32],
+    marks: &mut [u8],
+    ways: &mut [u8],
+    best: &mut [u8],
+    spans: &mut [u64],
+    sizes: Sizes,
+) -> Answer
+    ensures { λ a. ⌜ Promise sizes (now (text .entry)) (now (codes .entry)) (now (wanted .entry)) budget (now (out .entry))
+        (now (out .exit)) (now (ins .entry)) (now (ins .exit)) (now (ends .entry)) (now (ends .exit)) (now (tally .entry))
+        (now (tally .exit)) (now (operands .entry)) (now (operands .exit)) (now (results .entry)) (now (results .exit))
+        (now (wires .entry)) (now (wires .exit)) (now (marks .entry)) (now (marks .exit)) (now (ways .entry)) (now (ways .exit))
+        (now (best .entry)) (now (best .exit)) (now (spans .entry)) (now (spans .exit)) a ⌝ }
+{
+    let r = answer(
+        text,
+        codes,
+        wanted,
+        budget,
+        out,
+        ins,
+        ends,
+        tally,
+        operands,
+        results,
+        wires,
+        marks,
+        ways,
+        best,
+        spans,
+        sizes,
+    );
+    clear::words(operands);
+    clear::words(results);
+    clear::wires(wires);
+    clear::bytes(marks);
+    clear::bytes(ways);
+    clear::bytes(best);
+    clear::words(spans);
+    r
+}
