@@ -18,6 +18,7 @@ use Rattle.fewest.specs.Choice.{Choice, Agree, inputWays, chosenCode, chosenCod
 use Rattle.fewest.proofs.Chosen.{length-chosenCodes}
 use Rattle.fewest.proofs.Same.{chosen-append}
 use Rattle.fewest_walk.specs.Advance.{choiceOf}
+use Rattle.fewest_walk.proofs.Filling.{chosen-code-at}
 use Rattle.fewest_apply.specs.Apply.{SwapsEntry, Swapped, freeCode, Chosen}
 
 -- ---- one entry
@@ -159,11 +160,6 @@ free-code e d h =
     onBool (eqb e 4)
     (λ z. let l : d < 3 = rw z at h in let m : d % 4 ≡ d = mod-eq-of-lt (omega arith) in rw (z, m) refl)
     (λ z. rw z refl)
-
-chosen-code-at : (d : Choice) (p : ℕ) (es : List ℕ) (i : ℕ) → i < length es → getD (chosenCodes d p es) i 0 ≡ chosenCode (d (p + i)) (getD es i 0)
-chosen-code-at d p [] i h = absurd (omega arith)
-chosen-code-at d p (e ∷ es) zero h = let z : p + 0 ≡ p = omega arith in rw z refl
-chosen-code-at d p (e ∷ es) (suc i) h = let z : p + suc i ≡ suc p + i = omega arith in rw z (chosen-code-at d (suc p) es i (omega arith))
 
 -- the codes of a choice that takes one of its ways at each input
 pub codes-chosen : (codes way : List ℕ) {u₀ u : List ℕ} (d : Choice) → Chosen codes way (length codes) u₀ u → length codes ≤ length u₀

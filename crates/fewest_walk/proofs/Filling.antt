@@ -64,7 +64,8 @@ way-code e d h =
     rw (q, m, ne-eqb (d + 1) 0 (λ x. omega arith)) refl)
     (λ z. rw z refl)
 
-chosen-code-at : (d : Choice) (p : ℕ) (es : List ℕ) (i : ℕ) → i < length es → getD (chosenCodes d p es) i 0 ≡ chosenCode (d (p + i)) (getD es i 0)
+-- the code of an input under a choice
+pub chosen-code-at : (d : Choice) (p : ℕ) (es : List ℕ) (i : ℕ) → i < length es → getD (chosenCodes d p es) i 0 ≡ chosenCode (d (p + i)) (getD es i 0)
 chosen-code-at d p [] i h = absurd (omega arith)
 chosen-code-at d p (e ∷ es) zero h = let z : p + 0 ≡ p = omega arith in rw z refl
 chosen-code-at d p (e ∷ es) (suc i) h = let z : p + suc i ≡ suc p + i = omega arith in rw z (chosen-code-at d (suc p) es i (omega arith))

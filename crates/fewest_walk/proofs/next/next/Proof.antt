@@ -48,7 +48,7 @@ slice-write-way-2 : tie.Need-slice-write-way-2 Inv-loop μ-loop
 slice-write-way-2 c = omega (arith, c .before .before .before .before .before .before .before .before .pre .1, c .before .before .before .before .loop .inv .within, c .before .before .before .before .loop .inv .size, c .before .before .before .loop-test .taken)
 
 loop-less : tie.Need-loop-less Inv-loop μ-loop
-loop-less c = search needs
+loop-less c = omega arith
 
 loop-again : tie.Need-loop-again Inv-loop μ-loop
 loop-again c = advancing-more _ (c .before .before .before .before .loop .inv) (c .before .before .before .loop-test .taken) (c .before .before .before .before .before .before .before .before .pre .1) (way-last (c .before .ways .ensures) (c .if1 .left))
