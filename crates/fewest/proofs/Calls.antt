@@ -6,7 +6,7 @@ use lib.Dec.{T, leb, eqb, leb→le, eqb→eq}
 use lib.ListN.{length}
 use Rattle.netlist.specs.declared.Sizes.{Sizes}
 use Rattle.netlist.specs.Lists.{every}
-use Rattle.netlist.specs.Netlist.{Netlist, inputBits, outputBits, small}
+use Rattle.netlist.specs.Netlist.{inputBits, outputBits, small}
 use Rattle.netlist.specs.Outcome.{done, ask, andThen}
 use Rattle.netlist.specs.Read.{readNetlist}
 use Rattle.netlist.specs.Mask.{isWanted}

@@ -1,7 +1,7 @@
 -- What need not be tried. The outcome is the first of the fewest among the numbers tried, so choices that cost no less than the
 -- best so far may be left out, as long as they are counted.
 use Prim.Native.Nat.{ℕ, suc, _+_, _-_, _≤_, _<_}
-use mathlib.Core.Path.{_≡_, refl, sym, ap, ap₂, _∙_}
+use mathlib.Core.Path.{_≡_, refl, sym, ap, _∙_}
 use mathlib.Core.Bool.{cond}
 use mathlib.Core.List.{List}
 use native.Mathlib.Omega.{arith}
@@ -12,12 +12,12 @@ use Rattle.netlist.specs.declared.Gate.{Gate}
 use Rattle.netlist.specs.Netlist.{Netlist, inputBits}
 use Rattle.netlist.specs.Read.{WellFormed}
 use Rattle.netlist.proofs.Tests.{onBool}
-use Rattle.fewest.specs.Choice.{Choice, Takes, ways, product, digits, choices, choice, Agree}
+use Rattle.fewest.specs.Choice.{Choice, Takes, ways, product, choices, choice, Agree}
 use Rattle.fewest.specs.Fewest.{FirstLeast, changesAt}
 use Rattle.fewest.specs.Codes.{codeAt, codesBefore, leastBefore, moved}
 use Rattle.fewest.proofs.Digits.{number, digits-take}
 use Rattle.fewest.proofs.Least.{least-skip}
-use Rattle.fewest.proofs.Floor.{ways-positive, length-ways}
+use Rattle.fewest.proofs.Floor.{ways-positive}
 use Rattle.fewest.proofs.Retried.{Idle, before-same, up-to-least, idle-swap}
 use Rattle.fewest.proofs.Order.{moved-before, moved-at, moved-behind, number-same, number-moved, number-digits, digits-shared, digits-behind}
 

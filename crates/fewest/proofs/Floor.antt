@@ -4,20 +4,19 @@ use mathlib.Core.Path.{_≡_, refl, sym, ap, ap₂, _∙_}
 use mathlib.Core.List.{List, [], _∷_, _++_, map}
 use native.Mathlib.Nat.{zero-add, mul-comm, mul-assoc, one-mul, pow-suc, min-le-right, min-eq-left, min-eq-right}
 use native.Mathlib.Omega.{arith}
-use lib.Dec.{T, eqb, leb}
-use borrow.Author.Tests.{eqb-true, eq-eqb, leb-true, leb-false}
+use lib.Dec.{T, leb}
+use borrow.Author.Tests.{leb-true, leb-false}
 use lib.ListN.{length, length-append, length-map}
 use Rattle.netlist.specs.declared.Gate.{Gate}
 use Rattle.netlist.specs.declared.Gate.the-variants.{Xor, And, Inv, Eqw, Eq}
 use Rattle.netlist.specs.Lists.{every}
 use Rattle.netlist.specs.Netlist.{Netlist, inputBits}
-use Rattle.netlist.specs.Mask.{State, twin, advance, start}
 use Rattle.netlist.specs.Leak.{bit}
 use Rattle.netlist.proofs.Tests.{onBool, pair}
 use Rattle.mask_changes.specs.GateCount.{andGates}
-use Rattle.fewest.specs.Choice.{Choice, isFree, inputWays, gateWays, ways, product, choices, choice, chosenGate, chosenGates, chosenSource, chosenInputs, Takes, Agree}
-use Rattle.mask_changes.specs.Changes.{oneChange, changedOperands, maskChanges}
-use Rattle.fewest.specs.Fewest.{twice, twices, changesUnder, changesAt, given, floor, FirstLeast}
+use Rattle.fewest.specs.Choice.{Choice, isFree, inputWays, gateWays, ways, product, choices, choice, Takes, Agree}
+use Rattle.mask_changes.specs.Changes.{maskChanges}
+use Rattle.fewest.specs.Fewest.{changesUnder, changesAt, given, floor, FirstLeast}
 use Rattle.fewest.proofs.Digits.{number, product-positive, number-below, digits-number, digits-take}
 use Rattle.fewest.proofs.Least.{firstLeast-is}
 use Rattle.fewest.proofs.Twices.{twices-below}

@@ -5,8 +5,7 @@ use mathlib.Core.Path.{_≡_, refl, sym, ap, ap₂, _∙_}
 use mathlib.Core.Logic.{_≢_}
 use mathlib.Core.List.{List, [], _∷_, _++_}
 use native.Mathlib.Omega.{arith}
-use lib.Dec.{T, eqb}
-use borrow.Author.Tests.{eqb-true, eqb-false, eq-eqb, ne-eqb}
+use lib.Dec.{T}
 use lib.ListN.{length, getD, set, take, drop, take-append-drop, length-append, length-map, length-drop, length-set, length-replicate}
 use lib.Seq.{length-take-le, take-length, take-suc, drop-cons, getD-set-same, getD-set-other, getD-take, getD-drop, ext-getD}
 use Rattle.netlist.specs.declared.Gate.{Gate}
@@ -14,8 +13,7 @@ use Rattle.netlist.specs.declared.Gate.the-variants.{Xor, And, Inv, Eqw, Eq}
 use Rattle.netlist.specs.Netlist.{Netlist, inputBits, outputBits, result}
 use Rattle.netlist.specs.Read.{operandsGiven, isGiven, gatesGood, WellFormed}
 use Rattle.netlist.specs.Mask.{third}
-use Rattle.netlist.specs.Leak.{bit}
-use Rattle.netlist.proofs.Tests.{both, onBool}
+use Rattle.netlist.proofs.Tests.{both}
 use Rattle.netlist.proofs.GoodGates.{GoodGate, goodGate, fresh-ne, given-none, given-more, given-cases, results, every-wire-given}
 use Rattle.fewest.specs.Choice.{Choice, chosenGate, chosenGates, chosenSource, chosenInputs, Agree}
 use Rattle.fewest.specs.Fewest.{changesUnder}

@@ -11,10 +11,10 @@ use lib.ListN.{length, getD, set, take, length-set}
 use lib.Seq.{getD-set-same, getD-set-other, getD-take, ext-getD, length-take-le}
 use Rattle.netlist.specs.declared.Gate.{Gate}
 use Rattle.netlist.specs.declared.Gate.the-variants.{Xor, And, Inv, Eqw, Eq}
-use Rattle.netlist.specs.Table.{Tables, tables, half, gateOf, gateIn, gateAt, gatesOf, Wired}
+use Rattle.netlist.specs.Table.{tables, half, gateOf, gateAt, gatesOf, Wired}
 use Rattle.netlist.proofs.Tests.{onBool}
 use Rattle.netlist.proofs.Puts.{length-gates}
-use Rattle.fewest.specs.Choice.{Choice, Agree, inputWays, chosenCode, chosenCodes, chosenGate, chosenGates, chosenInputs}
+use Rattle.fewest.specs.Choice.{Choice, Agree, inputWays, chosenCode, chosenGate, chosenGates, chosenInputs}
 use Rattle.fewest.proofs.Chosen.{length-chosenCodes}
 use Rattle.fewest.proofs.Same.{chosen-append}
 use Rattle.fewest_walk.specs.Advance.{choiceOf}

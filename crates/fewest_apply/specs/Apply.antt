@@ -4,7 +4,7 @@ use mathlib.Core.Bool.{cond}
 use mathlib.Core.List.{List}
 use mathlib.Core.Path.{_≡_}
 use lib.ListN.{length, getD}
-use Rattle.netlist.specs.Table.{Tables, tables, half, gateIn, gateAt}
+use Rattle.netlist.specs.Table.{tables, half, gateIn}
 use Rattle.fewest.specs.Choice.{isFree, chosenGate}
 
 -- the entry o of a gate's operands becomes r: the gate is the one of its way d, and it names the same wires

@@ -1,44 +1,41 @@
 -- The search: where the tables stand at a choice, at the next one, and behind the last that the budget allows.
-use Prim.Native.Nat.{ℕ, zero, suc, _+_, _-_, _*_, _/_, _%_, _^_, _≤_, _<_, min}
+use Prim.Native.Nat.{ℕ, zero, suc, _+_, _-_, _/_, _%_, _≤_, _<_, min}
 use mathlib.Core.Path.{_≡_, refl, sym, ap, ap₂, _∙_}
-use mathlib.Core.Logic.{_⊎_, inl, inr, ⊎-elim}
 use mathlib.Core.Bool.{Bool, true, false, cond}
 use mathlib.Core.List.{List, [], _∷_, map}
-use native.Mathlib.Nat.{min-eq-left, min-eq-right, div-eq-of-lt, mod-eq-of-lt}
+use native.Mathlib.Nat.{div-eq-of-lt, mod-eq-of-lt}
 use native.Mathlib.Omega.{arith}
 use lib.Dec.{T, eqb, ltb, leb}
 use borrow.Author.Tests.{ltb-true, ltb-false, lt-ltb, le-ltb, le-leb, lt-leb, eqb-true}
-use lib.ListN.{length, getD, set, take, drop, replicate, length-map, length-drop, length-replicate}
-use lib.Seq.{getD-append-add, getD-set-same, take-all, drop-length}
+use lib.ListN.{length, getD, take, drop, replicate, length-map, length-drop}
+use lib.Seq.{getD-append-add, take-all, drop-length}
 use Rattle.netlist.specs.declared.Gate.{Gate}
 use Rattle.netlist.specs.declared.Gate.the-variants.{Xor, And, Inv, Eqw, Eq}
-use Rattle.netlist.specs.Lists.{every, sum}
+use Rattle.netlist.specs.Lists.{every}
 use Rattle.netlist.specs.Netlist.{Netlist, inputBits, outputBits}
 use Rattle.netlist.specs.Read.{WellFormed}
-use Rattle.netlist.specs.Table.{Tables, half, gateOf, gateAt, gatesOf}
+use Rattle.netlist.specs.Table.{Tables, half, gateOf, gateAt}
 use Rattle.netlist.proofs.Tests.{both, onBool}
 use Rattle.netlist.proofs.Puts.{length-gates}
-use Rattle.fewest.specs.Choice.{Choice, Agree, Takes, inputWays, gateWays, ways, product, digits, choices, choice, chosenInputs}
+use Rattle.fewest.specs.Choice.{Choice, Agree, inputWays, gateWays, ways, product, digits, choices, choice}
 use Rattle.fewest.specs.Fewest.{FirstLeast, twices, changesAt, given, floor}
-use Rattle.fewest.specs.Codes.{codeAt, firstCodes, endChanges, codesBefore, changesBefore, leastBefore, moved}
+use Rattle.fewest.specs.Codes.{codeAt, endChanges, changesBefore, leastBefore, moved}
 use Rattle.fewest.proofs.Digits.{digits-take, product-positive}
 use Rattle.fewest.proofs.Chosen.{input-ways}
-use Rattle.fewest.proofs.Least.{least-more, firstLeast-is, least-one}
+use Rattle.fewest.proofs.Least.{least-more, least-one}
 use Rattle.fewest.proofs.Floor.{ways-positive, length-ways, changes-same, given-first}
 use Rattle.fewest.proofs.Retried.{Ready, Idle, before-same, ready-idle, ready-first, ready-again, ready-changes}
 use Rattle.fewest.proofs.Order.{moved-before, moved-at, moved-behind, moved-same, digits-next, digits-end, next-below, shared-below, number-digits}
 use Rattle.fewest.proofs.Cuts.{cut, idle}
 use Rattle.fewest_walk.specs.Advance.{waysAt, choiceOf, Advanced}
-use Rattle.fewest_walk.specs.Walk.{codesTo, addedTo, Walked}
-use Rattle.fewest_walk.specs.Ends.{Filled}
+use Rattle.fewest_walk.specs.Walk.{codesTo, addedTo}
 use Rattle.fewest_walk.specs.Span.{spanOf, most, capped, Spanned}
 use Rattle.fewest_walk.proofs.Walking.{gate-at, ready-walked}
 use Rattle.fewest_walk.proofs.Filling.{filled-first}
 use Rattle.fewest_walk.proofs.Spanning.{span-product}
 use Rattle.fewest_search.specs.declared.search.Tally.{Tally}
-use Rattle.fewest_search.specs.declared.turn.Step.{Step}
-use Rattle.fewest_search.specs.Turn.{idleAt, costOf, Entered, Idles, Tries, TurnIs}
-use Rattle.fewest_search.specs.Search.{Source, Begun, Found}
+use Rattle.fewest_search.specs.Turn.{idleAt, costOf, Entered}
+use Rattle.fewest_search.specs.Search.{Source, Found}
 
 -- ---- the ways of a place, in the list and in the tables
 

@@ -1,31 +1,30 @@
 -- The loop of the search: where it stands, for every netlist that the gate tables hold.
-use Prim.Native.Nat.{ℕ, zero, suc, _+_, _-_, _*_, _^_, _≤_, _<_, min}
-use mathlib.Core.Path.{_≡_, refl, sym, ap, ap₂, _∙_}
+use Prim.Native.Nat.{ℕ, zero, suc, _+_, _-_, _^_, _≤_, _<_, min}
+use mathlib.Core.Path.{_≡_, refl, sym, ap, _∙_}
 use mathlib.Core.Logic.{⊎-elim}
-use mathlib.Core.Bool.{true, false}
 use mathlib.Core.List.{List, [], _∷_}
 use native.Mathlib.Nat.{min-eq-left, min-eq-right}
 use native.Mathlib.Omega.{arith}
-use lib.Dec.{eqb, ltb, leb}
-use borrow.Author.Tests.{leb-true, leb-false, ltb-true, ltb-false, eqb-true, eqb-false, le-leb, lt-leb}
-use lib.ListN.{length, getD, set, drop, replicate, length-drop, length-replicate}
+use lib.Dec.{ltb, leb}
+use borrow.Author.Tests.{leb-true, leb-false, ltb-true, ltb-false}
+use lib.ListN.{length, getD, set, drop, length-drop, length-replicate}
 use lib.Seq.{getD-set-same, length-take-le}
 use Rattle.netlist.specs.declared.Gate.{Gate}
 use Rattle.netlist.specs.Netlist.{Netlist, inputBits}
 use Rattle.netlist.specs.Table.{Tables, gatesOf}
 use Rattle.netlist.proofs.Tests.{onBool}
-use Rattle.fewest.specs.Choice.{Choice, chosenGate, chosenGates, ways, product, choices, chosenInputs}
+use Rattle.fewest.specs.Choice.{Choice, chosenGates, ways, product, choices, chosenInputs}
 use Rattle.fewest.specs.Fewest.{twices, changesAt, floor}
-use Rattle.fewest.specs.Codes.{codeAt, coded, gateChange, codeChanges, firstCodes, leastBefore}
+use Rattle.fewest.specs.Codes.{codeAt, coded, codeChanges, firstCodes, leastBefore}
 use Rattle.fewest.proofs.Chosen.{length-chosenGates}
 use Rattle.fewest.proofs.Least.{least-some, firstLeast-is}
 use Rattle.fewest_walk.specs.Advance.{waysAt, choiceOf, Advanced}
-use Rattle.fewest_walk.specs.Span.{most, capped, Spanned}
+use Rattle.fewest_walk.specs.Span.{capped, Spanned}
 use Rattle.fewest_walk.proofs.Walking.{change-most}
 use Rattle.fewest_walk.proofs.Counting.{twices-most}
 use Rattle.fewest_search.specs.declared.search.Tally.{Tally}
 use Rattle.fewest_search.specs.declared.turn.Step.{Step}
-use Rattle.fewest_search.specs.Turn.{idleAt, costOf, Entered, Idles, Tries, TurnIs}
+use Rattle.fewest_search.specs.Turn.{costOf, Idles, Tries, TurnIs}
 use Rattle.fewest_search.specs.Search.{Source, Begun, Found}
 use Rattle.fewest_search.proofs.Turning.{idle-place}
 use Rattle.fewest_search.proofs.Searching.{Best, At, held-length, span-at, product-behind, block-within, at-end, at-moved, at-next, turned-idle, at-tried, turned-cut, cost-is, turned-same, turned-fewer, at-first, last-block, found-all, found-some}

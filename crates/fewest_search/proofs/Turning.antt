@@ -1,15 +1,15 @@
 -- A turn of the search, part by part.
-use Prim.Native.Nat.{ℕ, suc, _+_, _-_, _/_, _%_, _^_, _≤_, _<_}
-use mathlib.Core.Path.{_≡_, refl, sym, ap, ap₂, _∙_}
+use Prim.Native.Nat.{ℕ, suc, _+_, _-_, _^_, _≤_, _<_}
+use mathlib.Core.Path.{_≡_, refl, sym, ap, _∙_}
 use mathlib.Core.Logic.{inl, inr}
 use mathlib.Core.Bool.{true, false}
 use mathlib.Core.List.{List, _++_, append-nil}
 use native.Mathlib.Omega.{arith}
 use lib.Dec.{eqb, ltb}
 use borrow.Author.Tests.{ltb-true, ltb-false, lt-ltb, le-ltb}
-use lib.ListN.{length, getD, set, drop, replicate, drop-of-length-le}
+use lib.ListN.{length, getD, set, replicate, drop-of-length-le}
 use lib.Seq.{getD-set-same}
-use Rattle.netlist.specs.Table.{Tables, half, gatesOf, Wired}
+use Rattle.netlist.specs.Table.{Tables, gatesOf, Wired}
 use Rattle.netlist.proofs.Tests.{onBool}
 use Rattle.netlist.proofs.Puts.{length-gates}
 use Rattle.clear.proofs.Laid.{Laid, laid-all}
@@ -25,7 +25,7 @@ use Rattle.fewest_search.specs.declared.turn.Step.{Step}
 use Rattle.fewest_walk.specs.Advance.{waysAt}
 use Rattle.fewest_walk.specs.Span.{Spanned}
 use Rattle.fewest_search.specs.Search.{Begun}
-use Rattle.fewest_search.specs.Turn.{IdleFits, idleAt, costOf, Entered, Idles, Tries, TurnIs}
+use Rattle.fewest_search.specs.Turn.{IdleFits, idleAt, costOf, Entered, TurnIs}
 
 -- a whole table was copied
 pub copied : {s d₀ d : List ℕ} {i : ℕ} → Laid 0 s d₀ d i → length s ≤ i → length d₀ ≡ length s → d ≡ s

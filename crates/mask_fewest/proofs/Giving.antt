@@ -1,30 +1,28 @@
 -- The stages of a call: the choice that is given, question 14 and the results.
-use Prim.Native.Nat.{ℕ, suc, _+_, _-_, _≤_, _<_}
-use mathlib.Core.Path.{_≡_, refl, sym, ap, ap₂, _∙_}
+use Prim.Native.Nat.{ℕ, _+_, _-_, _≤_}
+use mathlib.Core.Path.{_≡_, refl, sym, ap, _∙_}
 use mathlib.Core.Bool.{Bool, true, false, _&&_}
 use mathlib.Core.List.{List, [], _∷_, _++_}
 use native.Mathlib.Omega.{arith}
 use lib.Dec.{T, leb}
-use borrow.Author.Tests.{le-leb, lt-leb, leb-true, leb-false}
-use lib.ListN.{length, getD, set, take, drop, length-set, length-append, List·getD-append}
-use lib.Seq.{sets, sets-eq, length-take-le}
-use Rattle.netlist.specs.declared.Gate.{Gate}
+use borrow.Author.Tests.{le-leb}
+use lib.ListN.{length, set, drop, List·getD-append}
+use lib.Seq.{sets, sets-eq}
 use Rattle.netlist.specs.declared.Answer.{Answer}
 use Rattle.netlist.specs.declared.Answer.the-variants.{Done, Refused}
 use Rattle.netlist.specs.Lists.{every, sum}
-use Rattle.netlist.specs.Netlist.{Netlist, inputBits, outputBits}
-use Rattle.netlist.specs.Outcome.{Outcome, refused, done, ask}
-use Rattle.netlist.specs.Read.{WellFormed}
+use Rattle.netlist.specs.Netlist.{Netlist, inputBits}
+use Rattle.netlist.specs.Outcome.{refused, done}
 use Rattle.netlist.specs.Write.{writeNetlist}
-use Rattle.netlist.specs.Mask.{Masked, maskNetlist}
-use Rattle.netlist.specs.Services.{MaskedText, maskedText, deliverOutcome, holds, Answers, answerOf, written}
-use Rattle.netlist.specs.Table.{Tables, tables, gatesOf, Wired, Holds}
+use Rattle.netlist.specs.Mask.{maskNetlist}
+use Rattle.netlist.specs.Services.{maskedText, deliverOutcome, holds, Answers}
+use Rattle.netlist.specs.Table.{Tables, tables, Wired}
 use Rattle.netlist.proofs.Tests.{both, onBool}
 use Rattle.netlist.proofs.Puts.{wired-same, length-gates}
 use Rattle.mask_text.specs.Whole.{MaskAnswers, Source as MaskSource}
-use Rattle.fewest.specs.Choice.{Choice, Agree, inputWays, ways, choice, chosenGates, chosenInputs}
+use Rattle.fewest.specs.Choice.{Agree, ways, choice, chosenGates}
 use Rattle.fewest.specs.Fewest.{given as givenNumber}
-use Rattle.fewest.specs.Call.{Result, Room as Rooms, roomFor, deliver}
+use Rattle.fewest.specs.Call.{roomFor, deliver}
 use Rattle.fewest.proofs.Chosen.{input-ways}
 use Rattle.fewest.proofs.Same.{gates-same}
 use Rattle.fewest.proofs.Floor.{given-takes, length-ways}
@@ -34,7 +32,7 @@ use Rattle.fewest_search.specs.Turn.{Fits}
 use Rattle.fewest_search.specs.Search.{Source, Found}
 use Rattle.fewest_apply.specs.Apply.{Swapped, Chosen}
 use Rattle.fewest_apply.proofs.Applying.{gates-chosen, codes-chosen}
-use Rattle.mask_fewest.specs.Stages.{Chose, given, room, part, FewestAnswers}
+use Rattle.mask_fewest.specs.Stages.{Chose, given, room, FewestAnswers}
 
 -- ---- a netlist that was read
 

@@ -1,10 +1,10 @@
 -- From a source that was read to the promise.
 use Prim.Native.Nat.{ℕ, _+_, _≤_, _<_, min}
-use mathlib.Core.Path.{_≡_, refl, sym, ap, ap₂, subst, _∙_}
+use mathlib.Core.Path.{_≡_, refl, sym, ap, ap₂, _∙_}
 use mathlib.Core.Bool.{Bool, true, false, _&&_}
 use mathlib.Core.List.{List, [], _∷_}
 use native.Mathlib.Omega.{arith}
-use lib.Dec.{T, eqb, leb, lit<, eqb→eq, leb→le}
+use lib.Dec.{T, eqb, leb, leb→le}
 use borrow.Author.Tests.{le-leb, lt-leb, eq-eqb}
 use lib.ListN.{length, take, set}
 use lib.Seq.{sets}
@@ -14,12 +14,12 @@ use Rattle.netlist.specs.declared.Answer.{Answer}
 use Rattle.netlist.specs.declared.Answer.the-variants.{Done, Refused}
 use Rattle.netlist.specs.Lists.{every}
 use Rattle.netlist.specs.Netlist.{Netlist, inputBits, outputBits, small}
-use Rattle.netlist.specs.Outcome.{Outcome, refused, done, ask, andThen}
+use Rattle.netlist.specs.Outcome.{Outcome, refused, done, ask}
 use Rattle.netlist.specs.Read.{readNetlist, WellFormed}
 use Rattle.netlist.specs.Mask.{isInputCode, isWanted, maskNetlist}
 use Rattle.netlist.specs.Services.{tablesLong, listGood, holds, outcomeOf, written}
-use Rattle.netlist.specs.Table.{Tables, gatesOf, Holds}
-use Rattle.netlist.proofs.Tests.{isTrue, true-T, both, pair, onBool}
+use Rattle.netlist.specs.Table.{Tables}
+use Rattle.netlist.proofs.Tests.{isTrue, true-T, both, pair}
 use Rattle.netlist.proofs.Questions.{done-same, andThen-done}
 use Rattle.netlist.proofs.Answering.{answers-refused, take-sets, call-refused, call-goes-on}
 use Rattle.read_header.specs.declared.HeaderNumbers.{HeaderNumbers}
@@ -31,8 +31,7 @@ use Rattle.mask.proofs.Promised.{read-of, source-of, masked-formed}
 use Rattle.checker.proofs.Calling.{shorter-long}
 use Rattle.fewest.specs.Choice.{Choice, Takes, isCallCode, ways, choice, chosenSource, chosenInputs}
 use Rattle.fewest.specs.Fewest.{given as givenNumber}
-use Rattle.fewest.specs.Call.{Result, Room as Rooms, resultOf, roomFor, deliver, fewestOutcome, fewestCall}
-use Rattle.fewest.specs.Worth.{Worth}
+use Rattle.fewest.specs.Call.{Result, Room as Rooms, resultOf, deliver, fewestOutcome, fewestCall}
 use Rattle.fewest.proofs.Chosen.{CallInputs, chosen-formed, chosen-inputs}
 use Rattle.fewest.proofs.Floor.{given-takes}
 use Rattle.fewest.proofs.Calls.{worth}

@@ -10,7 +10,7 @@ use Rattle.netlist.specs.Outcome.{Outcome, done, andThen}
 use Rattle.netlist.specs.Write.{writeNetlist}
 use Rattle.netlist.specs.Mask.{maskNetlist}
 use Rattle.netlist.specs.Services.{Answers, written}
-use Rattle.netlist.specs.Table.{Tables, gatesOf, Wired}
+use Rattle.netlist.specs.Table.{Tables, gatesOf}
 use Rattle.read_header.specs.declared.HeaderNumbers.{HeaderNumbers}
 use Rattle.mask.specs.Fronts.{Fronts, Read}
 use Rattle.fewest.specs.Choice.{choice, chosenGates, chosenInputs}

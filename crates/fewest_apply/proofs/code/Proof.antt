@@ -1,6 +1,5 @@
 -- `code`.
 use Rattle.fewest_apply.proofs.Applying.{code-free, code-fixed}
-use native.Mathlib.Omega.{arith}
 use borrow.Author.Needs.{needs}
 use Rattle.fewest_apply.proofs.code.Statement.{statement}
 use Rattle.fewest_apply.proofs.code.Tie as tie

@@ -1,10 +1,9 @@
 -- `choose`: the search on the fronts of the tables, and its choice put to use.
-use Prim.Native.Nat.{_+_, _≤_}
-use mathlib.Core.Path.{_≡_, sym, ap, _∙_}
-use lib.ListN.{length, take}
+use mathlib.Core.Path.{sym, _∙_}
+use lib.ListN.{take}
 use lib.Seq.{length-take-le, length-front}
 use Rattle.fewest_apply.proofs.Applying.{wired-chosen}
-use Rattle.mask_fewest.proofs.Giving.{places, some, fits-fronts, chose}
+use Rattle.mask_fewest.proofs.Giving.{places, fits-fronts, chose}
 use native.Mathlib.Omega.{arith}
 use borrow.Author.Needs.{needs}
 use Rattle.mask_fewest.proofs.choose.Statement.{statement}

@@ -1,6 +1,5 @@
 -- `deliver`: questions 11, 13, 22 and 14 in order, then the choice and its results.
-use Prim.Native.Nat.{_≤_}
-use mathlib.Core.Path.{_≡_, refl, sym, _∙_}
+use mathlib.Core.Path.{refl, sym, _∙_}
 use borrow.Author.Tests.{not-true, not-false}
 use Rattle.netlist.specs.Mask.{isWanted}
 use Rattle.mask_pass.proofs.Made.{codes-length}

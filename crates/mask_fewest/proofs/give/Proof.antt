@@ -1,7 +1,7 @@
 -- `give`: Mask's own text and output codes, then the input codes and the tally.
-use Prim.Native.Nat.{_+_, _≤_}
-use mathlib.Core.Path.{_≡_, refl, sym, ap, _∙_}
-use lib.ListN.{length, take, drop}
+use Prim.Native.Nat.{_+_}
+use mathlib.Core.Path.{sym, ap, _∙_}
+use lib.ListN.{take, drop}
 use mathlib.Core.List.{_++_, List}
 use lib.Seq.{length-take-le}
 use Rattle.mask_fewest.proofs.Giving.{source-codes, laid-front, two-set, give-refused, give-done}

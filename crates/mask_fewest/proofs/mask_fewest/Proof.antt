@@ -2,7 +2,6 @@
 use mathlib.Core.Path.{_∙_}
 use Rattle.clear.proofs.Filled.{zeros-same}
 use Rattle.mask_fewest.proofs.Promised.{call-gives}
-use native.Mathlib.Omega.{arith}
 use borrow.Author.Needs.{needs}
 use Rattle.mask_fewest.proofs.mask_fewest.Statement.{statement}
 use Rattle.mask_fewest.proofs.mask_fewest.Tie as tie

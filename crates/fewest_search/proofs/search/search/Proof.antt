@@ -5,7 +5,6 @@ use lib.ListN.{length}
 use Rattle.netlist.specs.Table.{tables}
 use Rattle.netlist.proofs.Puts.{wired-same}
 use Rattle.fewest_search.proofs.Standing.{moved-some, left-some, Standing, standing-first, standing-turned, span-some, found-short, found-end, found-spent, low-here}
-use borrow.Author.Needs.{needs}
 use native.Mathlib.Omega.{arith}
 use Rattle.fewest_search.proofs.search.search.Statement.{statement}
 use Rattle.fewest_search.proofs.search.search.Tie as tie

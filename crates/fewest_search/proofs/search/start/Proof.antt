@@ -1,8 +1,7 @@
 -- `search::start`.
 use Prim.Native.Nat.{_-_, _≤_, _<_}
-use mathlib.Core.Path.{_≡_, refl, sym, ap, _∙_}
-use lib.ListN.{length, getD, set, length-set, length-replicate}
-use lib.Seq.{getD-set-same}
+use mathlib.Core.Path.{_≡_, sym, _∙_}
+use lib.ListN.{length, set, length-set}
 use Rattle.netlist.specs.Table.{tables}
 use Rattle.fewest_search.proofs.Turning.{low-first, low-room, entered-most, begun-whole, begun-all}
 use native.Mathlib.Omega.{arith}

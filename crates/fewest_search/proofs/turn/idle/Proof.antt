@@ -1,6 +1,5 @@
 -- `turn::idle`.
 use Rattle.fewest_search.proofs.Turning.{idle-input, idle-gate, idle-left, idle-right}
-use native.Mathlib.Omega.{arith}
 use borrow.Author.Needs.{needs}
 use Rattle.fewest_search.proofs.turn.idle.Statement.{statement}
 use Rattle.fewest_search.proofs.turn.idle.Tie as tie

@@ -2,9 +2,6 @@
 use lib.ListN.{drop, length}
 use Prim.Native.Nat.{_-_}
 use Rattle.fewest_walk.proofs.Ending.{ends-most}
-use Prim.Native.Nat.{ℕ, _+_}
-use mathlib.Core.Path.{ap}
-use lib.ListN.{getD}
 use native.Mathlib.Omega.{arith}
 use borrow.Author.Needs.{needs}
 use Rattle.fewest_search.proofs.turn.weigh.Statement.{statement}

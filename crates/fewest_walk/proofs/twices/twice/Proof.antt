@@ -1,6 +1,5 @@
 -- `twices::twice`, by kind.
 use Rattle.fewest_walk.proofs.Counting.{twice-xor, twice-and, twice-none}
-use native.Mathlib.Omega.{arith}
 use borrow.Author.Needs.{needs}
 use Rattle.fewest_walk.proofs.twices.twice.Statement.{statement}
 use Rattle.fewest_walk.proofs.twices.twice.Tie as tie

@@ -1,6 +1,5 @@
 -- `walk::added`, by kind.
 use Rattle.fewest_walk.proofs.Walking.{added-twice, added-xor, added-and, added-none}
-use native.Mathlib.Omega.{arith}
 use borrow.Author.Needs.{needs}
 use Rattle.fewest_walk.proofs.walk.added.Statement.{statement}
 use Rattle.fewest_walk.proofs.walk.added.Tie as tie

@@ -1,7 +1,6 @@
 -- `walk::step`.
 use Rattle.gate_table.proofs.Splitting.{parts-within}
 use Rattle.fewest_walk.proofs.Walking.{stepped-is}
-use native.Mathlib.Omega.{arith}
 use borrow.Author.Needs.{needs}
 use Rattle.fewest_walk.proofs.walk.step.Statement.{statement}
 use Rattle.fewest_walk.proofs.walk.step.Tie as tie

@@ -1,6 +1,6 @@
 -- `walk::walk`: the gates from one on up to gate i are done.
 use Prim.Native.Nat.{_-_}
-use mathlib.Core.Path.{refl, _∙_}
+use mathlib.Core.Path.{refl}
 use Rattle.netlist.specs.Table.{tables}
 use Rattle.fewest_walk.proofs.Walking.{stepped-small, Walking, done-none, walking-more, walked-cut, walked-all}
 use borrow.Author.Needs.{needs}
