@@ -6,7 +6,7 @@ use mathlib.Core.List.{List, [], _∷_, map}
 use native.Mathlib.Nat.{div-eq-of-lt, mod-eq-of-lt}
 use native.Mathlib.Omega.{arith}
 use lib.Dec.{T, eqb, ltb, leb}
-use borrow.Author.Tests.{ltb-true, ltb-false, lt-ltb, le-ltb, le-leb, lt-leb, eqb-true}
+use borrow.Author.Tests.{leb-true, leb-false, ltb-true, ltb-false, lt-ltb, le-ltb, le-leb, lt-leb, eqb-true}
 use lib.ListN.{length, getD, take, drop, replicate, length-map, length-drop}
 use lib.Seq.{getD-append-add, take-all, drop-length}
 use Rattle.netlist.specs.declared.Gate.{Gate}
@@ -472,3 +472,10 @@ module _ {t : Tables} {m : ℕ} {codes wanted : List ℕ} {W : ℕ} {N : Netlist
 
       pub found-some : budget < choices N codes → r .floor ≡ twices (N .gates) → Found N codes wanted budget best r
       found-some h fl = found (fl ∙ sym (rw (lt-leb (choices N codes) budget h) refl))
+
+      -- the fewest that there can be
+      pub found-least : least ≡ twices (N .gates) → r .floor ≡ least → Found N codes wanted budget best r
+      found-least e fl =
+          onBool (leb (choices N codes) budget)
+          (λ z. found-all (leb-true (choices N codes) budget z) fl)
+          (λ z. found-some (leb-false (choices N codes) budget z) (fl ∙ e))

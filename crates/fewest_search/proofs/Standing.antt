@@ -13,10 +13,11 @@ use Rattle.netlist.specs.declared.Gate.{Gate}
 use Rattle.netlist.specs.Netlist.{Netlist, inputBits}
 use Rattle.netlist.specs.Table.{Tables, gatesOf}
 use Rattle.netlist.proofs.Tests.{onBool}
-use Rattle.fewest.specs.Choice.{Choice, chosenGates, ways, product, choices, chosenInputs}
+use Rattle.fewest.specs.Choice.{Choice, chosenGates, ways, product, choices, chosenInputs, choice}
 use Rattle.fewest.specs.Fewest.{twices, changesAt, floor}
 use Rattle.fewest.specs.Codes.{codeAt, coded, codeChanges, firstCodes, leastBefore}
 use Rattle.fewest.proofs.Chosen.{length-chosenGates}
+use Rattle.fewest.proofs.Twices.{twices-below}
 use Rattle.fewest.proofs.Least.{least-some, firstLeast-is}
 use Rattle.fewest_walk.specs.Advance.{waysAt, choiceOf, Advanced}
 use Rattle.fewest_walk.specs.Span.{capped, Spanned}
@@ -27,7 +28,7 @@ use Rattle.fewest_search.specs.declared.turn.Step.{Step}
 use Rattle.fewest_search.specs.Turn.{costOf, Idles, Tries, TurnIs}
 use Rattle.fewest_search.specs.Search.{Source, Begun, Found}
 use Rattle.fewest_search.proofs.Turning.{idle-place}
-use Rattle.fewest_search.proofs.Searching.{Best, At, held-length, span-at, product-behind, block-within, at-end, at-moved, at-next, turned-idle, at-tried, turned-cut, cost-is, turned-same, turned-fewer, at-first, last-block, found-all, found-some}
+use Rattle.fewest_search.proofs.Searching.{Best, At, held-length, span-at, product-behind, block-within, at-end, at-moved, at-next, turned-idle, at-tried, turned-cut, cost-is, turned-same, turned-fewer, at-first, last-block, found-all, found-some, found-least}
 
 -- ---- the least changes are no more than the gates
 
@@ -44,6 +45,12 @@ least-most N codes d j h =
     let t = twices-most (drop j (N .gates)) in
     let ld = length-drop j (N .gates) in
     omega arith
+
+min-below : (a b c : ℕ) → c < a → c < b → c < min a b
+min-below a b c h k =
+    onBool (leb a b)
+    (λ z. rw (min-eq-left (leb-true a b z)) h)
+    (λ z. let g = leb-false a b z in let l : b ≤ a = omega arith in rw (min-eq-right l) k)
 
 -- as the code tells that a place moved, and that choices are left
 pub moved-some : (r : ℕ) → (r ≡ 0 → ⊥) → r ≡ suc (r - 1)
@@ -105,6 +112,30 @@ module _ {t : Tables} {m : ℕ} {codes wanted : List ℕ} {W budget : ℕ} {s₀
 
       early : I .best-so Q .number < budget
       early = let e = I .best-so Q .early in let w = I .within in let o = I .some in omega arith
+
+      -- the best has no more changes than there are gates that name one wire twice: no choice has fewer
+      pub found-floor : (r : Tally) → least ≤ getD lows 0 0 → r .changes ≡ least → r .floor ≡ least → Found N codes wanted budget best r
+      found-floor r h c fl =
+          let w = I .within in
+          let o = I .some in
+          let B = I .best-so Q in
+          let z = low-zero in
+          let n = B .count in
+          let t = twices-below N codes wanted (choice N codes (B .number)) in
+          let A = I .at Q .below in
+          let e = B .early in
+          found-least Q (omega arith) refl
+          (record {
+            number = B .number;
+            first = record {
+              below = min-below budget (choices N codes) (B .number) early (omega arith);
+              least = λ i b. let u = twices-below N codes wanted (choice N codes i) in omega arith;
+              first = B .first .first;
+            };
+            early = B .early;
+            kept = B .kept;
+            count = B .count;
+          }) r c (omega arith) fl
 
       -- more choices share its places than are left
       pub found-short : (r : Tally) → left < getD s (length codes + stop - 1) 0 → r .changes ≡ least → r .floor ≡ getD lows 0 0

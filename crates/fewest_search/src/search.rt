@@ -45,7 +45,8 @@ fn start(
 
 // The first choice with the fewest changes among as many as the budget allows, into `best`, its changes and the floor. The gate tables
 // hold a netlist with codes for its inputs, 4 being free; the other tables have an entry for each wire, and may hold anything. Choices
-// that share their first places are passed together, and counted, where none of them has fewer changes than the best so far.
+// that share their first places are passed together, and counted, where none of them has fewer changes than the best so far; all
+// that are left are where the best has no more changes than there are gates that name one wire twice.
 pub fn search(
     operands: &[u64],
     results: &[u64],
@@ -82,6 +83,12 @@ pub fn search(
     let mut stop = count;
     let mut left = budget;
     loop {
+        if least <= lows[0] {
+            return Tally {
+                changes: least,
+                floor: least,
+            };
+        }
         let span = spans[n + stop - 1];
         if left < span {
             return Tally {
