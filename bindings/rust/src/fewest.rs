@@ -120,8 +120,8 @@ pub struct Fewest {
 /// varying fastest, and of several with the fewest changes the first is given. The other codes and `wanted` are
 /// [`mask`](crate::mask)'s.
 ///
-/// A budget of 0 is refused by 22. One of `u64::MAX` costs no more than it must: runs of choices that cannot
-/// have fewer changes are counted without being walked.
+/// A budget of 0 is refused by 22. Runs of choices that cannot have fewer changes are counted without being
+/// walked; even so a budget of `u64::MAX` can take very long on circuits of many choices.
 ///
 /// ```
 /// # use fidrovelj::{mask, mask_fewest, Refused, Tables};
