@@ -52,13 +52,12 @@ impl fmt::Debug for Call {
 impl Call {
     /// A call with tables of the least length and ample room.
     fn new(sizes: Sizes, text: &[u8], codes: &[u8], wanted: &[u8], budget: u64) -> Call {
-        let limits = sizes.large();
         Call {
             text: text.to_vec(),
             codes: codes.to_vec(),
             wanted: wanted.to_vec(),
             budget,
-            rooms: [limits.text, limits.wires, limits.wires, 3],
+            rooms: [16 * text.len() + 400, codes.len() + 4, wanted.len() + 4, 3],
             tables: [sizes.small().table; 7],
             sizes,
         }
@@ -418,27 +417,61 @@ fn questions_in_order() {
     assert_eq!(check(&given.text, &[4, 0], &mut Tables::new()).err(), Some(Refused(11)));
 }
 
-/// All choices, depth first in their order: a branch ends where it has as many changes as the best, and where an
-/// AND's operands have equal codes its other order, with the same codes behind it, is left out.
-struct Exact<'a> {
+/// The search depth first, for budgets beyond what can be tried one by one: a branch ends where it has as many changes
+/// as the best, and where an AND's operands have equal codes its other order, with the same codes behind it, is left
+/// out; what is left out counts.
+struct DepthFirst<'a> {
     source: &'a Netlist,
     codes: &'a [u8],
     wanted: &'a [u8],
     of: Vec<u8>,
     choice: Vec<u8>,
     best: Option<(Vec<u8>, u64)>,
+    /// How many choices begin with the first so many places of one.
+    leaves: Vec<u128>,
+    left: u128,
+    over: bool,
 }
 
-impl Exact<'_> {
-    fn found(source: &Netlist, codes: &[u8], wanted: &[u8]) -> Found {
-        let of = vec![0; source.wires];
-        let mut exact = Exact { source, codes, wanted, of, choice: Vec::new(), best: None };
-        exact.input(0);
-        let (choice, changes) = exact.best.expect("there is a choice");
-        Found { choice, changes, floor: changes }
+impl DepthFirst<'_> {
+    fn found(source: &Netlist, codes: &[u8], wanted: &[u8], budget: u64) -> Found {
+        let mut leaves = vec![1_u128];
+        for &ways in fewest::ways(source, codes).iter().rev() {
+            leaves.push(leaves[leaves.len() - 1].saturating_mul(ways.into()));
+        }
+        leaves.reverse();
+        let mut search = DepthFirst {
+            source,
+            codes,
+            wanted,
+            of: vec![0; source.wires],
+            choice: Vec::new(),
+            best: None,
+            leaves,
+            left: budget.into(),
+            over: false,
+        };
+        search.input(0);
+        let (choice, changes) = search.best.expect("one choice was tried");
+        Found { choice, changes, floor: if search.over { fewest::twices(source) } else { changes } }
+    }
+
+    /// Counts the choices of a branch, which begins with so many places.
+    fn count(&mut self, places: usize) {
+        let leaves = self.leaves[places];
+        self.over |= leaves > self.left;
+        self.left = self.left.saturating_sub(leaves);
+    }
+
+    /// Whether nothing is to be found behind so many changes.
+    fn ends(&self, changes: u64) -> bool {
+        self.over || self.left == 0 || self.best.as_ref().is_some_and(|&(_, fewest)| changes >= fewest)
     }
 
     fn input(&mut self, wire: usize) {
+        if self.ends(0) {
+            return self.count(self.choice.len());
+        }
         match self.codes.get(wire) {
             None => self.gate(0, 0),
             Some(4) => {
@@ -457,18 +490,22 @@ impl Exact<'_> {
     }
 
     fn gate(&mut self, place: usize, changes: u64) {
-        if self.best.as_ref().is_some_and(|&(_, fewest)| changes >= fewest) {
-            return;
+        if self.ends(changes) {
+            return self.count(self.choice.len());
         }
         let Some(&gate) = self.source.gates.get(place) else { return self.end(changes) };
         let c = gate.result();
         match gate {
             Gate::And(a, b, _) => {
                 let (a, b) = (self.of[a], self.of[b]);
-                for (way, code) in [(0, a), (1, b)].into_iter().take(if a == b { 1 } else { 2 }) {
-                    self.of[c] = code;
+                for (way, code) in [(0, a), (1, b)] {
                     self.choice.push(way);
-                    self.gate(place + 1, changes + u64::from(a == b));
+                    if way == 1 && a == b {
+                        self.count(self.choice.len());
+                    } else {
+                        self.of[c] = code;
+                        self.gate(place + 1, changes + u64::from(a == b));
+                    }
                     self.choice.pop();
                 }
             }
@@ -489,6 +526,7 @@ impl Exact<'_> {
     }
 
     fn end(&mut self, changes: u64) {
+        self.count(self.choice.len());
         let outputs = self.of[self.source.wires - self.source.output_bits()..].iter().zip(self.wanted);
         let changes =
             changes + outputs.filter(|&(&code, &wanted)| wanted != 0 && wanted != code).count() as u64;
@@ -498,11 +536,11 @@ impl Exact<'_> {
     }
 }
 
-/// Random sources of some more choices with the largest budget.
+/// Random sources of some more choices, with all of them and with large budgets.
 #[test]
-fn all_choices() {
+fn many_choices() {
     let library = &mut Library::new();
-    let mut longest = 0;
+    let (mut longest, mut cut_off) = (0, 0);
     for seed in 0..2_000 {
         let random = &mut Random::new(seed ^ 0xa11);
         let (bits, gate_count) = (random.between(1, 7), random.below(14));
@@ -511,20 +549,21 @@ fn all_choices() {
         free_some(random, &mut codes);
         let most = random.pick(&[0, 0, 3]);
         let wanted = random.list(source.output_bits(), 0, most);
-        let call = Call::new(Sizes::Old, &source.write(), &codes, &wanted, u64::MAX);
-        let found = Exact::found(&source, &codes, &wanted);
         let many = choices(&source, &codes, 1 << 40);
-        if many < 500 {
-            assert_eq!(fewest::search(&source, &codes, &wanted, many), found, "seed {seed}");
+        let any = 1 + random.next() % many;
+        for budget in [any, many, many + 1, u64::MAX] {
+            let found = DepthFirst::found(&source, &codes, &wanted, budget);
+            if budget.min(many) < 500 {
+                assert_eq!(fewest::search(&source, &codes, &wanted, budget), found, "seed {seed}");
+            }
+            cut_off += u64::from(found.changes > found.floor);
+            let call = Call::new(Sizes::Old, &source.write(), &codes, &wanted, budget);
+            let given = fewest::given(&source, &codes, &wanted, &found);
+            library.assert_outcome(&format!("seed {seed}, budget {budget}"), &call, &Ok(given));
         }
         longest = longest.max(many);
-        library.assert_outcome(
-            &format!("seed {seed}"),
-            &call,
-            &Ok(fewest::given(&source, &codes, &wanted, &found)),
-        );
     }
-    println!("all choices of 2,000 sources, up to {longest}");
+    println!("2,000 sources of up to {longest} choices, {cut_off} searches that were not through");
 }
 
 /// The masked text is clean where it can be checked, and computes the source.
@@ -582,26 +621,33 @@ fn circuits_by_budget() {
     }
 }
 
-/// Circuits of few choices with all of them: fewest changes, which are the floor.
+/// Circuits with the largest budget: the fewest changes and the floor. Where there are more choices than that, of
+/// 2^64 and more, the floor is that of a search that is not through.
 #[test]
-fn circuits_exactly() {
+fn circuits_with_the_largest_budget() {
     let library = &mut Library::new();
-    for (name, wanted, changes) in [
-        ("present_sbox", 0, 1),
-        ("gift_sbox", 0, 0),
-        ("ascon_sbox", 0, 0),
-        ("keccak_chi_row", 0, 0),
-        ("c17", 0, 0),
-        ("gf16_mul", 0, 0),
-        ("less6", 0, 0),
-        ("adder6", 0, 4),
-        ("present_sbox", 1, 3),
+    for (name, wanted, tally) in [
+        ("present_sbox", 0, [1, 1]),
+        ("present_sbox", 1, [3, 3]),
+        ("gift_sbox", 0, [0, 0]),
+        ("ascon_sbox", 0, [0, 0]),
+        ("keccak_chi_row", 0, [0, 0]),
+        ("c17", 0, [0, 0]),
+        ("gf16_mul", 0, [0, 0]),
+        ("less6", 0, [0, 0]),
+        ("adder6", 0, [4, 4]),
+        ("gf256_mul", 0, [85, 0]),
+        ("mult6", 0, [70, 0]),
+        ("adder64", 0, [127, 0]),
+        ("sub64", 0, [126, 0]),
+        ("sha256_round", 0, [613, 0]),
+        ("zero_equal_683", 0, [682, 0]),
     ] {
         let text = circuits::circuit(name).text;
         let source = read(&SMALL, &text).expect("it is a source");
         let (codes, wanted) = (vec![4; source.input_bits()], vec![wanted; source.output_bits()]);
-        let found = Exact::found(&source, &codes, &wanted);
-        assert_eq!(found.changes, changes, "{name}");
+        let found = DepthFirst::found(&source, &codes, &wanted, u64::MAX);
+        assert_eq!([found.changes, found.floor], tally, "{name}");
         let call = Call::new(Sizes::Old, &text, &codes, &wanted, u64::MAX);
         library.assert_outcome(name, &call, &Ok(fewest::given(&source, &codes, &wanted, &found)));
     }
@@ -630,24 +676,28 @@ fn aes_sbox() {
         assert_eq!(given.tally, [changes, 0], "budget {budget}");
     }
     let ways = fewest::ways(&source, &codes);
-    assert_eq!(choices(&source, &codes, u64::MAX), 28_179_280_429_056);
+    let all = 28_179_280_429_056;
+    assert_eq!(choices(&source, &codes, u64::MAX), all);
     let choice = choice_of(&ways, 861_654_224_302);
     let found = Found { choice, changes: 10, floor: 10 };
-    assert_eq!(Exact::found(&source, &codes, &wanted), found);
+    assert_eq!(DepthFirst::found(&source, &codes, &wanted, all), found);
     let given = fewest::given(&source, &codes, &wanted, &found);
-    for budget in [28_179_280_429_056, 28_179_280_429_057, u64::MAX] {
+    for budget in [all, all + 1, u64::MAX] {
         library.assert_outcome("the AES S-box, all choices", &call(budget), &Ok(given.clone()));
     }
-    // The choice is the last of some tries, and one less does not reach it; neither knows the floor.
+    // The choice is the last of so many tries, and one try less does not reach it; neither knows the floor.
     let twices = Given { tally: vec![10, 0], ..given };
     library.assert_outcome("up to the fewest", &call(861_654_224_303), &Ok(twices.clone()));
-    library.assert_outcome("all but one", &call(28_179_280_429_055), &Ok(twices));
+    library.assert_outcome("all but one", &call(all - 1), &Ok(twices));
+    for budget in [10_000_000, 12_345_678_901, 861_654_224_302] {
+        let found = DepthFirst::found(&source, &codes, &wanted, budget);
+        assert!(found.changes > 10 && found.floor == 0, "budget {budget}: {found:?}");
+        let given = fewest::given(&source, &codes, &wanted, &found);
+        library.assert_outcome("the AES S-box", &call(budget), &Ok(given));
+    }
     let tables = &mut Tables::new();
-    let before = mask_fewest(&text, &codes, &wanted, 861_654_224_302, tables).expect("it is accepted");
-    assert!(before.changes > 10 && before.floor == 0, "{} changes", before.changes);
-    assert_masks("the AES S-box", &text, &before, tables);
-    let all = mask_fewest(&text, &codes, &wanted, u64::MAX, tables).expect("it is accepted");
-    assert_masks("the AES S-box", &text, &all, tables);
+    let fewest = mask_fewest(&text, &codes, &wanted, u64::MAX, tables).expect("it is accepted");
+    assert_masks("the AES S-box", &text, &fewest, tables);
 }
 
 /// Both sides of the limits, under either choice: wires, bytes and tables.
