@@ -243,6 +243,7 @@ fn random_calls() {
         let many =
             read(plan.sizes.small(), &call.text).map_or(1, |source| choices(&source, &call.codes, 10_000));
         call.budget = random_budget(random, many);
+        call.rooms = [calls::WHOLE_ROOM; 4];
         let given = call.outcome().unwrap_or_default();
         call.rooms = [
             room(random, given.text.len()),
