@@ -654,6 +654,49 @@ fn circuits_with_the_largest_budget() {
     }
 }
 
+/// A free input whose first code costs a change, and so many ANDs behind it that cost none: its second code is first
+/// tried after as many choices as the ANDs have orders, which may be more than any budget.
+#[test]
+fn beyond_the_largest_budget() {
+    let library = &mut Library::new();
+    for (ands, budget, tally) in [
+        (3, 8, [1, 0]),
+        (3, 9, [0, 0]),
+        (62, 1 << 62, [1, 0]),
+        (62, (1 << 62) + 1, [0, 0]),
+        (63, 1 << 63, [1, 0]),
+        (63, (1 << 63) + 1, [0, 0]),
+        (63, u64::MAX, [0, 0]),
+        (64, u64::MAX, [1, 0]),
+        (65, u64::MAX, [1, 0]),
+        (128, u64::MAX, [1, 0]),
+        (300, 7, [1, 0]),
+        (300, u64::MAX, [1, 0]),
+    ] {
+        let mut gates = vec![Gate::Xor(0, 1, 3)];
+        gates.extend((0..ands).map(|and| Gate::And(1, 2, 4 + and)));
+        let text = source(3, &gates).write();
+        let codes = [4, 1, 2];
+        let found = DepthFirst::found(&source(3, &gates), &codes, &[0], budget);
+        assert_eq!([found.changes, found.floor], tally, "{ands} ANDs, budget {budget}");
+        let given = fewest::given(&source(3, &gates), &codes, &[0], &found);
+        assert_eq!(given.input_codes, [if tally[0] == 0 { 2 } else { 1 }, 1, 2]);
+        let call = Call::new(Sizes::Old, &text, &codes, &[0], budget);
+        library.assert_outcome(&format!("{ands} ANDs, budget {budget}"), &call, &Ok(given));
+    }
+    // Free inputs alone: the last of so many costs a change unless its code is 2 or 3.
+    for (frees, budget) in [(3, 26), (3, 27), (40, 1_000), (41, u64::MAX), (200, u64::MAX)] {
+        let text = source(frees + 1, &[Gate::Xor(frees - 1, frees, frees + 1)]).write();
+        let mut codes = vec![4; frees];
+        codes.push(1);
+        let call = Call::new(Sizes::Old, &text, &codes, &[0], budget);
+        let given =
+            library.assert_call("free inputs", &Call { budget: 2, ..call.clone() }).expect("it is accepted");
+        assert_eq!(given.tally, [0, 0]);
+        library.assert_outcome("free inputs", &call, &Ok(given));
+    }
+}
+
 /// The choice of a number, the last place varying fastest.
 fn choice_of(ways: &[u8], mut number: u64) -> Vec<u8> {
     let mut choice = vec![0; ways.len()];
