@@ -88,10 +88,12 @@ struct call {
 };
 
 static uint64_t operands[TABLE], results[TABLE], words[TABLE], base[TABLE], bases[TABLE], leak[4], bad[1], word_list[TABLE], words_out[TABLE];
-static uint64_t spans[TABLE], tally[2];
 static uint32_t wires[TABLE], wires_out[TABLE];
-static uint8_t free_codes[TABLE], in_codes[TABLE], ways[TABLE], chosen[TABLE];
 static uint8_t given[TABLE], out[ROOM], list_out[TABLE], list[TABLE], wanted[TABLE];
+
+/* Of Mask with fewer changes. */
+static uint64_t spans[TABLE], tally[2];
+static uint8_t free_codes[TABLE], in_codes[TABLE], ways[TABLE], chosen[TABLE];
 
 static void die(const char *what, const char *name)
 {
@@ -303,23 +305,23 @@ static void compare(const struct call *c)
     uint64_t numbers[4], number;
     memset(out, 1, sizeof out);
     memset(bad, 1, sizeof bad);
+    memset(in_codes, 1, sizeof in_codes);
+    memset(tally, 1, sizeof tally);
     memset(list_out, 1, sizeof list_out);
     memset(words_out, 1, sizeof words_out);
     memset(wires_out, 1, sizeof wires_out);
     memset(leak, 1, sizeof leak);
-    memset(in_codes, 1, sizeof in_codes);
-    memset(tally, 1, sizeof tally);
     int64_t expected = perform(&baseline, c);
     memcpy(text, out, sizeof out);
+    memcpy(codes, in_codes, sizeof in_codes);
+    memcpy(changes, tally, sizeof tally);
+    memset(in_codes, 1, sizeof in_codes);
+    memset(tally, 1, sizeof tally);
     memcpy(entries, list_out, sizeof list_out);
     memcpy(lanes, words_out, sizeof words_out);
     memcpy(twins, wires_out, sizeof wires_out);
     memcpy(numbers, leak, sizeof leak);
     number = bad[0];
-    memcpy(codes, in_codes, sizeof in_codes);
-    memcpy(changes, tally, sizeof tally);
-    memset(in_codes, 1, sizeof in_codes);
-    memset(tally, 1, sizeof tally);
     memset(bad, 1, sizeof bad);
     memset(out, 1, sizeof out);
     memset(list_out, 1, sizeof list_out);
