@@ -929,6 +929,207 @@ int64_t baseline_twins(const uint8_t *text, size_t text_len,
     return answer;
 }
 
+/* ---- Mask with fewer changes */
+
+/* A search through the choices of codes for free inputs and of operand orders for ANDs. Its places are the input
+ * bits and then the gates: a place has three ways (a free input), two (an AND) or one. */
+struct choosing {
+    const struct header *h;
+    const uint8_t *codes, *wanted;
+    uint64_t *operands, *results;
+    uint32_t *sums;             /* changes before each gate, without those of gates that name one wire twice */
+    uint8_t *code, *way, *best; /* each wire's code, the choice, and the first with the fewest changes */
+    uint64_t *spans;            /* the choices of the places behind each place; ONES where there are more */
+    uint32_t bits, places, twices, least;
+    bool all;
+};
+
+static inline uint32_t kind_of(const struct choosing *c, uint32_t place) { return high(c->results[place - c->bits]); }
+
+static inline uint8_t ways_of(const struct choosing *c, uint32_t place)
+{
+    if (place < c->bits)
+        return c->codes[place] == 4 ? 3 : 1;
+    return kind_of(c, place) == AND ? 2 : 1;
+}
+
+static void begin_choosing(struct choosing *c)
+{
+    uint64_t span = 1;
+    memset(c->way, 0, c->places);
+    c->twices = 0;
+    for (uint32_t place = c->places; place-- > 0;) {
+        uint8_t ways = ways_of(c, place);
+        c->spans[place] = span;
+        span = span > ONES / ways ? ONES : span * ways;
+        if (place >= c->bits && kind_of(c, place) <= AND) {
+            uint64_t both = c->operands[place - c->bits];
+            c->twices += low(both) == high(both);
+        }
+    }
+    c->least = UINT32_MAX;
+    c->all = false;
+}
+
+/* The changes of the outputs. */
+static uint32_t output_changes(const struct choosing *c)
+{
+    const uint8_t *outputs = c->code + (c->h->wires - c->h->out.bits);
+    uint32_t changes = 0;
+    for (uint32_t i = 0; i < c->h->out.bits; i++)
+        changes += c->wanted[i] != 0 && c->wanted[i] != outputs[i];
+    return changes;
+}
+
+/* Codes and changes from a place on, to the first gate at which there are no fewer changes than the fewest so far,
+ * or to the end, where fewer are kept. Returns the last place walked. */
+static uint32_t try_from(struct choosing *c, uint32_t place)
+{
+    for (; place < c->bits; place++)
+        c->code[place] = c->codes[place] == 4 ? c->way[place] + 1 : c->codes[place] == 0 ? 1 : c->codes[place];
+    uint32_t gate = place - c->bits, changes = gate == 0 ? 0 : c->sums[gate];
+    uint32_t bound = c->least - c->twices;
+    for (; gate < c->h->gates; gate++) {
+        uint64_t both = c->operands[gate], result = c->results[gate];
+        uint8_t a = c->code[low(both)], b = c->code[high(both)], made;
+        c->sums[gate] = changes;
+        switch (high(result)) {
+        case XOR:
+            changes += a == b && low(both) != high(both);
+            made = a == b ? after[a] : a ^ b;
+            break;
+        case AND:
+            changes += a == b && low(both) != high(both);
+            made = c->way[c->bits + gate] == 0 ? a : b;
+            break;
+        case INV:
+        case EQW: made = a; break;
+        default: made = 1; break;
+        }
+        c->code[low(result)] = made;
+        if (changes >= bound)
+            return c->bits + gate;
+    }
+    changes += c->twices + output_changes(c);
+    if (changes < c->least) {
+        c->least = changes;
+        memcpy(c->best, c->way, c->places);
+    }
+    return c->places - 1;
+}
+
+/* As many choices in order as the budget allows. Those that share their places so far with one that is not fewer,
+ * and those with the other order of an AND whose operands have equal codes, are counted and not walked; no
+ * choice has fewer changes than there are gates that name one wire twice. */
+static void choose(struct choosing *c, uint64_t budget)
+{
+    uint64_t left = budget;
+    uint32_t place = 0;
+    begin_choosing(c);
+    for (;;) {
+        place = try_from(c, place);
+        if (c->least == c->twices)
+            return;
+        for (;;) {
+            uint64_t span = c->spans[place];
+            if (span == ONES || span > left)
+                return;
+            left -= span;
+            while (c->way[place] + 1 == ways_of(c, place)) {
+                c->way[place] = 0;
+                if (place == 0) {
+                    c->all = true;
+                    return;
+                }
+                place--;
+            }
+            if (left == 0)
+                return;
+            c->way[place]++;
+            if (place < c->bits)
+                break;
+            uint64_t both = c->operands[place - c->bits];
+            if (c->code[low(both)] != c->code[high(both)])
+                break;
+        }
+    }
+}
+
+static int64_t mask_fewest(struct choosing *c, uint32_t *wires, size_t codes_len, size_t wanted_len, uint64_t budget,
+                           uint8_t *out, size_t out_len, uint8_t *in_codes, size_t in_codes_len, uint8_t *out_codes,
+                           size_t out_codes_len, uint64_t *tally, size_t tally_len)
+{
+    const struct header *h = c->h;
+    if (!list_good(c->codes, codes_len, h->in.bits, 4))
+        return -11;
+    if (!list_good(c->wanted, wanted_len, h->out.bits, 3))
+        return -13;
+    if (budget == 0)
+        return -22;
+    c->bits = (uint32_t)h->in.bits;
+    c->places = h->wires;
+    c->sums = wires;
+    choose(c, budget);
+    if (in_codes_len < c->bits || tally_len < 2)
+        return -14;
+
+    for (uint32_t i = 0; i < c->bits; i++)
+        c->way[i] = c->codes[i] == 4 ? c->best[i] + 1 : c->codes[i];
+    for (uint32_t i = 0; i < h->gates; i++) {
+        if (c->best[c->bits + i] == 1)
+            c->operands[i] = pair(high(c->operands[i]), low(c->operands[i]));
+    }
+    int64_t answer = mask(h, c->operands, c->results, wires, c->code, c->way, c->bits, c->wanted, wanted_len, out,
+                          out_len, out_codes, out_codes_len);
+    if (answer >= 0) {
+        memcpy(in_codes, c->way, c->bits);
+        tally[0] = c->least;
+        tally[1] = c->all ? c->least : c->twices;
+    }
+    return answer;
+}
+
+int64_t baseline_mask_fewest(const uint8_t *text, size_t text_len,
+                             const uint8_t *codes, size_t codes_len,
+                             const uint8_t *wanted, size_t wanted_len,
+                             uint64_t budget,
+                             uint8_t *out, size_t out_len,
+                             uint8_t *in_codes, size_t in_codes_len,
+                             uint8_t *out_codes, size_t out_codes_len,
+                             uint64_t *tally, size_t tally_len,
+                             uint64_t *operands, size_t operands_len,
+                             uint64_t *results, size_t results_len,
+                             uint32_t *wires, size_t wires_len,
+                             uint8_t *marks, size_t marks_len,
+                             uint8_t *ways, size_t ways_len,
+                             uint8_t *best, size_t best_len,
+                             uint64_t *spans, size_t spans_len,
+                             uint8_t sizes)
+{
+    const struct limits *l = &small_limits[sizes != 0];
+    struct header h;
+    int64_t answer;
+    if (operands_len < l->table || results_len < l->table || wires_len < l->table || marks_len < l->table
+        || ways_len < l->table || best_len < l->table || spans_len < l->table)
+        answer = -1;
+    else
+        answer = -read_netlist(l, text, text_len, &h, operands, results, marks);
+    if (answer == 0) {
+        struct choosing c = {.h = &h, .codes = codes, .wanted = wanted, .operands = operands, .results = results,
+                             .code = marks, .way = ways, .best = best, .spans = spans};
+        answer = mask_fewest(&c, wires, codes_len, wanted_len, budget, out, out_len, in_codes, in_codes_len, out_codes,
+                             out_codes_len, tally, tally_len);
+    }
+    memset(operands, 0, operands_len * sizeof *operands);
+    memset(results, 0, results_len * sizeof *results);
+    memset(wires, 0, wires_len * sizeof *wires);
+    memset(marks, 0, marks_len);
+    memset(ways, 0, ways_len);
+    memset(best, 0, best_len);
+    memset(spans, 0, spans_len * sizeof *spans);
+    return answer;
+}
+
 /* ---- Check */
 
 /* Questions 10 and 11, of Check and Join. */

@@ -42,6 +42,23 @@ int64_t baseline_mask(const uint8_t *text, size_t text_len,
                       uint8_t *marks, size_t marks_len,
                       uint8_t sizes);
 
+int64_t baseline_mask_fewest(const uint8_t *text, size_t text_len,
+                             const uint8_t *codes, size_t codes_len,
+                             const uint8_t *wanted, size_t wanted_len,
+                             uint64_t budget,
+                             uint8_t *out, size_t out_len,
+                             uint8_t *in_codes, size_t in_codes_len,
+                             uint8_t *out_codes, size_t out_codes_len,
+                             uint64_t *tally, size_t tally_len,
+                             uint64_t *operands, size_t operands_len,
+                             uint64_t *results, size_t results_len,
+                             uint32_t *wires, size_t wires_len,
+                             uint8_t *marks, size_t marks_len,
+                             uint8_t *ways, size_t ways_len,
+                             uint8_t *best, size_t best_len,
+                             uint64_t *spans, size_t spans_len,
+                             uint8_t sizes);
+
 int64_t baseline_twins(const uint8_t *text, size_t text_len,
                        const uint8_t *codes, size_t codes_len,
                        uint32_t *out_wires, size_t out_wires_len,

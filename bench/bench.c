@@ -32,6 +32,7 @@ struct services {
     __typeof__(&fidrovelj_run) run;
     __typeof__(&fidrovelj_run64) run64;
     __typeof__(&fidrovelj_mask) mask;
+    __typeof__(&fidrovelj_mask_fewest) mask_fewest;
     __typeof__(&fidrovelj_check) check;
     __typeof__(&fidrovelj_twins) twins;
     __typeof__(&fidrovelj_join) join;
@@ -48,6 +49,7 @@ struct services {
         .run = side##_run,                 \
         .run64 = side##_run64,             \
         .mask = side##_mask,               \
+        .mask_fewest = side##_mask_fewest, \
         .twins = side##_twins,             \
         .check = side##_check,             \
         .check_pairs = side##_check_pairs, \
@@ -68,6 +70,7 @@ enum service {
     RUN64,
     MASK,
     MASK_UNWRITTEN,
+    MASK_FEWEST,
     TWINS,
     CHECK,
     CHECK_PAIRS,
@@ -82,6 +85,7 @@ struct call {
     char name[64];
     uint8_t *text;
     size_t length, inputs, outputs;
+    uint64_t budget;
     uint32_t *pairs;
     size_t pairs_len;
 };
@@ -90,6 +94,10 @@ static uint64_t operands[TABLE], results[TABLE], words[TABLE], base[TABLE], base
 static uint64_t sets[4][TABLE], ones[12];
 static uint32_t wires[TABLE], wires_out[TABLE];
 static uint8_t paints[TABLE], given[TABLE], out[ROOM], list_out[TABLE], list[TABLE], wanted[TABLE];
+
+/* Of Mask with fewer changes. */
+static uint64_t spans[TABLE], tally[2];
+static uint8_t free_codes[TABLE], in_codes[TABLE], ways[TABLE], chosen[TABLE];
 
 static void die(const char *what, const char *name)
 {
@@ -118,6 +126,10 @@ static int64_t perform(const struct services *s, const struct call *c)
         return s->mask(c->text, c->length, list, c->service == READ_SMALL ? 0 : c->inputs, wanted, c->outputs, out, ROOM,
                        list_out, c->service == MASK_UNWRITTEN ? 0 : n, operands, m, results, m, wires, m, given, m,
                        c->sizes);
+    case MASK_FEWEST:
+        return s->mask_fewest(c->text, c->length, free_codes, c->inputs, wanted, c->outputs, c->budget, out, ROOM,
+                              in_codes, m, list_out, m, tally, 2, operands, m, results, m, wires, m, given, m, ways, m,
+                              chosen, m, spans, m, c->sizes);
     case TWINS:
         return s->twins(c->text, c->length, list, c->inputs, wires_out, m, list_out, m, operands, m, results, m, given, m,
                         c->sizes);
@@ -367,12 +379,16 @@ static struct call with_crlf(struct call c)
 /* Both sides give the same answer and the same bytes. */
 static void compare(const struct call *c)
 {
+    static uint8_t codes[TABLE];
+    uint64_t changes[2];
     static uint8_t text[ROOM], entries[TABLE];
     static uint64_t lanes[TABLE];
     static uint32_t twins[TABLE];
     uint64_t numbers[4], setting[12], number;
     memset(out, 1, sizeof out);
     memset(bad, 1, sizeof bad);
+    memset(in_codes, 1, sizeof in_codes);
+    memset(tally, 1, sizeof tally);
     memset(list_out, 1, sizeof list_out);
     memset(words_out, 1, sizeof words_out);
     memset(wires_out, 1, sizeof wires_out);
@@ -380,6 +396,10 @@ static void compare(const struct call *c)
     memset(ones, 1, sizeof ones);
     int64_t expected = perform(&baseline, c);
     memcpy(text, out, sizeof out);
+    memcpy(codes, in_codes, sizeof in_codes);
+    memcpy(changes, tally, sizeof tally);
+    memset(in_codes, 1, sizeof in_codes);
+    memset(tally, 1, sizeof tally);
     memcpy(entries, list_out, sizeof list_out);
     memcpy(lanes, words_out, sizeof words_out);
     memcpy(twins, wires_out, sizeof wires_out);
@@ -398,6 +418,7 @@ static void compare(const struct call *c)
     if (perform(&library, c) != expected || !good)
         die("answers are not as they should be", c->name);
     if (memcmp(text, out, sizeof out) != 0 || memcmp(entries, list_out, sizeof list_out) != 0
+        || memcmp(codes, in_codes, sizeof in_codes) != 0 || memcmp(changes, tally, sizeof tally) != 0
         || memcmp(lanes, words_out, sizeof words_out) != 0 || memcmp(twins, wires_out, sizeof wires_out) != 0
         || memcmp(numbers, leak, sizeof leak) != 0 || memcmp(setting, ones, sizeof ones) != 0
         || number != bad[0])
@@ -535,6 +556,16 @@ static void twins_beside_mask(const char *folder, const char *name, double s)
     times(bench(twins, s), counted, "  times Mask unwritten");
 }
 
+/* The fewest changes of a circuit with all inputs free, among as many choices as a budget allows. */
+static void fewest(const char *folder, const char *name, const char *tries, uint64_t budget, double s)
+{
+    struct call c = circuit(MASK_FEWEST, folder, name);
+    c.budget = budget;
+    snprintf(c.name, sizeof c.name, "%s, %s", name, tries);
+    bench(c, s);
+    printf("  changes %llu, floor %llu\n", (unsigned long long)tally[0], (unsigned long long)tally[1]);
+}
+
 /* Joining a text with itself, beside rewriting it twice. */
 static void join(const char *folder, const char *name, double s)
 {
@@ -669,6 +700,7 @@ int main(int argc, char **argv)
     const char *folder = argv[1];
     double s = argc > 3 ? atof(argv[3]) : 1;
     memset(list, 1, sizeof list);
+    memset(free_codes, 4, sizeof free_codes);
     for (size_t i = 0; i < TABLE; i++)
         word_list[i] = 0x9e3779b97f4a7c15U * (2 * i + 1);
     printf("Microseconds a call: best and median; ratios: library to C.\n");
@@ -702,6 +734,18 @@ int main(int argc, char **argv)
     beyond(bench(circuit(MASK, folder, "and_ladder_2048"), s), source);
     beyond(bench(circuit(MASK, folder, "aes_sub_bytes"), s), sub_bytes);
     beyond(bench(circuit(MASK, folder, "aes_column"), s), column);
+
+    title("Masking with fewer changes");
+    fewest(folder, "aes_sbox", "1 try", 1, s);
+    fewest(folder, "aes_sbox", "1,000 tries", 1000, s);
+    fewest(folder, "aes_sbox", "1,000,000 tries", 1000000, s);
+    fewest(folder, "aes_sbox", "all choices", UINT64_MAX, s);
+    fewest(folder, "present_sbox", "all choices", UINT64_MAX, s);
+    fewest(folder, "gf256_mul", "1,000,000 tries", 1000000, s);
+    fewest(folder, "mult6", "1,000,000 tries", 1000000, s);
+    fewest(folder, "mult6", "2^64 - 1 tries", UINT64_MAX, s);
+    fewest(folder, "sha256_round", "1,000,000 tries", 1000000, s);
+    fewest(folder, "aes_sub_bytes", "1,000,000 tries", 1000000, s);
 
     title("Twins, beside Mask unwritten");
     twins_beside_mask(folder, "and_ladder_2048", s);

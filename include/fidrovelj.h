@@ -6,7 +6,8 @@
  * What holds of every function
  *
  * - It returns 0 or more for a result, or less than 0 for a refusal: minus the question's number,
- *   -1 to -15, -19 or -20 for an AIGER file, or -21 for a list of pairs, or -25 for blocks that do not join.
+ *   -1 to -15, -19 or -20 for an AIGER file, or -21 for a list of pairs, -22 for a budget of 0, or -25 for
+ *   blocks that do not join.
  * - A slice is a pointer and then its length, counted in entries. The pointer is not null, also
  *   where the length is 0. Slices that the function writes overlap no other.
  * - The last parameter chooses the limits: FIDROVELJ_OLD, or FIDROVELJ_WHOLE for whole ciphers. Any
@@ -37,13 +38,14 @@
  *  9  Is each result a wire that is no input and is not yet given?
  * 10  Check, Join: are there two or more input values, the last of width 2?
  * 11  Has the input list one entry for each input bit (Check, Join: without the mask pair), each 0 to 3
- *     (Run: 0 or 1; Run64: any word)?
+ *     (Run: 0 or 1; Run64: any word; Mask with fewer changes: 0 to 4)?
  * 12  Check: are there at most 12 input bits besides the mask pair?
  * 13  Mask: has the wanted list one entry for each output bit, each 0 to 3?
  * 14  Can each result buffer hold its whole result?
  * 15  To the older dialect, after 9 and before 14: are the gates XOR, AND and INV, and are there at
  *     most two input values and one output value?
  * 21  Check with pairs, after 12: is the list's length even and each entry a wire of the netlist?
+ * 22  Mask with fewer changes, after 13: is the budget 1 or more?
  */
 #ifndef FIDROVELJ_H
 #define FIDROVELJ_H
@@ -145,6 +147,36 @@ int64_t fidrovelj_mask(const uint8_t *text, size_t text_len,
                        uint32_t *wires, size_t wires_len,
                        uint8_t *marks, size_t marks_len,
                        uint8_t sizes);
+
+/* Mask with fewer changes: writes the text of the masked netlist to out, as fidrovelj_mask does, of the
+ * choice with the fewest mask changes; each costs an XOR. codes has for each input bit a mask code 1 to
+ * 3, 0 where the bit is public, or 4 where its code is free. The choices are codes 1 to 3 for each free
+ * input in order, then for each AND in order its operands as written or swapped; they are taken in
+ * order, the last varying fastest, as many as budget allows, and the first with the fewest operand and
+ * output changes together is given. Returns the text's length in bytes. in_codes gets its mask code for
+ * each input bit, out_codes that of each output bit, and tally two numbers: its changes, and a floor
+ * that no choice goes below. The floor is the fewest if all choices were tried, and otherwise the
+ * number of gates of two operands that name one wire twice. Choices that provably have no fewer changes
+ * than the best before them are counted as tried without being walked, so large budgets often take
+ * little time; the outcome is that of trying each. What holds of a text that fidrovelj_mask writes
+ * holds of this one, with the input codes given. The questions are Mask's, 11 with codes 0 to 4, then
+ * 22 before 14, which asks for room in all four result buffers. */
+int64_t fidrovelj_mask_fewest(const uint8_t *text, size_t text_len,
+                              const uint8_t *codes, size_t codes_len,
+                              const uint8_t *wanted, size_t wanted_len,
+                              uint64_t budget,
+                              uint8_t *out, size_t out_len,
+                              uint8_t *in_codes, size_t in_codes_len,
+                              uint8_t *out_codes, size_t out_codes_len,
+                              uint64_t *tally, size_t tally_len,
+                              uint64_t *operands, size_t operands_len,
+                              uint64_t *results, size_t results_len,
+                              uint32_t *wires, size_t wires_len,
+                              uint8_t *marks, size_t marks_len,
+                              uint8_t *ways, size_t ways_len,
+                              uint8_t *best, size_t best_len,
+                              uint64_t *spans, size_t spans_len,
+                              uint8_t sizes);
 
 /* Twins: gives for each wire of a source netlist the wire that stands for it in the netlist that
  * fidrovelj_mask writes for the same text and codes, whatever codes are wanted, and the code of its

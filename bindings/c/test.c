@@ -354,6 +354,81 @@ static void source_wires(void)
     expect(twins("", "12", 4, 4) == -4 && twins("1 3\n2 1 1\n1 1\n2 1 0 1 1 AND\n", "12", 4, 4) == -9, "twins: 4 and 9");
 }
 
+/* ---- fewer mask changes */
+
+static uint64_t tally[3];
+static uint8_t in_codes[LARGE], ways[LARGE], chosen[LARGE];
+
+/* A call with a budget and buffers of these lengths. */
+static int64_t mask_fewest(const char *text, const char *codes, const char *wanted, uint64_t budget, size_t text_room,
+                           size_t in_room, size_t out_room, size_t tally_room)
+{
+    uint8_t wanted_codes[64];
+    fill();
+    memset(tally, PATTERN, sizeof tally);
+    memset(in_codes, PATTERN, sizeof in_codes);
+    memset(ways, PATTERN, sizeof ways);
+    memset(chosen, PATTERN, sizeof chosen);
+    memcpy(wanted_codes, entries(wanted), strlen(wanted));
+    int64_t answer = fidrovelj_mask_fewest((const uint8_t *)text, strlen(text), entries(codes), strlen(codes),
+                                           wanted_codes, strlen(wanted), budget, out, text_room, in_codes, in_room,
+                                           list_out, out_room, tally, tally_room, operands, LARGE, results, LARGE, wires,
+                                           LARGE, given, LARGE, ways, LARGE, chosen, LARGE, words, LARGE, FIDROVELJ_OLD);
+    expect(all(operands, sizeof operands, 0) && all(results, sizeof results, 0) && all(wires, sizeof wires, 0)
+               && all(given, sizeof given, 0) && all(ways, sizeof ways, 0) && all(chosen, sizeof chosen, 0)
+               && all(words, sizeof words, 0),
+           "fewer changes: the tables are zero");
+    size_t bits = answer < 0 ? 0 : strlen(codes), count = answer < 0 ? 0 : 2;
+    expect_untouched(answer > 0 ? (size_t)answer : 0, answer < 0 ? 0 : strlen(wanted), "fewer changes: text and codes alone");
+    expect(all(in_codes + bits, sizeof in_codes - bits, PATTERN) && all(tally + count, sizeof tally - count * 8, PATTERN),
+           "fewer changes: input codes and tally alone");
+    return answer;
+}
+
+/* An accepted call's input codes, changes and floor; its text is what Mask writes of another source with these codes. */
+static bool fewest_is(int64_t answer, const char *codes, uint64_t changes, uint64_t floor, const char *source,
+                      const char *wanted)
+{
+    static uint8_t text[ROOM];
+    bool good = answer > 0 && memcmp(in_codes, entries(codes), strlen(codes)) == 0 && tally[0] == changes
+        && tally[1] == floor;
+    uint8_t own = list_out[0];
+    memcpy(text, out, sizeof text);
+    return good && mask(source, codes, wanted, ROOM, LARGE) == answer && memcmp(text, out, (size_t)answer) == 0
+        && list_out[0] == own;
+}
+
+static void fewer_changes(void)
+{
+    /* Wire 3 is a AND b, wire 4 is wire 3 XOR c; the same with the AND's operands swapped. */
+    static const char source[] = "2 5\n1 3\n1 1\n2 1 0 1 3 AND\n2 1 3 2 4 XOR\n";
+    static const char swapped[] = "2 5\n1 3\n1 1\n2 1 1 0 3 AND\n2 1 3 2 4 XOR\n";
+    static const char square[] = "1 2\n1 1\n1 1\n2 1 0 0 1 AND\n";
+    static const char and_swapped[] = "1 3\n2 1 1\n1 1\n2 1 1 0 2 AND\n";
+    expect(fewest_is(mask_fewest(source, "444", "0", 1, ROOM, LARGE, LARGE, 2), "111", 2, 0, source, "0"), "a budget of 1");
+    expect(fewest_is(mask_fewest(source, "444", "0", 6, ROOM, LARGE, LARGE, 2), "112", 1, 0, source, "0"), "a budget of 6");
+    expect(fewest_is(mask_fewest(source, "444", "0", UINT64_MAX, ROOM, LARGE, LARGE, 2), "121", 0, 0, swapped, "0"),
+           "the largest budget");
+    expect(fewest_is(mask_fewest(and_gate, "41", "0", 5, ROOM, LARGE, LARGE, 2), "21", 0, 0, and_gate, "0"), "the first of two");
+    expect(fewest_is(mask_fewest(and_gate, "13", "3", 2, ROOM, LARGE, LARGE, 2), "13", 0, 0, and_swapped, "3"), "a wanted code");
+    expect(fewest_is(mask_fewest(and_gate, "13", "2", 2, ROOM, LARGE, LARGE, 2), "13", 1, 1, and_gate, "2"), "all tried");
+    expect(fewest_is(mask_fewest(and_gate, "13", "2", 1, ROOM, LARGE, LARGE, 2), "13", 1, 0, and_gate, "2"), "one of two tried");
+    expect(fewest_is(mask_fewest(square, "4", "0", 1, ROOM, LARGE, LARGE, 2), "1", 1, 1, square, "0"), "one wire twice");
+    expect(fewest_is(mask_fewest(and_gate, "00", "0", 9, ROOM, LARGE, LARGE, 2), "00", 1, 1, and_gate, "0"), "public bits");
+
+    expect(mask_fewest(and_gate, "45", "4", 0, 0, 0, 0, 0) == -11, "fewer changes: 11, a code of 5");
+    expect(mask_fewest(and_gate, "4", "0", 1, ROOM, LARGE, LARGE, 2) == -11, "fewer changes: 11, a code too few");
+    expect(mask_fewest(and_gate, "44", "4", 0, 0, 0, 0, 0) == -13, "fewer changes: 13");
+    expect(mask_fewest(and_gate, "44", "0", 0, 0, 0, 0, 0) == -22, "fewer changes: 22");
+    int64_t size = mask_fewest(and_gate, "44", "0", 9, ROOM, LARGE, LARGE, 3);
+    expect(mask_fewest(and_gate, "44", "0", 9, (size_t)size, 2, 1, 2) == size, "fewer changes: an exact fit");
+    expect(mask_fewest(and_gate, "44", "0", 9, (size_t)size - 1, 2, 1, 2) == -14, "fewer changes: 14, the text");
+    expect(mask_fewest(and_gate, "44", "0", 9, (size_t)size, 1, 1, 2) == -14, "fewer changes: 14, the input codes");
+    expect(mask_fewest(and_gate, "44", "0", 9, (size_t)size, 2, 0, 2) == -14, "fewer changes: 14, the output codes");
+    expect(mask_fewest(and_gate, "44", "0", 9, (size_t)size, 2, 1, 1) == -14, "fewer changes: 14, changes and floor");
+    expect(mask(and_gate, "44", "0", ROOM, LARGE) == -11, "code 4 is not Mask's");
+}
+
 /* ---- joined blocks */
 
 /* M3's masked wire joined with a second text. */
@@ -668,6 +743,7 @@ int main(void)
     joined_blocks();
     sixty_four();
     source_wires();
+    fewer_changes();
     old_dialect();
     pairs_of_wires();
     many_inputs();

@@ -2,7 +2,8 @@
 //!
 //! A netlist is a text in Bristol Fashion, whose lines end in LF or CR LF. The services are:
 //!
-//! - [`mask`] turns a source netlist into a masked one, in which every bit travels under a mask,
+//! - [`mask`] turns a source netlist into a masked one, in which every bit travels under a mask;
+//!   [`mask_fewest`] chooses input codes and operand orders so that few masks have to be changed,
 //! - [`twins`] says where each source wire stands in the masked netlist,
 //! - [`check`] says whether a netlist is clean, or names a leak on one of its wires; [`check_pairs`] also
 //!   whether listed pairs of wires leak together, and [`check_wide`] both for netlists with many inputs,
@@ -37,6 +38,7 @@ use std::error::Error;
 use std::fmt;
 
 mod aiger;
+mod fewest;
 mod join;
 pub mod lent;
 mod old;
@@ -48,6 +50,7 @@ mod wide;
 mod words;
 
 pub use aiger::{from_aiger, from_aiger_lent};
+pub use fewest::{mask_fewest, mask_fewest_lent, Fewest};
 pub use join::{join, join_lent};
 pub use old::{from_old, from_old_lent, to_old, to_old_lent};
 pub use pairs::{check_pairs, check_pairs_lent, Pairs};
@@ -81,6 +84,7 @@ struct Pages;
 /// 13. Mask: has the wanted list one fitting entry for each output bit?
 /// 14. Can each result buffer hold its whole result?
 /// 15. To the older dialect, after 9: only XOR, AND and INV, at most two input values and one output value?
+/// 22. Mask with fewer changes, after 13: is the budget 1 or more?
 /// 25. Join: do the codes meet, none of them 0, and has the second a gate for each output bit?
 ///
 /// 21 (check with pairs, after 12): is the list's length even and each entry a wire of the netlist?

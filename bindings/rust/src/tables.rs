@@ -62,6 +62,8 @@ pub struct Tables {
     pub(crate) links: Vec<u64>,
     pub(crate) states: Vec<u32>,
     pub(crate) name_wires: Vec<u32>,
+    pub(crate) ways: Vec<u8>,
+    pub(crate) best: Vec<u8>,
     pub(crate) text: Vec<u8>,
     pub(crate) bits: Vec<u8>,
 }
@@ -100,6 +102,8 @@ impl Tables {
             links: vec![0; 8 * small],
             states: vec![0; 8 * small],
             name_wires: vec![0; 8 * small],
+            ways: vec![0; small],
+            best: vec![0; small],
             text: vec![0; sizes.text()],
             bits: vec![0; large],
         }

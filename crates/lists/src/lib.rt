@@ -43,6 +43,13 @@ pub fn valid_codes(list: &[u8], n: usize) -> bool
     good(list, n, 3)
 }
 
+// The codes of n input bits, of which 4 is free: 0 to 4.
+pub fn free_codes(list: &[u8], n: usize) -> bool
+    ensures { λ r. ⌜ r ≡ listGood (upTo 4) n (now (list .entry)) ⌝ }
+{
+    good(list, n, 4)
+}
+
 // The wanted codes of n output bits: 0 to 3.
 pub fn valid_wanted(list: &[u8], n: usize) -> bool
     ensures { λ r. ⌜ r ≡ listGood isWanted n (now (list .entry)) ⌝ }

@@ -6,6 +6,8 @@
 //! number of the first question answered no.
 
 pub mod evaluate;
+#[allow(dead_code)]
+pub mod fewest;
 pub mod mask;
 pub mod netlist;
 pub mod text;

@@ -1,6 +1,6 @@
 -- The gates of the masked netlist counted.
 use Prim.Native.Nat.{ℕ, _+_, _*_}
-use mathlib.Core.Path.{_≡_, refl, sym, ap, ap₂, _∙_}
+use mathlib.Core.Path.{_≡_, refl, ap, ap₂, _∙_}
 use mathlib.Core.List.{List, [], _∷_}
 use lib.ListN.{length}
 use Rattle.netlist.specs.declared.Gate.{Gate}
@@ -10,7 +10,8 @@ use Rattle.netlist.specs.Mask.{isPublic, State, advance, start, maskNetlist}
 use Rattle.netlist.specs.Leak.{bit}
 use Rattle.netlist.proofs.MaskInputs.{MaskInputs}
 use Rattle.netlist.proofs.GateCount.{andOf, ands, changeOf, operandChanges, publics, gate-count}
-use Rattle.mask.specs.GateCount.{oneAnd, andGates, oneChange, changedOperands, publicBits, gateCount}
+use Rattle.mask_changes.specs.Changes.{oneChange, changedOperands}
+use Rattle.mask_changes.specs.GateCount.{oneAnd, andGates, publicBits, gateCount}
 
 and-one : (g : Gate) → andOf g ≡ oneAnd g
 and-one (Xor a b c) = refl

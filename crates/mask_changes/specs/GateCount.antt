@@ -6,8 +6,9 @@ use lib.ListN.{length}
 use Rattle.netlist.specs.declared.Gate.{Gate}
 use Rattle.netlist.specs.declared.Gate.the-variants.{Xor, And, Inv, Eqw, Eq}
 use Rattle.netlist.specs.Netlist.{Netlist, outputBits}
-use Rattle.netlist.specs.Mask.{isPublic, changes, State, twin, advance, start}
+use Rattle.netlist.specs.Mask.{isPublic, start}
 use Rattle.netlist.specs.Leak.{bit}
+use Rattle.mask_changes.specs.Changes.{changedOperands}
 
 -- 1 for an AND
 abbrev pub oneAnd : Gate → ℕ
@@ -21,19 +22,6 @@ oneAnd (Eq v c) = 0
 abbrev pub andGates : List Gate → ℕ
 andGates [] = 0
 andGates (g ∷ gs) = oneAnd g + andGates gs
-
--- 1 for a gate of two operands whose twins have equal codes
-abbrev pub oneChange : State → Gate → ℕ
-oneChange S (Xor a b c) = bit (changes (twin S a) (twin S b))
-oneChange S (And a b c) = bit (changes (twin S a) (twin S b))
-oneChange S (Inv a c) = 0
-oneChange S (Eqw a c) = 0
-oneChange S (Eq v c) = 0
-
--- how many mask changes of an operand the gates get, from a state on
-abbrev pub changedOperands : State → List Gate → ℕ
-changedOperands S [] = 0
-changedOperands S (g ∷ gs) = oneChange S g + changedOperands (advance S g) gs
 
 -- how many of the input bits are public
 abbrev pub publicBits : List ℕ → ℕ

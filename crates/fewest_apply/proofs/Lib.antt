@@ -1,0 +1,2 @@
+-- Laws of a choice put to use.
+pub mod Applying

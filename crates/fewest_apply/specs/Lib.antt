@@ -1,0 +1,2 @@
+-- What putting a choice to use cites.
+pub mod Apply

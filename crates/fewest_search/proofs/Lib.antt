@@ -1,0 +1,4 @@
+-- Laws of the search.
+pub mod Turning
+pub mod Searching
+pub mod Standing

@@ -1,0 +1,3 @@
+-- What the search for the fewest changes cites.
+pub mod Turn
+pub mod Search

@@ -1,0 +1,2 @@
+-- What a masking costs.
+pub mod Counted

@@ -1,0 +1,3 @@
+-- What a masking costs.
+pub mod Changes
+pub mod GateCount

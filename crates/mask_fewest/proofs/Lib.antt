@@ -1,0 +1,3 @@
+-- Laws of Mask with fewer changes.
+pub mod Giving
+pub mod Promised
