@@ -1,18 +1,15 @@
 -- What a source gate becomes is told by its kind and its operands' twins.
-use Prim.Native.Nat.{ℕ, _+_, _≤_}
+use Prim.Native.Nat.{ℕ}
 use mathlib.Core.Path.{_≡_, refl}
 use mathlib.Core.Bool.{Bool, true, false, cond}
 use mathlib.Core.List.{List, [], _∷_}
 use lib.Dec.{eqb}
 use Rattle.netlist.specs.declared.Gate.{Gate}
 use Rattle.netlist.specs.declared.Gate.the-variants.{Xor, And, Inv, Eqw, Eq}
-use Rattle.netlist.specs.declared.Twin.{Twin}
 use Rattle.netlist.specs.Netlist.{result}
 use Rattle.netlist.specs.Table.{gateOf}
 use Rattle.netlist.specs.Mask.{State, twin, emit, resultTwin}
-use Rattle.netlist.proofs.GateCount.{next-most}
-use Rattle.mask_gate.specs.declared.Emitted.{Emitted}
-use Rattle.mask_gate.specs.Emitted.{WroteKind, operands}
+use Rattle.mask_rule.specs.Rule.{operands}
 
 -- what holds of the six kinds holds of every number of a kind
 by-kind : (P : (ℕ → ℕ → ℕ → Gate) → Type 0) → P Xor → P And → P (λ a b c. Inv a c) → P (λ a b c. Eqw a c) → P (λ a b c. Eq 0 c) → P (λ a b c. Eq 1 c) → (k : ℕ) → P (gateOf k)
@@ -35,7 +32,3 @@ module _ (S : State) (k a b d : ℕ) where
 
 pub result-of : (k a b d : ℕ) → result (gateOf k a b d) ≡ d
 result-of k a b d = by-kind (λ g. result (g a b d) ≡ d) refl refl refl refl refl refl k
-
--- a source gate takes at most eight wires
-pub kind-small : {e x : List ℕ} {at n c k : ℕ} {A B : Twin} {R : Emitted} → WroteKind e at n c k A B x R → R .twin .wire + 1 ≤ c + 8
-kind-small {c = c} {k = k} {A = A} {B = B} h = rw (h .twin) (next-most (operands c A B) (gateOf k 0 1 2 ∷ []))

@@ -1,9 +1,9 @@
--- `and`: seven wires behind the mask change.
-use Rattle.mask_pass.proofs.Counting.{past-most, and-twin}
+-- `and_twin`: seven wires behind the mask change.
+use Rattle.mask_rule.proofs.Twins.{past-most, and-twin}
 use native.Mathlib.Omega.{arith}
 use borrow.Author.Needs.{needs}
-use Rattle.mask_pass.proofs.count.and.Statement.{statement}
-use Rattle.mask_pass.proofs.count.and.Tie as tie
+use Rattle.mask_rule.proofs.and_twin.Statement.{statement}
+use Rattle.mask_rule.proofs.and_twin.Tie as tie
 
 past-requires : tie.Need-past-requires
 past-requires c κs = search needs
@@ -14,5 +14,5 @@ add-t5 c = let a = c .before .args in omega (arith, c .past .ensures, past-most 
 returns : tie.Need-returns
 returns c = let a = c .before .args in and-twin (a .c) (a .a) (a .b) (c .past .ensures)
 
-pub and-spec : {M : Type 1} → statement M
-and-spec = tie.close (tie.spec past-requires add-t5 returns)
+pub and-twin-spec : {M : Type 1} → statement M
+and-twin-spec = tie.close (tie.spec past-requires add-t5 returns)

@@ -1,9 +1,9 @@
 -- `changed`: the codes are equal, or not.
-use Rattle.mask_pass.proofs.Counting.{changed-none, changed-made}
+use Rattle.mask_rule.proofs.Twins.{changed-none, changed-made}
 use native.Mathlib.Omega.{arith}
 use borrow.Author.Needs.{needs}
-use Rattle.mask_pass.proofs.count.changed.Statement.{statement}
-use Rattle.mask_pass.proofs.count.changed.Tie as tie
+use Rattle.mask_rule.proofs.changed.Statement.{statement}
+use Rattle.mask_rule.proofs.changed.Tie as tie
 
 returns : tie.Need-returns
 returns c = let a = c .before .before .args in changed-none (a .c) (a .a) (a .b) (c .if1 .taken)

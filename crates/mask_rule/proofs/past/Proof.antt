@@ -1,9 +1,9 @@
 -- `past`: the codes are equal, or not.
-use Rattle.mask_pass.proofs.Counting.{past-none, past-made}
+use Rattle.mask_rule.proofs.Twins.{past-none, past-made}
 use native.Mathlib.Omega.{arith}
 use borrow.Author.Needs.{needs}
-use Rattle.mask_pass.proofs.count.past.Statement.{statement}
-use Rattle.mask_pass.proofs.count.past.Tie as tie
+use Rattle.mask_rule.proofs.past.Statement.{statement}
+use Rattle.mask_rule.proofs.past.Tie as tie
 
 returns : tie.Need-returns
 returns c = let a = c .before .before .args in past-none (a .c) (a .a) (a .b) (c .if1 .taken)
