@@ -84,7 +84,7 @@ fn place(w: u32, n: usize, gates: usize) -> usize {
 }
 
 // Questions 24 and 7 to 9, with the number of input bits and the length of the list of records.
-pub fn asked(s: Session, inputs: usize, places: usize, g: GateRecord, sizes: Sizes) -> Asked {
+pub fn questions(s: Session, inputs: usize, places: usize, g: GateRecord, sizes: Sizes) -> Asked {
     let l = netlist::small(sizes);
     let most = l.wires as usize;
     let gates = s.gates as usize;

@@ -72,7 +72,7 @@ fn question(widths: &[u32], codes: &[u8], room: usize, sizes: Sizes) -> u8 {
     0
 }
 
-pub fn opened(widths: &[u32], codes: &[u8], room: usize, sizes: Sizes) -> Opened {
+pub fn plan(widths: &[u32], codes: &[u8], room: usize, sizes: Sizes) -> Opened {
     let none = Twin { wire: 0, code: 0 };
     let no = question(widths, codes, room, sizes);
     if no != 0 {

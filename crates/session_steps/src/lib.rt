@@ -4,11 +4,11 @@ use gate_records::SourceRecord;
 use netlist::Sizes;
 use session::Session;
 use session::Step;
-use session_plan::adding::asked;
 use session_plan::adding::planned;
+use session_plan::adding::questions;
 use session_plan::batch::Batch;
 use session_plan::batch::gate;
-use session_plan::opening::opened;
+use session_plan::opening::plan;
 
 // The first gates of a batch, from a place of the list on.
 fn write(list: &mut [GateRecord], codes: &[u8], at: usize, batch: Batch, count: usize) {
@@ -24,7 +24,7 @@ fn write(list: &mut [GateRecord], codes: &[u8], at: usize, batch: Batch, count: 
 
 // Opens a session: the opening's masked gates go to the front of `masked`.
 pub fn open(widths: &[u32], codes: &[u8], masked: &mut [GateRecord], sizes: Sizes) -> Step {
-    let p = opened(widths, codes, masked.len(), sizes);
+    let p = plan(widths, codes, masked.len(), sizes);
     write(masked, codes, 0, p.steps, p.count);
     Step {
         session: p.session,
@@ -41,7 +41,7 @@ pub fn add(
     masked: &mut [GateRecord],
     sizes: Sizes,
 ) -> Step {
-    let q = asked(s, codes.len(), source.len(), g, sizes);
+    let q = questions(s, codes.len(), source.len(), g, sizes);
     if q.no != 0 {
         return Step {
             session: s,
