@@ -76,7 +76,7 @@ module _ (codes : List ℕ) where
         (set-at (behind codes gs .twins) noTwin [] (resultTwin (behind codes gs) g) (result g) (length-behind gs ∙ sym e))
 
 -- the wires behind the public bits' gates
-past-publics : (n c w : ℕ) (es : List ℕ) → pastPublics c es ≡ c + length (publicGates n c w es)
+pub past-publics : (n c w : ℕ) (es : List ℕ) → pastPublics c es ≡ c + length (publicGates n c w es)
 past-publics n c w [] = omega arith
 past-publics n c w (e ∷ es) = onBool (eqb e 0)
     (λ t. rw t (omega (arith, past-publics n (c + 1) (w + 1) es)))

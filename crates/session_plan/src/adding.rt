@@ -5,6 +5,13 @@ use gate_records::SourceRecord;
 use netlist::Sizes;
 use netlist::Twin;
 use session::Session;
+ghost use mathlib.Core.Path.{_≡_};
+ghost use mathlib.Core.Bool.{_&&_};
+ghost use Prim.Native.Nat.{_+_, _<_, _^_};
+ghost use lib.Dec.{ltb};
+ghost use lib.ListN.{length};
+ghost use Rattle.session.specs.Asked.{gateGood};
+ghost use Rattle.session_plan.specs.Plan.{NoIs, OperandsAre, isGate, tableKind, PlaceIs, AskedIs, operandTwin, PlanOf};
 
 // The first question of 24 and 7 to 9 that gets a no, or 0, and the places of the operands' records.
 pub struct Asked {
@@ -23,7 +30,9 @@ pub struct Plan {
 }
 
 // Question 7: a gate with one operand has 0 as its second.
-fn known(g: GateRecord) -> bool {
+fn known(g: GateRecord) -> bool
+    ensures { λ r. ⌜ r ≡ isGate g ⌝ }
+{
     let kind = g.kind;
     match kind {
         1 => true,
@@ -35,11 +44,15 @@ fn known(g: GateRecord) -> bool {
     }
 }
 
-fn given(a: u32, next: usize) -> bool {
+fn given(a: u32, next: usize) -> bool
+    ensures { λ r. ⌜ r ≡ ltb a next ⌝ }
+{
     (a as usize) < next
 }
 
-fn both(a: u32, b: u32, next: usize) -> bool {
+fn both(a: u32, b: u32, next: usize) -> bool
+    ensures { λ r. ⌜ r ≡ (ltb a next && ltb b next) ⌝ }
+{
     if !given(a, next) {
         return false;
     }
@@ -47,7 +60,9 @@ fn both(a: u32, b: u32, next: usize) -> bool {
 }
 
 // Question 8, of a record that is a gate's.
-fn operands(g: GateRecord, next: usize) -> bool {
+fn operands(g: GateRecord, next: usize) -> bool
+    ensures { λ r. ⌜ OperandsAre next g r ⌝ }
+{
     let kind = g.kind;
     match kind {
         1 => both(g.first, g.second, next),
@@ -58,7 +73,9 @@ fn operands(g: GateRecord, next: usize) -> bool {
 }
 
 // Questions 7 to 9 of a record that is to give the next wire.
-pub fn gate_no(g: GateRecord, next: usize) -> u8 {
+pub fn gate_no(g: GateRecord, next: usize) -> u8
+    ensures { λ r. ⌜ NoIs (gateGood next g) r ⌝ }
+{
     if !known(g) {
         return 7;
     }
@@ -72,7 +89,9 @@ pub fn gate_no(g: GateRecord, next: usize) -> u8 {
 }
 
 // The place of the record that gives wire w, where there are n input bits and so many gates; 0 where none does.
-fn place(w: u32, n: usize, gates: usize) -> usize {
+fn place(w: u32, n: usize, gates: usize) -> usize
+    ensures { λ r. ⌜ PlaceIs w n gates r ⌝ }
+{
     let wire = w as usize;
     if wire < n {
         return 0;
@@ -84,7 +103,9 @@ fn place(w: u32, n: usize, gates: usize) -> usize {
 }
 
 // Questions 24 and 7 to 9, with the number of input bits and the length of the list of records.
-pub fn questions(s: Session, inputs: usize, places: usize, g: GateRecord, sizes: Sizes) -> Asked {
+pub fn questions(s: Session, inputs: usize, places: usize, g: GateRecord, sizes: Sizes) -> Asked
+    ensures { λ r. ⌜ AskedIs sizes inputs (s .gates) places g r ⌝ }
+{
     let l = netlist::small(sizes);
     let most = l.wires as usize;
     let gates = s.gates as usize;
@@ -117,21 +138,11 @@ pub fn questions(s: Session, inputs: usize, places: usize, g: GateRecord, sizes:
     }
 }
 
-// How many of the first w bits are public.
-fn publics(codes: &[u8], w: usize) -> u32 {
-    let mut many = 0;
-    let mut i = 0;
-    while i < w {
-        if codes[i] == 0 {
-            many += 1;
-        }
-        i += 1;
-    }
-    many
-}
-
 // The twin of source wire w: an input's by the codes, and otherwise the one in its record.
-fn twin(codes: &[u8], w: u32, r: SourceRecord) -> Twin {
+fn twin(codes: &[u8], w: u32, r: SourceRecord) -> Twin
+    requires { ⌜ length (now codes) < 2 ^ 29 ⌝ }
+    ensures { λ t. ⌜ t ≡ operandTwin (now (codes .entry)) w r ⌝ }
+{
     let wire = w as usize;
     if codes.len() <= wire {
         return Twin {
@@ -144,13 +155,15 @@ fn twin(codes: &[u8], w: u32, r: SourceRecord) -> Twin {
         return Twin { wire: w, code: e };
     }
     Twin {
-        wire: codes.len() as u32 + 5 + publics(codes, wire),
+        wire: codes.len() as u32 + 5 + crate::batch::publics(codes, wire),
         code: 1,
     }
 }
 
 // A gate table's kind: EQ is 5 or 6, by its constant.
-fn table_kind(g: GateRecord) -> u64 {
+fn table_kind(g: GateRecord) -> u64
+    ensures { λ r. ⌜ r ≡ tableKind g ⌝ }
+{
     if g.kind != 5 {
         return g.kind as u64;
     }
@@ -166,7 +179,10 @@ pub fn planned(
     first: SourceRecord,
     second: SourceRecord,
     g: GateRecord,
-) -> Plan {
+) -> Plan
+    requires { ⌜ length (now codes) + s .gates < 2 ^ 29 ⌝ }
+    ensures { λ p. ⌜ PlanOf s (now (codes .entry)) room first second g p ⌝ }
+{
     let a = twin(codes, g.first, first);
     let b = twin(codes, g.second, second);
     let kind = table_kind(g);

@@ -1,6 +1,15 @@
 // The masked gates that a step writes, one by one: an opening's, or those of one source gate.
 use gate_records::GateRecord;
 use netlist::Twin;
+ghost use mathlib.Core.Path.{_≡_};
+ghost use mathlib.Core.List.{map};
+ghost use Prim.Native.Nat.{_<_, _≤_, _^_};
+ghost use lib.ListN.{length, getD};
+ghost use Rattle.netlist.specs.Leak.{bit};
+ghost use Rattle.netlist.specs.Mask.{isPublic, maskGates};
+ghost use Rattle.gate_records.specs.Records.{record4, recordOf, blank};
+ghost use Rattle.session.specs.Afresh.{openGates};
+ghost use Rattle.session_plan.specs.Batch.{batchGates, GoesOn, PublicFrom, PublicCount, OpenMade, Ready, MadeIs};
 
 // The kind 0 is an opening's gates. The others are the gate tables', of a source gate whose operands have the twins a and b. There are n
 // input bits, and c is the next wire.
@@ -19,7 +28,9 @@ pub struct Made {
 }
 
 // The first public bit from w on, or how many bits there are.
-fn public_from(codes: &[u8], w: usize) -> usize {
+fn public_from(codes: &[u8], w: usize) -> usize
+    ensures { λ r. ⌜ PublicFrom (now (codes .entry)) w r ⌝ }
+{
     let mut v = w;
     while v < codes.len() {
         if codes[v] == 0 {
@@ -30,7 +41,33 @@ fn public_from(codes: &[u8], w: usize) -> usize {
     v
 }
 
-fn xor_gate(a: u32, b: u32, c: u32) -> GateRecord {
+// 1 for the code of a public bit, and 0 for any other.
+fn one_if_public(e: u8) -> u32
+    ensures { λ r. ⌜ r ≡ bit (isPublic e) ⌝ }
+{
+    if e == 0 {
+        return 1;
+    }
+    0
+}
+
+// How many of the first w bits are public.
+pub fn publics(codes: &[u8], w: usize) -> u32
+    requires { ⌜ (w ≤ length (now codes)) × (w < 2 ^ 31) ⌝ }
+    ensures { λ r. ⌜ PublicCount (now (codes .entry)) w r ⌝ }
+{
+    let mut many = 0;
+    let mut i = 0;
+    while i < w {
+        many += one_if_public(codes[i]);
+        i += 1;
+    }
+    many
+}
+
+fn xor_gate(a: u32, b: u32, c: u32) -> GateRecord
+    ensures { λ r. ⌜ r ≡ record4 1 a b c ⌝ }
+{
     GateRecord {
         kind: 1,
         first: a,
@@ -40,7 +77,10 @@ fn xor_gate(a: u32, b: u32, c: u32) -> GateRecord {
 }
 
 // The three gates that always follow the inputs.
-fn mask_gate(n: u32, k: usize) -> GateRecord {
+fn mask_gate(n: u32, k: usize) -> GateRecord
+    requires { ⌜ (n < 2 ^ 30) × (k < 3) ⌝ }
+    ensures { λ r. ⌜ r ≡ getD (map recordOf (maskGates n)) k blank ⌝ }
+{
     match k {
         0 => xor_gate(n, n + 1, n + 2),
         1 => GateRecord {
@@ -54,7 +94,10 @@ fn mask_gate(n: u32, k: usize) -> GateRecord {
 }
 
 // Gate k of an opening, with n input bits; the public bits from w on have none yet.
-fn open_gate(codes: &[u8], n: u32, k: usize, w: usize) -> Made {
+fn open_gate(codes: &[u8], n: u32, k: usize, w: usize) -> Made
+    requires { ⌜ (n ≡ length (now codes)) × (n < 2 ^ 30) × (k < length (openGates (now codes))) × GoesOn (now codes) k w ⌝ }
+    ensures { λ r. ⌜ OpenMade (now (codes .entry)) k r ⌝ }
+{
     if k < 3 {
         return Made {
             gate: mask_gate(n, k),
@@ -69,7 +112,10 @@ fn open_gate(codes: &[u8], n: u32, k: usize, w: usize) -> Made {
 }
 
 // Gate k of a batch.
-pub fn gate(codes: &[u8], x: Batch, k: usize, w: usize) -> Made {
+pub fn gate(codes: &[u8], x: Batch, k: usize, w: usize) -> Made
+    requires { ⌜ Ready (now codes) x × (k < length (batchGates (now codes) x)) × (x .kind ≡ 0 → GoesOn (now codes) k w) ⌝ }
+    ensures { λ r. ⌜ MadeIs (now (codes .entry)) x k r ⌝ }
+{
     if x.kind == 0 {
         return open_gate(codes, x.n, k, w);
     }

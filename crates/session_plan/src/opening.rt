@@ -3,6 +3,12 @@ use crate::batch::Batch;
 use netlist::Sizes;
 use netlist::Twin;
 use session::Session;
+ghost use mathlib.Core.Path.{_≡_};
+ghost use Prim.Native.Nat.{_≤_};
+ghost use lib.ListN.{length};
+ghost use Rattle.netlist.specs.Lists.{sum};
+ghost use Rattle.session.specs.Asked.{widthsGood, opening};
+ghost use Rattle.session_plan.specs.Plan.{NoIs, OpenedIs};
 
 // The question that gets a no, or 0; then the masked gates, how many, and the session.
 pub struct Opened {
@@ -13,7 +19,9 @@ pub struct Opened {
 }
 
 // Question 4 of widths: one or more, each 1 or more.
-pub fn positive(widths: &[u32]) -> bool {
+pub fn positive(widths: &[u32]) -> bool
+    ensures { λ r. ⌜ r ≡ widthsGood (now (widths .entry)) ⌝ }
+{
     if widths.len() == 0 {
         return false;
     }
@@ -28,7 +36,10 @@ pub fn positive(widths: &[u32]) -> bool {
 }
 
 // The sum of at most 16 widths.
-pub fn total(widths: &[u32]) -> u64 {
+pub fn total(widths: &[u32]) -> u64
+    requires { ⌜ length (now widths) ≤ 16 ⌝ }
+    ensures { λ r. ⌜ r ≡ sum (now (widths .entry)) ⌝ }
+{
     let mut sum = 0;
     let mut i = 0;
     while i < widths.len() {
@@ -38,20 +49,10 @@ pub fn total(widths: &[u32]) -> u64 {
     sum
 }
 
-fn publics(codes: &[u8]) -> usize {
-    let mut many = 0;
-    let mut i = 0;
-    while i < codes.len() {
-        if codes[i] == 0 {
-            many += 1;
-        }
-        i += 1;
-    }
-    many
-}
-
 // The first question that gets a no, or 0.
-fn question(widths: &[u32], codes: &[u8], room: usize, sizes: Sizes) -> u8 {
+fn question(widths: &[u32], codes: &[u8], room: usize, sizes: Sizes) -> u8
+    ensures { λ r. ⌜ NoIs (opening sizes (now (widths .entry)) (now (codes .entry)) room) r ⌝ }
+{
     let l = netlist::small(sizes);
     if !positive(widths) {
         return 4;
@@ -66,13 +67,15 @@ fn question(widths: &[u32], codes: &[u8], room: usize, sizes: Sizes) -> u8 {
     if !lists::codes(codes, bits as usize) {
         return 11;
     }
-    if room < 3 + publics(codes) {
+    if room < 3 + crate::batch::publics(codes, codes.len()) as usize {
         return 14;
     }
     0
 }
 
-pub fn plan(widths: &[u32], codes: &[u8], room: usize, sizes: Sizes) -> Opened {
+pub fn plan(widths: &[u32], codes: &[u8], room: usize, sizes: Sizes) -> Opened
+    ensures { λ p. ⌜ OpenedIs sizes (now (widths .entry)) (now (codes .entry)) room p ⌝ }
+{
     let none = Twin { wire: 0, code: 0 };
     let no = question(widths, codes, room, sizes);
     if no != 0 {
@@ -81,7 +84,7 @@ pub fn plan(widths: &[u32], codes: &[u8], room: usize, sizes: Sizes) -> Opened {
             masked: 0,
         };
         let nothing = Batch {
-            kind: 0,
+            kind: 1,
             n: 0,
             c: 0,
             a: none,
@@ -94,7 +97,7 @@ pub fn plan(widths: &[u32], codes: &[u8], room: usize, sizes: Sizes) -> Opened {
             session: empty,
         };
     }
-    let many = 3 + publics(codes);
+    let many = 3 + crate::batch::publics(codes, codes.len()) as usize;
     Opened {
         no: 0,
         steps: Batch {
