@@ -1,5 +1,5 @@
 -- The questions of an opening.
-use Prim.Native.Nat.{ℕ, _+_, _≤_, _<_}
+use Prim.Native.Nat.{ℕ, _+_, _-_, _≤_, _<_}
 use mathlib.Core.Path.{_≡_, refl, sym, ap, _∙_}
 use mathlib.Core.Bool.{Bool, true, false, _&&_}
 use mathlib.Core.List.{List, []}
@@ -21,7 +21,8 @@ use Rattle.netlist.proofs.Questions.{ask-done}
 use Rattle.gate_records.specs.Records.{recordOf}
 use Rattle.session.specs.Afresh.{openGates}
 use Rattle.session.specs.Asked.{widthsGood, opening}
-use Rattle.session.specs.Lists.{sessionOf}
+use Rattle.session.specs.declared.Session.{Session}
+use Rattle.session.specs.Lists.{sessionOf, stepOf, said}
 use Rattle.session.proofs.More.{past-publics}
 use Rattle.session_plan.specs.Batch.{PublicCount}
 use Rattle.session_plan.specs.Plan.{NoIs, OpenedIs}
@@ -121,3 +122,11 @@ module _ (z : Sizes) (widths codes : List ℕ) (room : ℕ) where
     gates = λ e. absurd (d e);
     session = λ e. absurd (d e);
   }
+
+-- taking off, by how many gates there are
+module _ (s : Session) (from : ℕ) where
+  pub off-none : s .gates ≡ 0 → stepOf s 23 ≡ said s (ask 23 (leb 1 (s .gates)) (done (sessionOf (s .gates - 1) from)))
+  off-none e = let z : leb 1 (s .gates) ≡ false = ap (leb 1) e in rw z refl
+
+  pub off-one : (s .gates ≡ 0 → ⊥) → stepOf (sessionOf (s .gates - 1) from) 0 ≡ said s (ask 23 (leb 1 (s .gates)) (done (sessionOf (s .gates - 1) from)))
+  off-one d = rw (le-leb 1 (s .gates) (omega (arith, d))) refl

@@ -2,3 +2,4 @@
 pub mod adding;
 pub mod batch;
 pub mod opening;
+pub mod taking;

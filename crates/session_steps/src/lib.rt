@@ -9,9 +9,20 @@ use session_plan::adding::questions;
 use session_plan::batch::Batch;
 use session_plan::batch::gate;
 use session_plan::opening::plan;
+use session_plan::taking::last;
+use session_plan::taking::off;
+ghost use mathlib.Core.Path.{_≡_};
+ghost use lib.ListN.{length, take};
+ghost use lib.Seq.{sets};
+ghost use Rattle.session.specs.Lists.{listsOf, said, offAsked};
+ghost use Rattle.session_plan.specs.Batch.{batchGates, Places};
+ghost use Rattle.session_steps.specs.Promise.{OpenIs, AddIs};
 
 // The first gates of a batch, from a place of the list on.
-fn write(list: &mut [GateRecord], codes: &[u8], at: usize, batch: Batch, count: usize) {
+fn write(list: &mut [GateRecord], codes: &[u8], at: usize, batch: Batch, count: usize)
+    requires { ⌜ Places (now codes) batch at count (length (now list)) ⌝ }
+    ensures { λ _. ⌜ now (list .exit) ≡ sets (now (list .entry)) at (take count (batchGates (now (codes .entry)) batch)) ⌝ }
+{
     let mut k = 0;
     let mut w = 0;
     while k < count {
@@ -23,7 +34,9 @@ fn write(list: &mut [GateRecord], codes: &[u8], at: usize, batch: Batch, count: 
 }
 
 // Opens a session: the opening's masked gates go to the front of `masked`.
-pub fn open(widths: &[u32], codes: &[u8], masked: &mut [GateRecord], sizes: Sizes) -> Step {
+pub fn open(widths: &[u32], codes: &[u8], masked: &mut [GateRecord], sizes: Sizes) -> Step
+    ensures { λ r. ⌜ OpenIs sizes (now (widths .entry)) (now (codes .entry)) (now (masked .entry)) (now (masked .exit)) r ⌝ }
+{
     let p = plan(widths, codes, masked.len(), sizes);
     write(masked, codes, 0, p.steps, p.count);
     Step {
@@ -40,7 +53,10 @@ pub fn add(
     source: &mut [SourceRecord],
     masked: &mut [GateRecord],
     sizes: Sizes,
-) -> Step {
+) -> Step
+    ensures { λ r. ⌜ AddIs sizes (now (codes .entry)) (listsOf s (now (source .entry)) (now (masked .entry))) g (now (source .exit))
+        (now (masked .exit)) r ⌝ }
+{
     let q = questions(s, codes.len(), source.len(), g, sizes);
     if q.no != 0 {
         return Step {
@@ -69,30 +85,12 @@ pub fn add(
 }
 
 // Takes the last gate off. Nothing is written: what stood behind the gates left is left there.
-pub fn take_off(s: Session, source: &[SourceRecord]) -> Step {
-    if s.gates == 0 {
-        return Step {
-            session: s,
-            refused: 23,
-        };
-    }
-    let at = s.gates as usize - 1;
+pub fn take_off(s: Session, source: &[SourceRecord]) -> Step
+    ensures { λ r. ⌜ r ≡ said s (offAsked s (now (source .entry))) ⌝ }
+{
+    let at = last(s);
     if at < source.len() {
-        let session = Session {
-            gates: s.gates - 1,
-            masked: source[at].from,
-        };
-        return Step {
-            session,
-            refused: 0,
-        };
+        return off(s, source[at].from);
     }
-    let session = Session {
-        gates: s.gates - 1,
-        masked: 0,
-    };
-    Step {
-        session,
-        refused: 0,
-    }
+    off(s, 0)
 }
