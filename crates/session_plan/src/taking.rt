@@ -5,7 +5,14 @@ ghost use mathlib.Core.Path.{_≡_};
 ghost use Prim.Native.Nat.{_-_};
 ghost use lib.Dec.{leb};
 ghost use Rattle.netlist.specs.Outcome.{done, ask};
-ghost use Rattle.session.specs.Lists.{sessionOf, said};
+ghost use Rattle.session.specs.Lists.{sessionOf, stepOf, said};
+
+// A step's answer: the session behind it, and 0 or the question that refuses it.
+pub fn step(session: Session, refused: u8) -> Step
+    ensures { λ r. ⌜ r ≡ stepOf session refused ⌝ }
+{
+    Step { session, refused }
+}
 
 // The place of the last record, 0 where there is none.
 pub fn last(s: Session) -> usize

@@ -11,6 +11,7 @@ use session_plan::batch::gate;
 use session_plan::opening::plan;
 use session_plan::taking::last;
 use session_plan::taking::off;
+use session_plan::taking::step;
 ghost use mathlib.Core.Path.{_≡_};
 ghost use lib.ListN.{length, take};
 ghost use lib.Seq.{sets};
@@ -39,10 +40,7 @@ pub fn open(widths: &[u32], codes: &[u8], masked: &mut [GateRecord], sizes: Size
 {
     let p = plan(widths, codes, masked.len(), sizes);
     write(masked, codes, 0, p.steps, p.count);
-    Step {
-        session: p.session,
-        refused: p.no,
-    }
+    step(p.session, p.no)
 }
 
 // Adds a gate at the end.
@@ -59,10 +57,7 @@ pub fn add(
 {
     let q = questions(s, codes.len(), source.len(), g, sizes);
     if q.no != 0 {
-        return Step {
-            session: s,
-            refused: q.no,
-        };
+        return step(s, q.no);
     }
     let i = q.first;
     let j = q.second;
@@ -70,18 +65,12 @@ pub fn add(
     let second = source[j];
     let p = planned(s, codes, masked.len(), first, second, g);
     if p.no != 0 {
-        return Step {
-            session: s,
-            refused: p.no,
-        };
+        return step(s, p.no);
     }
     let at = s.gates as usize;
     source[at] = p.keep;
     write(masked, codes, s.masked as usize, p.steps, p.count);
-    Step {
-        session: p.session,
-        refused: 0,
-    }
+    step(p.session, 0)
 }
 
 // Takes the last gate off. Nothing is written: what stood behind the gates left is left there.
