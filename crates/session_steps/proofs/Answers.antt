@@ -1,11 +1,11 @@
 -- The answers of opening and adding, from what the plans say.
-use Prim.Native.Nat.{ℕ, _+_, _≤_, _<_}
+use Prim.Native.Nat.{ℕ, zero, suc, _+_, _-_, _≤_, _<_}
 use mathlib.Core.Path.{_≡_, refl, sym, ap, ap₂, _∙_}
 use mathlib.Core.Bool.{Bool, true, false, not, _&&_}
-use mathlib.Core.List.{List, [], map}
+use mathlib.Core.List.{List, [], _∷_, map}
 use native.Mathlib.Omega.{arith}
-use lib.Dec.{T, eqb, ltb, ltb→lt, eqb→eq}
-use borrow.Author.Tests.{eq-eqb}
+use lib.Dec.{T, eqb, leb, ltb, ltb→lt, eqb→eq}
+use borrow.Author.Tests.{eq-eqb, ltb-false}
 use lib.ListN.{length, getD, set, take, length-map}
 use lib.Seq.{sets, take-all}
 use Rattle.netlist.specs.declared.Gate.{Gate}
@@ -13,12 +13,13 @@ use Rattle.netlist.specs.declared.Sizes.{Sizes}
 use Rattle.netlist.specs.declared.Sizes.the-variants.{Old, Whole}
 use Rattle.netlist.specs.Netlist.{small}
 use Rattle.netlist.specs.Outcome.{Outcome, refused, done, ask, andThen}
-use Rattle.netlist.proofs.Tests.{both}
+use Rattle.netlist.proofs.Tests.{both, isFalse}
 use Rattle.netlist.proofs.Questions.{ask-done}
 use Rattle.gate_records.specs.declared.GateRecord.{GateRecord}
 use Rattle.gate_records.specs.declared.SourceRecord.{SourceRecord}
 use Rattle.gate_records.specs.Records.{recordOf, blankSource}
 use Rattle.session.specs.declared.Session.{Session}
+use Rattle.session.specs.declared.Step.{Step}
 use Rattle.session.specs.Afresh.{openGates}
 use Rattle.session.specs.Asked.{opening, gateGood, placeLeft}
 use Rattle.session.specs.Lists.{Lists, listsOf, sessionOf, stepOf, said, left, sessionIn, steps, roomFor, asked, added, addOutcome, openOutcome, offAsked, shorter}
@@ -153,3 +154,20 @@ is-zero n t = eqb→eq n 0 (go (eqb n 0) t)
     go : (b : Bool) → T (not (not b)) → T b
     go true t = tt
     go false t = absurd t
+
+pub nltb→le : (m n : ℕ) → T (not (ltb m n)) → n ≤ m
+nltb→le m n t = ltb-false m n (isFalse (ltb m n) t)
+
+getD-beyond : (l : List SourceRecord) (i : ℕ) → length l ≤ i → getD l i blankSource ≡ blankSource
+getD-beyond [] i h = refl
+getD-beyond (x ∷ l) zero h = absurd (omega (arith, h))
+getD-beyond (x ∷ l) (suc i) h = getD-beyond l i (omega (arith, h))
+
+-- taking off, by the last record, or by what stands nowhere
+module _ (s : Session) (source : List SourceRecord) (i : ℕ) (ei : i ≡ s .gates - 1) {r : Step} where
+  pub off-here : r ≡ said s (ask 23 (leb 1 (s .gates)) (done (sessionOf (s .gates - 1) (getD source i blankSource .from)))) → r ≡ said s (offAsked s source)
+  unfolding offAsked
+  off-here e = e ∙ ap (λ (j : ℕ). said s (ask 23 (leb 1 (s .gates)) (done (sessionOf (s .gates - 1) (getD source j blankSource .from))))) ei
+
+  pub off-gone : length source ≤ i → r ≡ said s (ask 23 (leb 1 (s .gates)) (done (sessionOf (s .gates - 1) 0))) → r ≡ said s (offAsked s source)
+  off-gone l e = off-here (e ∙ ap (λ (x : SourceRecord). said s (ask 23 (leb 1 (s .gates)) (done (sessionOf (s .gates - 1) (x .from))))) (sym (getD-beyond source i l)))

@@ -360,288 +360,288 @@ module _ {M : Type 1} (𝓤 : URA M) (H : Heap 𝓤) (A : Atoms 𝓤) (W : Given
 
       behind : (k : Asked) (u : Val) → Is K.the-row k (u ∷ []) → AskedIs z n (s .gates) (length (src .now)) g k → Sq W (At k) (runs C Λ En mir-of.t-5 (atRet En Post))
       behind k u ik Qk =
-              first ! $ branches ! (load ! (from ! (stop !)) (look ! 21 refl))
-              (λ no.
-                nothing ! $
-                owned ! u8 (Is u8) (uint-makes 𝓤 H A W w8) (k .no) _ (refl, no-fits k u ik) $
-                fjoin ! $
-                owned ! S.the-row (Is S.the-row) (LL.makes S.the-type S′.the-plain 𝓤 H A) s _ is $
-                fjoin ! $
-                nothing ! $
-                use2 W (raw (Said 𝓤 H A mem run .pre (to-step s (k .no)))) (goes-step s (k .no)) $
-                calls-at ! (fmOf 𝓤 H (W .laws) 𝓣) (Said 𝓤 H A mem run) known-step (to-step s (k .no)) (and-then ! (load ! (from ! (stop !)) (look ! 52 refl)) (and-then ! (load ! (from ! (fld ! refl (stop !))) (look-in ! 40 (sub ! 0 refl (whole !)))) (no-more !))) (λ w.
-                use1 W (later (some (λ (r : Step). (‵ ftrue ⊛ ‵ (E.the-row .own r (w ∷ []))) ⊛ raw (ensured 𝓤 H A step.ended (step.clauses 𝓤 H A mem run) tt (s, ((k .no), tt)) tt r)))) (id⊢ 𝓤 _) $ await ! tt $ pick ! (λ r.
-                split ! $
-                move ! (1 ∷ []) $
-                use1 W (raw (fact 𝓤 (r ≡ stepOf s (k .no)))) (stepped s (k .no) r) $ heard ! (r ≡ stepOf s (k .no)) (λ er.
-                split ! $
-                drop ! $
-                peeks ! E.the-row (Is E.the-row) (shows 𝓤 H A E.the-row) r (w ∷ []) (λ ir.
-                land ! (from ! (stop !)) (init ! 54 refl (typed-step r w ir)) $
-                returns-within ! Post refl (look ! 54 refl) $
-                forget ! 22 refl $ forget ! 24 refl $ forget ! 26 refl $ forget ! 40 refl $ forget ! 42 refl $ forget ! 44 refl $ forget ! 46 refl $ forget ! 48 refl $ forget ! 50 refl $ forget ! 52 refl $ forget ! 54 refl $
-                move ! (54 ∷ 55 ∷ []) $ free1 ! $
-                move ! (52 ∷ 53 ∷ []) $ free1 ! $
-                move ! (50 ∷ 51 ∷ []) $ free1 ! $
-                move ! (48 ∷ 49 ∷ []) $ free1 ! $
-                move ! (46 ∷ 47 ∷ []) $ free1 ! $
-                move ! (44 ∷ 45 ∷ []) $ free1 ! $
-                move ! (42 ∷ 43 ∷ []) $ free1 ! $
-                move ! (40 ∷ 41 ∷ []) $ free1 ! $
-                move ! (38 ∷ 39 ∷ []) $ free1 ! $
-                move ! (36 ∷ 37 ∷ []) $ free1 ! $
-                move ! (34 ∷ 35 ∷ []) $ free1 ! $
-                move ! (32 ∷ 33 ∷ []) $ free1 ! $
-                move ! (30 ∷ 31 ∷ []) $ free1 ! $
-                move ! (28 ∷ 29 ∷ []) $ free1 ! $
-                move ! (26 ∷ 27 ∷ []) $ free1 ! $
-                move ! (24 ∷ 25 ∷ []) $ free1 ! $
-                move ! (22 ∷ 23 ∷ []) $ free1 ! $
-                move ! (20 ∷ 21 ∷ []) $ free1 ! $
-                move ! (18 ∷ 19 ∷ []) $ free1 ! $
-                move ! (16 ∷ 17 ∷ []) $ free1 ! $
-                move ! (14 ∷ 15 ∷ []) $ free1 ! $
-                move ! (12 ∷ 13 ∷ []) $ free1 ! $
-                move ! (10 ∷ 11 ∷ []) $ free1 ! $
-                move ! (8 ∷ 9 ∷ []) $ free1 ! $
-                free0 ! $
-                move ! (1 ∷ []) $
-                use1 W (‵ (fres (src .name) (codedHoleys Q.the-row .code (heres Q.the-row (src .now))))) (W .names .obs-res (src .name) (codedHoleys Q.the-row .code (heres Q.the-row (src .now)))) $
-                use1 W (‵ (finally Q.the-row (src .name) (src .now))) (res-finally 𝓤 H A W (named 0) κ₁ Q.the-row (src .name) (src .now)) $
-                move ! (3 ∷ []) $
-                fsplit ! $
-                drop ! $
-                fsplit ! $
-                use1 W (‵ (fres (msk .name) (codedHoleys R.the-row .code (heres R.the-row (msk .now))))) (W .names .obs-res (msk .name) (codedHoleys R.the-row .code (heres R.the-row (msk .now)))) $
-                use1 W (‵ (finally R.the-row (msk .name) (msk .now))) (res-finally 𝓤 H A W (named 0) κ₂ R.the-row (msk .name) (msk .now)) $
-                keep ! (3 ∷ 0 ∷ 2 ∷ 5 ∷ 6 ∷ 7 ∷ 8 ∷ []) $
-                by ! (exits r w (src .now) (msk .now) refl refl (subst (AddIs z (cod .now) L g (src .now) (msk .now)) (sym er) (first-refused z (cod .now) s (src .now) (msk .now) g k Qk (not-zero _ no)))))))))
-              (λ yes.
-                skips ! $ exec ! C Λ En mir-of.t-6 (atRet En Post) $
-                assigns ! (of-opd ! (load ! (from ! (fld ! refl (stop !))) (look-in ! 39 (sub ! 1 refl (whole !))))) (from ! (stop !)) (init ! 37 refl (tt, record { fits = first-fits k u ik })) $
-                assigns ! (of-opd ! (load ! (from ! (fld ! refl (stop !))) (look-in ! 39 (sub ! 2 refl (whole !))))) (from ! (stop !)) (init ! 35 refl (tt, record { fits = second-fits k u ik })) $
-                assigns ! (bin ! (load ! (from ! (stop !)) (look ! 37 refl)) (lit ! tt) (record { fits = source-fits (length (src .now)) (k .first) (first-place z (cod .now) s (src .now) (msk .now) g k Qk (is-zero _ yes)) (rs .1) })) (from ! (stop !)) (store ! 25 refl (tt, record { fits = source-fits (length (src .now)) (k .first) (first-place z (cod .now) s (src .now) (msk .now) g k Qk (is-zero _ yes)) (rs .1) })) $
-                assigns ! (bin ! (load ! (from ! (fld ! refl (stop !))) (look-in ! 45 (sub ! 0 refl (whole !)))) (load ! (from ! (stop !)) (look ! 25 refl)) tt) (from ! (stop !)) (init ! 19 refl (tt, tt)) $
-                rewrite ! 19 (λ (y : ℕ). ‵ (fat fullShare tyPtr l₁₇ 0 (vptr (src .ptr .0) y))) (sym (place-is 28 (src .ptr .1) (k .first))) refl $
-                move ! (0 ∷ 1 ∷ 5 ∷ []) $
-                opens-slice ! tt Q.the-row (src .now) (src .ptr .0) (src .ptr .1) $
-                elem-out ! Q.the-row (Is Q.the-row) (shows 𝓤 H A Q.the-row) (LL.vals Q.the-type Q′.the-laws) (LL.tells Q.the-type Q′.the-laws) fullShare (src .now) (k .first) blankSource (src .ptr .0) (src .ptr .1) (first-place z (cod .now) s (src .now) (msk .now) g k Qk (is-zero _ yes)) (λ ia.
-                assigns ! (of-opd ! (load ! (from ! (hop ! (look ! 22 refl) (stop !))) (look-raw ! 0 refl))) (from ! (stop !)) (init ! 20 refl (LL.lawful Q.the-type Q′.the-laws 𝓤 H A W .typed (getD (src .now) (k .first) blankSource) _ ia .0)) $
-                assigns ! (of-opd ! (load ! (from ! (stop !)) (look ! 20 refl))) (from ! (stop !)) (init ! 36 refl (LL.lawful Q.the-type Q′.the-laws 𝓤 H A W .typed (getD (src .now) (k .first) blankSource) _ ia .0)) $
-                elem-back ! Q.the-row fullShare (src .now) (k .first) blankSource (LL.vals Q.the-type Q′.the-laws (getD (src .now) (k .first) blankSource)) (src .ptr .0) (src .ptr .1) (first-place z (cod .now) s (src .now) (msk .now) g k Qk (is-zero _ yes)) $
-                closes-slice ! tt Q.the-row (src .now) (src .now) refl (src .ptr .0) (src .ptr .1) $
-                assigns ! (bin ! (load ! (from ! (stop !)) (look ! 35 refl)) (lit ! tt) (record { fits = source-fits (length (src .now)) (k .second) (second-place z (cod .now) s (src .now) (msk .now) g k Qk (is-zero _ yes)) (rs .1) })) (from ! (stop !)) (store ! 23 refl (tt, record { fits = source-fits (length (src .now)) (k .second) (second-place z (cod .now) s (src .now) (msk .now) g k Qk (is-zero _ yes)) (rs .1) })) $
-                assigns ! (bin ! (load ! (from ! (fld ! refl (stop !))) (look-in ! 45 (sub ! 0 refl (whole !)))) (load ! (from ! (stop !)) (look ! 23 refl)) tt) (from ! (stop !)) (init ! 15 refl (tt, tt)) $
-                rewrite ! 15 (λ (y : ℕ). ‵ (fat fullShare tyPtr l₁₉ 0 (vptr (src .ptr .0) y))) (sym (place-is 28 (src .ptr .1) (k .second))) refl $
-                opens-slice ! tt Q.the-row (src .now) (src .ptr .0) (src .ptr .1) $
-                elem-out ! Q.the-row (Is Q.the-row) (shows 𝓤 H A Q.the-row) (LL.vals Q.the-type Q′.the-laws) (LL.tells Q.the-type Q′.the-laws) fullShare (src .now) (k .second) blankSource (src .ptr .0) (src .ptr .1) (second-place z (cod .now) s (src .now) (msk .now) g k Qk (is-zero _ yes)) (λ ib.
-                assigns ! (of-opd ! (load ! (from ! (hop ! (look ! 18 refl) (stop !))) (look-raw ! 0 refl))) (from ! (stop !)) (store ! 20 refl (LL.lawful Q.the-type Q′.the-laws 𝓤 H A W .typed (getD (src .now) (k .second) blankSource) _ ib .0)) $
-                assigns ! (of-opd ! (load ! (from ! (stop !)) (look ! 20 refl))) (from ! (stop !)) (init ! 34 refl (LL.lawful Q.the-type Q′.the-laws 𝓤 H A W .typed (getD (src .now) (k .second) blankSource) _ ib .0)) $
-                elem-back ! Q.the-row fullShare (src .now) (k .second) blankSource (LL.vals Q.the-type Q′.the-laws (getD (src .now) (k .second) blankSource)) (src .ptr .0) (src .ptr .1) (second-place z (cod .now) s (src .now) (msk .now) g k Qk (is-zero _ yes)) $
-                closes-slice ! tt Q.the-row (src .now) (src .now) refl (src .ptr .0) (src .ptr .1) $
-                assigns ! (of-opd ! (load ! (from ! (fld ! refl (stop !))) (look-in ! 43 (sub ! 1 refl (whole !))))) (from ! (stop !)) (store ! 25 refl (tt, record { fits = rm .0 })) $
-                move ! (4 ∷ []) $
-                use1 W (‵ Cod ⊛ ‵ Cod) (shr-slice-copy 𝓤 H A W (named 0) κ₀ u8 .twice cod (cv ∷ [])) $
-                split ! $
-                nothing ! $
-                owned ! R.the-row (Is R.the-row) (LL.makes R.the-type R′.the-plain 𝓤 H A) g _ ig $
-                fjoin ! $
-                owned ! Q.the-row (Is Q.the-row) (LL.makes Q.the-type Q′.the-plain 𝓤 H A) (getD (src .now) (k .second) blankSource) _ ib $
-                fjoin ! $
-                owned ! Q.the-row (Is Q.the-row) (LL.makes Q.the-type Q′.the-plain 𝓤 H A) (getD (src .now) (k .first) blankSource) _ ia $
-                fjoin ! $
-                owned ! usize (Is usize) (uint-makes 𝓤 H A W w64) (length (msk .now)) _ (refl, rm .0) $
-                fjoin ! $
-                move ! (1 ∷ 0 ∷ []) $
-                fjoin ! $
-                owned ! S.the-row (Is S.the-row) (LL.makes S.the-type S′.the-plain 𝓤 H A) s _ is $
-                fjoin ! $
-                nothing ! $
-                move ! (8 ∷ 0 ∷ []) $
-                join ! $
-                use2 W (raw (PlanAt 𝓤 H A mem run .pre (to-plan (getD (src .now) (k .first) blankSource) (getD (src .now) (k .second) blankSource)))) (goes-plan (getD (src .now) (k .first) blankSource) (getD (src .now) (k .second) blankSource) (few-gates z (cod .now) s (src .now) (msk .now) g k Qk (is-zero _ yes))) $
-                calls-at ! (fmOf 𝓤 H (W .laws) 𝓣) (PlanAt 𝓤 H A mem run) known-plan (to-plan (getD (src .now) (k .first) blankSource) (getD (src .now) (k .second) blankSource)) (and-then ! (load ! (from ! (stop !)) (look ! 51 refl)) (and-then ! (load ! (from ! (stop !)) (look ! 47 refl)) (and-then ! (load ! (from ! (stop !)) (look ! 25 refl)) (and-then ! (load ! (from ! (stop !)) (look ! 33 refl)) (and-then ! (load ! (from ! (stop !)) (look ! 31 refl)) (and-then ! (load ! (from ! (stop !)) (look ! 49 refl)) (no-more !))))))) (λ u₁.
-                use1 W (later (some (λ (p : Plan). ((‵ (flft κ₀ q₀) ⊛ ‵ ftrue) ⊛ ‵ (P.the-row .own p (u₁ ∷ []))) ⊛ raw (ensured 𝓤 H A planned.ended (planned.clauses 𝓤 H A mem run) (κ₀, tt) (plan-args (getD (src .now) (k .first) blankSource) (getD (src .now) (k .second) blankSource)) tt p)))) (id⊢ 𝓤 _) $ await ! tt $ pick ! (λ p.
-                split ! $
-                move ! (1 ∷ []) $
-                use1 W (raw (fact 𝓤 (PlanOf s (cod .now) (length (msk .now)) (getD (src .now) (k .first) blankSource) (getD (src .now) (k .second) blankSource) g p))) (plans (getD (src .now) (k .first) blankSource) (getD (src .now) (k .second) blankSource) p) $ heard ! (PlanOf s (cod .now) (length (msk .now)) (getD (src .now) (k .first) blankSource) (getD (src .now) (k .second) blankSource) g p) (λ Pl.
-                split ! $
-                move ! (1 ∷ []) $
-                peeks ! P.the-row (Is P.the-row) (shows 𝓤 H A P.the-row) p (u₁ ∷ []) (λ ip.
-                land ! (from ! (stop !)) (init ! 30 refl (typed-plan p u₁ ip)) $ rewrite ! 30 (λ (y : Val). ‵ (fat fullShare P′.mir l₁₂ 0 y)) (ap only (LL.tells P.the-type P′.the-laws p _ ip)) refl $
-                drop ! $
-                split ! $
-                move ! (1 ∷ []) $
-                drop ! $
-                assigns ! (bin ! (load ! (from ! (fld ! refl (stop !))) (look-in ! 29 (sub ! 0 refl (whole !)))) (lit ! tt) tt) (from ! (stop !)) (store ! 21 refl (tt, tt)) $
-                first ! $ branches ! (load ! (from ! (stop !)) (look ! 21 refl))
-                (λ no₂.
-                  nothing ! $
-                  owned ! u8 (Is u8) (uint-makes 𝓤 H A W w8) (p .no) _ (refl, plan-fits p u₁ ip) $
-                  fjoin ! $
-                  owned ! S.the-row (Is S.the-row) (LL.makes S.the-type S′.the-plain 𝓤 H A) s _ is $
-                  fjoin ! $
-                  nothing ! $
-                  use2 W (raw (Said 𝓤 H A mem run .pre (to-step s (p .no)))) (goes-step s (p .no)) $
-                  calls-at ! (fmOf 𝓤 H (W .laws) 𝓣) (Said 𝓤 H A mem run) known-step (to-step s (p .no)) (and-then ! (load ! (from ! (stop !)) (look ! 52 refl)) (and-then ! (load ! (from ! (fld ! refl (stop !))) (look-in ! 30 (sub ! 0 refl (whole !)))) (no-more !))) (λ w.
-                  use1 W (later (some (λ (r : Step). (‵ ftrue ⊛ ‵ (E.the-row .own r (w ∷ []))) ⊛ raw (ensured 𝓤 H A step.ended (step.clauses 𝓤 H A mem run) tt (s, ((p .no), tt)) tt r)))) (id⊢ 𝓤 _) $ await ! tt $ pick ! (λ r.
-                  split ! $
-                  move ! (1 ∷ []) $
-                  use1 W (raw (fact 𝓤 (r ≡ stepOf s (p .no)))) (stepped s (p .no) r) $ heard ! (r ≡ stepOf s (p .no)) (λ er.
-                  split ! $
-                  drop ! $
-                  peeks ! E.the-row (Is E.the-row) (shows 𝓤 H A E.the-row) r (w ∷ []) (λ ir.
-                  land ! (from ! (stop !)) (init ! 54 refl (typed-step r w ir)) $
-                  returns-within ! Post refl (look ! 54 refl) $
-                  forget ! 16 refl $ forget ! 18 refl $ forget ! 20 refl $ forget ! 22 refl $ forget ! 24 refl $ forget ! 26 refl $ forget ! 30 refl $ forget ! 32 refl $ forget ! 34 refl $ forget ! 36 refl $ forget ! 38 refl $ forget ! 40 refl $ forget ! 42 refl $ forget ! 44 refl $ forget ! 46 refl $ forget ! 48 refl $ forget ! 50 refl $ forget ! 52 refl $ forget ! 54 refl $
-                  move ! (54 ∷ 55 ∷ []) $ free1 ! $
-                  move ! (52 ∷ 53 ∷ []) $ free1 ! $
-                  move ! (50 ∷ 51 ∷ []) $ free1 ! $
-                  move ! (48 ∷ 49 ∷ []) $ free1 ! $
-                  move ! (46 ∷ 47 ∷ []) $ free1 ! $
-                  move ! (44 ∷ 45 ∷ []) $ free1 ! $
-                  move ! (42 ∷ 43 ∷ []) $ free1 ! $
-                  move ! (40 ∷ 41 ∷ []) $ free1 ! $
-                  move ! (38 ∷ 39 ∷ []) $ free1 ! $
-                  move ! (36 ∷ 37 ∷ []) $ free1 ! $
-                  move ! (34 ∷ 35 ∷ []) $ free1 ! $
-                  move ! (32 ∷ 33 ∷ []) $ free1 ! $
-                  move ! (30 ∷ 31 ∷ []) $ free1 ! $
-                  move ! (28 ∷ 29 ∷ []) $ free1 ! $
-                  move ! (26 ∷ 27 ∷ []) $ free1 ! $
-                  move ! (24 ∷ 25 ∷ []) $ free1 ! $
-                  move ! (22 ∷ 23 ∷ []) $ free1 ! $
-                  move ! (20 ∷ 21 ∷ []) $ free1 ! $
-                  move ! (18 ∷ 19 ∷ []) $ free1 ! $
-                  move ! (16 ∷ 17 ∷ []) $ free1 ! $
-                  move ! (14 ∷ 15 ∷ []) $ free1 ! $
-                  move ! (12 ∷ 13 ∷ []) $ free1 ! $
-                  move ! (10 ∷ 11 ∷ []) $ free1 ! $
-                  move ! (8 ∷ 9 ∷ []) $ free1 ! $
-                  free0 ! $
-                  move ! (3 ∷ []) $
-                  use1 W (‵ (fres (src .name) (codedHoleys Q.the-row .code (heres Q.the-row (src .now))))) (W .names .obs-res (src .name) (codedHoleys Q.the-row .code (heres Q.the-row (src .now)))) $
-                  use1 W (‵ (finally Q.the-row (src .name) (src .now))) (res-finally 𝓤 H A W (named 0) κ₁ Q.the-row (src .name) (src .now)) $
-                  move ! (6 ∷ []) $
-                  fsplit ! $
-                  drop ! $
-                  fsplit ! $
-                  use1 W (‵ (fres (msk .name) (codedHoleys R.the-row .code (heres R.the-row (msk .now))))) (W .names .obs-res (msk .name) (codedHoleys R.the-row .code (heres R.the-row (msk .now)))) $
-                  use1 W (‵ (finally R.the-row (msk .name) (msk .now))) (res-finally 𝓤 H A W (named 0) κ₂ R.the-row (msk .name) (msk .now)) $
-                  keep ! (3 ∷ 0 ∷ 2 ∷ 5 ∷ 8 ∷ 7 ∷ 4 ∷ []) $
-                  by ! (exits r w (src .now) (msk .now) refl refl (subst (AddIs z (cod .now) L g (src .now) (msk .now)) (sym er) (second-refused z (cod .now) s (src .now) (msk .now) g k Qk (is-zero _ yes) Pl (not-zero _ no₂)))))))))
-                (λ yes₂.
-                  skips ! $ exec ! C Λ En mir-of.t-20 (atRet En Post) $
-                  assigns ! (un ! (load ! (from ! (fld ! refl (stop !))) (look-in ! 51 (sub ! 0 refl (whole !)))) (record { fits = gates-fit })) (from ! (stop !)) (init ! 27 refl (tt, record { fits = gates-fit })) $
-                  assigns ! (bin ! (load ! (from ! (stop !)) (look ! 27 refl)) (lit ! tt) (record { fits = source-fits (length (src .now)) (s .gates) (last-place z (cod .now) s (src .now) (msk .now) g k Qk (is-zero _ yes)) (rs .1) })) (from ! (stop !)) (store ! 25 refl (tt, record { fits = source-fits (length (src .now)) (s .gates) (last-place z (cod .now) s (src .now) (msk .now) g k Qk (is-zero _ yes)) (rs .1) })) $
-                  assigns ! (bin ! (load ! (from ! (fld ! refl (stop !))) (look-in ! 45 (sub ! 0 refl (whole !)))) (load ! (from ! (stop !)) (look ! 25 refl)) tt) (from ! (stop !)) (init ! 13 refl (tt, tt)) $
-                  rewrite ! 13 (λ (y : ℕ). ‵ (fat fullShare tyPtr l₂₀ 0 (vptr (src .ptr .0) y))) (sym (place-is 28 (src .ptr .1) (s .gates))) refl $
-                  move ! (2 ∷ 3 ∷ 4 ∷ []) $
-                  opens-slice ! tt Q.the-row (src .now) (src .ptr .0) (src .ptr .1) $
-                  elem-out ! Q.the-row (Is Q.the-row) (shows 𝓤 H A Q.the-row) (LL.vals Q.the-type Q′.the-laws) (LL.tells Q.the-type Q′.the-laws) fullShare (src .now) (s .gates) blankSource (src .ptr .0) (src .ptr .1) (last-place z (cod .now) s (src .now) (msk .now) g k Qk (is-zero _ yes)) (λ _.
-                  assigns ! (of-opd ! (load ! (from ! (fld ! refl (stop !))) (look-in ! 32 (sub ! 1 refl (whole !))))) (from ! (hop ! (look ! 16 refl) (stop !))) (store-raw ! 0 refl (LL.lawful Q.the-type Q′.the-laws 𝓤 H A W .typed (p .keep) _ (keep-is p u₁ ip) .0)) $
-                  move ! (1 ∷ []) $
-                  drop ! $
-                  owned ! Q.the-row (Is Q.the-row) (LL.makes Q.the-type Q′.the-plain 𝓤 H A) (p .keep) _ (keep-is p u₁ ip) $
-                  move ! (1 ∷ 0 ∷ []) $
-                  elem-put ! Q.the-row fullShare (src .now) (s .gates) (p .keep) (LL.vals Q.the-type Q′.the-laws (p .keep)) (src .ptr .0) (src .ptr .1) (last-place z (cod .now) s (src .now) (msk .now) g k Qk (is-zero _ yes)) $
-                  closes-slice ! tt Q.the-row (src .now) (set (src .now) (s .gates) (p .keep)) (length-set (src .now) (s .gates) (p .keep)) (src .ptr .0) (src .ptr .1) $
-                  assigns ! (addr ! (from ! (fld ! refl (hop ! (look-in ! 43 (sub ! 0 refl (whole !))) (stop !))))) (from ! (stop !)) (init ! 9 refl (tt, tt)) $
-                  assigns ! (agg ! (and-then ! (load ! (from ! (stop !)) (look ! 9 refl)) (and-then ! (load ! (from ! (fld ! refl (stop !))) (look-in ! 43 (sub ! 1 refl (whole !)))) (no-more !)))) (from ! (stop !)) (init ! 7 refl (tt, (tt, (record { fits = rm .0 }, tt)))) $
-                  assigns ! (un ! (load ! (from ! (fld ! refl (stop !))) (look-in ! 51 (sub ! 1 refl (whole !)))) (record { fits = masked-fit })) (from ! (stop !)) (store ! 23 refl (tt, record { fits = masked-fit })) $
-                  move ! (4 ∷ []) $
-                  use1 W (‵ Cod ⊛ ‵ Cod) (shr-slice-copy 𝓤 H A W (named 0) κ₀ u8 .twice cod (cv ∷ [])) $
-                  split ! $
-                  nothing ! $
-                  owned ! usize (Is usize) (uint-makes 𝓤 H A W w64) (p .count) _ (refl, count-fits p u₁ ip) $
-                  fjoin ! $
-                  owned ! X.the-row (Is X.the-row) (LL.makes X.the-type X′.the-plain 𝓤 H A) (p .steps) _ (steps-is p u₁ ip) $
-                  fjoin ! $
-                  owned ! usize (Is usize) (uint-makes 𝓤 H A W w64) (s .masked) _ (refl, masked-fit) $
-                  fjoin ! $
-                  move ! (1 ∷ 0 ∷ []) $
-                  fjoin ! $
-                  move ! (6 ∷ 0 ∷ []) $
-                  fjoin ! $
-                  nothing ! $
-                  move ! (6 ∷ 0 ∷ []) $
-                  join ! $
-                  move ! (6 ∷ 0 ∷ []) $
-                  join ! $
-                  use2 W (raw (Write 𝓤 H A mem run .pre (to-write p))) (goes-write p (fits z (cod .now) s (src .now) (msk .now) g k Qk (is-zero _ yes) Pl (is-zero _ yes₂))) $
-                  calls-at ! (fmOf 𝓤 H (W .laws) 𝓣) (Write 𝓤 H A mem run) known-write (to-write p) (and-then ! (load ! (from ! (stop !)) (look ! 5 refl)) (and-then ! (load ! (from ! (stop !)) (look ! 45 refl)) (and-then ! (load ! (from ! (stop !)) (look ! 21 refl)) (and-then ! (load ! (from ! (fld ! refl (stop !))) (look-in ! 27 (sub ! 2 refl (whole !)))) (and-then ! (load ! (from ! (fld ! refl (stop !))) (look-in ! 27 (sub ! 3 refl (whole !)))) (no-more !)))))) (λ u₂.
-                  use1 W (later (some (λ (t : Unit {0}). ((‵ (flft κ₂ q₂) ⊛ (‵ (flft κ₀ q₀) ⊛ ‵ ftrue)) ⊛ ‵ (Nothing .own t (u₂ ∷ []))) ⊛ raw (ensured 𝓤 H A write.ended (write.clauses 𝓤 H A mem run) (κ₂, (κ₀, tt)) (msk, (cod, (s .masked, (p .steps, (p .count, tt))))) tt t)))) (id⊢ 𝓤 _) $ await ! tt $ pick ! (λ t.
-                  split ! $
-                  move ! (1 ∷ []) $
-                  use1 W (some (λ (ms : WriteZs). ‵ (lasts write.ended (κ₂, (κ₀, tt)) (msk, (cod, (s .masked, (p .steps, (p .count, tt))))) ms) ⊛ raw (fact 𝓤 (ms .0 ≡ sets (msk .now) (s .masked) (take (p .count) (batchGates (cod .now) (p .steps))))))) (id⊢ 𝓤 _) $ pick ! (λ ms.
-                  split ! $
-                  move ! (1 ∷ []) $
-                  heard ! (ms .0 ≡ sets (msk .now) (s .masked) (take (p .count) (batchGates (cod .now) (p .steps)))) (λ em.
-                  fsplit ! $
-                  fsplit ! $
-                  move ! (1 ∷ []) $
-                  feqL ! (λ lm.
-                  move ! (1 ∷ []) $
-                  drop ! $
-                  move ! (1 ∷ []) $
-                  split ! $
-                  move ! (1 ∷ []) $
-                  peeks ! Nothing (Is Nothing) (shows 𝓤 H A Nothing) t (u₂ ∷ []) (λ in₀.
-                  land ! (from ! (stop !)) (init ! 11 refl (nothing-lawful 𝓤 H A W .typed t _ in₀ .0)) $
-                  drop ! $
-                  split ! $
-                  move ! (1 ∷ []) $
-                  split ! $
-                  move ! (1 ∷ []) $
-                  drop ! $
-                  nothing ! $
-                  owned ! u8 (Is u8) (uint-makes 𝓤 H A W w8) 0 _ (refl, lit< tt) $
-                  fjoin ! $
-                  owned ! S.the-row (Is S.the-row) (LL.makes S.the-type S′.the-plain 𝓤 H A) (p .session) _ (session-is p u₁ ip) $
-                  fjoin ! $
-                  nothing ! $
-                  use2 W (raw (Said 𝓤 H A mem run .pre (to-step (p .session) 0))) (goes-step (p .session) 0) $
-                  calls-at ! (fmOf 𝓤 H (W .laws) 𝓣) (Said 𝓤 H A mem run) known-step (to-step (p .session) 0) (and-then ! (load ! (from ! (fld ! refl (stop !))) (look-in ! 30 (sub ! 4 refl (whole !)))) (and-then ! (lit ! tt) (no-more !))) (λ w.
-                  use1 W (later (some (λ (r : Step). (‵ ftrue ⊛ ‵ (E.the-row .own r (w ∷ []))) ⊛ raw (ensured 𝓤 H A step.ended (step.clauses 𝓤 H A mem run) tt ((p .session), (0, tt)) tt r)))) (id⊢ 𝓤 _) $ await ! tt $ pick ! (λ r.
-                  split ! $
-                  move ! (1 ∷ []) $
-                  use1 W (raw (fact 𝓤 (r ≡ stepOf (p .session) 0))) (stepped (p .session) 0 r) $ heard ! (r ≡ stepOf (p .session) 0) (λ er.
-                  split ! $
-                  drop ! $
-                  peeks ! E.the-row (Is E.the-row) (shows 𝓤 H A E.the-row) r (w ∷ []) (λ ir.
-                  land ! (from ! (stop !)) (init ! 54 refl (typed-step r w ir)) $
-                  returns ! (look ! 54 refl) $
-                  forget ! 8 refl $ forget ! 10 refl $ forget ! 12 refl $ forget ! 14 refl $ forget ! 16 refl $ forget ! 18 refl $ forget ! 20 refl $ forget ! 22 refl $ forget ! 24 refl $ forget ! 26 refl $ forget ! 28 refl $ forget ! 30 refl $ forget ! 32 refl $ forget ! 34 refl $ forget ! 36 refl $ forget ! 38 refl $ forget ! 40 refl $ forget ! 42 refl $ forget ! 44 refl $ forget ! 46 refl $ forget ! 48 refl $ forget ! 50 refl $ forget ! 52 refl $ forget ! 54 refl $
-                  move ! (54 ∷ 55 ∷ []) $ free1 ! $
-                  move ! (52 ∷ 53 ∷ []) $ free1 ! $
-                  move ! (50 ∷ 51 ∷ []) $ free1 ! $
-                  move ! (48 ∷ 49 ∷ []) $ free1 ! $
-                  move ! (46 ∷ 47 ∷ []) $ free1 ! $
-                  move ! (44 ∷ 45 ∷ []) $ free1 ! $
-                  move ! (42 ∷ 43 ∷ []) $ free1 ! $
-                  move ! (40 ∷ 41 ∷ []) $ free1 ! $
-                  move ! (38 ∷ 39 ∷ []) $ free1 ! $
-                  move ! (36 ∷ 37 ∷ []) $ free1 ! $
-                  move ! (34 ∷ 35 ∷ []) $ free1 ! $
-                  move ! (32 ∷ 33 ∷ []) $ free1 ! $
-                  move ! (30 ∷ 31 ∷ []) $ free1 ! $
-                  move ! (28 ∷ 29 ∷ []) $ free1 ! $
-                  move ! (26 ∷ 27 ∷ []) $ free1 ! $
-                  move ! (24 ∷ 25 ∷ []) $ free1 ! $
-                  move ! (22 ∷ 23 ∷ []) $ free1 ! $
-                  move ! (20 ∷ 21 ∷ []) $ free1 ! $
-                  move ! (18 ∷ 19 ∷ []) $ free1 ! $
-                  move ! (16 ∷ 17 ∷ []) $ free1 ! $
-                  move ! (14 ∷ 15 ∷ []) $ free1 ! $
-                  move ! (12 ∷ 13 ∷ []) $ free1 ! $
-                  move ! (10 ∷ 11 ∷ []) $ free1 ! $
-                  move ! (8 ∷ 9 ∷ []) $ free1 ! $
-                  free0 ! $
-                  move ! (5 ∷ []) $
-                  use1 W (‵ (fres (src .name) (codedHoleys Q.the-row .code (heres Q.the-row (set (src .now) (s .gates) (p .keep)))))) (W .names .obs-res (src .name) (codedHoleys Q.the-row .code (heres Q.the-row (set (src .now) (s .gates) (p .keep))))) $
-                  use1 W (‵ (finally Q.the-row (src .name) (set (src .now) (s .gates) (p .keep)))) (res-finally 𝓤 H A W (named 0) κ₁ Q.the-row (src .name) (set (src .now) (s .gates) (p .keep))) $
-                  keep ! (1 ∷ 4 ∷ 0 ∷ 5 ∷ 3 ∷ 7 ∷ 2 ∷ []) $
-                  by ! (exits r w (set (src .now) (s .gates) (p .keep)) (ms .0) (length-set (src .now) (s .gates) (p .keep)) lm (subst (AddIs z (cod .now) L g (set (src .now) (s .gates) (p .keep)) (ms .0)) (sym er) (added-is z (cod .now) s (src .now) (msk .now) g k Qk (is-zero _ yes) Pl (is-zero _ yes₂) refl em))))))))))))))))))))))
+          first ! $ branches ! (load ! (from ! (stop !)) (look ! 21 refl))
+          (λ no.
+          nothing ! $
+          owned ! u8 (Is u8) (uint-makes 𝓤 H A W w8) (k .no) _ (refl, no-fits k u ik) $
+          fjoin ! $
+          owned ! S.the-row (Is S.the-row) (LL.makes S.the-type S′.the-plain 𝓤 H A) s _ is $
+          fjoin ! $
+          nothing ! $
+          use2 W (raw (Said 𝓤 H A mem run .pre (to-step s (k .no)))) (goes-step s (k .no)) $
+          calls-at ! (fmOf 𝓤 H (W .laws) 𝓣) (Said 𝓤 H A mem run) known-step (to-step s (k .no)) (and-then ! (load ! (from ! (stop !)) (look ! 52 refl)) (and-then ! (load ! (from ! (fld ! refl (stop !))) (look-in ! 40 (sub ! 0 refl (whole !)))) (no-more !))) (λ w.
+          use1 W (later (some (λ (r : Step). (‵ ftrue ⊛ ‵ (E.the-row .own r (w ∷ []))) ⊛ raw (ensured 𝓤 H A step.ended (step.clauses 𝓤 H A mem run) tt (s, ((k .no), tt)) tt r)))) (id⊢ 𝓤 _) $ await ! tt $ pick ! (λ r.
+          split ! $
+          move ! (1 ∷ []) $
+          use1 W (raw (fact 𝓤 (r ≡ stepOf s (k .no)))) (stepped s (k .no) r) $ heard ! (r ≡ stepOf s (k .no)) (λ er.
+          split ! $
+          drop ! $
+          peeks ! E.the-row (Is E.the-row) (shows 𝓤 H A E.the-row) r (w ∷ []) (λ ir.
+          land ! (from ! (stop !)) (init ! 54 refl (typed-step r w ir)) $
+          returns-within ! Post refl (look ! 54 refl) $
+          forget ! 22 refl $ forget ! 24 refl $ forget ! 26 refl $ forget ! 40 refl $ forget ! 42 refl $ forget ! 44 refl $ forget ! 46 refl $ forget ! 48 refl $ forget ! 50 refl $ forget ! 52 refl $ forget ! 54 refl $
+          move ! (54 ∷ 55 ∷ []) $ free1 ! $
+          move ! (52 ∷ 53 ∷ []) $ free1 ! $
+          move ! (50 ∷ 51 ∷ []) $ free1 ! $
+          move ! (48 ∷ 49 ∷ []) $ free1 ! $
+          move ! (46 ∷ 47 ∷ []) $ free1 ! $
+          move ! (44 ∷ 45 ∷ []) $ free1 ! $
+          move ! (42 ∷ 43 ∷ []) $ free1 ! $
+          move ! (40 ∷ 41 ∷ []) $ free1 ! $
+          move ! (38 ∷ 39 ∷ []) $ free1 ! $
+          move ! (36 ∷ 37 ∷ []) $ free1 ! $
+          move ! (34 ∷ 35 ∷ []) $ free1 ! $
+          move ! (32 ∷ 33 ∷ []) $ free1 ! $
+          move ! (30 ∷ 31 ∷ []) $ free1 ! $
+          move ! (28 ∷ 29 ∷ []) $ free1 ! $
+          move ! (26 ∷ 27 ∷ []) $ free1 ! $
+          move ! (24 ∷ 25 ∷ []) $ free1 ! $
+          move ! (22 ∷ 23 ∷ []) $ free1 ! $
+          move ! (20 ∷ 21 ∷ []) $ free1 ! $
+          move ! (18 ∷ 19 ∷ []) $ free1 ! $
+          move ! (16 ∷ 17 ∷ []) $ free1 ! $
+          move ! (14 ∷ 15 ∷ []) $ free1 ! $
+          move ! (12 ∷ 13 ∷ []) $ free1 ! $
+          move ! (10 ∷ 11 ∷ []) $ free1 ! $
+          move ! (8 ∷ 9 ∷ []) $ free1 ! $
+          free0 ! $
+          move ! (1 ∷ []) $
+          use1 W (‵ (fres (src .name) (codedHoleys Q.the-row .code (heres Q.the-row (src .now))))) (W .names .obs-res (src .name) (codedHoleys Q.the-row .code (heres Q.the-row (src .now)))) $
+          use1 W (‵ (finally Q.the-row (src .name) (src .now))) (res-finally 𝓤 H A W (named 0) κ₁ Q.the-row (src .name) (src .now)) $
+          move ! (3 ∷ []) $
+          fsplit ! $
+          drop ! $
+          fsplit ! $
+          use1 W (‵ (fres (msk .name) (codedHoleys R.the-row .code (heres R.the-row (msk .now))))) (W .names .obs-res (msk .name) (codedHoleys R.the-row .code (heres R.the-row (msk .now)))) $
+          use1 W (‵ (finally R.the-row (msk .name) (msk .now))) (res-finally 𝓤 H A W (named 0) κ₂ R.the-row (msk .name) (msk .now)) $
+          keep ! (3 ∷ 0 ∷ 2 ∷ 5 ∷ 6 ∷ 7 ∷ 8 ∷ []) $
+          by ! (exits r w (src .now) (msk .now) refl refl (subst (AddIs z (cod .now) L g (src .now) (msk .now)) (sym er) (first-refused z (cod .now) s (src .now) (msk .now) g k Qk (not-zero _ no)))))))))
+          (λ yes.
+          skips ! $ exec ! C Λ En mir-of.t-6 (atRet En Post) $
+          assigns ! (of-opd ! (load ! (from ! (fld ! refl (stop !))) (look-in ! 39 (sub ! 1 refl (whole !))))) (from ! (stop !)) (init ! 37 refl (tt, record { fits = first-fits k u ik })) $
+          assigns ! (of-opd ! (load ! (from ! (fld ! refl (stop !))) (look-in ! 39 (sub ! 2 refl (whole !))))) (from ! (stop !)) (init ! 35 refl (tt, record { fits = second-fits k u ik })) $
+          assigns ! (bin ! (load ! (from ! (stop !)) (look ! 37 refl)) (lit ! tt) (record { fits = source-fits (length (src .now)) (k .first) (first-place z (cod .now) s (src .now) (msk .now) g k Qk (is-zero _ yes)) (rs .1) })) (from ! (stop !)) (store ! 25 refl (tt, record { fits = source-fits (length (src .now)) (k .first) (first-place z (cod .now) s (src .now) (msk .now) g k Qk (is-zero _ yes)) (rs .1) })) $
+          assigns ! (bin ! (load ! (from ! (fld ! refl (stop !))) (look-in ! 45 (sub ! 0 refl (whole !)))) (load ! (from ! (stop !)) (look ! 25 refl)) tt) (from ! (stop !)) (init ! 19 refl (tt, tt)) $
+          rewrite ! 19 (λ (y : ℕ). ‵ (fat fullShare tyPtr l₁₇ 0 (vptr (src .ptr .0) y))) (sym (place-is 28 (src .ptr .1) (k .first))) refl $
+          move ! (0 ∷ 1 ∷ 5 ∷ []) $
+          opens-slice ! tt Q.the-row (src .now) (src .ptr .0) (src .ptr .1) $
+          elem-out ! Q.the-row (Is Q.the-row) (shows 𝓤 H A Q.the-row) (LL.vals Q.the-type Q′.the-laws) (LL.tells Q.the-type Q′.the-laws) fullShare (src .now) (k .first) blankSource (src .ptr .0) (src .ptr .1) (first-place z (cod .now) s (src .now) (msk .now) g k Qk (is-zero _ yes)) (λ ia.
+          assigns ! (of-opd ! (load ! (from ! (hop ! (look ! 22 refl) (stop !))) (look-raw ! 0 refl))) (from ! (stop !)) (init ! 20 refl (LL.lawful Q.the-type Q′.the-laws 𝓤 H A W .typed (getD (src .now) (k .first) blankSource) _ ia .0)) $
+          assigns ! (of-opd ! (load ! (from ! (stop !)) (look ! 20 refl))) (from ! (stop !)) (init ! 36 refl (LL.lawful Q.the-type Q′.the-laws 𝓤 H A W .typed (getD (src .now) (k .first) blankSource) _ ia .0)) $
+          elem-back ! Q.the-row fullShare (src .now) (k .first) blankSource (LL.vals Q.the-type Q′.the-laws (getD (src .now) (k .first) blankSource)) (src .ptr .0) (src .ptr .1) (first-place z (cod .now) s (src .now) (msk .now) g k Qk (is-zero _ yes)) $
+          closes-slice ! tt Q.the-row (src .now) (src .now) refl (src .ptr .0) (src .ptr .1) $
+          assigns ! (bin ! (load ! (from ! (stop !)) (look ! 35 refl)) (lit ! tt) (record { fits = source-fits (length (src .now)) (k .second) (second-place z (cod .now) s (src .now) (msk .now) g k Qk (is-zero _ yes)) (rs .1) })) (from ! (stop !)) (store ! 23 refl (tt, record { fits = source-fits (length (src .now)) (k .second) (second-place z (cod .now) s (src .now) (msk .now) g k Qk (is-zero _ yes)) (rs .1) })) $
+          assigns ! (bin ! (load ! (from ! (fld ! refl (stop !))) (look-in ! 45 (sub ! 0 refl (whole !)))) (load ! (from ! (stop !)) (look ! 23 refl)) tt) (from ! (stop !)) (init ! 15 refl (tt, tt)) $
+          rewrite ! 15 (λ (y : ℕ). ‵ (fat fullShare tyPtr l₁₉ 0 (vptr (src .ptr .0) y))) (sym (place-is 28 (src .ptr .1) (k .second))) refl $
+          opens-slice ! tt Q.the-row (src .now) (src .ptr .0) (src .ptr .1) $
+          elem-out ! Q.the-row (Is Q.the-row) (shows 𝓤 H A Q.the-row) (LL.vals Q.the-type Q′.the-laws) (LL.tells Q.the-type Q′.the-laws) fullShare (src .now) (k .second) blankSource (src .ptr .0) (src .ptr .1) (second-place z (cod .now) s (src .now) (msk .now) g k Qk (is-zero _ yes)) (λ ib.
+          assigns ! (of-opd ! (load ! (from ! (hop ! (look ! 18 refl) (stop !))) (look-raw ! 0 refl))) (from ! (stop !)) (store ! 20 refl (LL.lawful Q.the-type Q′.the-laws 𝓤 H A W .typed (getD (src .now) (k .second) blankSource) _ ib .0)) $
+          assigns ! (of-opd ! (load ! (from ! (stop !)) (look ! 20 refl))) (from ! (stop !)) (init ! 34 refl (LL.lawful Q.the-type Q′.the-laws 𝓤 H A W .typed (getD (src .now) (k .second) blankSource) _ ib .0)) $
+          elem-back ! Q.the-row fullShare (src .now) (k .second) blankSource (LL.vals Q.the-type Q′.the-laws (getD (src .now) (k .second) blankSource)) (src .ptr .0) (src .ptr .1) (second-place z (cod .now) s (src .now) (msk .now) g k Qk (is-zero _ yes)) $
+          closes-slice ! tt Q.the-row (src .now) (src .now) refl (src .ptr .0) (src .ptr .1) $
+          assigns ! (of-opd ! (load ! (from ! (fld ! refl (stop !))) (look-in ! 43 (sub ! 1 refl (whole !))))) (from ! (stop !)) (store ! 25 refl (tt, record { fits = rm .0 })) $
+          move ! (4 ∷ []) $
+          use1 W (‵ Cod ⊛ ‵ Cod) (shr-slice-copy 𝓤 H A W (named 0) κ₀ u8 .twice cod (cv ∷ [])) $
+          split ! $
+          nothing ! $
+          owned ! R.the-row (Is R.the-row) (LL.makes R.the-type R′.the-plain 𝓤 H A) g _ ig $
+          fjoin ! $
+          owned ! Q.the-row (Is Q.the-row) (LL.makes Q.the-type Q′.the-plain 𝓤 H A) (getD (src .now) (k .second) blankSource) _ ib $
+          fjoin ! $
+          owned ! Q.the-row (Is Q.the-row) (LL.makes Q.the-type Q′.the-plain 𝓤 H A) (getD (src .now) (k .first) blankSource) _ ia $
+          fjoin ! $
+          owned ! usize (Is usize) (uint-makes 𝓤 H A W w64) (length (msk .now)) _ (refl, rm .0) $
+          fjoin ! $
+          move ! (1 ∷ 0 ∷ []) $
+          fjoin ! $
+          owned ! S.the-row (Is S.the-row) (LL.makes S.the-type S′.the-plain 𝓤 H A) s _ is $
+          fjoin ! $
+          nothing ! $
+          move ! (8 ∷ 0 ∷ []) $
+          join ! $
+          use2 W (raw (PlanAt 𝓤 H A mem run .pre (to-plan (getD (src .now) (k .first) blankSource) (getD (src .now) (k .second) blankSource)))) (goes-plan (getD (src .now) (k .first) blankSource) (getD (src .now) (k .second) blankSource) (few-gates z (cod .now) s (src .now) (msk .now) g k Qk (is-zero _ yes))) $
+          calls-at ! (fmOf 𝓤 H (W .laws) 𝓣) (PlanAt 𝓤 H A mem run) known-plan (to-plan (getD (src .now) (k .first) blankSource) (getD (src .now) (k .second) blankSource)) (and-then ! (load ! (from ! (stop !)) (look ! 51 refl)) (and-then ! (load ! (from ! (stop !)) (look ! 47 refl)) (and-then ! (load ! (from ! (stop !)) (look ! 25 refl)) (and-then ! (load ! (from ! (stop !)) (look ! 33 refl)) (and-then ! (load ! (from ! (stop !)) (look ! 31 refl)) (and-then ! (load ! (from ! (stop !)) (look ! 49 refl)) (no-more !))))))) (λ u₁.
+          use1 W (later (some (λ (p : Plan). ((‵ (flft κ₀ q₀) ⊛ ‵ ftrue) ⊛ ‵ (P.the-row .own p (u₁ ∷ []))) ⊛ raw (ensured 𝓤 H A planned.ended (planned.clauses 𝓤 H A mem run) (κ₀, tt) (plan-args (getD (src .now) (k .first) blankSource) (getD (src .now) (k .second) blankSource)) tt p)))) (id⊢ 𝓤 _) $ await ! tt $ pick ! (λ p.
+          split ! $
+          move ! (1 ∷ []) $
+          use1 W (raw (fact 𝓤 (PlanOf s (cod .now) (length (msk .now)) (getD (src .now) (k .first) blankSource) (getD (src .now) (k .second) blankSource) g p))) (plans (getD (src .now) (k .first) blankSource) (getD (src .now) (k .second) blankSource) p) $ heard ! (PlanOf s (cod .now) (length (msk .now)) (getD (src .now) (k .first) blankSource) (getD (src .now) (k .second) blankSource) g p) (λ Pl.
+          split ! $
+          move ! (1 ∷ []) $
+          peeks ! P.the-row (Is P.the-row) (shows 𝓤 H A P.the-row) p (u₁ ∷ []) (λ ip.
+          land ! (from ! (stop !)) (init ! 30 refl (typed-plan p u₁ ip)) $ rewrite ! 30 (λ (y : Val). ‵ (fat fullShare P′.mir l₁₂ 0 y)) (ap only (LL.tells P.the-type P′.the-laws p _ ip)) refl $
+          drop ! $
+          split ! $
+          move ! (1 ∷ []) $
+          drop ! $
+          assigns ! (bin ! (load ! (from ! (fld ! refl (stop !))) (look-in ! 29 (sub ! 0 refl (whole !)))) (lit ! tt) tt) (from ! (stop !)) (store ! 21 refl (tt, tt)) $
+          first ! $ branches ! (load ! (from ! (stop !)) (look ! 21 refl))
+          (λ no₂.
+          nothing ! $
+          owned ! u8 (Is u8) (uint-makes 𝓤 H A W w8) (p .no) _ (refl, plan-fits p u₁ ip) $
+          fjoin ! $
+          owned ! S.the-row (Is S.the-row) (LL.makes S.the-type S′.the-plain 𝓤 H A) s _ is $
+          fjoin ! $
+          nothing ! $
+          use2 W (raw (Said 𝓤 H A mem run .pre (to-step s (p .no)))) (goes-step s (p .no)) $
+          calls-at ! (fmOf 𝓤 H (W .laws) 𝓣) (Said 𝓤 H A mem run) known-step (to-step s (p .no)) (and-then ! (load ! (from ! (stop !)) (look ! 52 refl)) (and-then ! (load ! (from ! (fld ! refl (stop !))) (look-in ! 30 (sub ! 0 refl (whole !)))) (no-more !))) (λ w.
+          use1 W (later (some (λ (r : Step). (‵ ftrue ⊛ ‵ (E.the-row .own r (w ∷ []))) ⊛ raw (ensured 𝓤 H A step.ended (step.clauses 𝓤 H A mem run) tt (s, ((p .no), tt)) tt r)))) (id⊢ 𝓤 _) $ await ! tt $ pick ! (λ r.
+          split ! $
+          move ! (1 ∷ []) $
+          use1 W (raw (fact 𝓤 (r ≡ stepOf s (p .no)))) (stepped s (p .no) r) $ heard ! (r ≡ stepOf s (p .no)) (λ er.
+          split ! $
+          drop ! $
+          peeks ! E.the-row (Is E.the-row) (shows 𝓤 H A E.the-row) r (w ∷ []) (λ ir.
+          land ! (from ! (stop !)) (init ! 54 refl (typed-step r w ir)) $
+          returns-within ! Post refl (look ! 54 refl) $
+          forget ! 16 refl $ forget ! 18 refl $ forget ! 20 refl $ forget ! 22 refl $ forget ! 24 refl $ forget ! 26 refl $ forget ! 30 refl $ forget ! 32 refl $ forget ! 34 refl $ forget ! 36 refl $ forget ! 38 refl $ forget ! 40 refl $ forget ! 42 refl $ forget ! 44 refl $ forget ! 46 refl $ forget ! 48 refl $ forget ! 50 refl $ forget ! 52 refl $ forget ! 54 refl $
+          move ! (54 ∷ 55 ∷ []) $ free1 ! $
+          move ! (52 ∷ 53 ∷ []) $ free1 ! $
+          move ! (50 ∷ 51 ∷ []) $ free1 ! $
+          move ! (48 ∷ 49 ∷ []) $ free1 ! $
+          move ! (46 ∷ 47 ∷ []) $ free1 ! $
+          move ! (44 ∷ 45 ∷ []) $ free1 ! $
+          move ! (42 ∷ 43 ∷ []) $ free1 ! $
+          move ! (40 ∷ 41 ∷ []) $ free1 ! $
+          move ! (38 ∷ 39 ∷ []) $ free1 ! $
+          move ! (36 ∷ 37 ∷ []) $ free1 ! $
+          move ! (34 ∷ 35 ∷ []) $ free1 ! $
+          move ! (32 ∷ 33 ∷ []) $ free1 ! $
+          move ! (30 ∷ 31 ∷ []) $ free1 ! $
+          move ! (28 ∷ 29 ∷ []) $ free1 ! $
+          move ! (26 ∷ 27 ∷ []) $ free1 ! $
+          move ! (24 ∷ 25 ∷ []) $ free1 ! $
+          move ! (22 ∷ 23 ∷ []) $ free1 ! $
+          move ! (20 ∷ 21 ∷ []) $ free1 ! $
+          move ! (18 ∷ 19 ∷ []) $ free1 ! $
+          move ! (16 ∷ 17 ∷ []) $ free1 ! $
+          move ! (14 ∷ 15 ∷ []) $ free1 ! $
+          move ! (12 ∷ 13 ∷ []) $ free1 ! $
+          move ! (10 ∷ 11 ∷ []) $ free1 ! $
+          move ! (8 ∷ 9 ∷ []) $ free1 ! $
+          free0 ! $
+          move ! (3 ∷ []) $
+          use1 W (‵ (fres (src .name) (codedHoleys Q.the-row .code (heres Q.the-row (src .now))))) (W .names .obs-res (src .name) (codedHoleys Q.the-row .code (heres Q.the-row (src .now)))) $
+          use1 W (‵ (finally Q.the-row (src .name) (src .now))) (res-finally 𝓤 H A W (named 0) κ₁ Q.the-row (src .name) (src .now)) $
+          move ! (6 ∷ []) $
+          fsplit ! $
+          drop ! $
+          fsplit ! $
+          use1 W (‵ (fres (msk .name) (codedHoleys R.the-row .code (heres R.the-row (msk .now))))) (W .names .obs-res (msk .name) (codedHoleys R.the-row .code (heres R.the-row (msk .now)))) $
+          use1 W (‵ (finally R.the-row (msk .name) (msk .now))) (res-finally 𝓤 H A W (named 0) κ₂ R.the-row (msk .name) (msk .now)) $
+          keep ! (3 ∷ 0 ∷ 2 ∷ 5 ∷ 8 ∷ 7 ∷ 4 ∷ []) $
+          by ! (exits r w (src .now) (msk .now) refl refl (subst (AddIs z (cod .now) L g (src .now) (msk .now)) (sym er) (second-refused z (cod .now) s (src .now) (msk .now) g k Qk (is-zero _ yes) Pl (not-zero _ no₂)))))))))
+          (λ yes₂.
+          skips ! $ exec ! C Λ En mir-of.t-20 (atRet En Post) $
+          assigns ! (un ! (load ! (from ! (fld ! refl (stop !))) (look-in ! 51 (sub ! 0 refl (whole !)))) (record { fits = gates-fit })) (from ! (stop !)) (init ! 27 refl (tt, record { fits = gates-fit })) $
+          assigns ! (bin ! (load ! (from ! (stop !)) (look ! 27 refl)) (lit ! tt) (record { fits = source-fits (length (src .now)) (s .gates) (last-place z (cod .now) s (src .now) (msk .now) g k Qk (is-zero _ yes)) (rs .1) })) (from ! (stop !)) (store ! 25 refl (tt, record { fits = source-fits (length (src .now)) (s .gates) (last-place z (cod .now) s (src .now) (msk .now) g k Qk (is-zero _ yes)) (rs .1) })) $
+          assigns ! (bin ! (load ! (from ! (fld ! refl (stop !))) (look-in ! 45 (sub ! 0 refl (whole !)))) (load ! (from ! (stop !)) (look ! 25 refl)) tt) (from ! (stop !)) (init ! 13 refl (tt, tt)) $
+          rewrite ! 13 (λ (y : ℕ). ‵ (fat fullShare tyPtr l₂₀ 0 (vptr (src .ptr .0) y))) (sym (place-is 28 (src .ptr .1) (s .gates))) refl $
+          move ! (2 ∷ 3 ∷ 4 ∷ []) $
+          opens-slice ! tt Q.the-row (src .now) (src .ptr .0) (src .ptr .1) $
+          elem-out ! Q.the-row (Is Q.the-row) (shows 𝓤 H A Q.the-row) (LL.vals Q.the-type Q′.the-laws) (LL.tells Q.the-type Q′.the-laws) fullShare (src .now) (s .gates) blankSource (src .ptr .0) (src .ptr .1) (last-place z (cod .now) s (src .now) (msk .now) g k Qk (is-zero _ yes)) (λ _.
+          assigns ! (of-opd ! (load ! (from ! (fld ! refl (stop !))) (look-in ! 32 (sub ! 1 refl (whole !))))) (from ! (hop ! (look ! 16 refl) (stop !))) (store-raw ! 0 refl (LL.lawful Q.the-type Q′.the-laws 𝓤 H A W .typed (p .keep) _ (keep-is p u₁ ip) .0)) $
+          move ! (1 ∷ []) $
+          drop ! $
+          owned ! Q.the-row (Is Q.the-row) (LL.makes Q.the-type Q′.the-plain 𝓤 H A) (p .keep) _ (keep-is p u₁ ip) $
+          move ! (1 ∷ 0 ∷ []) $
+          elem-put ! Q.the-row fullShare (src .now) (s .gates) (p .keep) (LL.vals Q.the-type Q′.the-laws (p .keep)) (src .ptr .0) (src .ptr .1) (last-place z (cod .now) s (src .now) (msk .now) g k Qk (is-zero _ yes)) $
+          closes-slice ! tt Q.the-row (src .now) (set (src .now) (s .gates) (p .keep)) (length-set (src .now) (s .gates) (p .keep)) (src .ptr .0) (src .ptr .1) $
+          assigns ! (addr ! (from ! (fld ! refl (hop ! (look-in ! 43 (sub ! 0 refl (whole !))) (stop !))))) (from ! (stop !)) (init ! 9 refl (tt, tt)) $
+          assigns ! (agg ! (and-then ! (load ! (from ! (stop !)) (look ! 9 refl)) (and-then ! (load ! (from ! (fld ! refl (stop !))) (look-in ! 43 (sub ! 1 refl (whole !)))) (no-more !)))) (from ! (stop !)) (init ! 7 refl (tt, (tt, (record { fits = rm .0 }, tt)))) $
+          assigns ! (un ! (load ! (from ! (fld ! refl (stop !))) (look-in ! 51 (sub ! 1 refl (whole !)))) (record { fits = masked-fit })) (from ! (stop !)) (store ! 23 refl (tt, record { fits = masked-fit })) $
+          move ! (4 ∷ []) $
+          use1 W (‵ Cod ⊛ ‵ Cod) (shr-slice-copy 𝓤 H A W (named 0) κ₀ u8 .twice cod (cv ∷ [])) $
+          split ! $
+          nothing ! $
+          owned ! usize (Is usize) (uint-makes 𝓤 H A W w64) (p .count) _ (refl, count-fits p u₁ ip) $
+          fjoin ! $
+          owned ! X.the-row (Is X.the-row) (LL.makes X.the-type X′.the-plain 𝓤 H A) (p .steps) _ (steps-is p u₁ ip) $
+          fjoin ! $
+          owned ! usize (Is usize) (uint-makes 𝓤 H A W w64) (s .masked) _ (refl, masked-fit) $
+          fjoin ! $
+          move ! (1 ∷ 0 ∷ []) $
+          fjoin ! $
+          move ! (6 ∷ 0 ∷ []) $
+          fjoin ! $
+          nothing ! $
+          move ! (6 ∷ 0 ∷ []) $
+          join ! $
+          move ! (6 ∷ 0 ∷ []) $
+          join ! $
+          use2 W (raw (Write 𝓤 H A mem run .pre (to-write p))) (goes-write p (fits z (cod .now) s (src .now) (msk .now) g k Qk (is-zero _ yes) Pl (is-zero _ yes₂))) $
+          calls-at ! (fmOf 𝓤 H (W .laws) 𝓣) (Write 𝓤 H A mem run) known-write (to-write p) (and-then ! (load ! (from ! (stop !)) (look ! 5 refl)) (and-then ! (load ! (from ! (stop !)) (look ! 45 refl)) (and-then ! (load ! (from ! (stop !)) (look ! 21 refl)) (and-then ! (load ! (from ! (fld ! refl (stop !))) (look-in ! 27 (sub ! 2 refl (whole !)))) (and-then ! (load ! (from ! (fld ! refl (stop !))) (look-in ! 27 (sub ! 3 refl (whole !)))) (no-more !)))))) (λ u₂.
+          use1 W (later (some (λ (t : Unit {0}). ((‵ (flft κ₂ q₂) ⊛ (‵ (flft κ₀ q₀) ⊛ ‵ ftrue)) ⊛ ‵ (Nothing .own t (u₂ ∷ []))) ⊛ raw (ensured 𝓤 H A write.ended (write.clauses 𝓤 H A mem run) (κ₂, (κ₀, tt)) (msk, (cod, (s .masked, (p .steps, (p .count, tt))))) tt t)))) (id⊢ 𝓤 _) $ await ! tt $ pick ! (λ t.
+          split ! $
+          move ! (1 ∷ []) $
+          use1 W (some (λ (ms : WriteZs). ‵ (lasts write.ended (κ₂, (κ₀, tt)) (msk, (cod, (s .masked, (p .steps, (p .count, tt))))) ms) ⊛ raw (fact 𝓤 (ms .0 ≡ sets (msk .now) (s .masked) (take (p .count) (batchGates (cod .now) (p .steps))))))) (id⊢ 𝓤 _) $ pick ! (λ ms.
+          split ! $
+          move ! (1 ∷ []) $
+          heard ! (ms .0 ≡ sets (msk .now) (s .masked) (take (p .count) (batchGates (cod .now) (p .steps)))) (λ em.
+          fsplit ! $
+          fsplit ! $
+          move ! (1 ∷ []) $
+          feqL ! (λ lm.
+          move ! (1 ∷ []) $
+          drop ! $
+          move ! (1 ∷ []) $
+          split ! $
+          move ! (1 ∷ []) $
+          peeks ! Nothing (Is Nothing) (shows 𝓤 H A Nothing) t (u₂ ∷ []) (λ in₀.
+          land ! (from ! (stop !)) (init ! 11 refl (nothing-lawful 𝓤 H A W .typed t _ in₀ .0)) $
+          drop ! $
+          split ! $
+          move ! (1 ∷ []) $
+          split ! $
+          move ! (1 ∷ []) $
+          drop ! $
+          nothing ! $
+          owned ! u8 (Is u8) (uint-makes 𝓤 H A W w8) 0 _ (refl, lit< tt) $
+          fjoin ! $
+          owned ! S.the-row (Is S.the-row) (LL.makes S.the-type S′.the-plain 𝓤 H A) (p .session) _ (session-is p u₁ ip) $
+          fjoin ! $
+          nothing ! $
+          use2 W (raw (Said 𝓤 H A mem run .pre (to-step (p .session) 0))) (goes-step (p .session) 0) $
+          calls-at ! (fmOf 𝓤 H (W .laws) 𝓣) (Said 𝓤 H A mem run) known-step (to-step (p .session) 0) (and-then ! (load ! (from ! (fld ! refl (stop !))) (look-in ! 30 (sub ! 4 refl (whole !)))) (and-then ! (lit ! tt) (no-more !))) (λ w.
+          use1 W (later (some (λ (r : Step). (‵ ftrue ⊛ ‵ (E.the-row .own r (w ∷ []))) ⊛ raw (ensured 𝓤 H A step.ended (step.clauses 𝓤 H A mem run) tt ((p .session), (0, tt)) tt r)))) (id⊢ 𝓤 _) $ await ! tt $ pick ! (λ r.
+          split ! $
+          move ! (1 ∷ []) $
+          use1 W (raw (fact 𝓤 (r ≡ stepOf (p .session) 0))) (stepped (p .session) 0 r) $ heard ! (r ≡ stepOf (p .session) 0) (λ er.
+          split ! $
+          drop ! $
+          peeks ! E.the-row (Is E.the-row) (shows 𝓤 H A E.the-row) r (w ∷ []) (λ ir.
+          land ! (from ! (stop !)) (init ! 54 refl (typed-step r w ir)) $
+          returns ! (look ! 54 refl) $
+          forget ! 8 refl $ forget ! 10 refl $ forget ! 12 refl $ forget ! 14 refl $ forget ! 16 refl $ forget ! 18 refl $ forget ! 20 refl $ forget ! 22 refl $ forget ! 24 refl $ forget ! 26 refl $ forget ! 28 refl $ forget ! 30 refl $ forget ! 32 refl $ forget ! 34 refl $ forget ! 36 refl $ forget ! 38 refl $ forget ! 40 refl $ forget ! 42 refl $ forget ! 44 refl $ forget ! 46 refl $ forget ! 48 refl $ forget ! 50 refl $ forget ! 52 refl $ forget ! 54 refl $
+          move ! (54 ∷ 55 ∷ []) $ free1 ! $
+          move ! (52 ∷ 53 ∷ []) $ free1 ! $
+          move ! (50 ∷ 51 ∷ []) $ free1 ! $
+          move ! (48 ∷ 49 ∷ []) $ free1 ! $
+          move ! (46 ∷ 47 ∷ []) $ free1 ! $
+          move ! (44 ∷ 45 ∷ []) $ free1 ! $
+          move ! (42 ∷ 43 ∷ []) $ free1 ! $
+          move ! (40 ∷ 41 ∷ []) $ free1 ! $
+          move ! (38 ∷ 39 ∷ []) $ free1 ! $
+          move ! (36 ∷ 37 ∷ []) $ free1 ! $
+          move ! (34 ∷ 35 ∷ []) $ free1 ! $
+          move ! (32 ∷ 33 ∷ []) $ free1 ! $
+          move ! (30 ∷ 31 ∷ []) $ free1 ! $
+          move ! (28 ∷ 29 ∷ []) $ free1 ! $
+          move ! (26 ∷ 27 ∷ []) $ free1 ! $
+          move ! (24 ∷ 25 ∷ []) $ free1 ! $
+          move ! (22 ∷ 23 ∷ []) $ free1 ! $
+          move ! (20 ∷ 21 ∷ []) $ free1 ! $
+          move ! (18 ∷ 19 ∷ []) $ free1 ! $
+          move ! (16 ∷ 17 ∷ []) $ free1 ! $
+          move ! (14 ∷ 15 ∷ []) $ free1 ! $
+          move ! (12 ∷ 13 ∷ []) $ free1 ! $
+          move ! (10 ∷ 11 ∷ []) $ free1 ! $
+          move ! (8 ∷ 9 ∷ []) $ free1 ! $
+          free0 ! $
+          move ! (5 ∷ []) $
+          use1 W (‵ (fres (src .name) (codedHoleys Q.the-row .code (heres Q.the-row (set (src .now) (s .gates) (p .keep)))))) (W .names .obs-res (src .name) (codedHoleys Q.the-row .code (heres Q.the-row (set (src .now) (s .gates) (p .keep))))) $
+          use1 W (‵ (finally Q.the-row (src .name) (set (src .now) (s .gates) (p .keep)))) (res-finally 𝓤 H A W (named 0) κ₁ Q.the-row (src .name) (set (src .now) (s .gates) (p .keep))) $
+          keep ! (1 ∷ 4 ∷ 0 ∷ 5 ∷ 3 ∷ 7 ∷ 2 ∷ []) $
+          by ! (exits r w (set (src .now) (s .gates) (p .keep)) (ms .0) (length-set (src .now) (s .gates) (p .keep)) lm (subst (AddIs z (cod .now) L g (set (src .now) (s .gates) (p .keep)) (ms .0)) (sym er) (added-is z (cod .now) s (src .now) (msk .now) g k Qk (is-zero _ yes) Pl (is-zero _ yes₂) refl em))))))))))))))))))))))
 
     walk : ent 𝓤 (onEntry 𝓤 H A add.signature (κ₀, (κ₁, (κ₂, tt))) (q₀, (q₁, (q₂, tt))) a vals) (WpFn 𝓤 H C Λ code.function (sv ∷ gv ∷ cv ∷ av ∷ mv ∷ zv ∷ []) Post)
     walk =
