@@ -64,7 +64,7 @@ fn question(widths: &[u32], codes: &[u8], room: usize, sizes: Sizes) -> u8
     if (l.wires as u64) < bits {
         return 5;
     }
-    if !lists::codes(codes, bits as usize) {
+    if !lists::valid_codes(codes, bits as usize) {
         return 11;
     }
     if room < 3 + crate::batch::publics(codes, codes.len()) as usize {

@@ -12,7 +12,7 @@ use Rattle.session_plan.proofs.opening.question.Statement.{statement}
 use Rattle.session_plan.proofs.opening.question.Tie as tie
 use Rattle.session_plan.proofs.opening.question.Reads as reads
 use Rattle.session_plan.proofs.opening.question.Lts as lts
-use Rattle.lists.proofs.codes.Reads as codes-reads
+use Rattle.lists.proofs.valid_codes.Reads as codes-reads
 use Rattle.netlist.proofs.small.Reads as small-reads
 use Rattle.session_plan.proofs.batch.publics.Reads as publics-reads
 use Rattle.session_plan.proofs.opening.positive.Reads as positive-reads
@@ -44,19 +44,19 @@ returns-3 c = let a = c .before .before .before .before .before .before .before 
     (omega (arith, c .before .before .before .if2 .left, ap (λ (l : Limits). l .inputs) (c .before .before .before .before .before .before .before .small .ensures)))
     (omega (arith, c .if3 .taken, c .before .before .total .ensures, ap (λ (l : Limits). l .wires) (c .before .before .before .before .before .before .before .small .ensures)))
 
-codes-requires : tie.Need-codes-requires
-codes-requires c κs = search needs
+valid-codes-requires : tie.Need-valid-codes-requires
+valid-codes-requires c κs = search needs
 
 returns-4 : tie.Need-returns-4
 returns-4 c = let a = c .before .before .before .before .before .before .before .before .before .before .before .before .args in
     no-eleven (a .sizes) (a .widths .now) (a .codes .now) (a .room) (sym (c .before .before .before .before .before .before .before .before .positive .ensures) ∙ not-no _ (c .before .before .before .before .before .before .before .if1 .left))
     (omega (arith, c .before .before .before .before .before .if2 .left, ap (λ (l : Limits). l .inputs) (c .before .before .before .before .before .before .before .before .before .small .ensures)))
     (omega (arith, c .before .before .if3 .left, c .before .before .before .before .total .ensures, ap (λ (l : Limits). l .wires) (c .before .before .before .before .before .before .before .before .before .small .ensures)))
-    (ap (λ (n : ℕ). listGood isInputCode n (a .codes .now)) (sym (c .before .before .before .before .total .ensures)) ∙ sym (c .before .codes .ensures) ∙ not-yes _ (c .if4 .taken))
+    (ap (λ (n : ℕ). listGood isInputCode n (a .codes .now)) (sym (c .before .before .before .before .total .ensures)) ∙ sym (c .before .valid-codes .ensures) ∙ not-yes _ (c .if4 .taken))
 
 publics-requires : tie.Need-publics-requires
 publics-requires c κs = let a = c .before .before .before .before .before .before .before .before .before .before .before .before .args in
-    let n = few-codes (a .sizes) (a .codes .now) (sym (c .before .codes .ensures) ∙ not-no _ (c .if4 .left))
+    let n = few-codes (a .sizes) (a .codes .now) (sym (c .before .valid-codes .ensures) ∙ not-no _ (c .if4 .left))
     (omega (arith, c .before .before .if3 .left, ap (λ (l : Limits). l .wires) (c .before .before .before .before .before .before .before .before .before .small .ensures))) in
     (omega arith, omega (arith, n))
 
@@ -71,7 +71,7 @@ returns-5 c = let a = c .before .before .before .before .before .before .before 
     no-fourteen (a .sizes) (a .widths .now) (a .codes .now) (a .room) (sym (c .before .before .before .before .before .before .before .before .before .before .positive .ensures) ∙ not-no _ (c .before .before .before .before .before .before .before .before .before .if1 .left))
     (omega (arith, c .before .before .before .before .before .before .before .if2 .left, ap (λ (l : Limits). l .inputs) (c .before .before .before .before .before .before .before .before .before .before .before .small .ensures)))
     (omega (arith, c .before .before .before .before .if3 .left, c .before .before .before .before .before .before .total .ensures, ap (λ (l : Limits). l .wires) (c .before .before .before .before .before .before .before .before .before .before .before .small .ensures)))
-    (ap (λ (n : ℕ). listGood isInputCode n (a .codes .now)) (sym (c .before .before .before .before .before .before .total .ensures)) ∙ sym (c .before .before .before .codes .ensures) ∙ not-no _ (c .before .before .if4 .left))
+    (ap (λ (n : ℕ). listGood isInputCode n (a .codes .now)) (sym (c .before .before .before .before .before .before .total .ensures)) ∙ sym (c .before .before .before .valid-codes .ensures) ∙ not-no _ (c .before .before .if4 .left))
     (omega (arith, c .if5 .taken, open-count (a .codes .now) (c .before .publics .ensures)))
 
 returns-6 : tie.Need-returns-6
@@ -79,7 +79,7 @@ returns-6 c = let a = c .before .before .before .before .before .before .before 
     no-none (a .sizes) (a .widths .now) (a .codes .now) (a .room) (sym (c .before .before .before .before .before .before .before .before .before .before .positive .ensures) ∙ not-no _ (c .before .before .before .before .before .before .before .before .before .if1 .left))
     (omega (arith, c .before .before .before .before .before .before .before .if2 .left, ap (λ (l : Limits). l .inputs) (c .before .before .before .before .before .before .before .before .before .before .before .small .ensures)))
     (omega (arith, c .before .before .before .before .if3 .left, c .before .before .before .before .before .before .total .ensures, ap (λ (l : Limits). l .wires) (c .before .before .before .before .before .before .before .before .before .before .before .small .ensures)))
-    (ap (λ (n : ℕ). listGood isInputCode n (a .codes .now)) (sym (c .before .before .before .before .before .before .total .ensures)) ∙ sym (c .before .before .before .codes .ensures) ∙ not-no _ (c .before .before .if4 .left))
+    (ap (λ (n : ℕ). listGood isInputCode n (a .codes .now)) (sym (c .before .before .before .before .before .before .total .ensures)) ∙ sym (c .before .before .before .valid-codes .ensures) ∙ not-no _ (c .before .before .if4 .left))
     (omega (arith, c .if5 .left, open-count (a .codes .now) (c .before .publics .ensures)))
 
 pub question-spec : {M : Type 1} → statement M
@@ -93,7 +93,7 @@ question-spec =
     total-requires
     cast-if3
     returns-3
-    codes-requires
+    valid-codes-requires
     returns-4
     publics-requires
     cast-if5
