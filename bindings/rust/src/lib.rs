@@ -4,6 +4,7 @@
 //!
 //! - [`mask`] turns a source netlist into a masked one, in which every bit travels under a mask,
 //! - [`twins`] says where each source wire stands in the masked netlist,
+//! - [`Session`] keeps a source that grows gate by gate, and shrinks again, masked at every moment,
 //! - [`check`] says whether a netlist is clean, or names a leak on one of its wires; [`check_pairs`] also
 //!   whether listed pairs of wires leak together,
 //! - [`run`] evaluates a netlist, [`run64`] on sixty-four settings at once,
@@ -41,6 +42,7 @@ mod join;
 pub mod lent;
 mod old;
 mod pairs;
+mod session;
 mod tables;
 mod twins;
 mod verilog;
@@ -50,6 +52,10 @@ pub use aiger::{from_aiger, from_aiger_lent};
 pub use join::{join, join_lent};
 pub use old::{from_old, from_old_lent, to_old, to_old_lent};
 pub use pairs::{check_pairs, check_pairs_lent, Pairs};
+pub use session::{
+    session_add_lent, session_masked_lent, session_open_lent, session_take_off_lent, session_text_lent, Gate,
+    GateRecord, Session, SessionState, SourceGate,
+};
 pub use tables::{Sizes, Tables};
 pub use twins::{twins, twins_lent, Twin};
 pub use verilog::{from_verilog, from_verilog_lent, NameTables};
@@ -78,6 +84,8 @@ struct Pages;
 /// 13. Mask: has the wanted list one fitting entry for each output bit?
 /// 14. Can each result buffer hold its whole result?
 /// 15. To the older dialect, after 9: only XOR, AND and INV, at most two input values and one output value?
+/// 23. Session: is there a gate to take off?
+/// 24. Session: is there room for one gate more, and one wire more within the limit?
 /// 25. Join: do the codes meet, none of them 0, and has the second a gate for each output bit?
 ///
 /// 21 (check with pairs, after 12): is the list's length even and each entry a wire of the netlist?
