@@ -726,8 +726,8 @@ int64_t baseline_run64(const uint8_t *text, size_t text_len,
 /* ---- Mask */
 
 /* The code that neither of two different codes is; the code after a code. */
-static const uint8_t third[4][4] = {{0, 0, 0, 0}, {0, 0, 3, 2}, {0, 3, 0, 1}, {0, 2, 1, 0}};
-static const uint8_t after[4] = {0, 2, 3, 1};
+static inline uint8_t third(uint8_t e, uint8_t f) { return e ^ f; }
+static inline uint8_t after(uint8_t e) { return (uint8_t)(e % 3 + 1); }
 
 /* A masked netlist in the making: the source's input bits, the next wire, and the text. */
 struct masking {
@@ -759,8 +759,8 @@ ALWAYS uint32_t put_eqw(struct masking *m, uint32_t a)
     return m->next++;
 }
 
-/* The wire of a code's mask. */
-ALWAYS uint32_t mask_wire(const struct masking *m, uint8_t code) { return m->bits + code - 1; }
+/* The wire of a code's mask; m0's for what is no code. */
+ALWAYS uint32_t mask_wire(const struct masking *m, uint8_t code) { return code == 0 ? m->bits : m->bits + code - 1; }
 
 /* The seven steps of an AND of operands a and b with mask wires p and q. */
 ALWAYS uint32_t put_masked_and(struct masking *m, uint32_t a, uint32_t b, uint32_t p, uint32_t q)
@@ -784,11 +784,11 @@ struct twin {
 ALWAYS struct twin mask_twin(struct masking *m, uint32_t kind, struct twin a, struct twin b)
 {
     if ((kind == XOR || kind == AND) && b.code == a.code) {
-        b.wire = put_xor(m, b.wire, mask_wire(m, after[a.code]));
-        b.code = third[a.code][after[a.code]];
+        b.wire = put_xor(m, b.wire, mask_wire(m, after(a.code)));
+        b.code = third(a.code, after(a.code));
     }
     switch (kind) {
-    case XOR: return (struct twin){put_xor(m, a.wire, b.wire), third[a.code][b.code]};
+    case XOR: return (struct twin){put_xor(m, a.wire, b.wire), third(a.code, b.code)};
     case AND: return (struct twin){put_masked_and(m, a.wire, b.wire, mask_wire(m, a.code), mask_wire(m, b.code)), a.code};
     case INV: return (struct twin){put_inv(m, a.wire), a.code};
     case EQW: return (struct twin){put_eqw(m, a.wire), a.code};
@@ -843,7 +843,7 @@ ALWAYS void mask_gates(struct masking *m, const struct header *h, const uint8_t 
         if (wanted[i] == 0 || wanted[i] == code)
             put_eqw(m, wires[first + i]);
         else
-            put_xor(m, wires[first + i], mask_wire(m, third[code][wanted[i]]));
+            put_xor(m, wires[first + i], mask_wire(m, third(code, wanted[i])));
     }
 }
 
@@ -1031,7 +1031,7 @@ fidrovelj_step baseline_session_add(fidrovelj_session session, fidrovelj_gate ga
                                     uint8_t sizes)
 {
     const struct limits *l = &small_limits[sizes != 0];
-    if (session.gates >= source_len || codes_len + session.gates >= l->wires)
+    if (session.gates >= source_len || codes_len >= l->wires || codes_len + session.gates >= l->wires)
         return refused_step(session, 24);
     uint32_t n = (uint32_t)codes_len, kind = kind_of(gate);
     int no = ask_record(gate, n + session.gates);
@@ -1044,7 +1044,8 @@ fidrovelj_step baseline_session_add(fidrovelj_session session, fidrovelj_gate ga
         b = session_twin(codes, n, source, gate.second);
     struct masking count = {n, 0, {COUNTING, NULL, 0, NULL}};
     mask_twin(&count, kind, a, b);
-    if ((uint64_t)session.masked + count.next > masked_len)
+    uint64_t behind = (uint64_t)session.masked + count.next;
+    if (behind > masked_len || behind > (uint64_t)1 << 30)
         return refused_step(session, 14);
     struct masking list = {n, n + 2 + session.masked, {LISTING, NULL, 0, masked + session.masked}};
     struct twin twin = mask_twin(&list, kind, a, b);
@@ -1055,9 +1056,10 @@ fidrovelj_step baseline_session_add(fidrovelj_session session, fidrovelj_gate ga
 
 fidrovelj_step baseline_session_take_off(fidrovelj_session session, const fidrovelj_source_gate *source, size_t source_len)
 {
-    if (session.gates == 0 || session.gates > source_len)
+    if (session.gates == 0)
         return refused_step(session, 23);
-    return (fidrovelj_step){{session.gates - 1, source[session.gates - 1].from}, 0};
+    uint32_t gates = session.gates - 1;
+    return (fidrovelj_step){{gates, gates < source_len ? source[gates].from : 0}, 0};
 }
 
 /* The session's netlist into tables that are long enough: questions 4, 5 and 7 to 9. */

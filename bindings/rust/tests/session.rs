@@ -714,8 +714,57 @@ fn order() {
 
 // ---- lists that no opening made
 
-/// Any numbers in sessions and lists: a step answers, a refusal changes nothing, and what is written lies in the lists behind the
-/// session's numbers. Questions 23, 24 and 7 to 9 are put as ever.
+/// The masked gates that a gate gets and the record that is kept, from whatever the codes and the records say of its operands. The
+/// questions admit the gate.
+fn any_step(lent: &Lent, gate: &Gate) -> (Vec<GateRecord>, SourceGate) {
+    let n = lent.codes.len();
+    let bits = n as u32;
+    let twin = |wire: usize| match lent.codes.get(wire) {
+        None => (lent.source[wire - n].wire, lent.source[wire - n].code),
+        Some(0) => (bits + 5 + lent.codes[..wire].iter().filter(|&&code| code == 0).count() as u32, 1),
+        Some(&code) => (wire as u32, code),
+    };
+    let mask = |code: u8| bits + u32::from(code.max(1)) - 1;
+    let mut gates = Vec::new();
+    let mut make = |kind: u32, first: u32, second: u32| {
+        let result = lent.state.masked.wrapping_add(bits + 2 + gates.len() as u32);
+        gates.push(GateRecord { kind, first, second, result });
+        result
+    };
+    let parted = |make: &mut dyn FnMut(u32, u32, u32) -> u32, a: usize, b: usize| {
+        let ((wire, code), (other, other_code)) = (twin(a), twin(b));
+        let after = other_code % 3 + 1;
+        match code == other_code {
+            true => (wire, code, make(1, other, mask(after)), other_code ^ after),
+            false => (wire, code, other, other_code),
+        }
+    };
+    let (wire, code) = match *gate {
+        Gate::Xor(a, b, _) => {
+            let (wire, code, other, other_code) = parted(&mut make, a, b);
+            (make(1, wire, other), code ^ other_code)
+        }
+        Gate::And(a, b, _) => {
+            let (wire, code, other, other_code) = parted(&mut make, a, b);
+            let (p, q) = (mask(code), mask(other_code));
+            let s1 = make(2, wire, other);
+            let s2 = make(2, wire, q);
+            let s3 = make(1, s2, q);
+            let s4 = make(1, s1, s3);
+            let s5 = make(2, p, other);
+            let s6 = make(1, s5, bits + 4);
+            (make(1, s4, s6), code)
+        }
+        Gate::Inv(a, _) => (make(3, twin(a).0, 0), twin(a).1),
+        Gate::Eqw(a, _) => (make(4, twin(a).0, 0), twin(a).1),
+        Gate::Eq(0, _) => (make(4, bits, 0), 1),
+        Gate::Eq(..) => (make(3, bits, 0), 1),
+    };
+    let GateRecord { kind, first, second, result } = record_of(gate);
+    (gates, SourceGate { kind, first, second, result, wire, from: lent.state.masked, code })
+}
+
+/// Any numbers in sessions, codes and lists: a step answers by the same rules, from whatever stands there.
 #[test]
 fn any_lists() {
     let count = setting("FIDROVELJ_CALLS", 200_000) / 4;
@@ -747,8 +796,9 @@ fn any_lists() {
             lent.assert_written(&name, &before, 0, 0);
             if gates == 0 {
                 assert_eq!(answer, Err(Refused(23)), "{name}");
-            } else if gates as usize <= places {
-                let from = before.source[gates as usize - 1].from;
+            } else {
+                // A session with more gates than the list has records.
+                let from = before.source[..places].get(gates as usize - 1).map_or(0, |gate| gate.from);
                 assert_eq!(answer, Ok(()), "{name}");
                 assert_eq!(lent.state, SessionState { gates: gates - 1, masked: from }, "{name}");
             }
@@ -761,32 +811,25 @@ fn any_lists() {
         let answer = lent.add(record);
         let question = answer.err().map_or(0, |Refused(question)| question);
         let full = gates as usize >= places || next >= sizes.small().wires;
-        let asked = if full {
-            Some(24)
-        } else {
-            let opened = vec![Gate::Eq(0, 0); gates as usize];
-            let model = Model { sizes, widths: vec![bits], codes: vec![1; bits], gates: opened };
-            // Whatever the twins are, 7 to 9 are put to the gate and the next wire alone.
-            model.asked(&record).err()
-        };
-        match asked {
-            Some(expected) => assert_eq!(question, expected, "{name}: {record:?}"),
-            None => assert!(question == 0 || question == 14, "{name}: {record:?} is refused by {question}"),
-        }
+        // 7 to 9 are put to the gate and the next wire alone, whatever the records are.
+        let given = vec![Gate::Eq(0, 0); if full { 0 } else { gates as usize }];
+        let model = Model { sizes, widths: vec![bits], codes: vec![1; bits], gates: given };
+        let expected = ask(24, !full).and_then(|()| model.asked(&record)).and_then(|gate| {
+            let step = any_step(&before, &gate);
+            ask(14, masked as usize + step.0.len() <= room)?;
+            Ok(step)
+        });
         ended[usize::from(question)] += 1;
-        if question != 0 {
+        assert_eq!(question, expected.as_ref().err().copied().unwrap_or(0), "{name}: {record:?}");
+        let Ok((gates_added, kept)) = expected else {
             assert!(lent == before, "{name}: a refusal changes nothing");
             continue;
-        }
-        assert_eq!(lent.state.gates, gates + 1, "{name}");
-        let added = (lent.state.masked - masked) as usize;
-        assert!(
-            (1..=8).contains(&added) && lent.state.masked as usize <= room,
-            "{name}: {added} masked gates"
-        );
-        lent.assert_written(&name, &before, 1, added);
-        let SourceGate { kind, first, second, result, from, .. } = lent.source[gates as usize];
-        assert_eq!((GateRecord { kind, first, second, result }, from), (record, masked), "{name}");
+        };
+        let behind = masked as usize + gates_added.len();
+        assert_eq!(lent.state, SessionState { gates: gates + 1, masked: behind as u32 }, "{name}");
+        lent.assert_written(&name, &before, 1, gates_added.len());
+        assert_eq!(lent.masked[masked as usize..behind], gates_added, "{name}: {record:?}");
+        assert_eq!(lent.source[gates as usize], kept, "{name}: {record:?}");
     }
     println!("steps on any lists, by questions: {ended:?}");
     for question in [0, 7, 8, 9, 14, 24] {
