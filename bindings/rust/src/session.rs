@@ -405,7 +405,8 @@ impl Session {
     }
 
     /// The netlist, in the written form, with output values of these widths: their bits are the last wires. Widths that
-    /// are none or 0 are refused by 4, too many values or bits by 5.
+    /// are none or 0 are refused by 4, too many values or bits by 5; tables that are made for smaller limits than the
+    /// session's by 1.
     pub fn text(&self, outputs: &[u32], tables: &mut Tables) -> Result<Vec<u8>, Refused> {
         let (t, small) = (tables, self.sizes.small());
         let (operands, results) = (lent_front(&mut t.operands, small), lent_front(&mut t.results, small));
