@@ -354,118 +354,6 @@ static void source_wires(void)
     expect(twins("", "12", 4, 4) == -4 && twins("1 3\n2 1 1\n1 1\n2 1 0 1 1 AND\n", "12", 4, 4) == -9, "twins: 4 and 9");
 }
 
-/* ---- joined blocks */
-
-/* M3's masked wire joined with a second text. */
-static int64_t join(const char *second, const char *codes, const char *ends, const char *inner)
-{
-    fill();
-    int64_t answer = fidrovelj_join((const uint8_t *)masked_wire, strlen(masked_wire), (const uint8_t *)second,
-                                    strlen(second), (const uint8_t *)codes, strlen(codes), (const uint8_t *)ends,
-                                    strlen(ends), (const uint8_t *)inner, strlen(inner), out, sizeof out, operands, LARGE,
-                                    results, LARGE, given, LARGE, words, LARGE, base, LARGE, FIDROVELJ_OLD);
-    expect(all(operands, sizeof operands, 0) && all(results, sizeof results, 0) && all(given, sizeof given, 0)
-               && all(words, sizeof words, 0) && all(base, sizeof base, 0),
-           "Join's tables are zero");
-    expect_untouched(answer > 0 ? (size_t)answer : 0, 0, "Join writes its text alone");
-    return answer;
-}
-
-static void joined_blocks(void)
-{
-    expect(text_is(join(masked_wire, "\2", "\2", "\2"),
-                   "8 11\n2 1 2\n1 1\n\n"
-                   "2 1 1 2 3 XOR\n2 1 1 2 4 AND\n2 1 3 4 5 XOR\n1 1 0 6 EQW\n"
-                   "2 1 1 2 7 XOR\n2 1 1 2 8 AND\n2 1 7 8 9 XOR\n1 1 6 10 EQW\n"),
-           "a masked wire joined with itself");
-    expect(join(masked_wire, "\2", "\2", "\3") == -25, "Join, other codes");
-    expect(join(masked_wire, "\2", "\2\2", "\2") == -25, "Join, a code too many");
-    expect(join("0 3\n2 1 2\n1 1\n", "\2", "\2", "\2") == -25, "Join, fewer gates than output bits");
-    expect(join(masked_wire, "\4", "\2", "\2") == -11, "Join, an input code of 4");
-    expect(join(one_wire, "\2", "\2", "\3") == -10, "Join, a second without a mask pair");
-}
-
-/* ---- sixty-four runs */
-
-/* One gate of each form on two bits, all wires put out. */
-static const char each_gate[] =
-    "6 8\n1 2\n1 8\n2 1 0 1 2 XOR\n2 1 0 1 3 AND\n1 1 0 4 INV\n1 1 1 5 EQW\n1 1 0 6 EQ\n1 1 1 7 EQ\n";
-
-static void sixty_four(void)
-{
-    const uint64_t list[3] = {0x9e3779b97f4a7c15, 0xc2b2ae3d27d4eb4f, 1}, a = list[0], b = list[1];
-    const uint64_t expected[8] = {a, b, a ^ b, a & b, ~a, b, 0, UINT64_MAX};
-    uint64_t lanes[8];
-    expect(run64(each_gate, list, 2, 8) == 8, "Run64, an exact fit");
-    memcpy(lanes, words_out, sizeof lanes);
-    expect(memcmp(lanes, expected, sizeof lanes) == 0, "Run64, each gate");
-    for (unsigned j = 0; j < 64; j++) {
-        bool same = true;
-        char bits[3] = {(char)('0' + (a >> j & 1)), (char)('0' + (b >> j & 1)), '\0'};
-        expect(run(each_gate, bits, 8) == 8, "a setting run alone");
-        for (int i = 0; i < 8; i++)
-            same = same && (lanes[i] >> j & 1) == list_out[i];
-        expect(same, "bit j is what Run gives on setting j");
-    }
-    expect(run64(each_gate, list, 1, 8) == -11, "Run64, a word too few");
-    expect(run64(each_gate, list, 3, 8) == -11, "Run64, a word too many");
-    expect(run64(each_gate, list, 1, 7) == -11, "Run64, question 11 comes before 14");
-    expect(run64(each_gate, list, 2, 7) == -14, "Run64, a buffer a word short");
-    expect(run64("1 3\n2 1 1\n1 1\n2 1 0 1 2 MAND\n", list, 2, 8) == -7, "Run64, question 7");
-    expect(fidrovelj_run64((const uint8_t *)each_gate, strlen(each_gate), list, 2, words_out, 8, operands, LARGE,
-                           results, LARGE, given, LARGE, words, LARGE - 1, FIDROVELJ_OLD)
-               == -1,
-           "Run64, question 1");
-}
-
-/* ---- pairs of wires */
-
-static uint64_t bases[LARGE];
-
-/* Both answers' number, with lists of these lengths. */
-static int64_t check_pairs(const char *text, const uint8_t *codes, size_t bits, const uint32_t *pairs, size_t entries,
-                           uint64_t *numbers, size_t numbers_len, uint64_t *bad, size_t bad_len)
-{
-    return fidrovelj_check_pairs((const uint8_t *)text, strlen(text), codes, bits, pairs, entries, numbers, numbers_len,
-                                 bad, bad_len, operands, LARGE, results, LARGE, given, LARGE, words, LARGE, base, LARGE,
-                                 bases, LARGE, FIDROVELJ_OLD);
-}
-
-static void pairs_of_wires(void)
-{
-    /* A bit under m0, then m0 and m1; wire 3 takes the mask off. */
-    static const char *const kept = "0 3\n2 1 2\n1 1\n", *const open = "1 4\n2 1 2\n1 1\n2 1 0 1 3 XOR\n";
-    static const uint8_t under_m0[] = {1};
-    static const uint32_t with_mask[] = {0, 2, 0, 1}, odd[] = {0, 1, 2}, no_wire[] = {0, 3};
-    uint64_t numbers[5] = {9, 9, 9, 9, 9}, bad[2] = {9, 9};
-
-    expect(check_pairs(kept, under_m0, 1, with_mask, 0, numbers, 4, bad, 1) == 0, "no pairs");
-    expect(check_pairs(kept, under_m0, 1, with_mask, 2, numbers, 4, bad, 1) == 0, "a bit and the other mask");
-    expect(bad[0] == 9 && numbers[0] == 9, "nothing is written where all is clean");
-    expect(check_pairs(kept, under_m0, 1, with_mask, 4, numbers, 0, bad, 1) == 2, "a bit and then its mask");
-    expect(bad[0] == 1 && bad[1] == 9 && numbers[0] == 9, "one pair stands before it");
-    bad[0] = 9;
-    expect(check_pairs(open, under_m0, 1, with_mask, 4, numbers, 4, bad, 1) == 3, "a leak and a bad pair");
-    expect(numbers[0] == 3 && numbers[1] == 1 && numbers[2] == 0 && numbers[3] == 4 && numbers[4] == 9, "the leak");
-    expect(bad[0] == 1, "the bad pair beside the leak");
-    numbers[0] = bad[0] = 9;
-    expect(check_pairs(open, under_m0, 1, with_mask, 2, numbers, 4, bad, 0) == 1, "a leak and clean pairs");
-    numbers[0] = 9;
-    expect(check_pairs(open, under_m0, 1, with_mask, 4, numbers, 3, bad, 1) == -14, "a list of three for the leak");
-    expect(check_pairs(open, under_m0, 1, with_mask, 4, numbers, 4, bad, 0) == -14, "no room for the bad pair");
-    expect(numbers[0] == 9 && bad[0] == 9, "a refused call writes to neither list");
-    expect(check_pairs(kept, under_m0, 1, odd, 3, numbers, 4, bad, 1) == -21, "an odd list");
-    expect(check_pairs(kept, under_m0, 1, no_wire, 2, numbers, 4, bad, 1) == -21, "wire W");
-    expect(check_pairs(open, under_m0, 1, no_wire, 2, numbers, 4, bad, 1) == 3, "wire W less 1");
-    expect(check_pairs(kept, (const uint8_t *)"\4", 1, odd, 3, numbers, 4, bad, 1) == -11, "11 before 21");
-    expect(fidrovelj_check_pairs((const uint8_t *)kept, strlen(kept), under_m0, 1, odd, 0, numbers, 4, bad, 1, operands,
-                                 LARGE, results, LARGE, given, LARGE, words, LARGE, base, LARGE, bases, LARGE - 1,
-                                 FIDROVELJ_OLD)
-               == -1,
-           "a table of base words that is short");
-    expect(all(bases, sizeof bases, 0) && all(base, sizeof base, 0) && all(words, sizeof words, 0), "the tables are zero");
-}
-
 /* ---- sessions */
 
 #define PLACES 4
@@ -583,6 +471,118 @@ static void sessions(void)
     expect(session_masked(s, bits, 2, "12", 4) == -13 && session_masked(s, bits, 2, "1", 0) == -11, "a masked text: 13 and 11");
     expect(taken_off(&s) == 0 && taken_off(&s) == 0 && s.gates == 0 && s.masked == 3, "all taken off");
     expect(taken_off(&s) == 23, "none left: 23");
+}
+
+/* ---- joined blocks */
+
+/* M3's masked wire joined with a second text. */
+static int64_t join(const char *second, const char *codes, const char *ends, const char *inner)
+{
+    fill();
+    int64_t answer = fidrovelj_join((const uint8_t *)masked_wire, strlen(masked_wire), (const uint8_t *)second,
+                                    strlen(second), (const uint8_t *)codes, strlen(codes), (const uint8_t *)ends,
+                                    strlen(ends), (const uint8_t *)inner, strlen(inner), out, sizeof out, operands, LARGE,
+                                    results, LARGE, given, LARGE, words, LARGE, base, LARGE, FIDROVELJ_OLD);
+    expect(all(operands, sizeof operands, 0) && all(results, sizeof results, 0) && all(given, sizeof given, 0)
+               && all(words, sizeof words, 0) && all(base, sizeof base, 0),
+           "Join's tables are zero");
+    expect_untouched(answer > 0 ? (size_t)answer : 0, 0, "Join writes its text alone");
+    return answer;
+}
+
+static void joined_blocks(void)
+{
+    expect(text_is(join(masked_wire, "\2", "\2", "\2"),
+                   "8 11\n2 1 2\n1 1\n\n"
+                   "2 1 1 2 3 XOR\n2 1 1 2 4 AND\n2 1 3 4 5 XOR\n1 1 0 6 EQW\n"
+                   "2 1 1 2 7 XOR\n2 1 1 2 8 AND\n2 1 7 8 9 XOR\n1 1 6 10 EQW\n"),
+           "a masked wire joined with itself");
+    expect(join(masked_wire, "\2", "\2", "\3") == -25, "Join, other codes");
+    expect(join(masked_wire, "\2", "\2\2", "\2") == -25, "Join, a code too many");
+    expect(join("0 3\n2 1 2\n1 1\n", "\2", "\2", "\2") == -25, "Join, fewer gates than output bits");
+    expect(join(masked_wire, "\4", "\2", "\2") == -11, "Join, an input code of 4");
+    expect(join(one_wire, "\2", "\2", "\3") == -10, "Join, a second without a mask pair");
+}
+
+/* ---- sixty-four runs */
+
+/* One gate of each form on two bits, all wires put out. */
+static const char each_gate[] =
+    "6 8\n1 2\n1 8\n2 1 0 1 2 XOR\n2 1 0 1 3 AND\n1 1 0 4 INV\n1 1 1 5 EQW\n1 1 0 6 EQ\n1 1 1 7 EQ\n";
+
+static void sixty_four(void)
+{
+    const uint64_t list[3] = {0x9e3779b97f4a7c15, 0xc2b2ae3d27d4eb4f, 1}, a = list[0], b = list[1];
+    const uint64_t expected[8] = {a, b, a ^ b, a & b, ~a, b, 0, UINT64_MAX};
+    uint64_t lanes[8];
+    expect(run64(each_gate, list, 2, 8) == 8, "Run64, an exact fit");
+    memcpy(lanes, words_out, sizeof lanes);
+    expect(memcmp(lanes, expected, sizeof lanes) == 0, "Run64, each gate");
+    for (unsigned j = 0; j < 64; j++) {
+        bool same = true;
+        char bits[3] = {(char)('0' + (a >> j & 1)), (char)('0' + (b >> j & 1)), '\0'};
+        expect(run(each_gate, bits, 8) == 8, "a setting run alone");
+        for (int i = 0; i < 8; i++)
+            same = same && (lanes[i] >> j & 1) == list_out[i];
+        expect(same, "bit j is what Run gives on setting j");
+    }
+    expect(run64(each_gate, list, 1, 8) == -11, "Run64, a word too few");
+    expect(run64(each_gate, list, 3, 8) == -11, "Run64, a word too many");
+    expect(run64(each_gate, list, 1, 7) == -11, "Run64, question 11 comes before 14");
+    expect(run64(each_gate, list, 2, 7) == -14, "Run64, a buffer a word short");
+    expect(run64("1 3\n2 1 1\n1 1\n2 1 0 1 2 MAND\n", list, 2, 8) == -7, "Run64, question 7");
+    expect(fidrovelj_run64((const uint8_t *)each_gate, strlen(each_gate), list, 2, words_out, 8, operands, LARGE,
+                           results, LARGE, given, LARGE, words, LARGE - 1, FIDROVELJ_OLD)
+               == -1,
+           "Run64, question 1");
+}
+
+/* ---- pairs of wires */
+
+static uint64_t bases[LARGE];
+
+/* Both answers' number, with lists of these lengths. */
+static int64_t check_pairs(const char *text, const uint8_t *codes, size_t bits, const uint32_t *pairs, size_t entries,
+                           uint64_t *numbers, size_t numbers_len, uint64_t *bad, size_t bad_len)
+{
+    return fidrovelj_check_pairs((const uint8_t *)text, strlen(text), codes, bits, pairs, entries, numbers, numbers_len,
+                                 bad, bad_len, operands, LARGE, results, LARGE, given, LARGE, words, LARGE, base, LARGE,
+                                 bases, LARGE, FIDROVELJ_OLD);
+}
+
+static void pairs_of_wires(void)
+{
+    /* A bit under m0, then m0 and m1; wire 3 takes the mask off. */
+    static const char *const kept = "0 3\n2 1 2\n1 1\n", *const open = "1 4\n2 1 2\n1 1\n2 1 0 1 3 XOR\n";
+    static const uint8_t under_m0[] = {1};
+    static const uint32_t with_mask[] = {0, 2, 0, 1}, odd[] = {0, 1, 2}, no_wire[] = {0, 3};
+    uint64_t numbers[5] = {9, 9, 9, 9, 9}, bad[2] = {9, 9};
+
+    expect(check_pairs(kept, under_m0, 1, with_mask, 0, numbers, 4, bad, 1) == 0, "no pairs");
+    expect(check_pairs(kept, under_m0, 1, with_mask, 2, numbers, 4, bad, 1) == 0, "a bit and the other mask");
+    expect(bad[0] == 9 && numbers[0] == 9, "nothing is written where all is clean");
+    expect(check_pairs(kept, under_m0, 1, with_mask, 4, numbers, 0, bad, 1) == 2, "a bit and then its mask");
+    expect(bad[0] == 1 && bad[1] == 9 && numbers[0] == 9, "one pair stands before it");
+    bad[0] = 9;
+    expect(check_pairs(open, under_m0, 1, with_mask, 4, numbers, 4, bad, 1) == 3, "a leak and a bad pair");
+    expect(numbers[0] == 3 && numbers[1] == 1 && numbers[2] == 0 && numbers[3] == 4 && numbers[4] == 9, "the leak");
+    expect(bad[0] == 1, "the bad pair beside the leak");
+    numbers[0] = bad[0] = 9;
+    expect(check_pairs(open, under_m0, 1, with_mask, 2, numbers, 4, bad, 0) == 1, "a leak and clean pairs");
+    numbers[0] = 9;
+    expect(check_pairs(open, under_m0, 1, with_mask, 4, numbers, 3, bad, 1) == -14, "a list of three for the leak");
+    expect(check_pairs(open, under_m0, 1, with_mask, 4, numbers, 4, bad, 0) == -14, "no room for the bad pair");
+    expect(numbers[0] == 9 && bad[0] == 9, "a refused call writes to neither list");
+    expect(check_pairs(kept, under_m0, 1, odd, 3, numbers, 4, bad, 1) == -21, "an odd list");
+    expect(check_pairs(kept, under_m0, 1, no_wire, 2, numbers, 4, bad, 1) == -21, "wire W");
+    expect(check_pairs(open, under_m0, 1, no_wire, 2, numbers, 4, bad, 1) == 3, "wire W less 1");
+    expect(check_pairs(kept, (const uint8_t *)"\4", 1, odd, 3, numbers, 4, bad, 1) == -11, "11 before 21");
+    expect(fidrovelj_check_pairs((const uint8_t *)kept, strlen(kept), under_m0, 1, odd, 0, numbers, 4, bad, 1, operands,
+                                 LARGE, results, LARGE, given, LARGE, words, LARGE, base, LARGE, bases, LARGE - 1,
+                                 FIDROVELJ_OLD)
+               == -1,
+           "a table of base words that is short");
+    expect(all(bases, sizeof bases, 0) && all(base, sizeof base, 0) && all(words, sizeof words, 0), "the tables are zero");
 }
 
 /* ---- the limits for whole ciphers */
@@ -713,9 +713,9 @@ int main(void)
     joined_blocks();
     sixty_four();
     source_wires();
+    sessions();
     old_dialect();
     pairs_of_wires();
-    sessions();
     whole_limits();
     equations();
     printf("C: %d checks, %d failed\n", checks, failures);
