@@ -726,8 +726,8 @@ int64_t baseline_run64(const uint8_t *text, size_t text_len,
 /* ---- Mask */
 
 /* The code that neither of two different codes is; the code after a code. */
-static inline uint8_t third(uint8_t e, uint8_t f) { return e ^ f; }
-static inline uint8_t after(uint8_t e) { return (uint8_t)(e % 3 + 1); }
+static inline uint8_t third_code(uint8_t e, uint8_t f) { return e ^ f; }
+static inline uint8_t code_after(uint8_t e) { return (uint8_t)(e % 3 + 1); }
 
 /* A masked netlist in the making: the source's input bits, the next wire, and the text. */
 struct masking {
@@ -784,11 +784,11 @@ struct twin {
 ALWAYS struct twin mask_twin(struct masking *m, uint32_t kind, struct twin a, struct twin b)
 {
     if ((kind == XOR || kind == AND) && b.code == a.code) {
-        b.wire = put_xor(m, b.wire, mask_wire(m, after(a.code)));
-        b.code = third(a.code, after(a.code));
+        b.wire = put_xor(m, b.wire, mask_wire(m, code_after(a.code)));
+        b.code = third_code(a.code, code_after(a.code));
     }
     switch (kind) {
-    case XOR: return (struct twin){put_xor(m, a.wire, b.wire), third(a.code, b.code)};
+    case XOR: return (struct twin){put_xor(m, a.wire, b.wire), third_code(a.code, b.code)};
     case AND: return (struct twin){put_masked_and(m, a.wire, b.wire, mask_wire(m, a.code), mask_wire(m, b.code)), a.code};
     case INV: return (struct twin){put_inv(m, a.wire), a.code};
     case EQW: return (struct twin){put_eqw(m, a.wire), a.code};
@@ -843,7 +843,7 @@ ALWAYS void mask_gates(struct masking *m, const struct header *h, const uint8_t 
         if (wanted[i] == 0 || wanted[i] == code)
             put_eqw(m, wires[first + i]);
         else
-            put_xor(m, wires[first + i], mask_wire(m, third(code, wanted[i])));
+            put_xor(m, wires[first + i], mask_wire(m, third_code(code, wanted[i])));
     }
 }
 
@@ -940,206 +940,6 @@ int64_t baseline_twins(const uint8_t *text, size_t text_len,
     memset(operands, 0, operands_len * sizeof *operands);
     memset(results, 0, results_len * sizeof *results);
     memset(given, 0, given_len);
-    return answer;
-}
-
-/* ---- a session */
-
-/* Questions 4 and 5 of the widths of values: 0, or the number of the first with a no. */
-static int read_widths(const uint32_t *widths, size_t count, struct values *v)
-{
-    *v = (struct values){0};
-    bool zero = count == 0;
-    for (size_t i = 0; i < count; i++) {
-        zero |= widths[i] == 0;
-        if (i < MOST_VALUES)
-            v->width[i] = widths[i];
-        v->bits += widths[i];
-    }
-    v->count = count > MOST_VALUES ? MOST_VALUES : (uint32_t)count;
-    return zero ? 4 : 0;
-}
-
-static fidrovelj_step refused_step(fidrovelj_session session, int question)
-{
-    return (fidrovelj_step){session, (uint8_t)question};
-}
-
-fidrovelj_step baseline_session_open(const uint32_t *widths, size_t widths_len,
-                                     const uint8_t *codes, size_t codes_len,
-                                     fidrovelj_gate *masked, size_t masked_len,
-                                     uint8_t sizes)
-{
-    const struct limits *l = &small_limits[sizes != 0];
-    const fidrovelj_session none = {0, 0};
-    struct values in;
-    int no = read_widths(widths, widths_len, &in);
-    if (no != 0)
-        return refused_step(none, no);
-    if (widths_len > l->inputs || in.bits > l->wires)
-        return refused_step(none, 5);
-    if (!list_good(codes, codes_len, in.bits, 3))
-        return refused_step(none, 11);
-    uint32_t gates = 3, n = (uint32_t)in.bits;
-    for (uint32_t i = 0; i < n; i++)
-        gates += codes[i] == 0;
-    if (gates > masked_len)
-        return refused_step(none, 14);
-    struct masking m = {n, 0, {LISTING, NULL, 0, masked}};
-    mask_masks(&m);
-    for (uint32_t i = 0; i < n; i++) {
-        if (codes[i] == 0)
-            put_xor(&m, i, n);
-    }
-    return (fidrovelj_step){{0, gates}, 0};
-}
-
-/* The twin of a source wire: a public input's stands behind the masks' gates, in input order. */
-static struct twin session_twin(const uint8_t *codes, size_t bits, const fidrovelj_source_gate *source, uint32_t wire)
-{
-    if (wire >= bits)
-        return (struct twin){source[wire - bits].wire, source[wire - bits].code};
-    if (codes[wire] != 0)
-        return (struct twin){wire, codes[wire]};
-    uint32_t before = 0;
-    for (uint32_t i = 0; i < wire; i++)
-        before += codes[i] == 0;
-    return (struct twin){(uint32_t)bits + 5 + before, 1};
-}
-
-/* Questions 7 to 9 of a gate whose result must be the next wire: 0, or the number of the first with a no. */
-static int ask_record(fidrovelj_gate g, uint32_t next)
-{
-    bool two = g.kind == FIDROVELJ_XOR || g.kind == FIDROVELJ_AND;
-    if (g.kind < FIDROVELJ_XOR || g.kind > FIDROVELJ_EQ || (!two && g.second != 0))
-        return 7;
-    if (g.kind == FIDROVELJ_EQ ? g.first > 1 : g.first >= next || (two && g.second >= next))
-        return 8;
-    return g.result == next ? 0 : 9;
-}
-
-/* The kind in a gate table of a record that is a gate's. */
-static inline uint32_t kind_of(fidrovelj_gate g)
-{
-    return g.kind == FIDROVELJ_EQ ? EQ0 + g.first : g.kind - FIDROVELJ_XOR;
-}
-
-fidrovelj_step baseline_session_add(fidrovelj_session session, fidrovelj_gate gate,
-                                    const uint8_t *codes, size_t codes_len,
-                                    fidrovelj_source_gate *source, size_t source_len,
-                                    fidrovelj_gate *masked, size_t masked_len,
-                                    uint8_t sizes)
-{
-    const struct limits *l = &small_limits[sizes != 0];
-    if (session.gates >= source_len || codes_len >= l->wires || codes_len + session.gates >= l->wires)
-        return refused_step(session, 24);
-    uint32_t n = (uint32_t)codes_len, kind = kind_of(gate);
-    int no = ask_record(gate, n + session.gates);
-    if (no != 0)
-        return refused_step(session, no);
-    struct twin a = {0, 1}, b = {0, 1};
-    if (kind < EQ0)
-        a = session_twin(codes, n, source, gate.first);
-    if (kind < INV)
-        b = session_twin(codes, n, source, gate.second);
-    struct masking count = {n, 0, {COUNTING, NULL, 0, NULL}};
-    mask_twin(&count, kind, a, b);
-    uint64_t behind = (uint64_t)session.masked + count.next;
-    if (behind > masked_len || behind > (uint64_t)1 << 30)
-        return refused_step(session, 14);
-    struct masking list = {n, n + 2 + session.masked, {LISTING, NULL, 0, masked + session.masked}};
-    struct twin twin = mask_twin(&list, kind, a, b);
-    source[session.gates] = (fidrovelj_source_gate){gate.kind, gate.first, gate.second, gate.result,
-                                                    twin.wire, session.masked, twin.code};
-    return (fidrovelj_step){{session.gates + 1, session.masked + count.next}, 0};
-}
-
-fidrovelj_step baseline_session_take_off(fidrovelj_session session, const fidrovelj_source_gate *source, size_t source_len)
-{
-    if (session.gates == 0)
-        return refused_step(session, 23);
-    uint32_t gates = session.gates - 1;
-    return (fidrovelj_step){{gates, gates < source_len ? source[gates].from : 0}, 0};
-}
-
-/* The session's netlist into tables that are long enough: questions 4, 5 and 7 to 9. */
-static int session_netlist(const struct limits *l, fidrovelj_session session, const uint32_t *inputs, size_t inputs_len,
-                           const uint32_t *outputs, size_t outputs_len, const fidrovelj_source_gate *source, size_t source_len,
-                           struct header *h, uint64_t *operands, uint64_t *results)
-{
-    if (read_widths(inputs, inputs_len, &h->in) != 0 || read_widths(outputs, outputs_len, &h->out) != 0)
-        return 4;
-    uint64_t wires = h->in.bits + session.gates;
-    if (session.gates > source_len || wires > l->wires || inputs_len > l->inputs || outputs_len > l->outputs
-        || h->out.bits > wires)
-        return 5;
-    h->gates = session.gates;
-    h->wires = (uint32_t)wires;
-    for (uint32_t i = 0; i < h->gates; i++) {
-        fidrovelj_gate g = {source[i].kind, source[i].first, source[i].second, source[i].result};
-        int no = ask_record(g, (uint32_t)h->in.bits + i);
-        if (no != 0)
-            return no;
-        bool two = g.kind == FIDROVELJ_XOR || g.kind == FIDROVELJ_AND, constant = g.kind == FIDROVELJ_EQ;
-        operands[i] = constant ? 0 : pair(g.first, two ? g.second : g.first);
-        results[i] = pair(g.result, kind_of(g));
-    }
-    return 0;
-}
-
-int64_t baseline_session_text(fidrovelj_session session,
-                              const uint32_t *inputs, size_t inputs_len,
-                              const uint32_t *outputs, size_t outputs_len,
-                              const fidrovelj_source_gate *source, size_t source_len,
-                              uint8_t *out, size_t out_len,
-                              uint64_t *operands, size_t operands_len,
-                              uint64_t *results, size_t results_len,
-                              uint8_t sizes)
-{
-    const struct limits *l = &small_limits[sizes != 0];
-    struct header h;
-    int64_t answer;
-    if (operands_len < l->table || results_len < l->table)
-        answer = -1;
-    else
-        answer = -session_netlist(l, session, inputs, inputs_len, outputs, outputs_len, source, source_len, &h, operands,
-                                  results);
-    if (answer == 0)
-        answer = rewrite(&h, operands, results, out, out_len);
-    memset(operands, 0, operands_len * sizeof *operands);
-    memset(results, 0, results_len * sizeof *results);
-    return answer;
-}
-
-int64_t baseline_session_masked(fidrovelj_session session,
-                                const uint32_t *inputs, size_t inputs_len,
-                                const uint32_t *outputs, size_t outputs_len,
-                                const uint8_t *codes, size_t codes_len,
-                                const uint8_t *wanted, size_t wanted_len,
-                                const fidrovelj_source_gate *source, size_t source_len,
-                                uint8_t *out, size_t out_len,
-                                uint8_t *out_codes, size_t out_codes_len,
-                                uint64_t *operands, size_t operands_len,
-                                uint64_t *results, size_t results_len,
-                                uint32_t *wires, size_t wires_len,
-                                uint8_t *marks, size_t marks_len,
-                                uint8_t sizes)
-{
-    const struct limits *l = &small_limits[sizes != 0];
-    struct header h;
-    int64_t answer;
-    if (operands_len < l->table || results_len < l->table || wires_len < l->table || marks_len < l->table)
-        answer = -1;
-    else
-        answer = -session_netlist(l, session, inputs, inputs_len, outputs, outputs_len, source, source_len, &h, operands,
-                                  results);
-    if (answer == 0)
-        answer = mask(&h, operands, results, wires, marks, codes, codes_len, wanted, wanted_len, out, out_len, out_codes,
-                      out_codes_len);
-    memset(operands, 0, operands_len * sizeof *operands);
-    memset(results, 0, results_len * sizeof *results);
-    memset(wires, 0, wires_len * sizeof *wires);
-    memset(marks, 0, marks_len);
     return answer;
 }
 
@@ -1545,6 +1345,206 @@ int64_t baseline_from_aiger(const uint8_t *text, size_t text_len,
     memset(operands, 0, operands_len * sizeof *operands);
     memset(results, 0, results_len * sizeof *results);
     memset(variables, 0, variables_len * sizeof *variables);
+    return answer;
+}
+
+/* ---- a session */
+
+/* Questions 4 and 5 of the widths of values: 0, or the number of the first with a no. */
+static int read_widths(const uint32_t *widths, size_t count, struct values *v)
+{
+    *v = (struct values){0};
+    bool zero = count == 0;
+    for (size_t i = 0; i < count; i++) {
+        zero |= widths[i] == 0;
+        if (i < MOST_VALUES)
+            v->width[i] = widths[i];
+        v->bits += widths[i];
+    }
+    v->count = count > MOST_VALUES ? MOST_VALUES : (uint32_t)count;
+    return zero ? 4 : 0;
+}
+
+static fidrovelj_step refused_step(fidrovelj_session session, int question)
+{
+    return (fidrovelj_step){session, (uint8_t)question};
+}
+
+fidrovelj_step baseline_session_open(const uint32_t *widths, size_t widths_len,
+                                     const uint8_t *codes, size_t codes_len,
+                                     fidrovelj_gate *masked, size_t masked_len,
+                                     uint8_t sizes)
+{
+    const struct limits *l = &small_limits[sizes != 0];
+    const fidrovelj_session none = {0, 0};
+    struct values in;
+    int no = read_widths(widths, widths_len, &in);
+    if (no != 0)
+        return refused_step(none, no);
+    if (widths_len > l->inputs || in.bits > l->wires)
+        return refused_step(none, 5);
+    if (!list_good(codes, codes_len, in.bits, 3))
+        return refused_step(none, 11);
+    uint32_t gates = 3, n = (uint32_t)in.bits;
+    for (uint32_t i = 0; i < n; i++)
+        gates += codes[i] == 0;
+    if (gates > masked_len)
+        return refused_step(none, 14);
+    struct masking m = {n, 0, {LISTING, NULL, 0, masked}};
+    mask_masks(&m);
+    for (uint32_t i = 0; i < n; i++) {
+        if (codes[i] == 0)
+            put_xor(&m, i, n);
+    }
+    return (fidrovelj_step){{0, gates}, 0};
+}
+
+/* The twin of a source wire: a public input's stands behind the masks' gates, in input order. */
+static struct twin session_twin(const uint8_t *codes, size_t bits, const fidrovelj_source_gate *source, uint32_t wire)
+{
+    if (wire >= bits)
+        return (struct twin){source[wire - bits].wire, source[wire - bits].code};
+    if (codes[wire] != 0)
+        return (struct twin){wire, codes[wire]};
+    uint32_t before = 0;
+    for (uint32_t i = 0; i < wire; i++)
+        before += codes[i] == 0;
+    return (struct twin){(uint32_t)bits + 5 + before, 1};
+}
+
+/* Questions 7 to 9 of a gate whose result must be the next wire: 0, or the number of the first with a no. */
+static int ask_record(fidrovelj_gate g, uint32_t next)
+{
+    bool two = g.kind == FIDROVELJ_XOR || g.kind == FIDROVELJ_AND;
+    if (g.kind < FIDROVELJ_XOR || g.kind > FIDROVELJ_EQ || (!two && g.second != 0))
+        return 7;
+    if (g.kind == FIDROVELJ_EQ ? g.first > 1 : g.first >= next || (two && g.second >= next))
+        return 8;
+    return g.result == next ? 0 : 9;
+}
+
+/* The kind in a gate table of a record that is a gate's. */
+static inline uint32_t table_kind(fidrovelj_gate g)
+{
+    return g.kind == FIDROVELJ_EQ ? EQ0 + g.first : g.kind - FIDROVELJ_XOR;
+}
+
+fidrovelj_step baseline_session_add(fidrovelj_session session, fidrovelj_gate gate,
+                                    const uint8_t *codes, size_t codes_len,
+                                    fidrovelj_source_gate *source, size_t source_len,
+                                    fidrovelj_gate *masked, size_t masked_len,
+                                    uint8_t sizes)
+{
+    const struct limits *l = &small_limits[sizes != 0];
+    if (session.gates >= source_len || codes_len >= l->wires || codes_len + session.gates >= l->wires)
+        return refused_step(session, 24);
+    uint32_t n = (uint32_t)codes_len, kind = table_kind(gate);
+    int no = ask_record(gate, n + session.gates);
+    if (no != 0)
+        return refused_step(session, no);
+    struct twin a = {0, 1}, b = {0, 1};
+    if (kind < EQ0)
+        a = session_twin(codes, n, source, gate.first);
+    if (kind < INV)
+        b = session_twin(codes, n, source, gate.second);
+    struct masking count = {n, 0, {COUNTING, NULL, 0, NULL}};
+    mask_twin(&count, kind, a, b);
+    uint64_t behind = (uint64_t)session.masked + count.next;
+    if (behind > masked_len || behind > (uint64_t)1 << 30)
+        return refused_step(session, 14);
+    struct masking list = {n, n + 2 + session.masked, {LISTING, NULL, 0, masked + session.masked}};
+    struct twin twin = mask_twin(&list, kind, a, b);
+    source[session.gates] = (fidrovelj_source_gate){gate.kind, gate.first, gate.second, gate.result,
+                                                    twin.wire, session.masked, twin.code};
+    return (fidrovelj_step){{session.gates + 1, session.masked + count.next}, 0};
+}
+
+fidrovelj_step baseline_session_take_off(fidrovelj_session session, const fidrovelj_source_gate *source, size_t source_len)
+{
+    if (session.gates == 0)
+        return refused_step(session, 23);
+    uint32_t gates = session.gates - 1;
+    return (fidrovelj_step){{gates, gates < source_len ? source[gates].from : 0}, 0};
+}
+
+/* The session's netlist into tables that are long enough: questions 4, 5 and 7 to 9. */
+static int session_netlist(const struct limits *l, fidrovelj_session session, const uint32_t *inputs, size_t inputs_len,
+                           const uint32_t *outputs, size_t outputs_len, const fidrovelj_source_gate *source, size_t source_len,
+                           struct header *h, uint64_t *operands, uint64_t *results)
+{
+    if (read_widths(inputs, inputs_len, &h->in) != 0 || read_widths(outputs, outputs_len, &h->out) != 0)
+        return 4;
+    uint64_t wires = h->in.bits + session.gates;
+    if (session.gates > source_len || wires > l->wires || inputs_len > l->inputs || outputs_len > l->outputs
+        || h->out.bits > wires)
+        return 5;
+    h->gates = session.gates;
+    h->wires = (uint32_t)wires;
+    for (uint32_t i = 0; i < h->gates; i++) {
+        fidrovelj_gate g = {source[i].kind, source[i].first, source[i].second, source[i].result};
+        int no = ask_record(g, (uint32_t)h->in.bits + i);
+        if (no != 0)
+            return no;
+        bool two = g.kind == FIDROVELJ_XOR || g.kind == FIDROVELJ_AND, constant = g.kind == FIDROVELJ_EQ;
+        operands[i] = constant ? 0 : pair(g.first, two ? g.second : g.first);
+        results[i] = pair(g.result, table_kind(g));
+    }
+    return 0;
+}
+
+int64_t baseline_session_text(fidrovelj_session session,
+                              const uint32_t *inputs, size_t inputs_len,
+                              const uint32_t *outputs, size_t outputs_len,
+                              const fidrovelj_source_gate *source, size_t source_len,
+                              uint8_t *out, size_t out_len,
+                              uint64_t *operands, size_t operands_len,
+                              uint64_t *results, size_t results_len,
+                              uint8_t sizes)
+{
+    const struct limits *l = &small_limits[sizes != 0];
+    struct header h;
+    int64_t answer;
+    if (operands_len < l->table || results_len < l->table)
+        answer = -1;
+    else
+        answer = -session_netlist(l, session, inputs, inputs_len, outputs, outputs_len, source, source_len, &h, operands,
+                                  results);
+    if (answer == 0)
+        answer = rewrite(&h, operands, results, out, out_len);
+    memset(operands, 0, operands_len * sizeof *operands);
+    memset(results, 0, results_len * sizeof *results);
+    return answer;
+}
+
+int64_t baseline_session_masked(fidrovelj_session session,
+                                const uint32_t *inputs, size_t inputs_len,
+                                const uint32_t *outputs, size_t outputs_len,
+                                const uint8_t *codes, size_t codes_len,
+                                const uint8_t *wanted, size_t wanted_len,
+                                const fidrovelj_source_gate *source, size_t source_len,
+                                uint8_t *out, size_t out_len,
+                                uint8_t *out_codes, size_t out_codes_len,
+                                uint64_t *operands, size_t operands_len,
+                                uint64_t *results, size_t results_len,
+                                uint32_t *wires, size_t wires_len,
+                                uint8_t *marks, size_t marks_len,
+                                uint8_t sizes)
+{
+    const struct limits *l = &small_limits[sizes != 0];
+    struct header h;
+    int64_t answer;
+    if (operands_len < l->table || results_len < l->table || wires_len < l->table || marks_len < l->table)
+        answer = -1;
+    else
+        answer = -session_netlist(l, session, inputs, inputs_len, outputs, outputs_len, source, source_len, &h, operands,
+                                  results);
+    if (answer == 0)
+        answer = mask(&h, operands, results, wires, marks, codes, codes_len, wanted, wanted_len, out, out_len, out_codes,
+                      out_codes_len);
+    memset(operands, 0, operands_len * sizeof *operands);
+    memset(results, 0, results_len * sizeof *results);
+    memset(wires, 0, wires_len * sizeof *wires);
+    memset(marks, 0, marks_len);
     return answer;
 }
 

@@ -354,6 +354,37 @@ static void source_wires(void)
     expect(twins("", "12", 4, 4) == -4 && twins("1 3\n2 1 1\n1 1\n2 1 0 1 1 AND\n", "12", 4, 4) == -9, "twins: 4 and 9");
 }
 
+/* ---- joined blocks */
+
+/* M3's masked wire joined with a second text. */
+static int64_t join(const char *second, const char *codes, const char *ends, const char *inner)
+{
+    fill();
+    int64_t answer = fidrovelj_join((const uint8_t *)masked_wire, strlen(masked_wire), (const uint8_t *)second,
+                                    strlen(second), (const uint8_t *)codes, strlen(codes), (const uint8_t *)ends,
+                                    strlen(ends), (const uint8_t *)inner, strlen(inner), out, sizeof out, operands, LARGE,
+                                    results, LARGE, given, LARGE, words, LARGE, base, LARGE, FIDROVELJ_OLD);
+    expect(all(operands, sizeof operands, 0) && all(results, sizeof results, 0) && all(given, sizeof given, 0)
+               && all(words, sizeof words, 0) && all(base, sizeof base, 0),
+           "Join's tables are zero");
+    expect_untouched(answer > 0 ? (size_t)answer : 0, 0, "Join writes its text alone");
+    return answer;
+}
+
+static void joined_blocks(void)
+{
+    expect(text_is(join(masked_wire, "\2", "\2", "\2"),
+                   "8 11\n2 1 2\n1 1\n\n"
+                   "2 1 1 2 3 XOR\n2 1 1 2 4 AND\n2 1 3 4 5 XOR\n1 1 0 6 EQW\n"
+                   "2 1 1 2 7 XOR\n2 1 1 2 8 AND\n2 1 7 8 9 XOR\n1 1 6 10 EQW\n"),
+           "a masked wire joined with itself");
+    expect(join(masked_wire, "\2", "\2", "\3") == -25, "Join, other codes");
+    expect(join(masked_wire, "\2", "\2\2", "\2") == -25, "Join, a code too many");
+    expect(join("0 3\n2 1 2\n1 1\n", "\2", "\2", "\2") == -25, "Join, fewer gates than output bits");
+    expect(join(masked_wire, "\4", "\2", "\2") == -11, "Join, an input code of 4");
+    expect(join(one_wire, "\2", "\2", "\3") == -10, "Join, a second without a mask pair");
+}
+
 /* ---- sessions */
 
 #define PLACES 4
@@ -471,37 +502,6 @@ static void sessions(void)
     expect(session_masked(s, bits, 2, "12", 4) == -13 && session_masked(s, bits, 2, "1", 0) == -11, "a masked text: 13 and 11");
     expect(taken_off(&s) == 0 && taken_off(&s) == 0 && s.gates == 0 && s.masked == 3, "all taken off");
     expect(taken_off(&s) == 23, "none left: 23");
-}
-
-/* ---- joined blocks */
-
-/* M3's masked wire joined with a second text. */
-static int64_t join(const char *second, const char *codes, const char *ends, const char *inner)
-{
-    fill();
-    int64_t answer = fidrovelj_join((const uint8_t *)masked_wire, strlen(masked_wire), (const uint8_t *)second,
-                                    strlen(second), (const uint8_t *)codes, strlen(codes), (const uint8_t *)ends,
-                                    strlen(ends), (const uint8_t *)inner, strlen(inner), out, sizeof out, operands, LARGE,
-                                    results, LARGE, given, LARGE, words, LARGE, base, LARGE, FIDROVELJ_OLD);
-    expect(all(operands, sizeof operands, 0) && all(results, sizeof results, 0) && all(given, sizeof given, 0)
-               && all(words, sizeof words, 0) && all(base, sizeof base, 0),
-           "Join's tables are zero");
-    expect_untouched(answer > 0 ? (size_t)answer : 0, 0, "Join writes its text alone");
-    return answer;
-}
-
-static void joined_blocks(void)
-{
-    expect(text_is(join(masked_wire, "\2", "\2", "\2"),
-                   "8 11\n2 1 2\n1 1\n\n"
-                   "2 1 1 2 3 XOR\n2 1 1 2 4 AND\n2 1 3 4 5 XOR\n1 1 0 6 EQW\n"
-                   "2 1 1 2 7 XOR\n2 1 1 2 8 AND\n2 1 7 8 9 XOR\n1 1 6 10 EQW\n"),
-           "a masked wire joined with itself");
-    expect(join(masked_wire, "\2", "\2", "\3") == -25, "Join, other codes");
-    expect(join(masked_wire, "\2", "\2\2", "\2") == -25, "Join, a code too many");
-    expect(join("0 3\n2 1 2\n1 1\n", "\2", "\2", "\2") == -25, "Join, fewer gates than output bits");
-    expect(join(masked_wire, "\4", "\2", "\2") == -11, "Join, an input code of 4");
-    expect(join(one_wire, "\2", "\2", "\3") == -10, "Join, a second without a mask pair");
 }
 
 /* ---- sixty-four runs */
@@ -711,9 +711,9 @@ int main(void)
     results_of_others();
     public_bits();
     joined_blocks();
+    sessions();
     sixty_four();
     source_wires();
-    sessions();
     old_dialect();
     pairs_of_wires();
     whole_limits();

@@ -4,12 +4,12 @@
 //!
 //! - [`mask`] turns a source netlist into a masked one, in which every bit travels under a mask,
 //! - [`twins`] says where each source wire stands in the masked netlist,
-//! - [`Session`] keeps a source that grows gate by gate, and shrinks again, masked at every moment,
 //! - [`check`] says whether a netlist is clean, or names a leak on one of its wires; [`check_pairs`] also
 //!   whether listed pairs of wires leak together,
 //! - [`run`] evaluates a netlist, [`run64`] on sixty-four settings at once,
 //! - [`rewrite`] gives a netlist in its written form; [`from_old`] and [`to_old`] convert from and to the older
 //!   Bristol dialect,
+//! - [`Session`] keeps a source that grows gate by gate, and shrinks again, masked at every moment,
 //! - [`join`] makes one netlist of two masked blocks.
 //!
 //! Each call puts a list of questions in order, and the first no refuses it with that question's
@@ -84,11 +84,12 @@ struct Pages;
 /// 13. Mask: has the wanted list one fitting entry for each output bit?
 /// 14. Can each result buffer hold its whole result?
 /// 15. To the older dialect, after 9: only XOR, AND and INV, at most two input values and one output value?
-/// 23. Session: is there a gate to take off?
-/// 24. Session: is there room for one gate more, and one wire more within the limit?
 /// 25. Join: do the codes meet, none of them 0, and has the second a gate for each output bit?
 ///
 /// 21 (check with pairs, after 12): is the list's length even and each entry a wire of the netlist?
+///
+/// 23 (session): is there a gate to take off? 24 (session, before 7): is there a place for one gate more, and a wire
+/// within the limit?
 #[derive(Clone, Copy, Debug, PartialEq, Eq, Hash)]
 pub struct Refused(pub u8);
 
