@@ -3,7 +3,7 @@
  *     session
  *
  * On a list of so many gates one is added and taken off again, in turn by both, many times: the best of several rounds, in
- * nanoseconds for both steps together. The last column is what masking the present list afresh takes, by plain C. */
+ * nanoseconds for both steps together. */
 #include "../include/fidrovelj.h"
 #include "baseline.h"
 
@@ -18,9 +18,7 @@
 
 static fidrovelj_source_gate source[WIRES];
 static fidrovelj_gate masked[9 * WIRES];
-static uint8_t codes[INPUTS], out[FIDROVELJ_WHOLE_LARGE_TEXT], out_codes[1], marks[WIRES];
-static uint64_t operands[WIRES], results[WIRES];
-static uint32_t wires[WIRES];
+static uint8_t codes[INPUTS];
 
 static double now(void)
 {
@@ -69,17 +67,6 @@ static double baseline_steps(fidrovelj_session s)
     return (now() - start) / STEPS;
 }
 
-static double masked_afresh(fidrovelj_session s)
-{
-    const uint32_t inputs = INPUTS, output = 1;
-    const uint8_t wanted = 0;
-    double start = now();
-    if (baseline_session_masked(s, &inputs, 1, &output, 1, codes, INPUTS, &wanted, 1, source, WIRES, out, sizeof out, out_codes, 1,
-                                operands, WIRES, results, WIRES, wires, WIRES, marks, WIRES, FIDROVELJ_WHOLE) < 0)
-        die("a session cannot be masked");
-    return now() - start;
-}
-
 int main(void)
 {
     static const uint32_t lengths[] = {1, 10, 100, 1000, 10000, 50000, 99000};
@@ -88,7 +75,7 @@ int main(void)
     fidrovelj_step step = fidrovelj_session_open(&inputs, 1, codes, INPUTS, masked, 9 * WIRES, FIDROVELJ_WHOLE);
     if (step.refused != 0)
         die("a session is not opened");
-    printf("%-14s %12s %12s %7s %16s\n", "gates", "library, ns", "C, ns", "ratio", "afresh, ns");
+    printf("%-14s %12s %12s %7s\n", "gates", "library, ns", "C, ns", "ratio");
     for (size_t i = 0; i < sizeof lengths / sizeof *lengths; i++) {
         while (step.session.gates < lengths[i]) {
             step = fidrovelj_session_add(step.session, gate_at(INPUTS + step.session.gates, 0), codes, INPUTS, source, WIRES,
@@ -96,15 +83,13 @@ int main(void)
             if (step.refused != 0)
                 die("a gate is not added");
         }
-        double best = 1e18, best_c = 1e18, afresh = 1e18;
+        double best = 1e18, best_c = 1e18;
         for (int round = 0; round < 12; round++) {
             double ours = library_steps(step.session), theirs = baseline_steps(step.session);
             best = ours < best ? ours : best;
             best_c = theirs < best_c ? theirs : best_c;
-            double whole = masked_afresh(step.session);
-            afresh = whole < afresh ? whole : afresh;
         }
-        printf("%-14u %12.1f %12.1f %7.2f %16.0f\n", lengths[i], best, best_c, best / best_c, afresh);
+        printf("%-14u %12.1f %12.1f %7.2f\n", lengths[i], best, best_c, best / best_c);
     }
     return EXIT_SUCCESS;
 }

@@ -436,32 +436,6 @@ static int taken_off(fidrovelj_session *session)
     return settled(session, fidrovelj_session_take_off(*session, source_list, PLACES));
 }
 
-/* The session's netlist of one output bit, or what Mask writes for it. */
-static int64_t session_text(fidrovelj_session session, const uint32_t *widths, size_t values, size_t room)
-{
-    const uint32_t output = 1;
-    fill();
-    int64_t answer = fidrovelj_session_text(session, widths, values, &output, 1, source_list, PLACES, out, room, operands, LARGE,
-                                            results, LARGE, FIDROVELJ_OLD);
-    expect(all(operands, sizeof operands, 0) && all(results, sizeof results, 0), "the tables of a session's text are zero");
-    expect_untouched(answer > 0 ? (size_t)answer : 0, 0, "a session's text touches its result alone");
-    return answer;
-}
-
-static int64_t session_masked(fidrovelj_session session, const uint32_t *widths, size_t values, const char *codes, uint8_t code)
-{
-    const uint32_t output = 1;
-    fill();
-    int64_t answer = fidrovelj_session_masked(session, widths, values, &output, 1, entries(codes), strlen(codes), &code, 1,
-                                              source_list, PLACES, out, ROOM, list_out, 1, operands, LARGE, results, LARGE, wires,
-                                              LARGE, given, LARGE, FIDROVELJ_OLD);
-    expect(all(operands, sizeof operands, 0) && all(results, sizeof results, 0) && all(wires, sizeof wires, 0)
-               && all(given, sizeof given, 0),
-           "the tables of a session's masked text are zero");
-    expect_untouched(answer > 0 ? (size_t)answer : 0, answer > 0 ? 1 : 0, "a session's masked text touches its results alone");
-    return answer;
-}
-
 static void sessions(void)
 {
     static const uint32_t bits[] = {1, 1}, none[] = {1, 0}, wide[] = {2048, 1};
@@ -479,7 +453,6 @@ static void sessions(void)
 
     expect(opened(&s, bits, 2, "12", 20) == 0 && s.gates == 0 && s.masked == 3, "an opening");
     expect(taken_off(&s) == 23, "nothing to take off: 23");
-    expect(session_text(s, bits, 2, ROOM) == (int64_t)strlen("0 2\n2 1 1\n1 1\n\n"), "the text of a session without gates");
     expect(added(&s, (fidrovelj_gate){6, 9, 9, 9}, "12", PLACES, 20) == 7, "an unknown kind: 7");
     expect(added(&s, (fidrovelj_gate){FIDROVELJ_INV, 0, 1, 2}, "12", PLACES, 20) == 7, "an inverter of two: 7");
     expect(added(&s, (fidrovelj_gate){FIDROVELJ_AND, 0, 2, 9}, "12", PLACES, 20) == 8, "an operand that is the result: 8");
@@ -490,16 +463,11 @@ static void sessions(void)
     expect(added(&s, and, "12", PLACES, 9) == 14, "no room for the seven steps: 14");
     expect(added(&s, and, "12", PLACES, 10) == 0 && s.gates == 1 && s.masked == 10, "an AND");
     expect(source_list[0].wire == 13 && source_list[0].code == 1 && source_list[0].from == 3, "its twin");
-    expect(text_is(session_masked(s, bits, 2, "12", 0), masked_and) && list_out[0] == 1, "a session's masked text: M1");
     expect(added(&s, and, "12", PLACES, 20) == 9, "the same gate again: 9");
 
     expect(added(&s, inverter, "12", PLACES, 20) == 0 && added(&s, xor, "12", PLACES, 20) == 0, "two gates more");
     expect(s.gates == 3 && s.masked == 13, "the XOR of one code changes a mask");
     expect(taken_off(&s) == 0 && s.gates == 2 && s.masked == 11, "the XOR taken off with its mask change");
-    expect(text_is(session_text(s, bits, 2, ROOM), "2 4\n2 1 1\n1 1\n\n2 1 0 1 2 AND\n1 1 2 3 INV\n"), "a session's text");
-    expect(session_text(s, bits, 2, 40) == -14 && session_text(s, bits, 2, 41) == 41, "a buffer a byte short: 14; an exact fit");
-    expect(session_text(s, none, 2, ROOM) == -4, "a text with a width of 0: 4");
-    expect(session_masked(s, bits, 2, "12", 4) == -13 && session_masked(s, bits, 2, "1", 0) == -11, "a masked text: 13 and 11");
     expect(taken_off(&s) == 0 && taken_off(&s) == 0 && s.gates == 0 && s.masked == 3, "all taken off");
     expect(taken_off(&s) == 23, "none left: 23");
 }

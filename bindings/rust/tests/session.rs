@@ -12,8 +12,8 @@ use calls::netlists::widths;
 use calls::random::Random;
 use calls::{circuits, netlists};
 use fidrovelj::{
-    check, mask, session_add_lent, session_masked_lent, session_open_lent, session_take_off_lent,
-    session_text_lent, twins, GateRecord, Refused, Session, SessionState, SourceGate, Tables,
+    check, mask, session_add_lent, session_open_lent, session_take_off_lent, twins, GateRecord, Refused,
+    Session, SessionState, SourceGate, Tables,
 };
 use reference::ask;
 use reference::netlist::{read, Gate, Netlist, Sizes, LARGE, SMALL};
@@ -305,160 +305,41 @@ fn numbers(widths: &[usize]) -> Vec<u32> {
 
 // ---- looking at a session
 
-/// All that the calls that write texts are lent besides the session's lists.
-struct Look {
-    inputs: Vec<u32>,
-    outputs: Vec<u32>,
-    wanted: Vec<u8>,
-    text_room: usize,
-    code_room: usize,
-    /// Operands, results, wires and marks.
-    tables: [usize; 4],
+/// The masked gates are those that Mask writes for the present netlist, before the copies of its output bits.
+fn look(random: &mut Random, name: &str, lent: &Lent, model: &Model, tables: &mut Tables) {
+    let bits = random.between(1, model.wires().min(9));
+    let outputs = widths(random, bits, 16);
+    let (text, wanted) = (model.netlist(&outputs).write(), random.list(bits, 0, 3));
+    let afresh = mask(&text, &model.codes, &wanted, tables).expect("a session's netlist can be masked");
+    let gates = read(&LARGE, &afresh.text).expect("a masked text is good").gates;
+    let gates: Vec<GateRecord> = gates[..gates.len() - bits].iter().map(record_of).collect();
+    assert_eq!(lent.masked[..lent.state.masked as usize], gates, "{name}: by Mask");
 }
 
-/// What the calls that write texts give: the netlist's text, and the masked text with its codes.
-type Texts = (Result<Vec<u8>, u8>, Result<(Vec<u8>, Vec<u8>), u8>);
-
-impl Look {
-    /// Both outcomes, from the session written apart.
-    fn outcome(&self, model: &Model) -> Texts {
-        let limits = model.sizes.small();
-        let sum = |widths: &[u32]| widths.iter().map(|&width| width as usize).sum::<usize>();
-        let netlist = |tables: &[usize]| {
-            ask(1, tables.iter().all(|&length| length >= limits.table))?;
-            ask(4, !self.inputs.is_empty() && self.inputs.iter().all(|&width| width >= 1))?;
-            ask(4, !self.outputs.is_empty() && self.outputs.iter().all(|&width| width >= 1))?;
-            ask(5, self.inputs.len() <= limits.inputs && self.outputs.len() <= limits.outputs)?;
-            ask(5, sum(&self.outputs) <= model.wires())?;
-            let outputs: Vec<usize> = self.outputs.iter().map(|&width| width as usize).collect();
-            Ok(model.netlist(&outputs))
-        };
-        let text = netlist(&self.tables[..2]).and_then(|netlist| {
-            let text = netlist.write();
-            ask(14, text.len() <= self.text_room)?;
-            Ok(text)
-        });
-        let masked = netlist(&self.tables).and_then(|netlist| {
-            ask(13, self.wanted.len() == netlist.output_bits() && self.wanted.iter().all(|&code| code <= 3))?;
-            let (masked, codes) = reference::mask::mask(&netlist, &model.codes, &self.wanted);
-            let text = masked.write();
-            ask(14, text.len() <= self.text_room && codes.len() <= self.code_room)?;
-            Ok((text, codes))
-        });
-        (text, masked)
+/// The texts of a session: refusals by the output widths and the wanted codes.
+#[test]
+fn texts() {
+    let tables = &mut Tables::new();
+    let mut session = Session::open(&[2, 1], &[1, 2, 0], fidrovelj::Sizes::Old).expect("it opens");
+    assert_eq!(session.text(&[3], tables).as_deref(), Ok(b"0 3\n2 2 1\n1 3\n\n".as_slice()));
+    for gate in [
+        fidrovelj::Gate::And(0, 2),
+        fidrovelj::Gate::Xor(3, 1),
+        fidrovelj::Gate::Inv(4),
+        fidrovelj::Gate::Eqw(5),
+        fidrovelj::Gate::Eq(true),
+    ] {
+        session.add(gate).expect("it is good");
     }
-
-    /// The library's outcomes are these, down to every lent byte.
-    fn assert_outcome(&self, name: &str, lent: &Lent, (text, masked): &Texts) {
-        let before = lent.clone();
-        let source = &lent.source[..lent.places];
-        let words = |table: usize| vec![0x0123_4567_89ab_cdef_u64; self.tables[table]];
-        let (mut operands, mut results) = (words(0), words(1));
-        let mut out = vec![0xa5_u8; self.text_room + BEHIND];
-        let answer = session_text_lent(
-            lent.state,
-            &self.inputs,
-            &self.outputs,
-            source,
-            &mut out[..self.text_room],
-            &mut operands,
-            &mut results,
-            lent.sizes,
-        );
-        assert_eq!(
-            answer,
-            text.as_ref().map(Vec::len).map_err(|&question| Refused(question)),
-            "{name}: the text"
-        );
-        let written = text.as_deref().unwrap_or(&[]);
-        assert!(out.starts_with(written), "{name}: the text");
-        assert!(out[written.len()..].iter().all(|&byte| byte == 0xa5), "{name}: behind the text");
-        assert!(operands.iter().chain(&results).all(|&entry| entry == 0), "{name}: the text's tables");
-
-        let (mut operands, mut results) = (words(0), words(1));
-        let mut wires = vec![0x89ab_cdef_u32; self.tables[2]];
-        let mut marks = vec![0x5a_u8; self.tables[3]];
-        let (mut out, mut codes) =
-            (vec![0xa5_u8; self.text_room + BEHIND], vec![0xa5_u8; self.code_room + BEHIND]);
-        let answer = session_masked_lent(
-            lent.state,
-            &self.inputs,
-            &self.outputs,
-            &lent.codes,
-            &self.wanted,
-            source,
-            &mut out[..self.text_room],
-            &mut codes[..self.code_room],
-            &mut operands,
-            &mut results,
-            &mut wires,
-            &mut marks,
-            lent.sizes,
-        );
-        let told = masked.as_ref().map(|masked| masked.0.len()).map_err(|&question| Refused(question));
-        assert_eq!(answer, told, "{name}: the masked text");
-        let empty = (Vec::new(), Vec::new());
-        let written = masked.as_ref().unwrap_or(&empty);
-        assert!(out.starts_with(&written.0) && codes.starts_with(&written.1), "{name}: the masked text");
-        assert!(out[written.0.len()..].iter().all(|&byte| byte == 0xa5), "{name}: behind the masked text");
-        assert!(codes[written.1.len()..].iter().all(|&byte| byte == 0xa5), "{name}: behind the codes");
-        assert!(operands.iter().chain(&results).all(|&entry| entry == 0), "{name}: the masked text's tables");
-        assert!(
-            wires.iter().all(|&entry| entry == 0) && marks.iter().all(|&entry| entry == 0),
-            "{name}: its tables"
-        );
-        assert!(*lent == before, "{name}: looking changes nothing");
+    let text = b"5 8\n2 2 1\n2 1 2\n\n2 1 0 2 3 AND\n2 1 3 1 4 XOR\n1 1 4 5 INV\n1 1 5 6 EQW\n1 1 1 7 EQ\n";
+    assert_eq!(session.text(&[1, 2], tables).as_deref(), Ok(text.as_slice()));
+    assert_eq!(session.masked(&[1, 2], &[0, 1, 2], tables), mask(text, &[1, 2, 0], &[0, 1, 2], tables));
+    for (outputs, question) in [([].as_slice(), 4), (&[0], 4), (&[9], 5), (&[1; 17], 5), (&[u32::MAX], 4)] {
+        assert_eq!(session.text(outputs, tables), Err(Refused(question)), "{outputs:?}");
+        assert_eq!(session.masked(outputs, &[], tables), Err(Refused(question)), "{outputs:?}");
     }
-}
-
-/// Output values of a netlist of so many wires, mostly good ones.
-fn random_outputs(random: &mut Random, wires: usize) -> Vec<u32> {
-    let bits = random.between(1, wires.min(9));
-    let mut outputs = numbers(&widths(random, bits, 16));
-    match random.below(30) {
-        0 => outputs.clear(),
-        1 => outputs.push(0),
-        2 => outputs.resize(17, 1),
-        3 => outputs[0] = wires as u32 + 1,
-        4 => outputs[0] = u32::MAX,
-        _ => (),
-    }
-    outputs
-}
-
-/// A session looked at: its texts by the session written apart, and the masked text and gates once more by Mask.
-fn look(random: &mut Random, name: &str, lent: &Lent, model: &Model, tables: &mut Tables) -> [u8; 2] {
-    let outputs = random_outputs(random, model.wires());
-    let bits = outputs.iter().map(|&width| width as usize).sum::<usize>().min(40);
-    let mut wanted = random.list(bits, 0, 3);
-    match random.below(20) {
-        0 => wanted.push(0),
-        1 if bits > 0 => wanted[bits - 1] = 4,
-        _ => (),
-    }
-    let table = model.sizes.small().table;
-    let inputs = numbers(&model.widths);
-    let mut at = Look { inputs, outputs, wanted, text_room: 60_000, code_room: 60, tables: [table; 4] };
-    if random.percent(4) {
-        at.tables[random.below(4)] -= 1;
-    }
-    let (text, masked) = at.outcome(model);
-    if random.percent(50) {
-        let exact =
-            if random.percent(50) { &text } else { &masked.as_ref().map(|m| m.0.clone()).map_err(|&no| no) };
-        at.text_room = exact.as_ref().map_or(0, Vec::len) - usize::from(exact.is_ok() && random.percent(30));
-        at.code_room = bits.saturating_sub(usize::from(random.percent(20)));
-    }
-    let texts = at.outcome(model);
-    at.assert_outcome(name, lent, &texts);
-    if let (Ok(text), Ok((masked, codes))) = (text, masked) {
-        let afresh = mask(&text, &model.codes, &at.wanted, tables).expect("a session's text can be masked");
-        assert!(afresh.text == masked && afresh.codes == codes, "{name}: by Mask");
-        let gates = read(&LARGE, &afresh.text).expect("a masked text is good").gates;
-        let gates: Vec<GateRecord> = gates[..gates.len() - codes.len()].iter().map(record_of).collect();
-        assert_eq!(lent.masked[..lent.state.masked as usize], gates, "{name}: the masked gates, by Mask");
-    }
-    [texts.0.err().unwrap_or(0), texts.1.err().unwrap_or(0)]
+    assert_eq!(session.masked(&[1], &[4], tables), Err(Refused(13)));
+    assert_eq!(session.masked(&[1], &[], tables), Err(Refused(13)));
 }
 
 // ---- rows of steps
@@ -468,7 +349,7 @@ fn look(random: &mut Random, name: &str, lent: &Lent, model: &Model, tables: &mu
 fn random_rows() {
     let (first, rows) = (setting("FIDROVELJ_SEED", 1), setting("FIDROVELJ_CALLS", 200_000) / 100);
     let tables = &mut Tables::new();
-    let (mut openings, mut steps, mut looks) = ([0_u64; 26], [0_u64; 26], [0_u64; 26]);
+    let (mut openings, mut steps, mut looks) = ([0_u64; 26], [0_u64; 26], 0);
     for seed in first..first + rows {
         let random = &mut Random::new(seed ^ 0x7365_7373);
         let name = format!("row {seed}");
@@ -510,9 +391,8 @@ fn random_rows() {
             };
             steps[usize::from(assert_step(&name, &mut lent, &mut model, step))] += 1;
             if random.percent(2) {
-                for end in look(random, &name, &lent, &model, tables) {
-                    looks[usize::from(end)] += 1;
-                }
+                look(random, &name, &lent, &model, tables);
+                looks += 1;
             }
         }
         look(random, &name, &lent, &model, tables);
@@ -521,12 +401,9 @@ fn random_rows() {
         ends.iter().copied().enumerate().filter(|&(_, count)| count > 0).collect()
     };
     println!("{rows} sessions by questions: opened {:?}", seen(&openings));
-    println!("steps {:?}, texts {:?}", seen(&steps), seen(&looks));
-    for (ends, questions) in [
-        (&openings, [0, 4, 5, 11, 14].as_slice()),
-        (&steps, &[0, 7, 8, 9, 14, 23, 24]),
-        (&looks, &[0, 1, 4, 5, 13, 14]),
-    ] {
+    println!("steps {:?}, {looks} times masked afresh by Mask", seen(&steps));
+    for (ends, questions) in [(&openings, [0, 4, 5, 11, 14].as_slice()), (&steps, &[0, 7, 8, 9, 14, 23, 24])]
+    {
         for &question in questions {
             assert!(ends[question] > 0 || rows < 200, "question {question} (0: none)");
         }
