@@ -1010,7 +1010,7 @@ static uint32_t try_from(struct choosing *c, uint32_t place)
         switch (high(result)) {
         case XOR:
             changes += a == b && low(both) != high(both);
-            made = a == b ? after[a] : a ^ b;
+            made = a == b ? code_after(a) : a ^ b;
             break;
         case AND:
             changes += a == b && low(both) != high(both);
