@@ -374,13 +374,15 @@ ALWAYS uint8_t *put_bytes(uint8_t *p, const char *bytes, size_t count)
     return p + count;
 }
 
-/* A text whose gates are only counted, or measured, or written: there `at` is where the next byte goes. */
-enum purpose { COUNTING, MEASURING, WRITING };
+/* A text whose gates are only counted, or measured, or written, where `at` is where the next byte goes; or gates that are listed as
+ * records, the next of them at `record`. */
+enum purpose { COUNTING, MEASURING, WRITING, LISTING };
 
 struct sink {
     enum purpose purpose;
     uint8_t *at;
     size_t size;
+    fidrovelj_gate *record;
 };
 
 /* A line of two operands and a result; the name has LF behind. */
@@ -388,6 +390,8 @@ ALWAYS void put_two(struct sink *s, uint32_t a, uint32_t b, uint32_t c, const ch
 {
     if (s->purpose == MEASURING)
         s->size += 11 + digits(a) + digits(b) + digits(c);
+    if (s->purpose == LISTING)
+        *s->record++ = (fidrovelj_gate){name[0] == 'X' ? FIDROVELJ_XOR : FIDROVELJ_AND, a, b, c};
     if (s->purpose != WRITING)
         return;
     uint8_t *p = put_bytes(s->at, "2 1 ", 4);
@@ -402,6 +406,8 @@ ALWAYS void put_one(struct sink *s, uint32_t a, uint32_t c, const char *name)
 {
     if (s->purpose == MEASURING)
         s->size += 10 + digits(a) + digits(c);
+    if (s->purpose == LISTING)
+        *s->record++ = (fidrovelj_gate){name[0] == 'I' ? FIDROVELJ_INV : FIDROVELJ_EQW, a, 0, c};
     if (s->purpose != WRITING)
         return;
     uint8_t *p = put_bytes(s->at, "1 1 ", 4);
@@ -504,7 +510,7 @@ static void put_either_header(struct sink *s, const struct header *h, bool old)
 /* The header's length and that of as many of the longest lines as there are gates. */
 static size_t most_bytes(const struct header *h, bool old)
 {
-    struct sink header = {MEASURING, NULL, 0};
+    struct sink header = {MEASURING, NULL, 0, NULL};
     put_either_header(&header, h, old);
     return header.size + (size_t)h->gates * (11 + 3 * digits(h->wires));
 }
@@ -521,13 +527,13 @@ static int64_t write_form(const struct header *h, const uint64_t *operands, cons
                           uint8_t *out, size_t out_len, bool old)
 {
     if (out_len < most_bytes(h, old)) {
-        struct sink measure = {MEASURING, NULL, 0};
+        struct sink measure = {MEASURING, NULL, 0, NULL};
         put_either_header(&measure, h, old);
         put_gates(&measure, h->gates, operands, results);
         if (measure.size > out_len)
             return -14;
     }
-    struct sink text = {WRITING, out, 0};
+    struct sink text = {WRITING, out, 0, NULL};
     put_either_header(&text, h, old);
     put_gates(&text, h->gates, operands, results);
     return text.at - out;
@@ -720,8 +726,8 @@ int64_t baseline_run64(const uint8_t *text, size_t text_len,
 /* ---- Mask */
 
 /* The code that neither of two different codes is; the code after a code. */
-static const uint8_t third[4][4] = {{0, 0, 0, 0}, {0, 0, 3, 2}, {0, 3, 0, 1}, {0, 2, 1, 0}};
-static const uint8_t after[4] = {0, 2, 3, 1};
+static inline uint8_t third_code(uint8_t e, uint8_t f) { return e ^ f; }
+static inline uint8_t code_after(uint8_t e) { return (uint8_t)(e % 3 + 1); }
 
 /* A masked netlist in the making: the source's input bits, the next wire, and the text. */
 struct masking {
@@ -753,8 +759,8 @@ ALWAYS uint32_t put_eqw(struct masking *m, uint32_t a)
     return m->next++;
 }
 
-/* The wire of a code's mask. */
-ALWAYS uint32_t mask_wire(const struct masking *m, uint8_t code) { return m->bits + code - 1; }
+/* The wire of a code's mask; m0's for what is no code. */
+ALWAYS uint32_t mask_wire(const struct masking *m, uint8_t code) { return code == 0 ? m->bits : m->bits + code - 1; }
 
 /* The seven steps of an AND of operands a and b with mask wires p and q. */
 ALWAYS uint32_t put_masked_and(struct masking *m, uint32_t a, uint32_t b, uint32_t p, uint32_t q)
@@ -768,35 +774,46 @@ ALWAYS uint32_t put_masked_and(struct masking *m, uint32_t a, uint32_t b, uint32
     return put_xor(m, s4, s6);
 }
 
+/* Where a source wire stands in the masked netlist, and the code of the mask on it. */
+struct twin {
+    uint32_t wire;
+    uint8_t code;
+};
+
+/* A source gate of a kind whose operands have these twins: the twin of its result. */
+ALWAYS struct twin mask_twin(struct masking *m, uint32_t kind, struct twin a, struct twin b)
+{
+    if ((kind == XOR || kind == AND) && b.code == a.code) {
+        b.wire = put_xor(m, b.wire, mask_wire(m, code_after(a.code)));
+        b.code = third_code(a.code, code_after(a.code));
+    }
+    switch (kind) {
+    case XOR: return (struct twin){put_xor(m, a.wire, b.wire), third_code(a.code, b.code)};
+    case AND: return (struct twin){put_masked_and(m, a.wire, b.wire, mask_wire(m, a.code), mask_wire(m, b.code)), a.code};
+    case INV: return (struct twin){put_inv(m, a.wire), a.code};
+    case EQW: return (struct twin){put_eqw(m, a.wire), a.code};
+    case EQ0: return (struct twin){put_eqw(m, m->bits), 1};
+    default: return (struct twin){put_inv(m, m->bits), 1};
+    }
+}
+
 /* A source gate; the twin and the code of its result go into the tables. */
 ALWAYS void mask_gate(struct masking *m, uint64_t operands, uint64_t result, uint32_t *wires, uint8_t *codes)
 {
-    uint32_t a = wires[low(operands)], b = wires[high(operands)];
-    uint8_t code = codes[low(operands)], other = codes[high(operands)];
-    uint32_t kind = high(result), twin;
-    if ((kind == XOR || kind == AND) && other == code) {
-        b = put_xor(m, b, mask_wire(m, after[code]));
-        other = third[code][after[code]];
-    }
-    switch (kind) {
-    case XOR:
-        twin = put_xor(m, a, b);
-        code = third[code][other];
-        break;
-    case AND: twin = put_masked_and(m, a, b, mask_wire(m, code), mask_wire(m, other)); break;
-    case INV: twin = put_inv(m, a); break;
-    case EQW: twin = put_eqw(m, a); break;
-    case EQ0:
-        twin = put_eqw(m, m->bits);
-        code = 1;
-        break;
-    default:
-        twin = put_inv(m, m->bits);
-        code = 1;
-        break;
-    }
-    wires[low(result)] = twin;
-    codes[low(result)] = code;
+    struct twin a = {wires[low(operands)], codes[low(operands)]}, b = {wires[high(operands)], codes[high(operands)]};
+    struct twin twin = mask_twin(m, high(result), a, b);
+    wires[low(result)] = twin.wire;
+    codes[low(result)] = twin.code;
+}
+
+/* The three gates of the masks. */
+ALWAYS void mask_masks(struct masking *m)
+{
+    uint32_t n = m->bits;
+    m->next = n + 2;
+    put_xor(m, n, n + 1);
+    put_and(m, n, n + 1);
+    put_xor(m, n + 2, n + 3);
 }
 
 /* The gates of the masks, of the public bits and of the source's gates. */
@@ -804,10 +821,7 @@ ALWAYS void mask_source(struct masking *m, const struct header *h, const uint8_t
                         const uint64_t *results, uint32_t *wires, uint8_t *codes)
 {
     uint32_t n = m->bits;
-    m->next = n + 2;
-    put_xor(m, n, n + 1);
-    put_and(m, n, n + 1);
-    put_xor(m, n + 2, n + 3);
+    mask_masks(m);
     for (uint32_t i = 0; i < n; i++) {
         bool public = in_codes[i] == 0;
         wires[i] = public ? put_xor(m, i, n) : i;
@@ -829,7 +843,7 @@ ALWAYS void mask_gates(struct masking *m, const struct header *h, const uint8_t 
         if (wanted[i] == 0 || wanted[i] == code)
             put_eqw(m, wires[first + i]);
         else
-            put_xor(m, wires[first + i], mask_wire(m, third[code][wanted[i]]));
+            put_xor(m, wires[first + i], mask_wire(m, third_code(code, wanted[i])));
     }
 }
 
@@ -843,7 +857,7 @@ static int64_t mask(const struct header *h, const uint64_t *operands, const uint
         return -13;
 
     uint32_t n = (uint32_t)h->in.bits;
-    struct masking count = {n, 0, {COUNTING, NULL, 0}};
+    struct masking count = {n, 0, {COUNTING, NULL, 0, NULL}};
     mask_gates(&count, h, codes, wanted, operands, results, wires, marks);
     struct header masked = *h;
     masked.wires = count.next;
@@ -852,14 +866,14 @@ static int64_t mask(const struct header *h, const uint64_t *operands, const uint
     if (h->out.bits > out_codes_len)
         return -14;
     if (out_len < most_bytes(&masked, false)) {
-        struct masking measure = {n, 0, {MEASURING, NULL, 0}};
+        struct masking measure = {n, 0, {MEASURING, NULL, 0, NULL}};
         put_header(&measure.text, &masked);
         mask_gates(&measure, h, codes, wanted, operands, results, wires, marks);
         if (measure.text.size > out_len)
             return -14;
     }
 
-    struct masking written = {n, 0, {WRITING, out, 0}};
+    struct masking written = {n, 0, {WRITING, out, 0, NULL}};
     put_header(&written.text, &masked);
     mask_gates(&written, h, codes, wanted, operands, results, wires, marks);
     uint32_t first = h->wires - (uint32_t)h->out.bits;
@@ -919,7 +933,7 @@ int64_t baseline_twins(const uint8_t *text, size_t text_len,
     if (answer == 0 && (out_wires_len < h.wires || out_codes_len < h.wires))
         answer = -14;
     if (answer == 0) {
-        struct masking count = {(uint32_t)h.in.bits, 0, {COUNTING, NULL, 0}};
+        struct masking count = {(uint32_t)h.in.bits, 0, {COUNTING, NULL, 0, NULL}};
         mask_source(&count, &h, codes, operands, results, out_wires, out_codes);
         answer = h.wires;
     }
@@ -996,7 +1010,7 @@ static uint32_t try_from(struct choosing *c, uint32_t place)
         switch (high(result)) {
         case XOR:
             changes += a == b && low(both) != high(both);
-            made = a == b ? after[a] : a ^ b;
+            made = a == b ? code_after(a) : a ^ b;
             break;
         case AND:
             changes += a == b && low(both) != high(both);
@@ -1896,6 +1910,125 @@ int64_t baseline_from_aiger(const uint8_t *text, size_t text_len,
     memset(results, 0, results_len * sizeof *results);
     memset(variables, 0, variables_len * sizeof *variables);
     return answer;
+}
+
+/* ---- a session */
+
+/* Questions 4 and 5 of the widths of values: 0, or the number of the first with a no. */
+static int read_widths(const uint32_t *widths, size_t count, struct values *v)
+{
+    *v = (struct values){0};
+    bool zero = count == 0;
+    for (size_t i = 0; i < count; i++) {
+        zero |= widths[i] == 0;
+        if (i < MOST_VALUES)
+            v->width[i] = widths[i];
+        v->bits += widths[i];
+    }
+    v->count = count > MOST_VALUES ? MOST_VALUES : (uint32_t)count;
+    return zero ? 4 : 0;
+}
+
+static fidrovelj_step refused_step(fidrovelj_session session, int question)
+{
+    return (fidrovelj_step){session, (uint8_t)question};
+}
+
+fidrovelj_step baseline_session_open(const uint32_t *widths, size_t widths_len,
+                                     const uint8_t *codes, size_t codes_len,
+                                     fidrovelj_gate *masked, size_t masked_len,
+                                     uint8_t sizes)
+{
+    const struct limits *l = &small_limits[sizes != 0];
+    const fidrovelj_session none = {0, 0};
+    struct values in;
+    int no = read_widths(widths, widths_len, &in);
+    if (no != 0)
+        return refused_step(none, no);
+    if (widths_len > l->inputs || in.bits > l->wires)
+        return refused_step(none, 5);
+    if (!list_good(codes, codes_len, in.bits, 3))
+        return refused_step(none, 11);
+    uint32_t gates = 3, n = (uint32_t)in.bits;
+    for (uint32_t i = 0; i < n; i++)
+        gates += codes[i] == 0;
+    if (gates > masked_len)
+        return refused_step(none, 14);
+    struct masking m = {n, 0, {LISTING, NULL, 0, masked}};
+    mask_masks(&m);
+    for (uint32_t i = 0; i < n; i++) {
+        if (codes[i] == 0)
+            put_xor(&m, i, n);
+    }
+    return (fidrovelj_step){{0, gates}, 0};
+}
+
+/* The twin of a source wire: a public input's stands behind the masks' gates, in input order. */
+static struct twin session_twin(const uint8_t *codes, size_t bits, const fidrovelj_source_gate *source, uint32_t wire)
+{
+    if (wire >= bits)
+        return (struct twin){source[wire - bits].wire, source[wire - bits].code};
+    if (codes[wire] != 0)
+        return (struct twin){wire, codes[wire]};
+    uint32_t before = 0;
+    for (uint32_t i = 0; i < wire; i++)
+        before += codes[i] == 0;
+    return (struct twin){(uint32_t)bits + 5 + before, 1};
+}
+
+/* Questions 7 to 9 of a gate whose result must be the next wire: 0, or the number of the first with a no. */
+static int ask_record(fidrovelj_gate g, uint32_t next)
+{
+    bool two = g.kind == FIDROVELJ_XOR || g.kind == FIDROVELJ_AND;
+    if (g.kind < FIDROVELJ_XOR || g.kind > FIDROVELJ_EQ || (!two && g.second != 0))
+        return 7;
+    if (g.kind == FIDROVELJ_EQ ? g.first > 1 : g.first >= next || (two && g.second >= next))
+        return 8;
+    return g.result == next ? 0 : 9;
+}
+
+/* The kind in a gate table of a record that is a gate's. */
+static inline uint32_t table_kind(fidrovelj_gate g)
+{
+    return g.kind == FIDROVELJ_EQ ? EQ0 + g.first : g.kind - FIDROVELJ_XOR;
+}
+
+fidrovelj_step baseline_session_add(fidrovelj_session session, fidrovelj_gate gate,
+                                    const uint8_t *codes, size_t codes_len,
+                                    fidrovelj_source_gate *source, size_t source_len,
+                                    fidrovelj_gate *masked, size_t masked_len,
+                                    uint8_t sizes)
+{
+    const struct limits *l = &small_limits[sizes != 0];
+    if (session.gates >= source_len || codes_len >= l->wires || codes_len + session.gates >= l->wires)
+        return refused_step(session, 24);
+    uint32_t n = (uint32_t)codes_len, kind = table_kind(gate);
+    int no = ask_record(gate, n + session.gates);
+    if (no != 0)
+        return refused_step(session, no);
+    struct twin a = {0, 1}, b = {0, 1};
+    if (kind < EQ0)
+        a = session_twin(codes, n, source, gate.first);
+    if (kind < INV)
+        b = session_twin(codes, n, source, gate.second);
+    struct masking count = {n, 0, {COUNTING, NULL, 0, NULL}};
+    mask_twin(&count, kind, a, b);
+    uint64_t behind = (uint64_t)session.masked + count.next;
+    if (behind > masked_len || behind > (uint64_t)1 << 30)
+        return refused_step(session, 14);
+    struct masking list = {n, n + 2 + session.masked, {LISTING, NULL, 0, masked + session.masked}};
+    struct twin twin = mask_twin(&list, kind, a, b);
+    source[session.gates] = (fidrovelj_source_gate){gate.kind, gate.first, gate.second, gate.result,
+                                                    twin.wire, session.masked, twin.code};
+    return (fidrovelj_step){{session.gates + 1, session.masked + count.next}, 0};
+}
+
+fidrovelj_step baseline_session_take_off(fidrovelj_session session, const fidrovelj_source_gate *source, size_t source_len)
+{
+    if (session.gates == 0)
+        return refused_step(session, 23);
+    uint32_t gates = session.gates - 1;
+    return (fidrovelj_step){{gates, gates < source_len ? source[gates].from : 0}, 0};
 }
 
 /* ---- Join */

@@ -3,6 +3,8 @@
 #ifndef BASELINE_H
 #define BASELINE_H
 
+#include "../include/fidrovelj.h"
+
 #include <stddef.h>
 #include <stdint.h>
 
@@ -67,6 +69,19 @@ int64_t baseline_twins(const uint8_t *text, size_t text_len,
                        uint64_t *results, size_t results_len,
                        uint8_t *given, size_t given_len,
                        uint8_t sizes);
+
+fidrovelj_step baseline_session_open(const uint32_t *widths, size_t widths_len,
+                                     const uint8_t *codes, size_t codes_len,
+                                     fidrovelj_gate *masked, size_t masked_len,
+                                     uint8_t sizes);
+
+fidrovelj_step baseline_session_add(fidrovelj_session session, fidrovelj_gate gate,
+                                    const uint8_t *codes, size_t codes_len,
+                                    fidrovelj_source_gate *source, size_t source_len,
+                                    fidrovelj_gate *masked, size_t masked_len,
+                                    uint8_t sizes);
+
+fidrovelj_step baseline_session_take_off(fidrovelj_session session, const fidrovelj_source_gate *source, size_t source_len);
 
 int64_t baseline_check(const uint8_t *text, size_t text_len,
                        const uint8_t *codes, size_t codes_len,

@@ -91,6 +91,28 @@ int64_t fidrovelj_twins(const uint8_t *text, size_t text_len,
                           operands, operands_len, results, results_len, given, given_len, sizes);
 }
 
+fidrovelj_step fidrovelj_session_open(const uint32_t *widths, size_t widths_len,
+                                      const uint8_t *codes, size_t codes_len,
+                                      fidrovelj_gate *masked, size_t masked_len,
+                                      uint8_t sizes)
+{
+    return baseline_session_open(widths, widths_len, codes, codes_len, masked, masked_len, sizes);
+}
+
+fidrovelj_step fidrovelj_session_add(fidrovelj_session session, fidrovelj_gate gate,
+                                     const uint8_t *codes, size_t codes_len,
+                                     fidrovelj_source_gate *source, size_t source_len,
+                                     fidrovelj_gate *masked, size_t masked_len,
+                                     uint8_t sizes)
+{
+    return baseline_session_add(session, gate, codes, codes_len, source, source_len, masked, masked_len, sizes);
+}
+
+fidrovelj_step fidrovelj_session_take_off(fidrovelj_session session, const fidrovelj_source_gate *source, size_t source_len)
+{
+    return baseline_session_take_off(session, source, source_len);
+}
+
 int64_t fidrovelj_check(const uint8_t *text, size_t text_len,
                         const uint8_t *codes, size_t codes_len,
                         uint64_t *leak, size_t leak_len,

@@ -336,6 +336,71 @@ int64_t fidrovelj_from_verilog(const uint8_t *text, size_t text_len,
                                uint32_t *wires, size_t wires_len,
                                uint8_t sizes);
 
+/* Sessions: source gates are added at the end and taken off there, and their masked gates lie beside them.
+ *
+ * The caller owns two lists and lends them to each call: source, of the source gates, and masked, of the masked gates before the output
+ * copies. A session says how many of each stand at their front; it travels by value, and a call gives the session behind its step. Each
+ * step is to get the session and the lists just as the one before left them, and the codes and the sizes that opened the session. Then the
+ * masked gates are those that fidrovelj_mask writes for the present source gates, before its output copies. Lists that no opening made
+ * are safe to lend as well: the answer is a defined one. A refused step changes nothing; a step writes in the lists only the gates it adds,
+ * and taking off writes nothing.
+ *
+ * Kinds of gates. A gate of one operand has 0 as its second, and the operand of EQ is its constant. */
+#define FIDROVELJ_XOR 1
+#define FIDROVELJ_AND 2
+#define FIDROVELJ_INV 3
+#define FIDROVELJ_EQW 4
+#define FIDROVELJ_EQ 5
+
+/* A gate. */
+typedef struct {
+    uint32_t kind, first, second, result;
+} fidrovelj_gate;
+
+/* A source gate: the gate, the wire that its result stands on in the masked netlist, the place of its first masked gate in the list of
+ * masked gates, and the code of the mask on its result. */
+typedef struct {
+    uint32_t kind, first, second, result;
+    uint32_t wire, from;
+    uint8_t code;
+} fidrovelj_source_gate;
+
+/* How many source gates, and how many masked gates, stand at the front of the lists. */
+typedef struct {
+    uint32_t gates, masked;
+} fidrovelj_session;
+
+/* What a step answers: the session behind it, and 0, or the number of the question that refuses the step; then the session is the one
+ * that was handed in (of an opening: the one without gates). */
+typedef struct {
+    fidrovelj_session session;
+    uint8_t refused;
+} fidrovelj_step;
+
+/* Opens a session: widths are those of the input values, and codes has a code 0 to 3 for each input bit. Writes the three mask gates, and
+ * one gate for each public bit, to the front of masked. Questions 4, 5, 11, and 14 of masked, with Mask's limits. */
+fidrovelj_step fidrovelj_session_open(const uint32_t *widths, size_t widths_len,
+                                      const uint8_t *codes, size_t codes_len,
+                                      fidrovelj_gate *masked, size_t masked_len,
+                                      uint8_t sizes);
+
+/* Adds a gate at the end. Questions
+ *
+ * 24  Has source a place left, and are there fewer wires than Mask takes?
+ *
+ * then 7 (a known kind; 0 as the second operand where there is none), 8, 9 (the result is the next wire), and 14 of masked. */
+fidrovelj_step fidrovelj_session_add(fidrovelj_session session, fidrovelj_gate gate,
+                                     const uint8_t *codes, size_t codes_len,
+                                     fidrovelj_source_gate *source, size_t source_len,
+                                     fidrovelj_gate *masked, size_t masked_len,
+                                     uint8_t sizes);
+
+/* Takes the last gate off, with its masked gates. Question
+ *
+ * 23  Is there a gate to take off? */
+fidrovelj_step fidrovelj_session_take_off(fidrovelj_session session,
+                                          const fidrovelj_source_gate *source, size_t source_len);
+
 #ifdef __cplusplus
 }
 #endif

@@ -460,6 +460,93 @@ static void joined_blocks(void)
     expect(join(one_wire, "\2", "\2", "\3") == -10, "Join, a second without a mask pair");
 }
 
+/* ---- sessions */
+
+#define PLACES 4
+#define ROOM_MASKED 20
+
+static fidrovelj_source_gate source_list[PLACES], source_before[PLACES];
+static fidrovelj_gate masked_list[ROOM_MASKED], masked_before[ROOM_MASKED];
+
+static bool same_source(size_t i)
+{
+    const fidrovelj_source_gate *a = &source_list[i], *b = &source_before[i];
+    return a->kind == b->kind && a->first == b->first && a->second == b->second && a->result == b->result && a->wire == b->wire
+        && a->from == b->from && a->code == b->code;
+}
+
+/* A step's answer: the question, or 0, once all entries but those that it may add are seen to be as they were. */
+static int settled(fidrovelj_session *session, fidrovelj_step step)
+{
+    fidrovelj_session before = *session;
+    bool same = true;
+    for (size_t i = 0; i < PLACES; i++)
+        same = same && (same_source(i) || (step.refused == 0 && i >= before.gates && i < step.session.gates));
+    for (size_t i = 0; i < ROOM_MASKED; i++)
+        same = same && (memcmp(&masked_list[i], &masked_before[i], sizeof *masked_list) == 0
+                        || (step.refused == 0 && i >= before.masked && i < step.session.masked));
+    expect(same, "a step writes the gates that it adds alone");
+    if (step.refused != 0)
+        expect(step.session.gates == before.gates && step.session.masked == before.masked, "a refusal leaves the session as it was");
+    memcpy(source_before, source_list, sizeof source_list);
+    memcpy(masked_before, masked_list, sizeof masked_list);
+    *session = step.session;
+    return step.refused;
+}
+
+static int opened(fidrovelj_session *session, const uint32_t *widths, size_t values, const char *codes, size_t room)
+{
+    *session = (fidrovelj_session){0, 0};
+    return settled(session, fidrovelj_session_open(widths, values, entries(codes), strlen(codes), masked_list, room, FIDROVELJ_OLD));
+}
+
+static int added(fidrovelj_session *session, fidrovelj_gate gate, const char *codes, size_t places, size_t room)
+{
+    return settled(session, fidrovelj_session_add(*session, gate, entries(codes), strlen(codes), source_list, places, masked_list,
+                                                  room, FIDROVELJ_OLD));
+}
+
+static int taken_off(fidrovelj_session *session)
+{
+    return settled(session, fidrovelj_session_take_off(*session, source_list, PLACES));
+}
+
+static void sessions(void)
+{
+    static const uint32_t bits[] = {1, 1}, none[] = {1, 0}, wide[] = {2048, 1};
+    static const fidrovelj_gate and = {FIDROVELJ_AND, 0, 1, 2}, inverter = {FIDROVELJ_INV, 2, 0, 3}, xor = {FIDROVELJ_XOR, 3, 2, 4};
+    fidrovelj_session s;
+    memset(source_list, PATTERN, sizeof source_list);
+    memset(masked_list, PATTERN, sizeof masked_list);
+    memcpy(source_before, source_list, sizeof source_list);
+    memcpy(masked_before, masked_list, sizeof masked_list);
+
+    expect(opened(&s, bits, 0, "12", 20) == 4 && opened(&s, none, 2, "1", 20) == 4, "a session without widths, a width of 0: 4");
+    expect(opened(&s, wide, 2, "1", 20) == 5, "2,049 input bits: 5");
+    expect(opened(&s, bits, 2, "1", 20) == 11 && opened(&s, bits, 2, "14", 20) == 11, "a code too few, a code of 4: 11");
+    expect(opened(&s, bits, 2, "12", 2) == 14 && opened(&s, bits, 2, "10", 3) == 14, "a list without room for the opening: 14");
+
+    expect(opened(&s, bits, 2, "12", 20) == 0 && s.gates == 0 && s.masked == 3, "an opening");
+    expect(taken_off(&s) == 23, "nothing to take off: 23");
+    expect(added(&s, (fidrovelj_gate){6, 9, 9, 9}, "12", PLACES, 20) == 7, "an unknown kind: 7");
+    expect(added(&s, (fidrovelj_gate){FIDROVELJ_INV, 0, 1, 2}, "12", PLACES, 20) == 7, "an inverter of two: 7");
+    expect(added(&s, (fidrovelj_gate){FIDROVELJ_AND, 0, 2, 9}, "12", PLACES, 20) == 8, "an operand that is the result: 8");
+    expect(added(&s, (fidrovelj_gate){FIDROVELJ_EQ, 2, 0, 2}, "12", PLACES, 20) == 8, "a constant of 2: 8");
+    expect(added(&s, (fidrovelj_gate){FIDROVELJ_AND, 0, 1, 3}, "12", PLACES, 20) == 9, "a result beyond the next wire: 9");
+    expect(added(&s, and, "12", 0, 20) == 24, "a list without a place: 24");
+    expect(added(&s, (fidrovelj_gate){6, 9, 9, 9}, "12", 0, 0) == 24, "24 before 7 and 14");
+    expect(added(&s, and, "12", PLACES, 9) == 14, "no room for the seven steps: 14");
+    expect(added(&s, and, "12", PLACES, 10) == 0 && s.gates == 1 && s.masked == 10, "an AND");
+    expect(source_list[0].wire == 13 && source_list[0].code == 1 && source_list[0].from == 3, "its twin");
+    expect(added(&s, and, "12", PLACES, 20) == 9, "the same gate again: 9");
+
+    expect(added(&s, inverter, "12", PLACES, 20) == 0 && added(&s, xor, "12", PLACES, 20) == 0, "two gates more");
+    expect(s.gates == 3 && s.masked == 13, "the XOR of one code changes a mask");
+    expect(taken_off(&s) == 0 && s.gates == 2 && s.masked == 11, "the XOR taken off with its mask change");
+    expect(taken_off(&s) == 0 && taken_off(&s) == 0 && s.gates == 0 && s.masked == 3, "all taken off");
+    expect(taken_off(&s) == 23, "none left: 23");
+}
+
 /* ---- sixty-four runs */
 
 /* One gate of each form on two bits, all wires put out. */
@@ -741,6 +828,7 @@ int main(void)
     results_of_others();
     public_bits();
     joined_blocks();
+    sessions();
     sixty_four();
     source_wires();
     fewer_changes();

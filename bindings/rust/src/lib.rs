@@ -10,6 +10,7 @@
 //! - [`run`] evaluates a netlist, [`run64`] on sixty-four settings at once,
 //! - [`rewrite`] gives a netlist in its written form; [`from_old`] and [`to_old`] convert from and to the older
 //!   Bristol dialect,
+//! - [`Session`] keeps a source that grows gate by gate, and shrinks again, masked at every moment,
 //! - [`join`] makes one netlist of two masked blocks.
 //!
 //! Each call puts a list of questions in order, and the first no refuses it with that question's
@@ -43,6 +44,7 @@ mod join;
 pub mod lent;
 mod old;
 mod pairs;
+mod session;
 mod tables;
 mod twins;
 mod verilog;
@@ -54,6 +56,10 @@ pub use fewest::{mask_fewest, mask_fewest_lent, Fewest};
 pub use join::{join, join_lent};
 pub use old::{from_old, from_old_lent, to_old, to_old_lent};
 pub use pairs::{check_pairs, check_pairs_lent, Pairs};
+pub use session::{
+    session_add_lent, session_open_lent, session_take_off_lent, Gate, GateRecord, Session, SessionState,
+    SourceGate,
+};
 pub use tables::{Sizes, Tables};
 pub use twins::{twins, twins_lent, Twin};
 pub use verilog::{from_verilog, from_verilog_lent, NameTables};
@@ -88,6 +94,9 @@ struct Pages;
 /// 25. Join: do the codes meet, none of them 0, and has the second a gate for each output bit?
 ///
 /// 21 (check with pairs, after 12): is the list's length even and each entry a wire of the netlist?
+///
+/// 23 (session): is there a gate to take off? 24 (session, before 7): is there a place for one gate more, and a wire
+/// within the limit?
 #[derive(Clone, Copy, Debug, PartialEq, Eq, Hash)]
 pub struct Refused(pub u8);
 

@@ -3,6 +3,7 @@
 mod fewest;
 mod pairs;
 mod wide;
+mod sessions;
 
 use capi_answers::number;
 use capi_answers::sizes;

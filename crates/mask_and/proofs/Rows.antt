@@ -4,14 +4,16 @@ use mathlib.Core.Path.{_≡_, refl, sym, ap, _∙_}
 use mathlib.Core.Bool.{Bool, true, _&&_}
 use mathlib.Core.List.{List, [], _∷_, _++_, map, append-assoc, append-nil}
 use native.Mathlib.Nat.{not-suc-le-zero, le-of-suc-le-suc}
-use native.Mathlib.Numerals.{add-one}
+use native.Mathlib.Numerals.{add-one, towards-numerals}
 use native.Mathlib.Omega.{arith}
 use lib.Dec.{T, eqb, ltb, ltb→lt}
 use lib.ListN.{length, getD, set, take, drop, length-set, length-map, List·getD-map}
 use lib.Seq.{getD-take, take-suc-set, drop-cons}
 use Rattle.netlist.specs.declared.Gate.{Gate}
+use Rattle.netlist.specs.Lists.{every}
 use Rattle.netlist.specs.Mask.{Row, row, rows, rowGate, rowGates}
 use Rattle.netlist.proofs.Tests.{both}
+use Rattle.gate_records.specs.Records.{record4, blank, recordOf}
 use Rattle.write_buffer.specs.Wrote.{top}
 use Rattle.write_gates.specs.Gates.{WroteGates}
 use Rattle.write_gates.proofs.Gates.{gates-none, gates-then, gates-as}
@@ -116,3 +118,48 @@ walked-all {places = places} {w = w} {i = i} h l =
     let seven : i ≡ 7 = omega (arith, h .passed) in
     let none : rowGates (drop i rows) (take (5 + i) places) w ≡ [] = rw seven in
     gates-as (sym (h .left ∙ ap (λ (l : List Gate). h .done ++ l) none ∙ append-nil (h .done))) (h .wrote)
+
+-- a step's record, by its operation
+record-row : (k a b c : ℕ) → k < 2 → record4 (k + 1) a b c ≡ recordOf (rowOf k a b c)
+record-row zero a b c h = refl
+record-row (suc zero) a b c h = refl
+record-row (suc (suc k)) a b c h = absurd (omega (arith, h))
+
+-- the places of the operands and of the seven steps
+abbrev pub placesAt : ℕ → ℕ → ℕ → ℕ → ℕ → ℕ → List ℕ
+placesAt a b p q o c = a ∷ b ∷ p ∷ q ∷ o ∷ c ∷ (c + 1) ∷ (c + 2) ∷ (c + 3) ∷ (c + 4) ∷ (c + 5) ∷ (c + 6) ∷ []
+
+-- one of the seven
+seven : (P : ℕ → Type 0) → P 0 → P 1 → P 2 → P 3 → P 4 → P 5 → P 6 → (k : ℕ) → k < 7 → P k
+seven P p₀ p₁ p₂ p₃ p₄ p₅ p₆ zero h = p₀
+seven P p₀ p₁ p₂ p₃ p₄ p₅ p₆ (suc zero) h = p₁
+seven P p₀ p₁ p₂ p₃ p₄ p₅ p₆ (suc (suc zero)) h = p₂
+seven P p₀ p₁ p₂ p₃ p₄ p₅ p₆ (suc (suc (suc zero))) h = p₃
+seven P p₀ p₁ p₂ p₃ p₄ p₅ p₆ (suc (suc (suc (suc zero)))) h = p₄
+seven P p₀ p₁ p₂ p₃ p₄ p₅ p₆ (suc (suc (suc (suc (suc zero))))) h = p₅
+seven P p₀ p₁ p₂ p₃ p₄ p₅ p₆ (suc (suc (suc (suc (suc (suc zero)))))) h = p₆
+seven P p₀ p₁ p₂ p₃ p₄ p₅ p₆ (suc (suc (suc (suc (suc (suc (suc k))))))) h = absurd (omega (arith, h))
+
+module _ (a b p q o c : ℕ) where
+  gate-at : (k : ℕ) → k < 7 → getD (map recordOf (rowGates rows (a ∷ b ∷ p ∷ q ∷ o ∷ []) c)) k blank
+      ≡ recordOf (rowGate (getD rows k (stepOf [])) (placesAt a b p q o c) (c + k))
+  gate-at = seven (λ k. getD (map recordOf (rowGates rows (a ∷ b ∷ p ∷ q ∷ o ∷ []) c)) k blank
+      ≡ recordOf (rowGate (getD rows k (stepOf [])) (placesAt a b p q o c) (c + k)))
+      (simp towards-numerals) refl (simp towards-numerals) (simp towards-numerals)
+      (simp towards-numerals) (simp towards-numerals) (simp towards-numerals)
+
+  -- step k, from row k of a table
+  pub step-at : {t : List (List ℕ)} {k : ℕ} → Steps t → k < 7 → cell t k 0 < 2
+      → record4 (cell t k 0 + 1) (getD (placesAt a b p q o c) (cell t k 1) 0) (getD (placesAt a b p q o c) (cell t k 2) 0) (c + k)
+      ≡ getD (map recordOf (rowGates rows (a ∷ b ∷ p ∷ q ∷ o ∷ []) c)) k blank
+  step-at {t} {k} s h l =
+      record-row (cell t k 0) (getD (placesAt a b p q o c) (cell t k 1) 0) (getD (placesAt a b p q o c) (cell t k 2) 0) (c + k) l
+      ∙ ap (λ (r : Row). recordOf (rowGate r (placesAt a b p q o c) (c + k)))
+      (sym (ap (λ (l : List Row). getD l k (stepOf [])) (sym (s .same)) ∙ List·getD-map stepOf t k []))
+      ∙ sym (gate-at k h)
+
+-- an operation of a table whose operations are 0 and 1
+pub operation-at : (t : List (List ℕ)) (k : ℕ) → k < length t → T (every (λ r. ltb (getD r 0 0) 2) t) → cell t k 0 < 2
+operation-at [] k h e = absurd (not-suc-le-zero h)
+operation-at (r ∷ t) zero h e = ltb→lt (getD r 0 0) 2 (both (ltb (getD r 0 0) 2) (every (λ r. ltb (getD r 0 0) 2) t) e .0)
+operation-at (r ∷ t) (suc k) h e = operation-at t k (le-of-suc-le-suc h) (both (ltb (getD r 0 0) 2) (every (λ r. ltb (getD r 0 0) 2) t) e .1)

@@ -1,8 +1,12 @@
-// The seven steps of the masked AND.
-ghost use Prim.Native.Nat.{_≤_, _^_};
-ghost use mathlib.Core.List.{[], _∷_};
+// The seven steps of the masked AND: one step by value, and all of them written.
+use gate_records::GateRecord;
+ghost use mathlib.Core.Path.{_≡_};
+ghost use Prim.Native.Nat.{_≤_, _<_, _^_};
+ghost use mathlib.Core.List.{[], _∷_, map};
+ghost use lib.ListN.{getD};
 ghost use Rattle.write_wires.specs.Packed.{WordTable};
 ghost use Rattle.netlist.specs.Mask.{rows, rowGates};
+ghost use Rattle.gate_records.specs.Records.{blank, recordOf};
 ghost use Rattle.write_gates.specs.Gates.{WroteGates};
 ghost use Rattle.mask_and.specs.Row.{rowOf};
 
@@ -17,6 +21,22 @@ const ROWS: [[u8; 3]; 7] = [
     [0, 9, 4],
     [0, 8, 10],
 ];
+
+// Step k, with the operands a and b, their mask wires p and q and the wire o of the OR of the masks, at the wires from c.
+pub fn step(a: u32, b: u32, p: u32, q: u32, o: u32, c: u32, k: usize) -> GateRecord
+    requires { ⌜ (c ≤ 2 ^ 31) × (k < 7) ⌝ }
+    ensures { λ r. ⌜ r ≡ getD (map recordOf (rowGates rows (a ∷ b ∷ p ∷ q ∷ o ∷ []) c)) k blank ⌝ }
+{
+    let rows = ROWS;
+    let row = rows[k];
+    let places = [a, b, p, q, o, c, c + 1, c + 2, c + 3, c + 4, c + 5, c + 6];
+    GateRecord {
+        kind: row[0] as u32 + 1,
+        first: places[row[1] as usize],
+        second: places[row[2] as usize],
+        result: c + k as u32,
+    }
+}
 
 // A step's gate.
 fn row(d: &[u64], out: &mut [u8], at: usize, operation: u8, a: u32, b: u32, c: u32) -> usize

@@ -1,21 +1,14 @@
-// The masked gates of one source gate.
+// The masked gates of one source gate, written: what they are is said by `mask_rule`, and their lines follow each other here.
 use mask_codes::code_after;
 use mask_codes::mask_wire;
-use mask_codes::third_code;
 use netlist::Twin;
 ghost use Prim.Native.Nat.{_<_, _^_};
 ghost use mathlib.Core.List.{[], _∷_};
 ghost use Rattle.write_wires.specs.Packed.{WordTable};
 ghost use Rattle.netlist.specs.declared.Gate.the-variants.{Inv, Eqw};
-ghost use Rattle.netlist.specs.Mask.{xorGates, xorTwin, andGates, andTwin};
-ghost use Rattle.mask_gate.specs.Emitted.{WroteChange, WroteTwin, WroteKind};
-
-// Behind a mask change: the next place, the second operand and the next wire.
-struct Changed {
-    at: usize,
-    twin: Twin,
-    next: u32,
-}
+ghost use Rattle.netlist.specs.Mask.{changeGates, xorGates, xorTwin, andGates, andTwin};
+ghost use Rattle.write_gates.specs.Gates.{WroteGates};
+ghost use Rattle.mask_gate.specs.Emitted.{WroteTwin, WroteKind};
 
 // Behind a source gate: the next place, and the twin of its result.
 pub struct Emitted {
@@ -23,33 +16,19 @@ pub struct Emitted {
     pub twin: Twin,
 }
 
-// The mask change of the second operand, where the operands' codes are equal. It holds for this
-// gate alone: the caller's twin of the operand stays as it is.
-fn change(d: &[u64], out: &mut [u8], at: usize, n: u32, c: u32, a: Twin, b: Twin) -> Changed
+// The gate of the second operand's mask change, where the operands' codes are equal.
+fn change(d: &[u64], out: &mut [u8], at: usize, n: u32, c: u32, a: Twin, b: Twin) -> usize
     requires { ⌜ WordTable (now d) ⌝ }
-    requires { ⌜ (n < 2 ^ 31) × (c < 2 ^ 31) ⌝ }
-    ensures { λ r. ⌜ WroteChange (now (out .entry)) at n c a b (now (out .exit)) r ⌝ }
+    requires { ⌜ n < 2 ^ 31 ⌝ }
+    ensures { λ r. ⌜ WroteGates (now (out .entry)) at (changeGates n c a b) (now (out .exit)) r ⌝ }
 {
     let e = b.code;
     if a.code != e {
-        return Changed {
-            at,
-            twin: b,
-            next: c,
-        };
+        return at;
     }
     let f = code_after(e);
     let m = mask_wire(n, f);
-    let end = write_gates::gate::xor(d, out, at, b.wire, m, c);
-    let twin = Twin {
-        wire: c,
-        code: third_code(e, f),
-    };
-    Changed {
-        at: end,
-        twin,
-        next: c + 1,
-    }
+    write_gates::gate::xor(d, out, at, b.wire, m, c)
 }
 
 // XOR: one XOR gate, with the code that neither operand has.
@@ -58,13 +37,11 @@ fn xor(d: &[u64], out: &mut [u8], at: usize, n: u32, c: u32, a: Twin, b: Twin) -
     requires { ⌜ (n < 2 ^ 31) × (c < 2 ^ 31) ⌝ }
     ensures { λ r. ⌜ WroteTwin (now (out .entry)) at (xorGates n c a b) (xorTwin c a b) (now (out .exit)) r ⌝ }
 {
-    let m = change(d, out, at, n, c, a, b);
-    let second = m.twin;
-    let end = write_gates::gate::xor(d, out, m.at, a.wire, second.wire, m.next);
-    let twin = Twin {
-        wire: m.next,
-        code: third_code(a.code, second.code),
-    };
+    let from = change(d, out, at, n, c, a, b);
+    let second = mask_rule::changed(c, a, b);
+    let next = mask_rule::past(c, a, b);
+    let end = write_gates::gate::xor(d, out, from, a.wire, second.wire, next);
+    let twin = mask_rule::xor_twin(c, a, b);
     Emitted { at: end, twin }
 }
 
@@ -74,15 +51,13 @@ fn and(d: &[u64], out: &mut [u8], at: usize, n: u32, c: u32, a: Twin, b: Twin) -
     requires { ⌜ (n < 2 ^ 31) × (c < 2 ^ 31) ⌝ }
     ensures { λ r. ⌜ WroteTwin (now (out .entry)) at (andGates n c a b) (andTwin c a b) (now (out .exit)) r ⌝ }
 {
-    let m = change(d, out, at, n, c, a, b);
-    let second = m.twin;
+    let from = change(d, out, at, n, c, a, b);
+    let second = mask_rule::changed(c, a, b);
+    let next = mask_rule::past(c, a, b);
     let p = mask_wire(n, a.code);
     let q = mask_wire(n, second.code);
-    let end = mask_and::steps(d, out, m.at, a.wire, second.wire, p, q, n + 4, m.next);
-    let twin = Twin {
-        wire: m.next + 6,
-        code: a.code,
-    };
+    let end = mask_and::steps(d, out, from, a.wire, second.wire, p, q, n + 4, next);
+    let twin = mask_rule::and_twin(c, a, b);
     Emitted { at: end, twin }
 }
 

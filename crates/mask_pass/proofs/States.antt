@@ -15,8 +15,10 @@ use Rattle.netlist.proofs.Puts.{gates-more}
 use Rattle.write_buffer.specs.Wrote.{top}
 use Rattle.write_gates.proofs.Gates.{gates-none, gates-then, gates-as}
 use Rattle.mask_gate.specs.declared.Emitted.{Emitted}
-use Rattle.mask_gate.specs.Emitted.{WroteKind, operands}
-use Rattle.mask_gate.proofs.ByKind.{emit-of, twin-of, result-of, kind-small}
+use Rattle.mask_rule.specs.Rule.{operands}
+use Rattle.mask_gate.specs.Emitted.{WroteKind}
+use Rattle.mask_rule.proofs.ByKind.{emit-of, twin-of, result-of}
+use Rattle.mask_gate.proofs.Emits.{kind-small}
 use Rattle.mask_pass.specs.declared.gates.Next.{Next}
 use Rattle.mask_pass.specs.State.{twinsOf, stateOf, WroteStep, WroteAll}
 

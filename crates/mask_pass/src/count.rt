@@ -1,88 +1,13 @@
 // The twins of the source wires without their gates, and how many wires the masked netlist has.
-use mask_codes::code_after;
-use mask_codes::third_code;
-use netlist::Twin;
 ghost use mathlib.Core.Path.{_≡_};
 ghost use mathlib.Core.List.{[]};
 ghost use Prim.Native.Nat.{_+_, _*_, _<_, _^_};
 ghost use lib.ListN.{length};
 ghost use Rattle.netlist.specs.Netlist.{Netlist};
-ghost use Rattle.netlist.specs.Mask.{changed as changedTwin, past as pastWire, xorTwin, andTwin, resultTwin, maskNetlist};
-ghost use Rattle.netlist.specs.Table.{gateOf, gateIn, tables, Named, Wired, Holds};
-ghost use Rattle.mask_gate.specs.Emitted.{operands as operandsOf};
+ghost use Rattle.netlist.specs.Mask.{maskNetlist};
+ghost use Rattle.netlist.specs.Table.{gateIn, tables, Named, Wired, Holds};
 ghost use Rattle.mask_pass.specs.State.{stateOf, Advanced, AdvancedAll};
 ghost use Rattle.mask_pass.specs.Pass.{Ready, Finished, Counted};
-
-// The second operand behind its mask change, if there is one.
-fn changed(c: u32, a: Twin, b: Twin) -> Twin
-    ensures { λ r. ⌜ r ≡ changedTwin c a b ⌝ }
-{
-    let e = b.code;
-    if a.code != e {
-        return b;
-    }
-    let f = code_after(e);
-    Twin {
-        wire: c,
-        code: third_code(e, f),
-    }
-}
-
-// The next wire behind it.
-fn past(c: u32, a: Twin, b: Twin) -> u32
-    requires { ⌜ c < 2 ^ 31 ⌝ }
-    ensures { λ r. ⌜ r ≡ pastWire c a b ⌝ }
-{
-    let e = b.code;
-    if a.code != e {
-        return c;
-    }
-    c + 1
-}
-
-// The twin of an XOR's result.
-fn xor(c: u32, a: Twin, b: Twin) -> Twin
-    requires { ⌜ c < 2 ^ 31 ⌝ }
-    ensures { λ r. ⌜ r ≡ xorTwin c a b ⌝ }
-{
-    let second = changed(c, a, b);
-    Twin {
-        wire: past(c, a, b),
-        code: third_code(a.code, second.code),
-    }
-}
-
-// The twin of an AND's result.
-fn and(c: u32, a: Twin, b: Twin) -> Twin
-    requires { ⌜ c < 2 ^ 31 ⌝ }
-    ensures { λ r. ⌜ r ≡ andTwin c a b ⌝ }
-{
-    let w = past(c, a, b);
-    Twin {
-        wire: w + 6,
-        code: a.code,
-    }
-}
-
-// The twin of a source gate's result, by the gate's kind.
-fn result(c: u32, kind: u64, a: Twin, b: Twin) -> Twin
-    requires { ⌜ c < 2 ^ 31 ⌝ }
-    ensures { λ r. ⌜ r ≡ resultTwin (operandsOf c a b) (gateOf kind 0 1 2) ⌝ }
-{
-    match kind {
-        gate_table::XOR => xor(c, a, b),
-        gate_table::AND => and(c, a, b),
-        gate_table::INV => Twin {
-            wire: c,
-            code: a.code,
-        },
-        gate_table::EQW => Twin {
-            wire: c,
-            code: a.code,
-        },
-        _ => Twin { wire: c, code: 1 },
-    }
-}
 
 // The source gate of two entries: its result's twin, and the next wire.
 fn step(c: u32, operands: u64, results: u64, wire: &mut [u32], code: &mut [u8]) -> u32
@@ -95,7 +20,7 @@ fn step(c: u32, operands: u64, results: u64, wire: &mut [u32], code: &mut [u8]) 
     let place = g.result;
     let a = crate::twins::twin(wire, code, g.left);
     let b = crate::twins::twin(wire, code, g.right);
-    let t = result(c, g.kind as u64, a, b);
+    let t = mask_rule::twin(c, g.kind as u64, a, b);
     wire[place] = t.wire;
     code[place] = t.code;
     t.wire + 1

@@ -4,9 +4,14 @@ use native.Mathlib.Omega.{arith}
 use borrow.Author.Needs.{needs}
 use Rattle.mask_gate.proofs.change.Statement.{statement}
 use Rattle.mask_gate.proofs.change.Tie as tie
+use Rattle.mask_gate.proofs.change.Reads as reads
+use Rattle.mask_gate.proofs.change.Lts as lts
+use Rattle.mask_codes.proofs.code_after.Reads as code-after-reads
+use Rattle.mask_codes.proofs.mask_wire.Reads as mask-wire-reads
+use Rattle.write_gates.proofs.gate.xor.Reads as xor-reads
 
 returns : tie.Need-returns
-returns c = change-none _ _ _ _ _ _ (omega arith) (omega arith) (c .if1 .taken)
+returns c = let a = c .before .before .before .before .args in change-none (a .n) (a .c) (a .a) (a .b) _ _ (omega arith) (omega arith) (c .if1 .taken)
 
 code-after-requires : tie.Need-code-after-requires
 code-after-requires c κs = search needs
@@ -17,30 +22,14 @@ mask-wire-requires c κs = search needs
 xor-requires : tie.Need-xor-requires
 xor-requires c κs = search needs
 
-third-code-requires : tie.Need-third-code-requires
-third-code-requires c κs = search needs
-
-add-t17 : tie.Need-add-t17
-add-t17 c = search needs
-
 same-length : tie.Need-same-length
 same-length c = search needs
 
 returns-2 : tie.Need-returns-2
-returns-2 c =
-    change-made _ _ (c .before .before .before .before .before .before .before .if1 .left)
-    (c .before .before .before .before .before .before .code-after .ensures) (c .before .before .before .before .before .mask-wire .ensures)
-    (c .third-code .ensures) (c .before .before .before .xor .ensures)
+returns-2 c = let a = c .before .before .before .before .before .before .before .before .before .before .args in
+    change-made (a .n) (a .c) (a .a) (a .b) (c .before .before .before .before .before .before .if1 .left) (c .before .before .before .before .before .code-after .ensures) (c .before .before .before .before .mask-wire .ensures) (c .before .before .xor .ensures)
 
 pub change-spec : {M : Type 1} → statement M
 change-spec =
     tie.close
-    (tie.spec
-    returns
-    code-after-requires
-    mask-wire-requires
-    xor-requires
-    third-code-requires
-    add-t17
-    same-length
-    returns-2)
+    (tie.spec returns code-after-requires mask-wire-requires xor-requires same-length returns-2)

@@ -1,6 +1,7 @@
 -- `step`: the result's twin is stored.
 use Rattle.gate_table.proofs.Splitting.{result-of, parts-within}
-use Rattle.mask_pass.proofs.Counting.{twin-small, advanced-parts}
+use Rattle.mask_rule.proofs.Twins.{twin-small}
+use Rattle.mask_pass.proofs.Counting.{advanced-parts}
 use native.Mathlib.Omega.{arith}
 use borrow.Author.Needs.{needs}
 use Rattle.mask_pass.proofs.count.step.Statement.{statement}
@@ -19,8 +20,8 @@ twin-requires-2 c κs =
     let s = c .before .before .before .before .before .before .before .before in
     (parts-within (s .args .operands) (s .args .results) (c .before .before .before .before .before .split .ensures) (s .pre .1 .0) .right, s .pre .1 .1)
 
-result-requires : tie.Need-result-requires
-result-requires c κs = search needs
+twin-requires-3 : tie.Need-twin-requires-3
+twin-requires-3 c κs = search needs
 
 mul-wire : tie.Need-mul-wire
 mul-wire c =
@@ -43,7 +44,7 @@ add-result c =
     omega (
       arith,
       s .pre .0,
-      twin-small (s .args .c) (c .before .before .before .before .before .before .before .before .split .result .kind) (c .before .before .before .before .before .twin .result) (c .before .before .twin2 .result) (c .before .result .ensures),
+      twin-small (s .args .c) (c .before .before .before .before .before .before .before .before .split .result .kind) (c .before .before .before .before .before .twin .result) (c .before .before .twin2 .result) (c .before .twin3 .ensures),
     )
 
 same-length : tie.Need-same-length
@@ -56,7 +57,7 @@ returns : tie.Need-returns
 returns c =
     let a = c .before .before .before .before .before .before .before .before .before .before .before .args in
     advanced-parts (a .wire .now) (a .code .now) (a .operands) (a .results) (c .before .before .before .before .before .before .before .before .split .ensures)
-    (c .before .before .before .before .before .twin .ensures) (c .before .before .twin2 .ensures) (c .before .result .ensures)
+    (c .before .before .before .before .before .twin .ensures) (c .before .before .twin2 .ensures) (c .before .twin3 .ensures)
 
 pub step-spec : {M : Type 1} → statement M
 step-spec =
@@ -65,7 +66,7 @@ step-spec =
     split-requires
     twin-requires
     twin-requires-2
-    result-requires
+    twin-requires-3
     mul-wire
     slice-write-wire
     slice-write-code

@@ -1,6 +1,6 @@
 -- `step`: the gate's masked gates are written, and its result's twin is stored.
 use Rattle.gate_table.proofs.Splitting.{result-of, parts-within}
-use Rattle.mask_gate.proofs.ByKind.{kind-small}
+use Rattle.mask_gate.proofs.Emits.{kind-small}
 use Rattle.mask_pass.proofs.States.{step-parts}
 use native.Mathlib.Omega.{arith}
 use borrow.Author.Needs.{needs}

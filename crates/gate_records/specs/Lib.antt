@@ -1,0 +1,2 @@
+-- What the contracts of `gate_records` cite.
+pub mod Records

@@ -1,0 +1,2 @@
+-- What the contracts of `mask_rule` cite.
+pub mod Rule

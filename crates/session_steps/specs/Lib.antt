@@ -1,0 +1,2 @@
+-- What the steps of a session promise.
+pub mod Promise
