@@ -103,26 +103,26 @@ module _ (t by moved : ℕ) where
       let p : T (test j l) = below-at 64 (test j) ok l h in
       onBool (lane l moved)
       (λ e.
-          let q = both (eqb (exchanged j l) (l + by)) (not (leb by l && lane (l - by) moved)) (rw e at p) in
-          result-at l
-          ∙ ap₂ (λ (a b : Bool). differs (differs (lane l t) a) b) (change-yes l e) (risen-no l h (isFalse (leb by l && lane (l - by) moved) (q .1)))
-          ∙ twice (lane l t) (lane (l + by) t)
-          ∙ ap (λ (k : ℕ). lane k t) (sym (eqb→eq (exchanged j l) (l + by) (q .0))))
+      let q = both (eqb (exchanged j l) (l + by)) (not (leb by l && lane (l - by) moved)) (rw e at p) in
+      result-at l
+      ∙ ap₂ (λ (a b : Bool). differs (differs (lane l t) a) b) (change-yes l e) (risen-no l h (isFalse (leb by l && lane (l - by) moved) (q .1)))
+      ∙ twice (lane l t) (lane (l + by) t)
+      ∙ ap (λ (k : ℕ). lane k t) (sym (eqb→eq (exchanged j l) (l + by) (q .0))))
       (λ e.
-          onBool (leb by l && lane (l - by) moved)
-          (λ f.
-              let q : T (eqb (exchanged j l) (l - by)) = rw f at (rw e at p) in
-              let s = both-true (leb by l) (lane (l - by) moved) f in
-              result-at l
-              ∙ ap₂ (λ (a b : Bool). differs (differs (lane l t) a) b) (change-no l e) (risen-yes l h (leb-true by l (s .0)) (s .1))
-              ∙ once (lane l t) (lane (l - by) t)
-              ∙ ap (λ (k : ℕ). lane k t) (sym (eqb→eq (exchanged j l) (l - by) q)))
-          (λ f.
-              let q : T (eqb (exchanged j l) l) = rw f at (rw e at p) in
-              result-at l
-              ∙ ap₂ (λ (a b : Bool). differs (differs (lane l t) a) b) (change-no l e) (risen-no l h f)
-              ∙ never (lane l t)
-              ∙ ap (λ (k : ℕ). lane k t) (sym (eqb→eq (exchanged j l) l q))))
+      onBool (leb by l && lane (l - by) moved)
+      (λ f.
+      let q : T (eqb (exchanged j l) (l - by)) = rw f at (rw e at p) in
+      let s = both-true (leb by l) (lane (l - by) moved) f in
+      result-at l
+      ∙ ap₂ (λ (a b : Bool). differs (differs (lane l t) a) b) (change-no l e) (risen-yes l h (leb-true by l (s .0)) (s .1))
+      ∙ once (lane l t) (lane (l - by) t)
+      ∙ ap (λ (k : ℕ). lane k t) (sym (eqb→eq (exchanged j l) (l - by) q)))
+      (λ f.
+      let q : T (eqb (exchanged j l) l) = rw f at (rw e at p) in
+      result-at l
+      ∙ ap₂ (λ (a b : Bool). differs (differs (lane l t) a) b) (change-no l e) (risen-no l h f)
+      ∙ never (lane l t)
+      ∙ ap (λ (k : ℕ). lane k t) (sym (eqb→eq (exchanged j l) l q))))
 
 module _ (t by low : ℕ) (zero : bitAnd (bitXor (t / 2 ^ by) t) low ≡ 0) where
   low-same : (l : ℕ) → lane l low ≡ true → lane l t ≡ lane (l + by) t
@@ -134,13 +134,13 @@ module _ (t by low : ℕ) (zero : bitAnd (bitXor (t / 2 ^ by) t) low ≡ 0) wher
       onBool (lane l low)
       (λ e. low-same l e ∙ ap (λ (k : ℕ). lane k t) (sym (eqb→eq (turned j l) (l + by) (rw e at p))))
       (λ e.
-          let q = both (leb by l) (lane (l - by) low && eqb (turned j l) (l - by)) (rw e at p) in
-          let s = both (lane (l - by) low) (eqb (turned j l) (l - by)) (q .1) in
-          let u = leb→le by l (q .0) in
-          let f : l - by + by ≡ l = omega arith in
-          ap (λ (k : ℕ). lane k t) (sym f)
-          ∙ sym (low-same (l - by) (isTrue (lane (l - by) low) (s .0)))
-          ∙ ap (λ (k : ℕ). lane k t) (sym (eqb→eq (turned j l) (l - by) (s .1))))
+      let q = both (leb by l) (lane (l - by) low && eqb (turned j l) (l - by)) (rw e at p) in
+      let s = both (lane (l - by) low) (eqb (turned j l) (l - by)) (q .1) in
+      let u = leb→le by l (q .0) in
+      let f : l - by + by ≡ l = omega arith in
+      ap (λ (k : ℕ). lane k t) (sym f)
+      ∙ sym (low-same (l - by) (isTrue (lane (l - by) low) (s .0)))
+      ∙ ap (λ (k : ℕ). lane k t) (sym (eqb→eq (turned j l) (l - by) (s .1))))
 
 -- the bits of an exchanged place, and of a turned one
 pub exchanged-bit : (j i l : ℕ) → j < 3 → i < 6 → l < 64 → lane i (exchanged j l) ≡ lane (otherBit j i) l

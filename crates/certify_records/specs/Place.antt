@@ -22,8 +22,8 @@ turned j l = word 6 (λ i. differs (eqb i (j + 2)) (lane i l))
 abbrev pub exchangesAt : ℕ → ℕ → ℕ → Bool
 exchangesAt j by moved =
     below 64 λ l.
-        cond (lane l moved) (eqb (exchanged j l) (l + by) && not (leb by l && lane (l - by) moved))
-        (cond (leb by l && lane (l - by) moved) (eqb (exchanged j l) (l - by)) (eqb (exchanged j l) l))
+    cond (lane l moved) (eqb (exchanged j l) (l + by) && not (leb by l && lane (l - by) moved))
+    (cond (leb by l && lane (l - by) moved) (eqb (exchanged j l) (l - by)) (eqb (exchanged j l) l))
 
 -- the places marked in `low` and those so many above them are all places, and differ in atom j alone
 abbrev pub turnsAt : ℕ → ℕ → ℕ → Bool

@@ -1,7 +1,8 @@
 -- What a record says of a wire. An atom is a bit that the input setting alone decides; a record has up to four atoms and a table of
 -- what the wire is at each mask setting for each setting of these atoms.
 use Prim.Native.Nat.{ℕ, _<_}
-use mathlib.Core.Bool.{Bool, true, false}
+use mathlib.Core.Bool.{Bool, true, false, cond}
+use lib.Dec.{eqb}
 use mathlib.Core.Path.{_≡_}
 use mathlib.Core.Logic.{_≢_}
 use Rattle.netlist.specs.Table.{madeOf}
@@ -24,6 +25,10 @@ pub record At (bits : ℕ → Bool) (r : Record) (l : ℕ) : Type 0 where
   pub second : Has bits (r .second) (lane 3 l)
   pub third : Has bits (r .third) (lane 4 l)
   pub fourth : Has bits (r .fourth) (lane 5 l)
+
+-- the atom of a place of two records
+abbrev pub eitherOf : ℕ → ℕ → ℕ
+eitherOf a b = cond (eqb a noAtom) b a
 
 -- a record is right, for the bits of the atoms and of a wire under each mask setting: at each such place stands the wire's bit
 pub record Right (bits : ℕ → Bool) (wire : Bool → Bool → Bool) (r : Record) : Type 0 where

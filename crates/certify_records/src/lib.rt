@@ -1,6 +1,10 @@
 // Records: what the certifier knows of a wire.
-pub mod align;
+mod align;
+mod reduce;
 mod table;
+
+ghost use Prim.Native.Nat.{_<_};
+ghost use Rattle.certify_records.specs.Record.{JoinIs};
 
 // No atom.
 pub const NO_ATOM: u32 = 0xffff_ffff;
@@ -18,4 +22,20 @@ pub struct Record {
 pub enum Joined {
     One(Record),
     None,
+}
+
+// The record of what a kind of gate makes of two wires, from a record of each; none where it has more than four atoms. Atoms on
+// which nothing depends are left out.
+pub fn combine(kind: usize, x: Record, y: Record) -> Joined
+    requires { ⌜ kind < 8 ⌝ }
+    ensures { λ r. ⌜ JoinIs kind x y r ⌝ }
+{
+    let p = align::aligned(x, y);
+    let left = p.left;
+    let right = p.right;
+    let r = align::meet(kind, left, right);
+    match r {
+        Joined::One(z) => Joined::One(reduce::reduced(z)),
+        Joined::None => Joined::None,
+    }
 }
