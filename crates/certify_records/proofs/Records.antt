@@ -25,7 +25,7 @@ has-as : {bits : ℕ → Bool} {a : ℕ} {b c : Bool} → c ≡ b → Has bits a
 has-as e h = record { bit = λ n. h .bit n ∙ sym e }
 
 -- two bits are equal, or one is the other's inverse
-onPair : {P : Type 0} (x y : Bool) → (x ≡ y → P) → (x ≡ not y → P) → P
+pub onPair : {P : Type 0} (x y : Bool) → (x ≡ y → P) → (x ≡ not y → P) → P
 onPair true true f g = f refl
 onPair true false f g = g refl
 onPair false true f g = g refl

@@ -23,7 +23,7 @@ up-low k l x h = let e : x * 2 ^ k ≡ x * 2 ^ k + 0 = omega arith in ap (lane l
 up-high : (k l x : ℕ) → k ≤ l → lane l (x * 2 ^ k) ≡ lane (l - k) x
 up-high k l x h = let e : x * 2 ^ k ≡ x * 2 ^ k + 0 = omega arith in ap (lane l) e ∙ high-lane k l x 0 (pow-pos k) h
 
-lane-mod : (k l n : ℕ) → l < k → lane l (n % 2 ^ k) ≡ lane l n
+pub lane-mod : (k l n : ℕ) → l < k → lane l (n % 2 ^ k) ≡ lane l n
 lane-mod k l n h = sym (low-lane k l (n / 2 ^ k) (n % 2 ^ k) h) ∙ ap (lane l) (div-add-mod' n (2 ^ k))
 
 -- bits that differ twice
@@ -43,11 +43,11 @@ never : (a : Bool) → differs (differs a false) false ≡ a
 never true = refl
 never false = refl
 
-and-no : (a : Bool) → (a && false) ≡ false
+pub and-no : (a : Bool) → (a && false) ≡ false
 and-no true = refl
 and-no false = refl
 
-and-yes : (a : Bool) → (a && true) ≡ a
+pub and-yes : (a : Bool) → (a && true) ≡ a
 and-yes true = refl
 and-yes false = refl
 

@@ -1,5 +1,7 @@
 // Records: what the certifier knows of a wire.
 mod align;
+pub mod even;
+pub mod leaf;
 mod reduce;
 mod table;
 
