@@ -3,7 +3,8 @@ use Prim.Native.Nat.{ℕ, _+_, _*_, _/_, _%_, _≤_, _<_}
 use mathlib.Core.Bool.{Bool, true}
 use mathlib.Core.List.{List}
 use mathlib.Core.Path.{_≡_}
-use lib.ListN.{length, getD, set}
+use mathlib.Core.Logic.{_≢_}
+use lib.ListN.{length, getD}
 use Rattle.netlist.specs.Netlist.{Netlist}
 use Rattle.netlist.specs.Table.{half}
 use Rattle.netlist.specs.Leak.{EqualCounts}
@@ -23,9 +24,10 @@ recordAt t q = record {
   fourth = getD t (3 * q + 2) 0 / half;
 }
 
--- a record put there
-abbrev pub putRecord : List ℕ → ℕ → Record → List ℕ
-putRecord t q r = set (set (set t (3 * q) (r .table)) (3 * q + 1) (r .first + r .second * half)) (3 * q + 2) (r .third + r .fourth * half)
+-- record q is put, and all others stay
+pub record PutAt (e : List ℕ) (q : ℕ) (r : Record) (x : List ℕ) : Type 0 where
+  pub here : recordAt x q ≡ r
+  pub other : (p : ℕ) → p ≢ q → recordAt x p ≡ recordAt e p
 
 -- where both first atoms are 0, no record stands
 abbrev pub Present : Record → Type 0

@@ -1,7 +1,7 @@
 // Which records of a wire are kept: at most four, those with the fewest atoms, one for each list of atoms.
 use crate::store;
-use certify_records::Record;
 use certify_records::NO_ATOM;
+use certify_records::Record;
 ghost use Prim.Native.Nat.{ℕ, _+_, _*_, _/_, _<_, _≤_};
 ghost use mathlib.Core.List.{List};
 ghost use lib.ListN.{length};

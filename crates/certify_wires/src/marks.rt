@@ -1,7 +1,7 @@
 // The marks of wires: 1 for clean, 2 for public.
-use certify_records::even;
-use certify_records::Record;
 use certify_records::NO_ATOM;
+use certify_records::Record;
+use certify_records::even;
 ghost use mathlib.Core.Path.{_≡_};
 ghost use mathlib.Core.Bool.{true};
 ghost use mathlib.Core.Logic.{_≢_};

@@ -4,7 +4,7 @@ ghost use mathlib.Core.Path.{_≡_};
 ghost use mathlib.Core.Bool.{true};
 ghost use Prim.Native.Nat.{_+_, _*_, _≤_};
 ghost use lib.ListN.{length};
-ghost use Rattle.certify_wires.specs.Store.{recordAt, putRecord, Present};
+ghost use Rattle.certify_wires.specs.Store.{recordAt, PutAt, Present};
 
 // 2^32: two atoms stand in one entry.
 const HALF: u64 = 4294967296;
@@ -29,7 +29,7 @@ pub fn get(records: &[u64], q: usize) -> Record
 // Puts record q.
 pub fn put(records: &mut [u64], q: usize, r: Record)
     requires { ⌜ 3 * q + 3 ≤ length (now records) ⌝ }
-    ensures { λ _. ⌜ now (records .exit) ≡ putRecord (now (records .entry)) q r ⌝ }
+    ensures { λ _. ⌜ PutAt (now (records .entry)) q r (now (records .exit)) ⌝ }
 {
     let at = 3 * q;
     records[at] = r.table;

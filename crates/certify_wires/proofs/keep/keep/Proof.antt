@@ -1,3 +1,7 @@
+-- `certify_wires::keep::keep` meets its contract.
+use mathlib.Core.Path.{sym, _∙_}
+use Prim.Native.Nat.{_-_}
+use Rattle.certify_wires.proofs.Stores.{Keeping, keeping-none, keeping-more, keeping-stop}
 use borrow.Author.Needs.{needs}
 use native.Mathlib.Omega.{arith}
 use Rattle.certify_wires.proofs.keep.keep.Statement.{statement}
@@ -7,62 +11,49 @@ use Rattle.certify_wires.proofs.keep.keep.Lts as lts
 use Rattle.certify_wires.proofs.keep.step.Reads as step-reads
 
 abbrev Inv-loop : tie.InvT-loop
-Inv-loop records₀ w carried₀ k₀ records carried k = ?
+Inv-loop records₀ w carried₀ k₀ records carried k = Keeping w records₀ carried₀ records carried k
 
 abbrev μ-loop : tie.MeasureT-loop
-μ-loop records₀ w carried₀ k₀ records carried k = ?
+μ-loop records₀ w carried₀ k₀ records carried k = 5 - k
 
--- src/keep.rt:67:5
 loop-holds : tie.Need-loop-holds Inv-loop μ-loop
-loop-holds c = ?
+loop-holds c = keeping-none _ _ _
 
--- src/keep.rt:68:29
 mul-step : tie.Need-mul-step Inv-loop μ-loop
-mul-step c = ?
+mul-step c = omega arith
 
--- src/keep.rt:68:29
 add-step : tie.Need-add-step Inv-loop μ-loop
-add-step c = ?
+add-step c = omega arith
 
--- src/keep.rt:68:15
 step-requires : tie.Need-step-requires Inv-loop μ-loop
-step-requires c κs = ?
+step-requires c κs = omega (arith, c .before .before .loop .inv .long)
 
--- src/keep.rt:69:29
 enum-told : tie.Need-enum-told Inv-loop μ-loop
-enum-told c = ?
+enum-told c = search needs
 
--- src/keep.rt:69:29
 same-length : tie.Need-same-length Inv-loop μ-loop
-same-length c = ?
+same-length c = search needs
 
--- src/keep.rt:69:29
 returns : tie.Need-returns Inv-loop μ-loop
-returns c = ?
+returns c = keeping-stop (c .before .before .before .before .before .before .before .loop .inv) (c .before .before .before .before .before .before .loop-test .taken) (c .before .before .before .before .step .result) (c .before .before .before .before .step .ensures)
 
--- src/keep.rt:70:27
 enum-known-s : tie.Need-enum-known-s Inv-loop μ-loop
-enum-known-s c = ?
+enum-known-s c = search needs
 
--- src/keep.rt:72:9
 add-k : tie.Need-add-k Inv-loop μ-loop
-add-k c = ?
+add-k c = omega arith
 
--- src/keep.rt:67:5
 loop-less : tie.Need-loop-less Inv-loop μ-loop
-loop-less c = ?
+loop-less c = omega arith
 
--- src/keep.rt:67:5
 loop-again : tie.Need-loop-again Inv-loop μ-loop
-loop-again c = ?
+loop-again c = keeping-more (c .before .before .before .before .before .before .before .before .loop .inv) (c .before .before .before .before .before .before .before .loop-test .taken) (c .before .before .before .before .before .step .result) (c .before .before .before .before .before .step .ensures) _ (c .before .s .given .1) (c .before .before .before .before .before .step .kept .0)
 
--- src/keep.rt:60:1
 same-length-2 : tie.Need-same-length-2 Inv-loop μ-loop
-same-length-2 c = ?
+same-length-2 c = search needs
 
--- src/keep.rt:60:1
 returns-2 : tie.Need-returns-2 Inv-loop μ-loop
-returns-2 c = ?
+returns-2 c = λ N codes R K. c .before .loop .inv .known N codes R K .0
 
 pub keep-spec : {M : Type 1} → statement M
 keep-spec =

@@ -1,3 +1,5 @@
+-- `certify_wires::marks::clean` meets its contract.
+use Rattle.certify_wires.proofs.Marking.{clean-law}
 use native.Mathlib.Omega.{arith}
 use borrow.Author.Needs.{needs}
 use Rattle.certify_wires.proofs.marks.clean.Statement.{statement}
@@ -7,29 +9,23 @@ use Rattle.certify_wires.proofs.marks.clean.Lts as lts
 use Rattle.certify_records.proofs.even.even.Reads as even-reads
 use Rattle.certify_wires.proofs.marks.plain.Reads as plain-reads
 
--- src/marks.rt:39:9
 plain-requires : tie.Need-plain-requires
 plain-requires c κs = search needs
 
--- src/marks.rt:40:9
 plain-requires-2 : tie.Need-plain-requires-2
 plain-requires-2 c κs = search needs
 
--- src/marks.rt:41:9
 plain-requires-3 : tie.Need-plain-requires-3
 plain-requires-3 c κs = search needs
 
--- src/marks.rt:42:9
 plain-requires-4 : tie.Need-plain-requires-4
 plain-requires-4 c κs = search needs
 
--- src/marks.rt:37:5
 even-requires : tie.Need-even-requires
 even-requires c κs = search needs
 
--- src/marks.rt:33:1
 returns : tie.Need-returns
-returns c = ?
+returns c = λ N codes w M K e. clean-law M (c .even .ensures e) (c .before .before .before .before .plain .ensures) (c .before .before .before .plain2 .ensures) (c .before .before .plain3 .ensures) (c .before .plain4 .ensures) K
 
 pub clean-spec : {M : Type 1} → statement M
 clean-spec =

@@ -1,3 +1,9 @@
+-- `certify_wires::marks::plain` meets its contract.
+use mathlib.Core.Path.{sym, _∙_}
+use Prim.Native.Nat.{_/_}
+use lib.ListN.{getD}
+use Rattle.certify_records.proofs.Evens.{no}
+use Rattle.certify_wires.proofs.Marking.{bit-one}
 use native.Mathlib.Omega.{arith}
 use borrow.Author.Needs.{needs}
 use Rattle.certify_wires.proofs.marks.plain.Statement.{statement}
@@ -5,25 +11,20 @@ use Rattle.certify_wires.proofs.marks.plain.Tie as tie
 use Rattle.certify_wires.proofs.marks.plain.Reads as reads
 use Rattle.certify_wires.proofs.marks.plain.Lts as lts
 
--- src/marks.rt:23:9
 returns : tie.Need-returns
-returns c = ?
+returns c = λ e n. absurd (n (c .if1 .taken))
 
--- src/marks.rt:25:13
 cast-w : tie.Need-cast-w
 cast-w c = search needs
 
--- src/marks.rt:27:17
 shared-slice-read-result : tie.Need-shared-slice-read-result
 shared-slice-read-result c = search needs
 
--- src/marks.rt:27:9
 returns-2 : tie.Need-returns-2
-returns-2 c = ?
+returns-2 c = λ e n. let s = c .before .before .before .args in bit-one 1 (getD (s .marks .now) (s .atom / 8) 0) e
 
--- src/marks.rt:19:1
 returns-3 : tie.Need-returns-3
-returns-3 c = ?
+returns-3 c = λ e n. no e
 
 pub plain-spec : {M : Type 1} → statement M
 plain-spec = tie.close (tie.spec returns cast-w shared-slice-read-result returns-2 returns-3)

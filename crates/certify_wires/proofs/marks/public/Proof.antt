@@ -1,3 +1,7 @@
+-- `certify_wires::marks::public` meets its contract.
+use borrow.Author.Tests.{not-false}
+use Rattle.certify_records.proofs.Evens.{no}
+use Rattle.certify_wires.proofs.Marking.{public-law}
 use native.Mathlib.Omega.{arith}
 use borrow.Author.Needs.{needs}
 use Rattle.certify_wires.proofs.marks.public.Statement.{statement}
@@ -6,37 +10,29 @@ use Rattle.certify_wires.proofs.marks.public.Reads as reads
 use Rattle.certify_wires.proofs.marks.public.Lts as lts
 use Rattle.certify_wires.proofs.marks.plain.Reads as plain-reads
 
--- src/marks.rt:51:9
 plain-requires : tie.Need-plain-requires
 plain-requires c κs = search needs
 
--- src/marks.rt:52:9
 returns : tie.Need-returns
-returns c = ?
+returns c = λ N codes w M K e. no e
 
--- src/marks.rt:54:9
 plain-requires-2 : tie.Need-plain-requires-2
 plain-requires-2 c κs = search needs
 
--- src/marks.rt:55:9
 returns-2 : tie.Need-returns-2
-returns-2 c = ?
+returns-2 c = λ N codes w M K e. no e
 
--- src/marks.rt:57:9
 plain-requires-3 : tie.Need-plain-requires-3
 plain-requires-3 c κs = search needs
 
--- src/marks.rt:58:9
 returns-3 : tie.Need-returns-3
-returns-3 c = ?
+returns-3 c = λ N codes w M K e. no e
 
--- src/marks.rt:60:5
 plain-requires-4 : tie.Need-plain-requires-4
 plain-requires-4 c κs = search needs
 
--- src/marks.rt:47:1
 returns-4 : tie.Need-returns-4
-returns-4 c = ?
+returns-4 c = λ N codes w M K e. public-law M (c .before .before .before .before .before .before .plain .ensures (not-false _ (c .before .before .before .before .before .if1 .left))) (c .before .before .before .before .plain2 .ensures (not-false _ (c .before .before .before .if2 .left))) (c .before .before .plain3 .ensures (not-false _ (c .before .if3 .left))) (c .plain4 .ensures e) K
 
 pub public-spec : {M : Type 1} → statement M
 public-spec =

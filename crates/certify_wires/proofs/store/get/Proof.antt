@@ -1,3 +1,5 @@
+-- `certify_wires::store::get` meets its contract.
+use Prim.Native.Nat.{_+_, _*_}
 use native.Mathlib.Omega.{arith}
 use borrow.Author.Needs.{needs}
 use Rattle.certify_wires.proofs.store.get.Statement.{statement}
@@ -5,59 +7,45 @@ use Rattle.certify_wires.proofs.store.get.Tie as tie
 use Rattle.certify_wires.proofs.store.get.Reads as reads
 use Rattle.certify_wires.proofs.store.get.Lts as lts
 
--- src/store.rt:17:14
 mul-at : tie.Need-mul-at
 mul-at c = search needs
 
--- src/store.rt:18:23
 add-low : tie.Need-add-low
 add-low c = search needs
 
--- src/store.rt:18:15
 mul-low : tie.Need-mul-low
 mul-low c = search needs
 
--- src/store.rt:18:15
 shared-slice-read-low : tie.Need-shared-slice-read-low
 shared-slice-read-low c = search needs
 
--- src/store.rt:19:24
 add-high : tie.Need-add-high
 add-high c = search needs
 
--- src/store.rt:19:16
 mul-high : tie.Need-mul-high
 mul-high c = search needs
 
--- src/store.rt:19:16
 shared-slice-read-high : tie.Need-shared-slice-read-high
 shared-slice-read-high c = search needs
 
--- src/store.rt:21:16
 mul-t6 : tie.Need-mul-t6
 mul-t6 c = search needs
 
--- src/store.rt:21:16
 shared-slice-read-t9 : tie.Need-shared-slice-read-t9
 shared-slice-read-t9 c = search needs
 
--- src/store.rt:22:16
 cast-t13 : tie.Need-cast-t13
 cast-t13 c = search needs
 
--- src/store.rt:23:17
 cast-t15 : tie.Need-cast-t15
-cast-t15 c = ?
+cast-t15 c = let a = c .before .before .before .args in omega (arith, c .before .before .shared-slice-known .given (3 * a .q + 1))
 
--- src/store.rt:24:16
 cast-t17 : tie.Need-cast-t17
 cast-t17 c = search needs
 
--- src/store.rt:25:17
 cast-t19 : tie.Need-cast-t19
-cast-t19 c = ?
+cast-t19 c = let a = c .before .before .before .args in omega (arith, c .before .shared-slice-known2 .given (3 * a .q + 2))
 
--- src/store.rt:13:1
 returns : tie.Need-returns
 returns c = search needs
 
