@@ -83,15 +83,21 @@ put-leaf {N} {codes} {w = w} {r = r} P R K =
 -- a record of what a gate makes
 pub joined-known : {N : Netlist} {codes : List ℕ} (kind p q w : ℕ) {x y : Record} (z : Joined) → JoinIs kind x y z → Makes N codes kind p q w
     → Known N codes p x → Known N codes q y → KnownIf N codes w z
-joined-known {N} {codes} kind p q w (One z) J M X Y = record { right = λ s. record { each = λ l h at.
-  J (atomBit N codes s) (bitOf N codes s p) (bitOf N codes s q) (X .right s) (Y .right s) .each l h at ∙ sym (M .bit s (lane 0 l) (lane 1 l)) } }
+joined-known {N} {codes} kind p q w (One z) J M X Y = record {
+  right = λ s. record {
+    each = λ l h at.
+        J (atomBit N codes s) (bitOf N codes s p) (bitOf N codes s q) (X .right s) (Y .right s) .each l h at ∙ sym (M .bit s (lane 0 l) (lane 1 l));
+  };
+}
 joined-known kind p q w None J M X Y = tt
 
 -- a wire's own atoms
 own-bit : (m : ℕ) → m < 4 → (p : Bool) → (lane 0 (2 * m + bit p) ≡ p) × (lane 1 (2 * m + bit p) ≡ lane 0 m) × (lane 2 (2 * m + bit p) ≡ lane 1 m)
-own-bit m h p =
-    (same-eq _ _ (test (λ m p. same (lane 0 (2 * m + bit p)) p) tt), same-eq _ _ (test (λ m p. same (lane 1 (2 * m + bit p)) (lane 0 m)) tt),
-    same-eq _ _ (test (λ m p. same (lane 2 (2 * m + bit p)) (lane 1 m)) tt))
+own-bit m h p = (
+  same-eq _ _ (test (λ m p. same (lane 0 (2 * m + bit p)) p) tt),
+  same-eq _ _ (test (λ m p. same (lane 1 (2 * m + bit p)) (lane 0 m)) tt),
+  same-eq _ _ (test (λ m p. same (lane 2 (2 * m + bit p)) (lane 1 m)) tt),
+)
   where
     test : (f : ℕ → Bool → Bool) → T (below 4 (λ m. everyBit (f m))) → T (f m p)
     test f ok = everyBit-at (f m) (below-at 4 (λ m. everyBit (f m)) ok m h) p
@@ -101,17 +107,19 @@ bit-most true = omega arith
 bit-most false = omega arith
 
 pub own-atoms : (N : Netlist) (codes : List ℕ) (s : List Bool) (w : ℕ) → Own (atomBit N codes s) (bitOf N codes s w) w
-own-atoms N codes s w = record { atom = λ m h p.
-  let j = 2 * m + bit p in
-  let k = bit-most p in
-  let e : 8 * w + j ≡ w * 8 + j = omega arith in
-  let f : (8 * w + j) / 8 ≡ w = omega arith in
-  let low : (i : ℕ) → i < 3 → lane i (8 * w + j) ≡ lane i j = λ i q. ap (lane i) e ∙ low-lane 3 i w j q in
-  let b = own-bit m h p in
-  let l0 = low 0 (omega arith) ∙ b .0 in
-  let l1 = low 1 (omega arith) ∙ b .1 in
-  let l2 = low 2 (omega arith) ∙ b .2 in
-  λ i. differs (bitOf N codes s (f i) (l1 i) (l2 i)) (l0 i) }
+own-atoms N codes s w = record {
+  atom = λ m h p.
+      let j = 2 * m + bit p in
+      let k = bit-most p in
+      let e : 8 * w + j ≡ w * 8 + j = omega arith in
+      let f : (8 * w + j) / 8 ≡ w = omega arith in
+      let low : (i : ℕ) → i < 3 → lane i (8 * w + j) ≡ lane i j = λ i q. ap (lane i) e ∙ low-lane 3 i w j q in
+      let b = own-bit m h p in
+      let l0 = low 0 (omega arith) ∙ b .0 in
+      let l1 = low 1 (omega arith) ∙ b .1 in
+      let l2 = low 2 (omega arith) ∙ b .2 in
+      λ i. differs (bitOf N codes s (f i) (l1 i) (l2 i)) (l0 i);
+}
 
 pub leaf-known : {N : Netlist} {codes : List ℕ} (w : ℕ) {r : Record} (s : Joined) → LeafIs w r s → Known N codes w r → KnownIf N codes w s
 leaf-known {N} {codes} w (One s) L K = record { right = λ x. L (atomBit N codes x) (bitOf N codes x w) (own-atoms N codes x w) (K .right x) }

@@ -1,7 +1,7 @@
 // The records and the mark of a gate's result.
-use certify_records::leaf;
 use certify_records::Joined;
 use certify_records::Record;
+use certify_records::leaf;
 use certify_wires::keep;
 use certify_wires::marks;
 use certify_wires::store;

@@ -1,8 +1,8 @@
 // The records and the marks of the input wires.
 use crate::gate;
 use certify_records::Joined;
-use certify_records::Record;
 use certify_records::NO_ATOM;
+use certify_records::Record;
 use certify_wires::marks;
 use certify_wires::store;
 use check_counts::load;

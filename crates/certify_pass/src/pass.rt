@@ -13,7 +13,14 @@ ghost use Rattle.evaluate.specs.Lane.{lane};
 ghost use Rattle.certify_pass.specs.Pass.{Holding, Masked};
 
 // The tables' first gates, in order.
-fn gates(operands: &[u64], results: &[u64], count: usize, wires: usize, records: &mut [u64], marks: &mut [u8])
+fn gates(
+    operands: &[u64],
+    results: &[u64],
+    count: usize,
+    wires: usize,
+    records: &mut [u64],
+    marks: &mut [u8],
+)
     requires { ⌜ Wired (tables (now operands) (now results)) wires count × (15 * wires ≤ length (now records)) × (wires ≤ length (now marks)) ⌝ }
     ensures { λ _. ⌜ ((n o : ℕ) (N : Netlist) (codes : List ℕ) → Holds (tables (now (operands .entry)) (now (results .entry))) count wires n o N
         → Masked N codes → Holding N codes (now (records .entry)) (now (marks .entry))

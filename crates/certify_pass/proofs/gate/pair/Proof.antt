@@ -43,12 +43,14 @@ same-length-3 : tie.Need-same-length-3
 same-length-3 c = search needs
 
 returns-2 : tie.Need-returns-2
-returns-2 c = record { holds = λ N codes M H.
-    let K = known-if (c .before .before .before .before .before .before .before .before .before .before .before .before .before .before .paired .result) (c .before .before .before .before .before .before .before .before .before .before .before .before .r .given .1) (c .before .before .before .before .before .before .before .before .before .before .before .before .before .before .paired .ensures N codes M (H .known)) in
-    record {
-      known = c .before .before .before .before .before .before .before .before .before .keep .ensures N codes (H .known) K;
-      marked = c .before .before .mark .ensures .0 refl N codes (c .before .before .before .before .before .clean .ensures N codes _ (H .marked) K (c .before .before .before .before .if1 .taken)) (H .marked);
-    } }
+returns-2 c = record {
+  holds = λ N codes M H.
+      let K = known-if (c .before .before .before .before .before .before .before .before .before .before .before .before .before .before .paired .result) (c .before .before .before .before .before .before .before .before .before .before .before .before .r .given .1) (c .before .before .before .before .before .before .before .before .before .before .before .before .before .before .paired .ensures N codes M (H .known)) in
+      record {
+        known = c .before .before .before .before .before .before .before .before .before .keep .ensures N codes (H .known) K;
+        marked = c .before .before .mark .ensures .0 refl N codes (c .before .before .before .before .before .clean .ensures N codes _ (H .marked) K (c .before .before .before .before .if1 .taken)) (H .marked);
+      };
+}
 
 same-length-4 : tie.Need-same-length-4
 same-length-4 c = search needs
@@ -57,9 +59,11 @@ same-length-5 : tie.Need-same-length-5
 same-length-5 c = search needs
 
 returns-3 : tie.Need-returns-3
-returns-3 c = record { holds = λ N codes M H.
-    let K = known-if (c .before .before .before .before .before .before .before .before .before .before .paired .result) (c .before .before .before .before .before .before .before .before .r .given .1) (c .before .before .before .before .before .before .before .before .before .before .paired .ensures N codes M (H .known)) in
-    record { known = c .before .before .before .before .before .keep .ensures N codes (H .known) K; marked = H .marked } }
+returns-3 c = record {
+  holds = λ N codes M H.
+      let K = known-if (c .before .before .before .before .before .before .before .before .before .before .paired .result) (c .before .before .before .before .before .before .before .before .r .given .1) (c .before .before .before .before .before .before .before .before .before .before .paired .ensures N codes M (H .known)) in
+      record { known = c .before .before .before .before .before .keep .ensures N codes (H .known) K; marked = H .marked };
+}
 
 pub pair-spec : {M : Type 1} → statement M
 pair-spec =

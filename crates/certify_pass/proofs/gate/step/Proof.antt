@@ -1,3 +1,5 @@
+-- `certify_pass::gate::step` meets its contract.
+use Rattle.certify_pass.proofs.Steps.{step-then}
 use native.Mathlib.Omega.{arith}
 use borrow.Author.Needs.{needs}
 use Rattle.certify_pass.proofs.gate.step.Statement.{statement}
@@ -7,25 +9,20 @@ use Rattle.certify_pass.proofs.gate.step.Lts as lts
 use Rattle.certify_pass.proofs.gate.leaves.Reads as leaves-reads
 use Rattle.certify_pass.proofs.gate.pairs.Reads as pairs-reads
 
--- src/gate.rt:136:5
 pairs-requires : tie.Need-pairs-requires
 pairs-requires c κs = search needs
 
--- src/gate.rt:137:5
 leaves-requires : tie.Need-leaves-requires
 leaves-requires c κs = search needs
 
--- src/gate.rt:132:1
 same-length : tie.Need-same-length
 same-length c = search needs
 
--- src/gate.rt:132:1
 same-length-2 : tie.Need-same-length-2
 same-length-2 c = search needs
 
--- src/gate.rt:132:1
 returns : tie.Need-returns
-returns c = ?
+returns c = step-then (c .before .before .before .before .before .before .before .before .before .before .before .pairs .ensures) (record { holds = λ N codes M H. c .before .before .before .before .leaves .ensures N codes H })
 
 pub step-spec : {M : Type 1} → statement M
 step-spec = tie.close (tie.spec pairs-requires leaves-requires same-length same-length-2 returns)

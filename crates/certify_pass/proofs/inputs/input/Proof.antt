@@ -1,3 +1,6 @@
+-- `certify_pass::inputs::input` meets its contract.
+use mathlib.Core.Path.{refl, _∙_}
+use Rattle.certify_pass.proofs.InputWires.{input-open}
 use native.Mathlib.Omega.{arith}
 use borrow.Author.Needs.{needs}
 use Rattle.certify_pass.proofs.inputs.input.Statement.{statement}
@@ -7,39 +10,30 @@ use Rattle.certify_pass.proofs.inputs.input.Lts as lts
 use Rattle.certify_pass.proofs.gate.mark.Reads as mark-reads
 use Rattle.certify_pass.proofs.inputs.lay.Reads as lay-reads
 
--- src/inputs.rt:82:9
 mark-requires : tie.Need-mark-requires
 mark-requires c κs = search needs
 
--- src/inputs.rt:83:9
 lay-requires : tie.Need-lay-requires
 lay-requires c κs = search needs
 
--- src/inputs.rt:84:9
 same-length : tie.Need-same-length
 same-length c = search needs
 
--- src/inputs.rt:84:9
 same-length-2 : tie.Need-same-length-2
 same-length-2 c = search needs
 
--- src/inputs.rt:84:9
 returns : tie.Need-returns
-returns c = ?
+returns c = record { holds = λ N codes M h e H. c .before .before .before .before .lay .ensures .holds N codes M h e (record { known = H .known; marked = c .before .before .before .before .before .before .before .before .before .mark .ensures .1 refl N codes (input-open M _ h (e ∙ c .before .before .before .before .before .before .before .before .before .before .before .if1 .taken)) (H .marked) }) }
 
--- src/inputs.rt:86:5
 lay-requires-2 : tie.Need-lay-requires-2
 lay-requires-2 c κs = search needs
 
--- src/inputs.rt:77:1
 same-length-3 : tie.Need-same-length-3
 same-length-3 c = search needs
 
--- src/inputs.rt:77:1
 same-length-4 : tie.Need-same-length-4
 same-length-4 c = search needs
 
--- src/inputs.rt:77:1
 returns-2 : tie.Need-returns-2
 returns-2 c = search needs
 

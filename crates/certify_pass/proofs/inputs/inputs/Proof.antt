@@ -1,3 +1,8 @@
+-- `certify_pass::inputs::inputs` meets its contract.
+use mathlib.Core.Path.{_≡_, refl, subst, _∙_, ap}
+use Prim.Native.Nat.{ℕ, _-_, _+_, _*_}
+use lib.ListN.{length}
+use Rattle.certify_pass.proofs.InputWires.{Laying, laying-none, laying-more}
 use borrow.Author.Needs.{needs}
 use native.Mathlib.Omega.{arith}
 use Rattle.certify_pass.proofs.inputs.inputs.Statement.{statement}
@@ -9,66 +14,53 @@ use Rattle.certify_pass.proofs.inputs.input.Reads as input-reads
 use Rattle.certify_pass.proofs.inputs.mask_record.Reads as mask-record-reads
 
 abbrev Inv-loop : tie.InvT-loop
-Inv-loop codes records₀ marks₀ n i₀ records marks i = ?
+Inv-loop codes records₀ marks₀ n i₀ records marks i = Laying codes records₀ marks₀ records marks i
 
 abbrev μ-loop : tie.MeasureT-loop
-μ-loop codes records₀ marks₀ n i₀ records marks i = ?
+μ-loop codes records₀ marks₀ n i₀ records marks i = length codes - i
 
--- src/inputs.rt:97:5
 loop-holds : tie.Need-loop-holds Inv-loop μ-loop
-loop-holds c = ?
+loop-holds c = laying-none _ _ _
 
--- src/inputs.rt:98:34
 shared-slice-read-input : tie.Need-shared-slice-read-input Inv-loop μ-loop
-shared-slice-read-input c = ?
+shared-slice-read-input c = omega arith
 
--- src/inputs.rt:98:9
 input-requires : tie.Need-input-requires Inv-loop μ-loop
-input-requires c κs = ?
+input-requires c κs = let s = c .before .before .before .before .before .before .before .before in let i = c .before .before .before .before .loop .inv in (omega (arith, s .pre .0, i .records, c .before .before .before .loop-test .taken), omega (arith, s .pre .1, i .marks, c .before .before .before .loop-test .taken))
 
--- src/inputs.rt:99:9
 add-i : tie.Need-add-i Inv-loop μ-loop
-add-i c = ?
+add-i c = omega arith
 
--- src/inputs.rt:97:5
 loop-less : tie.Need-loop-less Inv-loop μ-loop
-loop-less c = ?
+loop-less c = omega arith
 
--- src/inputs.rt:97:5
 loop-again : tie.Need-loop-again Inv-loop μ-loop
-loop-again c = ?
+loop-again c = laying-more (c .before .before .before .before .before .before .before .before .before .loop .inv) (c .before .before .before .before .before .before .before .before .loop-test .taken) (c .before .before .before .before .input .kept .0) (c .before .before .before .before .input .kept .1 .0) (c .before .before .before .before .input .ensures)
 
--- src/inputs.rt:101:29
 mask-record-requires : tie.Need-mask-record-requires Inv-loop μ-loop
-mask-record-requires c κs = ?
+mask-record-requires c κs = search needs
 
--- src/inputs.rt:101:5
 give-requires : tie.Need-give-requires Inv-loop μ-loop
-give-requires c κs = ?
+give-requires c κs = let s = c .before .before .before .before .before .before .before .before in let i = c .before .before .before .before .loop .inv in (omega (arith, s .pre .0, i .records), omega (arith, s .pre .1, i .marks))
 
--- src/inputs.rt:102:26
 add-give : tie.Need-add-give Inv-loop μ-loop
-add-give c = ?
+add-give c = omega (arith, c .before .before .before .before .before .before .before .before .before .before .before .before .before .before .before .pre .1)
 
--- src/inputs.rt:102:33
 mask-record-requires-2 : tie.Need-mask-record-requires-2 Inv-loop μ-loop
-mask-record-requires-2 c κs = ?
+mask-record-requires-2 c κs = search needs
 
--- src/inputs.rt:102:5
 give-requires-2 : tie.Need-give-requires-2 Inv-loop μ-loop
-give-requires-2 c κs = ?
+give-requires-2 c κs = let s = c .before .before .before .before .before .before .before .before .before .before .before .before .before .before .before .before in let i = c .before .before .before .before .before .before .before .before .before .before .before .before .loop .inv in (omega (arith, s .pre .0, i .records, c .before .before .before .before .before .before .before .give .kept .0), omega (arith, s .pre .1, i .marks, c .before .before .before .before .before .before .before .give .kept .1 .0))
 
--- src/inputs.rt:90:1
 same-length : tie.Need-same-length Inv-loop μ-loop
-same-length c = ?
+same-length c = c .before .before .before .before .give2 .kept .0 ∙ (c .before .before .before .before .before .before .before .before .before .before .before .before .give .kept .0 ∙ c .before .before .before .before .before .before .before .before .before .before .before .before .before .before .before .before .before .loop .inv .records)
 
--- src/inputs.rt:90:1
 same-length-2 : tie.Need-same-length-2 Inv-loop μ-loop
-same-length-2 c = ?
+same-length-2 c = c .before .before .before .before .give2 .kept .1 .0 ∙ (c .before .before .before .before .before .before .before .before .before .before .before .before .give .kept .1 .0 ∙ c .before .before .before .before .before .before .before .before .before .before .before .before .before .before .before .before .before .loop .inv .marks)
 
--- src/inputs.rt:90:1
 returns : tie.Need-returns Inv-loop μ-loop
-returns c = ?
+returns c = λ N M H. let cs = c .before .before .before .before .before .before .before .before .before .before .before .before .before .before .before .before .before .before .before .before .before .args .codes .now in
+    c .before .before .before .before .give2 .ensures N cs (c .before .before .before .before .before .mask-record2 .ensures N cs M .1 refl) (c .before .before .before .before .before .before .before .before .before .before .before .before .give .ensures N cs (c .before .before .before .before .before .before .before .before .before .before .before .before .before .mask-record .ensures N cs M .0 refl) (c .before .before .before .before .before .before .before .before .before .before .before .before .before .before .before .before .before .loop .inv .holds N M H))
 
 pub inputs-spec : {M : Type 1} → statement M
 inputs-spec =

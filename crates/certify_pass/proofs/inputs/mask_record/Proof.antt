@@ -1,3 +1,7 @@
+-- `certify_pass::inputs::mask_record` meets its contract.
+use mathlib.Core.Path.{_≡_, subst}
+use Prim.Native.Nat.{ℕ}
+use Rattle.certify_pass.proofs.InputWires.{MaskIs, first-known, second-known}
 use native.Mathlib.Omega.{arith}
 use borrow.Author.Needs.{needs}
 use Rattle.certify_pass.proofs.inputs.mask_record.Statement.{statement}
@@ -6,13 +10,11 @@ use Rattle.certify_pass.proofs.inputs.mask_record.Reads as reads
 use Rattle.certify_pass.proofs.inputs.mask_record.Lts as lts
 use Rattle.check_counts.proofs.load.mask.Reads as mask-reads
 
--- src/inputs.rt:45:16
 mask-requires : tie.Need-mask-requires
 mask-requires c κs = search needs
 
--- src/inputs.rt:40:1
 returns : tie.Need-returns
-returns c = ?
+returns c = λ N codes M. (λ e. first-known M (c .mask .result) (subst (MaskIs (c .mask .result)) e (c .mask .ensures)), λ e. second-known M (c .mask .result) (subst (MaskIs (c .mask .result)) e (c .mask .ensures)))
 
 pub mask-record-spec : {M : Type 1} → statement M
 mask-record-spec = tie.close (tie.spec mask-requires returns)

@@ -1,3 +1,8 @@
+-- `certify_pass::pass::gates` meets its contract.
+use Prim.Native.Nat.{_-_}
+use lib.ListN.{length}
+use Rattle.netlist.specs.Table.{tables}
+use Rattle.certify_pass.proofs.Passing.{Passed, passed-none, passed-more, gate-within}
 use borrow.Author.Needs.{needs}
 use native.Mathlib.Omega.{arith}
 use Rattle.certify_pass.proofs.pass.gates.Statement.{statement}
@@ -8,62 +13,51 @@ use Rattle.certify_pass.proofs.gate.step.Reads as step-reads
 use Rattle.gate_table.proofs.split.Reads as split-reads
 
 abbrev Inv-loop : tie.InvT-loop
-Inv-loop operands results count wires records₀ marks₀ i₀ records marks i = ?
+Inv-loop operands results count wires records₀ marks₀ i₀ records marks i = Passed (tables operands results) count wires records₀ marks₀ records marks i
 
 abbrev μ-loop : tie.MeasureT-loop
-μ-loop operands results count wires records₀ marks₀ i₀ records marks i = ?
+μ-loop operands results count wires records₀ marks₀ i₀ records marks i = count - i
 
--- src/pass.rt:23:5
 loop-holds : tie.Need-loop-holds Inv-loop μ-loop
-loop-holds c = ?
+loop-holds c = passed-none _ _ _ _ _
 
--- src/pass.rt:24:54
 mul-split : tie.Need-mul-split Inv-loop μ-loop
-mul-split c = ?
+mul-split c = search needs
 
--- src/pass.rt:24:54
 shared-slice-read-split : tie.Need-shared-slice-read-split Inv-loop μ-loop
-shared-slice-read-split c = ?
+shared-slice-read-split c = omega (arith, c .before .before .before .before .before .before .before .before .before .pre .0 .operands)
 
--- src/pass.rt:24:67
 mul-split-2 : tie.Need-mul-split-2 Inv-loop μ-loop
-mul-split-2 c = ?
+mul-split-2 c = search needs
 
--- src/pass.rt:24:67
 shared-slice-read-split-2 : tie.Need-shared-slice-read-split-2 Inv-loop μ-loop
-shared-slice-read-split-2 c = ?
+shared-slice-read-split-2 c = omega (arith, c .before .before .before .before .before .before .before .before .before .before .pre .0 .results)
 
--- src/pass.rt:24:36
 split-requires : tie.Need-split-requires Inv-loop μ-loop
-split-requires c κs = ?
+split-requires c κs = search needs
 
--- src/pass.rt:24:9
 step-requires : tie.Need-step-requires Inv-loop μ-loop
-step-requires c κs = ?
+step-requires c κs = let s = c .before .before .before .before .before .before .before .before .before .before .before in let i = c .before .before .before .before .before .before .loop .inv in
+    let p = gate-within (length (c .before .before .before .before .before .before .loop .records)) (c .before .before .before .before .before .before .loop .i) (s .pre .0) (c .before .before .before .before .before .loop-test .taken) (c .split .ensures) (omega (arith, s .pre .1, i .records)) in
+    (p .0, omega (arith, p .1, s .pre .2, i .marks))
 
--- src/pass.rt:25:9
 add-i : tie.Need-add-i Inv-loop μ-loop
-add-i c = ?
+add-i c = omega arith
 
--- src/pass.rt:23:5
 loop-less : tie.Need-loop-less Inv-loop μ-loop
-loop-less c = ?
+loop-less c = omega arith
 
--- src/pass.rt:23:5
 loop-again : tie.Need-loop-again Inv-loop μ-loop
-loop-again c = ?
+loop-again c = passed-more (c .before .before .before .before .before .before .before .before .before .before .before .loop .inv) (c .before .before .before .before .before .before .before .before .before .before .loop-test .taken) (c .before .before .before .before .step .kept .0) (c .before .before .before .before .step .kept .1 .0) (c .before .before .before .before .before .split .ensures) (c .before .before .before .before .step .ensures)
 
--- src/pass.rt:16:1
 same-length : tie.Need-same-length Inv-loop μ-loop
-same-length c = ?
+same-length c = c .before .loop .inv .records
 
--- src/pass.rt:16:1
 same-length-2 : tie.Need-same-length-2 Inv-loop μ-loop
-same-length-2 c = ?
+same-length-2 c = c .before .loop .inv .marks
 
--- src/pass.rt:16:1
 returns : tie.Need-returns Inv-loop μ-loop
-returns c = ?
+returns c = c .before .loop .inv .holds
 
 pub gates-spec : {M : Type 1} → statement M
 gates-spec =
