@@ -24,7 +24,7 @@ use Rattle.certify_wires.specs.Known.{bitOf, atomBit, Known, Open}
 use Rattle.certify_pass.specs.Pass.{Holding, Masked, InputStep}
 use Rattle.certify_pass.proofs.Steps.{own-atoms}
 
-no-mask : (e : ℕ) → maskOf false false e ≡ false
+pub no-mask : (e : ℕ) → maskOf false false e ≡ false
 no-mask e = go (eqb e 1) (eqb e 2) (eqb e 3)
   where
     go : (a b c : Bool) → cond a false (cond b false (cond c (differs false false) false)) ≡ false
@@ -33,7 +33,7 @@ no-mask e = go (eqb e 1) (eqb e 2) (eqb e 3)
     go false false true = refl
     go false false false = refl
 
-differs-none : (b : Bool) → differs b false ≡ b
+pub differs-none : (b : Bool) → differs b false ≡ b
 differs-none true = refl
 differs-none false = refl
 
@@ -47,7 +47,7 @@ swap false false = refl
 abbrev pub MaskIs : ℕ → ℕ → Type 0
 MaskIs t e = (b j : ℕ) → j < 64 → lane j t ≡ maskOf (lane 0 (b * 64 + j)) (lane 1 (b * 64 + j)) e
 
-mask-place : (t e : ℕ) → MaskIs t e → (l : ℕ) → l < 64 → lane l t ≡ maskOf (lane 0 l) (lane 1 l) e
+pub mask-place : (t e : ℕ) → MaskIs t e → (l : ℕ) → l < 64 → lane l t ≡ maskOf (lane 0 l) (lane 1 l) e
 mask-place t e m l h = let z : 0 * 64 + l ≡ l = omega arith in rw z at (m 0 l h)
 
 module _ {N : Netlist} {codes : List ℕ} (M : Masked N codes) where
@@ -57,7 +57,7 @@ module _ {N : Netlist} {codes : List ℕ} (M : Masked N codes) where
         let e = M .ins in
         bits-inputs (M .formed) (masked m0 m1 codes x) (masked-long m0 m1 codes x ∙ sym e) w (omega arith)
 
-    input-bit : (i : ℕ) → i < length codes → bitOf N codes x i m0 m1 ≡ differs (getD x i false) (maskOf m0 m1 (getD codes i 0))
+    pub input-bit : (i : ℕ) → i < length codes → bitOf N codes x i m0 m1 ≡ differs (getD x i false) (maskOf m0 m1 (getD codes i 0))
     input-bit i h = ins-bit i (omega arith) ∙ masked-at m0 m1 codes x i h
 
     first-bit : bitOf N codes x (length codes) m0 m1 ≡ m0

@@ -115,7 +115,7 @@ module _ (x m : ℕ) where
       alone false = refl
 
   -- in all lanes of its nibble
-  chosen-lane : (s i : ℕ) → s < 16 → i < 4 → lane (i + 4 * s) (picked * 15) ≡ lane (m + 4 * s) x
+  pub chosen-lane : (s i : ℕ) → s < 16 → i < 4 → lane (i + 4 * s) (picked * 15) ≡ lane (m + 4 * s) x
   chosen-lane s i q p =
       sym (nibble-lane (picked * 15) s i p)
       ∙ ap (lane i) (fifteen s picked (λ k g. let e = picked-nibble k (omega arith) in let b = bit-most (lane (m + 4 * k) x) in omega arith)
