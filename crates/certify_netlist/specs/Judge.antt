@@ -9,17 +9,19 @@ use lib.Seq.{sets}
 use Rattle.netlist.specs.Netlist.{Netlist}
 use Rattle.netlist.specs.Leak.{count, publicOnly, EqualCounts}
 use Rattle.netlist.specs.Leak as L
+use Rattle.netlist.specs.Outcome.{refused, done}
+use Rattle.check_netlist.specs.Judge.{codesAsked}
 use Rattle.certify_netlist.specs.declared.Certified.{Certified}
 use Rattle.certify_netlist.specs.declared.Certified.the-variants.{Clean, Leak, Unknown, Refused}
 use Rattle.certify_netlist.specs.Ones.{onesIn}
 
 -- a leak: in a setting, a wire has a count that is not that of the setting with the same public bits and zero secrets
-pub record LeakIn (N : Netlist) (codes : List ℕ) (w base own : ℕ) (x : List Bool) : Type 0 where
+pub record LeakIn (N : Netlist) (codes : List ℕ) (w b o : ℕ) (x : List Bool) : Type 0 where
   pub long : length x ≡ length codes
   pub wire : w < N .wires
-  pub own : own ≡ count N codes w x
-  pub base : base ≡ count N codes w (publicOnly codes x)
-  pub differ : base ≢ own
+  pub own : o ≡ count N codes w x
+  pub base : b ≡ count N codes w (publicOnly codes x)
+  pub differ : b ≢ o
 
 -- a leak is told: its wire, how many input bits are one, the base's count and its own in the first list, and those bits in the second
 pub record LeakTold (N : Netlist) (codes leak leak′ ones ones′ : List ℕ) : Type 0 where
@@ -57,3 +59,8 @@ Judged N codes leak leak′ ones ones′ Clean = L.Clean N codes × (leak′ ≡
 Judged N codes leak leak′ ones ones′ Leak = LeakTold N codes leak leak′ ones ones′
 Judged N codes leak leak′ ones ones′ Unknown = UnknownTold N codes leak leak′ × (ones′ ≡ ones)
 Judged N codes leak leak′ ones ones′ (Refused q) = (q ≡ 14) × ((length leak < 1) ⊎ LeakShort N codes leak ones) × (leak′ ≡ leak) × (ones′ ≡ ones)
+
+-- what an answer says with questions 10 and 11: the first that gets a no, with both lists as they were; or the verdict
+pub record JudgedAs (N : Netlist) (codes leak leak′ ones ones′ : List ℕ) (a : Certified) : Type 0 where
+  pub refused : (q : ℕ) → codesAsked (N .inputs) codes ≡ refused q → (a ≡ Refused q) × (leak′ ≡ leak) × (ones′ ≡ ones)
+  pub judged : codesAsked (N .inputs) codes ≡ done tt → Judged N codes leak leak′ ones ones′ a

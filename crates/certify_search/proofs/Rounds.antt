@@ -93,12 +93,12 @@ loading-more {codes} {ws} {i} w L h I = record {
   inputs = λ k m.
       onBool (eqb k i)
       (λ e.
-          let z = eqb-true k i e in
-          let f : getD (set ws i w) k 0 ≡ w = ap (λ (n : ℕ). getD (set ws i w) n 0) z ∙ getD-set-same ws i w 0 (omega (arith, L .room)) in
-          subst (InputWord (getD codes k 0)) (sym f) (subst (λ (n : ℕ). InputWord (getD codes n 0) w) (sym z) I))
+      let z = eqb-true k i e in
+      let f : getD (set ws i w) k 0 ≡ w = ap (λ (n : ℕ). getD (set ws i w) n 0) z ∙ getD-set-same ws i w 0 (omega (arith, L .room)) in
+      subst (InputWord (getD codes k 0)) (sym f) (subst (λ (n : ℕ). InputWord (getD codes n 0) w) (sym z) I))
       (λ e.
-          let n : k ≡ i → ⊥ = eqb-false k i e in
-          subst (InputWord (getD codes k 0)) (sym (getD-set-other ws i k w 0 n)) (L .inputs k (omega arith)));
+      let n : k ≡ i → ⊥ = eqb-false k i e in
+      subst (InputWord (getD codes k 0)) (sym (getD-set-other ws i k w 0 n)) (L .inputs k (omega arith)));
 }
 
 pub loading-all : {codes ws : List ℕ} {i a b : ℕ} → Loading codes ws i → length codes ≤ i → MaskIs a 1 → MaskIs b 2
@@ -138,23 +138,23 @@ module _ (codes ws : List ℕ) (room : length codes + 2 ≤ length ws) where
         at-take j (n + 2) i (omega arith)
         ∙ onBool (ltb i n)
         (λ e.
-            let l = ltb-true i n e in
-            L .inputs i l .masked j h
-            ∙ ap (λ (b : Bool). differs b (maskOf (lane 0 j) (lane 1 j) (getD codes i 0))) (sym (at-take (4 * (j / 4)) n i l))
-            ∙ sym (masked-at (lane 0 j) (lane 1 j) codes x i l))
+        let l = ltb-true i n e in
+        L .inputs i l .masked j h
+        ∙ ap (λ (b : Bool). differs b (maskOf (lane 0 j) (lane 1 j) (getD codes i 0))) (sym (at-take (4 * (j / 4)) n i l))
+        ∙ sym (masked-at (lane 0 j) (lane 1 j) codes x i l))
         (λ e.
-            let l = ltb-false i n e in
-            onBool (eqb i n)
-            (λ z.
-                let q = eqb-true i n z in
-                ap (λ (k : ℕ). lane j (getD ws k 0)) q ∙ L .first j h
-                ∙ sym (ap (λ (k : ℕ). getD (masked (lane 0 j) (lane 1 j) codes x) k false) q ∙ masked-m0 (lane 0 j) (lane 1 j) codes x))
-            (λ z.
-                let q : i ≡ n → ⊥ = eqb-false i n z in
-                let p : i ≡ n + 1 = omega arith in
-                let r : i ≡ suc n = omega arith in
-                ap (λ (k : ℕ). lane j (getD ws k 0)) p ∙ L .second j h
-                ∙ sym (ap (λ (k : ℕ). getD (masked (lane 0 j) (lane 1 j) codes x) k false) r ∙ masked-m1 (lane 0 j) (lane 1 j) codes x))))
+        let l = ltb-false i n e in
+        onBool (eqb i n)
+        (λ z.
+        let q = eqb-true i n z in
+        ap (λ (k : ℕ). lane j (getD ws k 0)) q ∙ L .first j h
+        ∙ sym (ap (λ (k : ℕ). getD (masked (lane 0 j) (lane 1 j) codes x) k false) q ∙ masked-m0 (lane 0 j) (lane 1 j) codes x))
+        (λ z.
+        let q : i ≡ n → ⊥ = eqb-false i n z in
+        let p : i ≡ n + 1 = omega arith in
+        let r : i ≡ suc n = omega arith in
+        ap (λ (k : ℕ). lane j (getD ws k 0)) p ∙ L .second j h
+        ∙ sym (ap (λ (k : ℕ). getD (masked (lane 0 j) (lane 1 j) codes x) k false) r ∙ masked-m1 (lane 0 j) (lane 1 j) codes x))))
 
     loaded-base : (s : ℕ) → s < 16 → publicOnly codes (settingIn codes ws s) ≡ settingIn codes ws 0
     loaded-base s h =
@@ -215,9 +215,9 @@ module _ {N : Netlist} {codes ws : List ℕ} (R : Ran N codes ws) where
       let p : 4 * s + i < 64 = omega arith in
       let d : (4 * s + i) / 4 ≡ s = omega arith in
       let l0 : lane 0 (4 * s + i) ≡ lane 0 i =
-          same-below 4 (λ i. lane 0 (4 * s + i)) (λ i. lane 0 i) (below-at 16 (λ s. below 4 (λ i. same (lane 0 (4 * s + i)) (lane 0 i))) tt s h) i q in
+      same-below 4 (λ i. lane 0 (4 * s + i)) (λ i. lane 0 i) (below-at 16 (λ s. below 4 (λ i. same (lane 0 (4 * s + i)) (lane 0 i))) tt s h) i q in
       let l1 : lane 1 (4 * s + i) ≡ lane 1 i =
-          same-below 4 (λ i. lane 1 (4 * s + i)) (λ i. lane 1 i) (below-at 16 (λ s. below 4 (λ i. same (lane 1 (4 * s + i)) (lane 1 i))) tt s h) i q in
+      same-below 4 (λ i. lane 1 (4 * s + i)) (λ i. lane 1 i) (below-at 16 (λ s. below 4 (λ i. same (lane 1 (4 * s + i)) (lane 1 i))) tt s h) i q in
       ap (λ (n : ℕ). lane n (getD ws w 0)) e ∙ sym (getD-lanes (4 * s + i) ws w)
       ∙ ap (λ (b : List Bool). getD b w false) (R .each (4 * s + i) p)
       ∙ (λ z. bitIn w (d z) (l0 z) (l1 z))

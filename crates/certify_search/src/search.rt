@@ -14,7 +14,14 @@ ghost use Rattle.certify_search.specs.Round.{Ran};
 ghost use Rattle.certify_search.specs.Witness.{Witness};
 
 // The words of all wires in one round. Returns the generator's last number.
-fn run(operands: &[u64], results: &[u64], count: usize, codes: &[u8], seed: u64, words: &mut [u64]) -> u64
+fn run(
+    operands: &[u64],
+    results: &[u64],
+    count: usize,
+    codes: &[u8],
+    seed: u64,
+    words: &mut [u64],
+) -> u64
     requires { ⌜ Wired (tables (now operands) (now results)) (length (now words)) count × (length (now codes) + 2 ≤ length (now words)) ⌝ }
     ensures { λ _. ⌜ ((n o : ℕ) (N : Netlist) → Holds (tables (now (operands .entry)) (now (results .entry))) count (length (now (words .entry))) n
         o N → Masked N (now (codes .entry)) → Ran N (now (codes .entry)) (now (words .exit))) ⌝ }

@@ -1,3 +1,5 @@
+-- `certify_netlist::ones::put` meets its contract.
+use mathlib.Core.Path.{refl}
 use native.Mathlib.Omega.{arith}
 use borrow.Author.Needs.{needs}
 use Rattle.certify_netlist.proofs.ones.put.Statement.{statement}
@@ -5,29 +7,23 @@ use Rattle.certify_netlist.proofs.ones.put.Tie as tie
 use Rattle.certify_netlist.proofs.ones.put.Reads as reads
 use Rattle.certify_netlist.proofs.ones.put.Lts as lts
 
--- src/ones.rt:31:9
 mul-out : tie.Need-mul-out
-mul-out c = ?
+mul-out c = let h = c .before .pre (c .if1 .taken) in omega arith
 
--- src/ones.rt:31:9
 slice-write-out : tie.Need-slice-write-out
-slice-write-out c = ?
+slice-write-out c = c .before .pre (c .if1 .taken)
 
--- src/ones.rt:32:16
 add-result : tie.Need-add-result
-add-result c = ?
+add-result c = let h = c .before .pre (c .if1 .taken) in omega arith
 
--- src/ones.rt:32:9
 same-length : tie.Need-same-length
 same-length c = search needs
 
--- src/ones.rt:32:9
 returns : tie.Need-returns
-returns c = ?
+returns c = rw (c .if1 .taken) (refl, refl)
 
--- src/ones.rt:26:1
 returns-2 : tie.Need-returns-2
-returns-2 c = ?
+returns-2 c = rw (c .if1 .left) (refl, omega arith)
 
 pub put-spec : {M : Type 1} → statement M
 put-spec = tie.close (tie.spec mul-out slice-write-out add-result same-length returns returns-2)
