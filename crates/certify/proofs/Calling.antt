@@ -54,7 +54,7 @@ module _ (s : Sizes) (text codes o r g w b t : List ℕ) where
     unfolding certifyCall
     answer-not {q} leak ones p =
         let e : call s text codes o r g w b t ≡ refused q =
-            call-refused (tablesLong (large s) lengths) (readNetlist (large s) text) (codesFor codes) (rw all-long at p) in
+        call-refused (tablesLong (large s) lengths) (readNetlist (large s) text) (codesFor codes) (rw all-long at p) in
         record { refused = λ k f. (ap Refused (same-question (sym e ∙ f)), refl, refl); judged = λ N f. no-netlist (sym e ∙ f) }
 
     -- or the netlist is judged
@@ -67,7 +67,7 @@ module _ (s : Sizes) (text codes o r g w b t : List ℕ) where
     answer-read {leak = leak} {leak′ = leak′} {ones = ones} {ones′ = ones′} {a = a} k f =
         let M = k .1 .is in
         let e : call s text codes o r g w b t ≡ codesFor codes M =
-            call-goes-on (tablesLong (large s) lengths) (readNetlist (large s) text) (codesFor codes) (sym all-long ∙ k .0) (k .1 .read) in
+        call-goes-on (tablesLong (large s) lengths) (readNetlist (large s) text) (codesFor codes) (sym all-long ∙ k .0) (k .1 .read) in
         let J = f M (k .1 .holds) (k .1 .inputs) (accepted (large s) text M (k .1 .read) .formed) in
         record {
           refused = λ q g. J .refused q (codes-refused (codesAsked (M .inputs) codes) M q (sym e ∙ g));

@@ -28,7 +28,16 @@ fn answer(
     let mut outputs = [0u32; 16];
     let two = checker::shorter(words.len(), base.len());
     let shortest = checker::shorter(two, records.len() / 15);
-    match read_netlist::read::read(text, &mut inputs, &mut outputs, operands, results, marks, shortest, l) {
+    match read_netlist::read::read(
+        text,
+        &mut inputs,
+        &mut outputs,
+        operands,
+        results,
+        marks,
+        shortest,
+        l,
+    ) {
         Reading::Refused(question) => Certified::Refused(question),
         Reading::Done(h) => certify_netlist::judge(
             h,
@@ -66,7 +75,19 @@ pub fn certify(
         (now (marks .exit)) (now (words .entry)) (now (words .exit)) (now (base .entry)) (now (base .exit)) (now (records .entry))
         (now (records .exit)) r ⌝ }
 {
-    let r = answer(text, codes, leak, ones, operands, results, marks, words, base, records, sizes);
+    let r = answer(
+        text,
+        codes,
+        leak,
+        ones,
+        operands,
+        results,
+        marks,
+        words,
+        base,
+        records,
+        sizes,
+    );
     clear::words(operands);
     clear::words(results);
     clear::bytes(marks);
