@@ -8,7 +8,7 @@ use lib.Seq.{length-sets}
 use Rattle.netlist.specs.declared.Answer.{Answer}
 use Rattle.netlist.specs.Outcome.{Outcome, refused, done}
 use Rattle.netlist.specs.Services.{answerOf, Answers}
-use Rattle.capi.specs.Number.{Countable}
+use Rattle.capi_answers.specs.Number.{Countable}
 
 pub countable : {call : Outcome (List ℕ)} {e x : List ℕ} {a : Answer} → Answers call e x a → length e < 2 ^ 63 → Countable a
 countable {call} {e} {x} {a} h small = subst Countable (sym (h .answer)) (of call h)

@@ -1,15 +1,11 @@
 // The services for programs in C and Rust: a slice comes as a pointer and a length, and the answer is one number, at
 // least 0 for a result and minus the number of the refusing question otherwise. include/fidrovelj.h declares them.
+mod certify;
 mod pairs;
 
-use check_netlist::Checked;
-use netlist::Answer;
-use netlist::Sizes;
-ghost use mathlib.Core.Path.{_≡_};
-ghost use mathlib.Core.List.{[], _∷_};
-ghost use lib.IntN.{pos, negℤ};
-ghost use lib.ListN.{set};
-ghost use lib.Seq.{sets};
+use capi_answers::number;
+use capi_answers::sizes;
+use capi_answers::tell;
 ghost use Rattle.rewrite.specs.Promise.{Promise as RewritePromise};
 ghost use Rattle.from_old.specs.Promise.{Promise as FromOldPromise};
 ghost use Rattle.to_old.specs.Promise.{Promise as ToOldPromise};
@@ -21,71 +17,7 @@ ghost use Rattle.checker.specs.Promise.{Promise as CheckPromise};
 ghost use Rattle.from_aiger.specs.Promise.{Promise as AigerPromise};
 ghost use Rattle.join.specs.Promise.{Promise as JoinPromise};
 ghost use Rattle.from_verilog.specs.Promise.{Promise as VerilogPromise};
-ghost use Rattle.capi.specs.Number.{sizesOf, number as numberOf, Countable, Told, Shows, ToldLeak};
-
-// The number of a refusal.
-fn minus(question: u8) -> i64
-    ensures { λ r. ⌜ r ≡ negℤ (pos question) ⌝ }
-{
-    -(question as i64)
-}
-
-// The number of an answer.
-fn number(a: Answer) -> i64
-    requires { ⌜ Countable a ⌝ }
-    ensures { λ r. ⌜ r ≡ numberOf a ⌝ }
-{
-    match a {
-        Answer::Done(n) => n as i64,
-        Answer::Refused(question) => minus(question),
-    }
-}
-
-// One entry of a list, where the list is long enough.
-fn put(list: &mut [u64], at: usize, entry: u64)
-    ensures { λ _. ⌜ now (list .exit) ≡ set (now (list .entry)) at entry ⌝ }
-{
-    if at < list.len() {
-        list[at] = entry;
-    }
-}
-
-// The numbers of a leak: its wire, its setting, its base's count and its own.
-fn show(leak: &mut [u64], wire: usize, setting: u64, base: u8, own: u8)
-    ensures { λ _. ⌜ now (leak .exit) ≡ sets (now (leak .entry)) 0 (wire ∷ setting ∷ base ∷ own ∷ []) ⌝ }
-{
-    put(leak, 0, wire as u64);
-    put(leak, 1, setting);
-    put(leak, 2, base as u64);
-    put(leak, 3, own as u64);
-}
-
-// Check's answer: its number, and the numbers of a leak at the front of `leak`; a list that cannot hold them is refused by 14.
-fn tell(leak: &mut [u64], a: Checked) -> i64
-    ensures { λ r. ⌜ Shows (now (leak .entry)) (now (leak .exit)) r a ⌝ }
-{
-    match a {
-        Checked::Clean => 0,
-        Checked::Leak(wire, setting, base, own) => {
-            if leak.len() < 4 {
-                return minus(14);
-            }
-            show(leak, wire, setting, base, own);
-            1
-        }
-        Checked::Refused(question) => minus(question),
-    }
-}
-
-// The sizes of a call: the old ones for 0, and otherwise those for whole ciphers.
-fn sizes(whole: u8) -> Sizes
-    ensures { λ r. ⌜ r ≡ sizesOf whole ⌝ }
-{
-    if whole == 0 {
-        return Sizes::Old;
-    }
-    Sizes::Whole
-}
+ghost use Rattle.capi_answers.specs.Number.{sizesOf, Told, ToldLeak};
 
 // Rewrite: how many bytes the written form has at the front of `out`.
 #[no_mangle]

@@ -1,8 +1,8 @@
 -- `show_leak`: four numbers, or none.
 use native.Mathlib.Omega.{arith}
 use borrow.Author.Needs.{needs}
-use Rattle.capi.proofs.pairs.show_leak.Statement.{statement}
-use Rattle.capi.proofs.pairs.show_leak.Tie as tie
+use Rattle.capi_answers.proofs.pairs.show_leak.Statement.{statement}
+use Rattle.capi_answers.proofs.pairs.show_leak.Tie as tie
 
 enum-told : tie.Need-enum-told
 enum-told c = search needs

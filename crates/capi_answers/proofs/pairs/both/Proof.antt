@@ -2,8 +2,8 @@
 use mathlib.Core.Path.{refl}
 use native.Mathlib.Omega.{arith}
 use borrow.Author.Needs.{needs}
-use Rattle.capi.proofs.pairs.both.Statement.{statement}
-use Rattle.capi.proofs.pairs.both.Tie as tie
+use Rattle.capi_answers.proofs.pairs.both.Statement.{statement}
+use Rattle.capi_answers.proofs.pairs.both.Tie as tie
 
 enum-told : tie.Need-enum-told
 enum-told c = search needs

@@ -1,8 +1,8 @@
 -- `show_bad`: one number, or none.
 use native.Mathlib.Omega.{arith}
 use borrow.Author.Needs.{needs}
-use Rattle.capi.proofs.pairs.show_bad.Statement.{statement}
-use Rattle.capi.proofs.pairs.show_bad.Tie as tie
+use Rattle.capi_answers.proofs.pairs.show_bad.Statement.{statement}
+use Rattle.capi_answers.proofs.pairs.show_bad.Tie as tie
 
 enum-told : tie.Need-enum-told
 enum-told c = search needs

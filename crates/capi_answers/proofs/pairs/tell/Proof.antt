@@ -2,11 +2,11 @@
 use mathlib.Core.Path.{sym, _∙_}
 use mir.Syntax.{w8}
 use mir.Val.{Fits}
-use Rattle.capi.proofs.Signed.{minus-back}
-use Rattle.capi.proofs.Rooms.{both-back, shows-refused, shows-done}
+use Rattle.capi_answers.proofs.Signed.{minus-back}
+use Rattle.capi_answers.proofs.Rooms.{both-back, shows-refused, shows-done}
 use borrow.Author.Needs.{needs}
-use Rattle.capi.proofs.pairs.tell.Statement.{statement}
-use Rattle.capi.proofs.pairs.tell.Tie as tie
+use Rattle.capi_answers.proofs.pairs.tell.Statement.{statement}
+use Rattle.capi_answers.proofs.pairs.tell.Tie as tie
 
 room-for-requires : tie.Need-room-for-requires
 room-for-requires c κs = search needs

@@ -1,4 +1,4 @@
--- `capi::tell`: each answer for itself, and a leak by the room for its numbers.
+-- `capi_answers::tell`: each answer for itself, and a leak by the room for its numbers.
 use mathlib.Core.Path.{_≡_, refl}
 use mathlib.Core.Bool.{true, false}
 use lib.Dec.{leb}
@@ -6,11 +6,11 @@ use lib.ListN.{length}
 use mir.Syntax.{w8}
 use mir.Val.{Fits}
 use borrow.Author.Tests.{lt-leb, le-leb}
-use Rattle.capi.proofs.Signed.{minus-back}
+use Rattle.capi_answers.proofs.Signed.{minus-back}
 use native.Mathlib.Omega.{arith}
 use borrow.Author.Needs.{needs}
-use Rattle.capi.proofs.tell.Statement.{statement}
-use Rattle.capi.proofs.tell.Tie as tie
+use Rattle.capi_answers.proofs.tell.Statement.{statement}
+use Rattle.capi_answers.proofs.tell.Tie as tie
 
 enum-told : tie.Need-enum-told
 enum-told c = search needs

@@ -1,9 +1,9 @@
--- `capi::put`: past the end nothing is stored.
+-- `capi_answers::put`: past the end nothing is stored.
 use mathlib.Core.Path.{sym}
 use lib.Seq.{set-out}
 use borrow.Author.Needs.{needs}
-use Rattle.capi.proofs.put.Statement.{statement}
-use Rattle.capi.proofs.put.Tie as tie
+use Rattle.capi_answers.proofs.put.Statement.{statement}
+use Rattle.capi_answers.proofs.put.Tie as tie
 
 mul-list : tie.Need-mul-list
 mul-list c = search needs

@@ -1,9 +1,9 @@
 -- `room_for`: question 14 of both lists.
-use Rattle.capi.proofs.Rooms.{room-refused, leak-short, bad-short, both-fit}
+use Rattle.capi_answers.proofs.Rooms.{room-refused, leak-short, bad-short, both-fit}
 use native.Mathlib.Omega.{arith}
 use borrow.Author.Needs.{needs}
-use Rattle.capi.proofs.pairs.room_for.Statement.{statement}
-use Rattle.capi.proofs.pairs.room_for.Tie as tie
+use Rattle.capi_answers.proofs.pairs.room_for.Statement.{statement}
+use Rattle.capi_answers.proofs.pairs.room_for.Tie as tie
 
 enum-known-a : tie.Need-enum-known-a
 enum-known-a c = search needs

@@ -1,11 +1,11 @@
--- `capi::minus`: a byte's number fits with a minus.
+-- `capi_answers::minus`: a byte's number fits with a minus.
 use mathlib.Core.Path.{sym, subst}
 use borrow.Author.Needs.{needs}
 use mir.Syntax.{w64}
 use mir.Val.{SFits}
-use Rattle.capi.proofs.Signed.{minus-fits, minus-is, minus-back}
-use Rattle.capi.proofs.minus.Statement.{statement}
-use Rattle.capi.proofs.minus.Tie as tie
+use Rattle.capi_answers.proofs.Signed.{minus-fits, minus-is, minus-back}
+use Rattle.capi_answers.proofs.minus.Statement.{statement}
+use Rattle.capi_answers.proofs.minus.Tie as tie
 
 cast-result : tie.Need-cast-result
 cast-result c = search needs

@@ -1,8 +1,8 @@
--- `capi::show`: four numbers, one behind the other.
+-- `capi_answers::show`: four numbers, one behind the other.
 use mathlib.Core.Path.{refl}
 use borrow.Author.Needs.{needs}
-use Rattle.capi.proofs.show.Statement.{statement}
-use Rattle.capi.proofs.show.Tie as tie
+use Rattle.capi_answers.proofs.show.Statement.{statement}
+use Rattle.capi_answers.proofs.show.Tie as tie
 
 put-requires : tie.Need-put-requires
 put-requires c κs = search needs

@@ -1,13 +1,13 @@
--- `capi::number`: a count or a minus.
+-- `capi_answers::number`: a count or a minus.
 use mathlib.Core.Path.{subst}
 use mir.Facts.{toZ-pos}
-use Rattle.capi.specs.Number.{Countable}
+use Rattle.capi_answers.specs.Number.{Countable}
 use mir.Syntax.{w8, w64}
 use mir.Val.{Fits}
-use Rattle.capi.proofs.Signed.{minus-back}
+use Rattle.capi_answers.proofs.Signed.{minus-back}
 use borrow.Author.Needs.{needs}
-use Rattle.capi.proofs.number.Statement.{statement}
-use Rattle.capi.proofs.number.Tie as tie
+use Rattle.capi_answers.proofs.number.Statement.{statement}
+use Rattle.capi_answers.proofs.number.Tie as tie
 
 enum-known-a : tie.Need-enum-known-a
 enum-known-a c = search needs

@@ -1,7 +1,7 @@
 -- `sizes`: 0, or any other number.
 use borrow.Author.Tests.{eq-eqb, ne-eqb}
-use Rattle.capi.proofs.sizes.Statement.{statement}
-use Rattle.capi.proofs.sizes.Tie as tie
+use Rattle.capi_answers.proofs.sizes.Statement.{statement}
+use Rattle.capi_answers.proofs.sizes.Tie as tie
 
 returns : tie.Need-returns
 returns c = rw (eq-eqb _ 0 (c .if1 .taken))

@@ -17,7 +17,7 @@ use Rattle.pairs_search.specs.declared.search.PairsVerdict.{PairsVerdict}
 use Rattle.pairs_search.specs.declared.search.PairsVerdict.the-variants as pairs
 use Rattle.pairs_judge.specs.declared.CheckedPairs.{CheckedPairs}
 use Rattle.pairs_judge.specs.declared.CheckedPairs.the-variants.{Done, Refused}
-use Rattle.capi.specs.Pairs.{both, leakNumbers, badNumbers, roomFor, bothNumber, toLeak, toBad, ShowsBoth}
+use Rattle.capi_answers.specs.Pairs.{both, leakNumbers, badNumbers, roomFor, bothNumber, toLeak, toBad, ShowsBoth}
 
 module _ (leak bad : ℕ) (a : CheckedPairs) where
   pub room-refused : {q : ℕ} → a ≡ Refused q → Refused q ≡ roomFor leak bad a
