@@ -262,6 +262,26 @@ int64_t fidrovelj_check_wide(const uint8_t *text, size_t text_len,
                              uint8_t *paints, size_t paints_len,
                              uint8_t sizes);
 
+/* Certify: says of a netlist of any number of input bits whether its wires' counts are the same for all input settings with the same
+ * public bits. Questions 1 to 11 as Check's (12 is not put), then 14. Returns 0 where every wire is clean: proved for all settings.
+ * Returns 1 for a leak, whose four numbers go to leak: its wire, how many input bits are one in its setting, the count of the
+ * setting with the same public bits and zero secrets, and its own; those input bits go to ones, rising. (The setting need not be the
+ * smallest, nor the wire the lowest that leaks.) Returns 2 where neither could be shown: the first entry of leak is the lowest wire that
+ * is not known to be clean. A list too short for what it is to be told, less than 4 entries of leak for a leak or 1 for the wire, or of
+ * ones for its input bits, is refused by 14, and then none is written. records holds fifteen entries a wire, so at least 276,465
+ * (13,499,985); the other working tables at least 18,431 entries each (899,999). */
+int64_t fidrovelj_certify(const uint8_t *text, size_t text_len,
+                          const uint8_t *codes, size_t codes_len,
+                          uint64_t *leak, size_t leak_len,
+                          uint64_t *ones, size_t ones_len,
+                          uint64_t *operands, size_t operands_len,
+                          uint64_t *results, size_t results_len,
+                          uint8_t *marks, size_t marks_len,
+                          uint64_t *words, size_t words_len,
+                          uint64_t *base, size_t base_len,
+                          uint64_t *records, size_t records_len,
+                          uint8_t sizes);
+
 /* From AIGER: reads an ASCII AIGER file (its first four bytes are "aag ") and writes the netlist made
  * of it to out, in the written form. The inputs form one value in the order of the input lines, the
  * outputs one value. Before each AND gate stands an EQ for each constant operand and an INV for each
