@@ -1415,6 +1415,406 @@ int64_t baseline_join(const uint8_t *first, size_t first_len,
     return answer;
 }
 
+/* ---- Certify */
+
+/* What is known of a wire: a table over at most four atoms and the two mask bits. An atom is a bit that depends on the input
+ * setting alone, an input's own or one made of other atoms; it has the number of its wire. Bit 16 m + s of the table is
+ * the wire's bit at mask setting m, m0 its lowest bit, where atom j has bit j of s. Atoms rise. */
+struct record {
+    uint64_t table;
+    uint32_t count, atom[4];
+};
+
+/* A wire keeps a leaf, a record of at most one atom, and up to four others: three words each, the table and two of atoms. */
+enum { LEAF, SLOTS = 5, MOST_ATOMS = 4, ABSENT = 15 };
+
+/* A wire's facts: four bits for each slot, the number of its record's atoms or ABSENT; whether the wire is clean; whether the atom of
+ * its number is public; and by which selector that atom is made of which record. */
+enum { ALL_ABSENT = 0xfffff, CLEAN = 1 << 20, PUBLIC = 1 << 21, MADE_OF = 24, SELECTOR = 32 };
+
+/* The lent tables: fifteen words of records and one of facts a wire, and by hashes one more than the latest atom made. */
+struct certifier {
+    uint32_t wires;
+    uint64_t *records, *facts, *latest;
+};
+
+static const uint64_t variable[MOST_ATOMS] = {0xaaaaaaaaaaaaaaaaU, 0xccccccccccccccccU, 0xf0f0f0f0f0f0f0f0U,
+                                              0xff00ff00ff00ff00U};
+
+/* A table with the variables i and j, i the lower one, exchanged. */
+ALWAYS uint64_t exchanged(uint64_t table, unsigned i, unsigned j)
+{
+    unsigned distance = (1U << j) - (1U << i);
+    uint64_t moved = variable[i] & ~variable[j];
+    return (table & ~(moved | moved << distance)) | (table & moved) << distance | (table >> distance & moved);
+}
+
+ALWAYS bool depends(uint64_t table, unsigned j)
+{
+    return ((table >> (1U << j) ^ table) & ~variable[j]) != 0;
+}
+
+ALWAYS bool load_record(const struct certifier *c, uint32_t wire, unsigned slot, struct record *r)
+{
+    const uint64_t *from = c->records + 3 * ((size_t)wire * SLOTS + slot);
+    r->count = c->facts[wire] >> 4 * slot & 15;
+    if (r->count == ABSENT)
+        return false;
+    r->table = from[0];
+    memcpy(r->atom, from + 1, sizeof r->atom);
+    return true;
+}
+
+ALWAYS void store_record(struct certifier *c, uint32_t wire, unsigned slot, const struct record *r)
+{
+    uint64_t *to = c->records + 3 * ((size_t)wire * SLOTS + slot);
+    to[0] = r->table;
+    memcpy(to + 1, r->atom, sizeof r->atom);
+    c->facts[wire] ^= (uint64_t)(ABSENT ^ r->count) << 4 * slot;
+}
+
+/* The record of a gate of two operands over the atoms of both, without those that it does not depend on; false where both have
+ * more than four. */
+static bool merge(uint32_t kind, const struct record *a, const struct record *b, struct record *r)
+{
+    unsigned i = 0, j = 0, count = 0, place_a[MOST_ATOMS], place_b[MOST_ATOMS];
+    while (i < a->count || j < b->count) {
+        if (count == MOST_ATOMS)
+            return false;
+        bool first = j == b->count || (i < a->count && a->atom[i] <= b->atom[j]);
+        bool second = i == a->count || (j < b->count && b->atom[j] <= a->atom[i]);
+        r->atom[count] = first ? a->atom[i] : b->atom[j];
+        if (first)
+            place_a[i++] = count;
+        if (second)
+            place_b[j++] = count;
+        count++;
+    }
+    uint64_t x = a->table, y = b->table;
+    while (i-- > 0) {
+        if (place_a[i] != i)
+            x = exchanged(x, i, place_a[i]);
+    }
+    while (j-- > 0) {
+        if (place_b[j] != j)
+            y = exchanged(y, j, place_b[j]);
+    }
+    uint64_t table = kind == XOR ? x ^ y : x & y;
+    for (unsigned k = 0; k < count;) {
+        if (depends(table, k)) {
+            k++;
+            continue;
+        }
+        count--;
+        for (unsigned l = k; l < count; l++) {
+            r->atom[l] = r->atom[l + 1];
+            table = exchanged(table, l, l + 1);
+        }
+    }
+    r->table = table;
+    r->count = count;
+    return true;
+}
+
+/* Whether the counts of ones over the four mask settings are the same for all values of the atoms that are not public: the
+ * counts' three binary digits, a bit for each value, do not depend on them. */
+static bool even(const struct certifier *c, const struct record *r)
+{
+    uint64_t t0 = r->table & 0xffff, t1 = r->table >> 16 & 0xffff, t2 = r->table >> 32 & 0xffff, t3 = r->table >> 48;
+    uint64_t x = t0 ^ t1, y = t2 ^ t3, s = t0 & t1, t = t2 & t3;
+    uint64_t digits = (x ^ y) | (s ^ t ^ (x & y)) << 16 | (s & t) << 32;
+    for (unsigned j = 0; j < r->count; j++) {
+        if (!(c->facts[r->atom[j]] & PUBLIC) && depends(digits, j))
+            return false;
+    }
+    return true;
+}
+
+/* Whether a record shows two values at most of the four mask settings' bits: one where the selector is 0, which is so with all
+ * atoms 0, and the other, which differs from it in some mask settings, where it is 1. */
+static bool two_values(uint64_t table, uint32_t *selector, unsigned *value, unsigned *change)
+{
+    *selector = *value = *change = 0;
+    for (unsigned m = 0; m < 4; m++) {
+        uint32_t lane = table >> 16 * m & 0xffff;
+        if (lane & 1) {
+            *value |= 1U << m;
+            lane ^= 0xffff;
+        }
+        if (lane == 0)
+            continue;
+        if (*selector != 0 && *selector != lane)
+            return false;
+        *selector = lane;
+        *change |= 1U << m;
+    }
+    return true;
+}
+
+static bool same_atoms(const struct record *a, const struct record *b)
+{
+    return a->count == b->count && memcmp(a->atom, b->atom, a->count * sizeof *a->atom) == 0;
+}
+
+/* The atom that a selector makes of a record's atoms: the latest with its hash, if that is made of the same, or a new one. */
+static uint32_t atom_of(struct certifier *c, uint32_t wire, unsigned slot, const struct record *r, uint64_t selector)
+{
+    uint64_t hash = selector * 0x9e3779b97f4a7c15U;
+    bool public = true;
+    for (unsigned j = 0; j < r->count; j++) {
+        hash = (hash ^ r->atom[j]) * 0x9e3779b97f4a7c15U;
+        hash ^= hash >> 29;
+        public = public && (c->facts[r->atom[j]] & PUBLIC);
+    }
+    uint64_t *latest = c->latest + (hash >> 20) % c->wires;
+    if (*latest != 0) {
+        uint32_t atom = (uint32_t)*latest - 1;
+        uint64_t facts = c->facts[atom];
+        struct record made_of;
+        if (facts >> SELECTOR == selector && load_record(c, atom, facts >> MADE_OF & 7, &made_of) && same_atoms(&made_of, r))
+            return atom;
+    }
+    *latest = (uint64_t)wire + 1;
+    c->facts[wire] |= selector << SELECTOR | (uint64_t)slot << MADE_OF | (public ? PUBLIC : 0);
+    return wire;
+}
+
+/* The leaf of a wire, from the first of its records that allows one. */
+static void keep_leaf(struct certifier *c, uint32_t wire, const struct record *kept, unsigned count)
+{
+    for (unsigned i = 0; i < count; i++) {
+        uint32_t selector;
+        unsigned value, change;
+        if (kept[i].count <= 1) {
+            store_record(c, wire, LEAF, &kept[i]);
+            return;
+        }
+        if (!two_values(kept[i].table, &selector, &value, &change))
+            continue;
+        struct record leaf = {0, 1, {atom_of(c, wire, i + 1, &kept[i], selector), 0, 0, 0}};
+        for (unsigned m = 0; m < 4; m++) {
+            uint64_t lane = (value >> m & 1 ? 0xffff : 0) ^ (change >> m & 1 ? 0xaaaa : 0);
+            leaf.table |= lane << 16 * m;
+        }
+        store_record(c, wire, LEAF, &leaf);
+        return;
+    }
+}
+
+/* Room for a record among at most four of rising counts; one with the atoms of another is not kept. */
+static unsigned keep(struct record *kept, unsigned count, const struct record *r)
+{
+    unsigned place = count;
+    for (unsigned i = 0; i < count; i++) {
+        if (same_atoms(&kept[i], r))
+            return count;
+    }
+    while (place > 0 && kept[place - 1].count > r->count)
+        place--;
+    if (place == SLOTS - 1)
+        return count;
+    if (count < SLOTS - 1)
+        count++;
+    for (unsigned i = count - 1; i > place; i--)
+        kept[i] = kept[i - 1];
+    kept[place] = *r;
+    return count;
+}
+
+/* A gate of two operands: each record of one with each of the other. */
+static void certify_two(struct certifier *c, uint32_t kind, uint32_t a, uint32_t b, uint32_t wire)
+{
+    struct record kept[SLOTS - 1], x, y, r;
+    unsigned count = 0;
+    bool clean = false;
+    for (unsigned i = 0; i < SLOTS; i++) {
+        if (!load_record(c, a, i, &x))
+            continue;
+        for (unsigned j = 0; j < SLOTS; j++) {
+            if (!load_record(c, b, j, &y) || !merge(kind, &x, &y, &r))
+                continue;
+            clean = clean || even(c, &r);
+            count = keep(kept, count, &r);
+        }
+    }
+    c->facts[wire] = ALL_ABSENT | (clean ? CLEAN : 0);
+    for (unsigned i = 0; i < count; i++)
+        store_record(c, wire, i + 1, &kept[i]);
+    keep_leaf(c, wire, kept, count);
+}
+
+/* A gate of one operand has its records, inverted or not, and its verdict. */
+static void certify_one(struct certifier *c, uint32_t kind, uint32_t a, uint32_t wire)
+{
+    struct record r;
+    c->facts[wire] = ALL_ABSENT | (c->facts[a] & CLEAN);
+    for (unsigned i = 0; i < SLOTS; i++) {
+        if (!load_record(c, a, i, &r))
+            continue;
+        if (kind == INV)
+            r.table = ~r.table;
+        store_record(c, wire, i, &r);
+    }
+}
+
+/* A wire whose leaf is all that is known of it. */
+static void certify_leaf(struct certifier *c, uint32_t wire, uint64_t table, uint32_t count, bool public)
+{
+    struct record leaf = {table, count, {wire, 0, 0, 0}};
+    c->facts[wire] = ALL_ABSENT | (public ? PUBLIC : 0);
+    store_record(c, wire, LEAF, &leaf);
+    if (even(c, &leaf))
+        c->facts[wire] |= CLEAN;
+}
+
+/* The lowest wire that is not shown to be clean, or the number of wires. */
+static uint32_t certify_wires(struct certifier *c, const struct header *h, const uint64_t *operands,
+                              const uint64_t *results, const uint8_t *codes, uint32_t bits)
+{
+    static const uint64_t masks[4] = {0, 0xffff0000ffff0000U, 0xffffffff00000000U, 0x0000ffffffff0000U};
+    memset(c->latest, 0, c->wires * sizeof *c->latest);
+    for (uint32_t i = 0; i < bits; i++)
+        certify_leaf(c, i, masks[codes[i]] ^ variable[0], 1, codes[i] == 0);
+    certify_leaf(c, bits, masks[1], 0, false);
+    certify_leaf(c, bits + 1, masks[2], 0, false);
+    for (uint32_t i = 0; i < h->gates; i++) {
+        uint32_t kind = high(results[i]), wire = low(results[i]);
+        if (kind == XOR || kind == AND)
+            certify_two(c, kind, low(operands[i]), high(operands[i]), wire);
+        else if (kind == INV || kind == EQW)
+            certify_one(c, kind, low(operands[i]), wire);
+        else
+            certify_leaf(c, wire, kind == EQ1 ? ONES : 0, 0, false);
+    }
+    uint32_t wire = 0;
+    while (wire < c->wires && c->facts[wire] & CLEAN)
+        wire++;
+    return wire;
+}
+
+/* A witness is looked for in so many passes of sixteen settings, the first of them without secrets. */
+#define PASSES 256
+
+static inline uint64_t drawn(uint64_t *state)
+{
+    *state += 0x9e3779b97f4a7c15U;
+    uint64_t z = *state;
+    z = (z ^ z >> 30) * 0xbf58476d1ce4e5b9U;
+    z = (z ^ z >> 27) * 0x94d049bb133111ebU;
+    return z ^ z >> 31;
+}
+
+/* Four lanes for each of sixteen bits. */
+static inline uint64_t spread(uint64_t bits16)
+{
+    uint64_t x = (bits16 | bits16 << 24) & 0x000000ff000000ffU;
+    x = (x | x << 12) & 0x000f000f000f000fU;
+    x = (x | x << 6) & 0x0303030303030303U;
+    x = (x | x << 3) & 0x1111111111111111U;
+    return x * 15;
+}
+
+/* The input wires in sixteen settings: public bits are the same in all of them, secrets are zero in the first. */
+static void load_drawn(uint64_t *words, const uint8_t *codes, size_t bits, uint64_t *state)
+{
+    static const uint64_t masks[4] = {0, M0, M1, M0 ^ M1};
+    for (size_t i = 0; i < bits; i++) {
+        uint64_t setting = drawn(state) & 0xffff;
+        words[i] = codes[i] == 0 ? (setting & 1 ? ONES : 0) : spread(setting & 0xfffe) ^ masks[codes[i]];
+    }
+    words[bits] = M0;
+    words[bits + 1] = M1;
+}
+
+/* The place of a setting whose count is not the first one's, or 0. */
+static inline unsigned other_count(uint64_t word)
+{
+    uint64_t each = counts(word), difference = each ^ (each & 15) * 0x1111111111111111U;
+    unsigned place = 0;
+    if (difference == 0)
+        return 0;
+    while ((difference >> 4 * place & 15) == 0)
+        place++;
+    return place;
+}
+
+/* Questions 10 and 11 are Check's; 12 is not put. */
+static int64_t certify(const struct header *h, const uint64_t *operands, const uint64_t *results, uint64_t *words,
+                       struct certifier *c, const uint8_t *codes, size_t codes_len, uint64_t *leak, size_t leak_len,
+                       uint64_t *ones, size_t ones_len)
+{
+    int no = ask_block(h, codes, codes_len);
+    if (no != 0)
+        return -no;
+    size_t bits = codes_len;
+    c->wires = h->wires;
+    uint32_t found = certify_wires(c, h, operands, results, codes, (uint32_t)bits);
+    if (found == h->wires)
+        return 0;
+
+    uint64_t state = 0;
+    unsigned place = 0;
+    for (int pass = 0; pass < PASSES && place == 0; pass++) {
+        load_drawn(words, codes, bits, &state);
+        evaluate(words, h->gates, operands, results);
+        place = other_count(words[found]);
+    }
+    if (place == 0) {
+        if (leak_len < 1)
+            return -14;
+        leak[0] = found;
+        return 2;
+    }
+    static const uint64_t masks[4] = {0, M0, M1, M0 ^ M1};
+    size_t count = 0;
+    for (size_t i = 0; i < bits; i++)
+        count += (words[i] ^ masks[codes[i]]) >> 4 * place & 1;
+    if (leak_len < 4 || ones_len < count)
+        return -14;
+    leak[0] = found;
+    leak[1] = count;
+    leak[2] = counts(words[found]) & 15;
+    leak[3] = counts(words[found]) >> 4 * place & 15;
+    count = 0;
+    for (size_t i = 0; i < bits; i++) {
+        if ((words[i] ^ masks[codes[i]]) >> 4 * place & 1)
+            ones[count++] = i;
+    }
+    return 1;
+}
+
+int64_t baseline_certify(const uint8_t *text, size_t text_len,
+                         const uint8_t *codes, size_t codes_len,
+                         uint64_t *leak, size_t leak_len,
+                         uint64_t *ones, size_t ones_len,
+                         uint64_t *operands, size_t operands_len,
+                         uint64_t *results, size_t results_len,
+                         uint8_t *marks, size_t marks_len,
+                         uint64_t *words, size_t words_len,
+                         uint64_t *base, size_t base_len,
+                         uint64_t *records, size_t records_len,
+                         uint8_t sizes)
+{
+    const struct limits *l = &large_limits[sizes != 0];
+    struct header h;
+    struct certifier c = {0, records, base, words};
+    int64_t answer;
+    if (operands_len < l->table || results_len < l->table || marks_len < l->table || words_len < l->table
+        || base_len < l->table || records_len / (3 * SLOTS) < l->table)
+        answer = -1;
+    else
+        answer = -read_netlist(l, text, text_len, &h, operands, results, marks);
+    if (answer == 0)
+        answer = certify(&h, operands, results, words, &c, codes, codes_len, leak, leak_len, ones, ones_len);
+    memset(operands, 0, operands_len * sizeof *operands);
+    memset(results, 0, results_len * sizeof *results);
+    memset(marks, 0, marks_len);
+    memset(words, 0, words_len * sizeof *words);
+    memset(base, 0, base_len * sizeof *base);
+    memset(records, 0, records_len * sizeof *records);
+    return answer;
+}
+
 /* ---- Verilog */
 
 enum word { THE_END, MODULE, INPUT, OUTPUT, WIRE, ASSIGN, ENDMODULE, NAME, NO_WORD };

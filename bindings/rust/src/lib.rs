@@ -5,7 +5,7 @@
 //! - [`mask`] turns a source netlist into a masked one, in which every bit travels under a mask,
 //! - [`twins`] says where each source wire stands in the masked netlist,
 //! - [`check`] says whether a netlist is clean, or names a leak on one of its wires; [`check_pairs`] also
-//!   whether listed pairs of wires leak together,
+//!   whether listed pairs of wires leak together; [`certify`] takes any number of inputs,
 //! - [`run`] evaluates a netlist, [`run64`] on sixty-four settings at once,
 //! - [`rewrite`] gives a netlist in its written form; [`from_old`] and [`to_old`] convert from and to the older
 //!   Bristol dialect,
@@ -37,6 +37,7 @@ use std::error::Error;
 use std::fmt;
 
 mod aiger;
+mod certify;
 mod join;
 pub mod lent;
 mod old;
@@ -47,6 +48,7 @@ mod verilog;
 mod words;
 
 pub use aiger::{from_aiger, from_aiger_lent};
+pub use certify::{certify, certify_lent, Certified};
 pub use join::{join, join_lent};
 pub use old::{from_old, from_old_lent, to_old, to_old_lent};
 pub use pairs::{check_pairs, check_pairs_lent, Pairs};

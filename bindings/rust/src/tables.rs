@@ -57,6 +57,7 @@ pub struct Tables {
     pub(crate) words: Vec<u64>,
     pub(crate) base: Vec<u64>,
     pub(crate) bases: Vec<u64>,
+    pub(crate) records: Vec<u64>,
     pub(crate) wires: Vec<u32>,
     pub(crate) links: Vec<u64>,
     pub(crate) states: Vec<u32>,
@@ -66,12 +67,12 @@ pub struct Tables {
 }
 
 impl Tables {
-    /// Tables for the old limits: about 1.7 million bytes.
+    /// Tables for the old limits: about 4 million bytes.
     pub fn new() -> Tables {
         Tables::of(Sizes::Old)
     }
 
-    /// Tables for whole ciphers: about 80 million bytes.
+    /// Tables for whole ciphers: about 190 million bytes, of which 108 million serve [`certify`](crate::certify) alone.
     ///
     /// ```
     /// use fidrovelj::{rewrite, Refused, Tables};
@@ -94,6 +95,7 @@ impl Tables {
             words: vec![0; large],
             base: vec![0; large],
             bases: vec![0; large],
+            records: vec![0; sizes.records()],
             wires: vec![0; small],
             links: vec![0; 8 * small],
             states: vec![0; 8 * small],
