@@ -537,21 +537,21 @@ static int mask(char **argv)
     return EXIT_SUCCESS;
 }
 
-/* The library's answer on a text, its numbers, and how many milliseconds it took. */
-static int64_t certify(const char *text, const uint8_t *codes, size_t bits, uint64_t *leak, uint64_t *ones, double *time_taken)
+/* The library's answer on a text of so many wires, its numbers, and how many milliseconds it took. */
+static int64_t certify(const char *text, unsigned wires, const uint8_t *codes, size_t bits, uint64_t *leak, uint64_t *ones,
+                       double *milliseconds)
 {
-    uint64_t *operands = room_for(TABLE, 8), *results = room_for(TABLE, 8), *words = room_for(TABLE, 8);
-    uint64_t *tables = room_for(TABLE, 5 * 8);
-    uint32_t *atoms = room_for(TABLE, 20 * 4), *made_of = room_for(TABLE, 4 * 4), *made_table = room_for(TABLE, 4);
-    uint32_t *latest = room_for(TABLE, 4);
-    uint8_t *marks = room_for(TABLE, 1), *counts = room_for(TABLE, 5), *publics = room_for(TABLE, 1);
-    uint8_t *cleans = room_for(TABLE, 1);
+    size_t size = strlen(text);
+    bool old = wires <= FIDROVELJ_LARGE_TABLE && size <= FIDROVELJ_LARGE_TEXT;
+    size_t table = old ? FIDROVELJ_LARGE_TABLE : FIDROVELJ_WHOLE_LARGE_TABLE;
+    uint64_t *operands = room_for(table, 8), *results = room_for(table, 8), *words = room_for(table, 8);
+    uint64_t *base = room_for(table, 8), *records = room_for(table, 15 * 8);
+    uint8_t *marks = room_for(table, 1);
     clock_t start = clock();
-    int64_t answer = fidrovelj_certify((const uint8_t *)text, strlen(text), codes, bits, leak, 4, ones, bits, operands, TABLE,
-                                       results, TABLE, marks, TABLE, words, TABLE, tables, 5 * TABLE, atoms, 20 * TABLE,
-                                       counts, 5 * TABLE, made_of, 4 * TABLE, made_table, TABLE, latest, TABLE, publics,
-                                       TABLE, cleans, TABLE, FIDROVELJ_WHOLE);
-    *time_taken = (double)(clock() - start) * 1e3 / CLOCKS_PER_SEC;
+    int64_t answer = fidrovelj_certify((const uint8_t *)text, size, codes, bits, leak, 4, ones, bits, operands, table, results,
+                                       table, marks, table, words, table, base, table, records, 15 * table,
+                                       old ? FIDROVELJ_OLD : FIDROVELJ_WHOLE);
+    *milliseconds = (double)(clock() - start) * 1e3 / CLOCKS_PER_SEC;
     return answer;
 }
 
@@ -587,7 +587,7 @@ static int judge(char **argv)
     static const char *const verdicts[] = {"clean", "leak", "unknown"};
     uint64_t leak[4] = {0, 0, 0, 0}, *ones = room_for(bits + 1, sizeof *ones);
     double milliseconds;
-    int64_t answer = certify(write_net(&result), codes, bits, leak, ones, &milliseconds);
+    int64_t answer = certify(write_net(&result), result.wires, codes, bits, leak, ones, &milliseconds);
     if (answer < 0 || answer > 2)
         die("is refused", argv[2]);
     if (answer == 1 && !leaks(&result, codes, leak, ones))
