@@ -1417,277 +1417,208 @@ int64_t baseline_join(const uint8_t *first, size_t first_len,
 
 /* ---- Certify */
 
-/* What is known of a wire: a table over at most four atoms and the two mask bits. An atom is a bit that depends on the input
- * setting alone, an input's own or one made of other atoms; it has the number of its wire. Bit 16 m + s of the table is
- * the wire's bit at mask setting m, m0 its lowest bit, where atom j has bit j of s. Atoms rise. */
+/* What is known of a wire: a table over at most four atoms and the two mask bits. Bit 4 s + m of the table is the wire's bit at mask
+ * setting m, m0 its lowest bit, where atom j has bit j of s. Atom 8 w + 2 m + p is the bit of wire w at mask setting m, XOR p, which
+ * depends on the input setting alone. Atoms rise, and NO_ATOM fills up. */
+enum { MOST_ATOMS = 4, LEAF = 0, SLOTS = 5 };
+#define NO_ATOM UINT32_MAX
+
 struct record {
     uint64_t table;
-    uint32_t count, atom[4];
+    uint32_t atom[MOST_ATOMS];
 };
 
-/* A wire keeps a leaf, a record of at most one atom, and up to four others: three words each, the table and two of atoms. */
-enum { LEAF, SLOTS = 5, MOST_ATOMS = 4, ABSENT = 15 };
+/* A wire has five records, three words each, of which the first is its leaf, of at most one atom; zeros are no record. Its marks say
+ * whether it is clean and whether its atom is public. */
+enum { CLEAN = 1, PUBLIC = 2 };
 
-/* A wire's facts: four bits for each slot, the number of its record's atoms or ABSENT; whether the wire is clean; whether the atom of
- * its number is public; and by which selector that atom is made of which record. */
-enum { ALL_ABSENT = 0xfffff, CLEAN = 1 << 20, PUBLIC = 1 << 21, MADE_OF = 24, SELECTOR = 32 };
-
-/* The lent tables: fifteen words of records and one of facts a wire, and by hashes one more than the latest atom made. */
 struct certifier {
-    uint32_t wires;
-    uint64_t *records, *facts, *latest;
+    struct record (*records)[SLOTS];
+    uint8_t *marks;
 };
 
-static const uint64_t variable[MOST_ATOMS] = {0xaaaaaaaaaaaaaaaaU, 0xccccccccccccccccU, 0xf0f0f0f0f0f0f0f0U,
-                                              0xff00ff00ff00ff00U};
+/* The places in a table whose s has bit j. */
+static const uint64_t variable[MOST_ATOMS] = {0xf0f0f0f0f0f0f0f0U, 0xff00ff00ff00ff00U, 0xffff0000ffff0000U,
+                                              0xffffffff00000000U};
 
 /* A table with the variables i and j, i the lower one, exchanged. */
 ALWAYS uint64_t exchanged(uint64_t table, unsigned i, unsigned j)
 {
-    unsigned distance = (1U << j) - (1U << i);
+    unsigned distance = (4U << j) - (4U << i);
     uint64_t moved = variable[i] & ~variable[j];
     return (table & ~(moved | moved << distance)) | (table & moved) << distance | (table >> distance & moved);
 }
 
-ALWAYS bool depends(uint64_t table, unsigned j)
+ALWAYS bool depends(uint64_t table, unsigned j) { return ((table >> (4U << j) ^ table) & ~variable[j]) != 0; }
+
+ALWAYS bool absent(const struct record *r) { return r->atom[0] == 0 && r->atom[1] == 0; }
+
+ALWAYS unsigned atom_count(const struct record *r)
 {
-    return ((table >> (1U << j) ^ table) & ~variable[j]) != 0;
+    return (r->atom[0] != NO_ATOM) + (r->atom[1] != NO_ATOM) + (r->atom[2] != NO_ATOM) + (r->atom[3] != NO_ATOM);
 }
 
-ALWAYS bool load_record(const struct certifier *c, uint32_t wire, unsigned slot, struct record *r)
+/* Both tables over the atoms of both; false where these are more than four. */
+ALWAYS bool align(const struct record *a, const struct record *b, uint64_t *x, uint64_t *y, uint32_t *atom)
 {
-    const uint64_t *from = c->records + 3 * ((size_t)wire * SLOTS + slot);
-    r->count = c->facts[wire] >> 4 * slot & 15;
-    if (r->count == ABSENT)
-        return false;
-    r->table = from[0];
-    memcpy(r->atom, from + 1, sizeof r->atom);
-    return true;
-}
-
-ALWAYS void store_record(struct certifier *c, uint32_t wire, unsigned slot, const struct record *r)
-{
-    uint64_t *to = c->records + 3 * ((size_t)wire * SLOTS + slot);
-    to[0] = r->table;
-    memcpy(to + 1, r->atom, sizeof r->atom);
-    c->facts[wire] ^= (uint64_t)(ABSENT ^ r->count) << 4 * slot;
-}
-
-/* The record of a gate of two operands over the atoms of both, without those that it does not depend on; false where both have
- * more than four. */
-static bool merge(uint32_t kind, const struct record *a, const struct record *b, struct record *r)
-{
-    unsigned i = 0, j = 0, count = 0, place_a[MOST_ATOMS], place_b[MOST_ATOMS];
-    while (i < a->count || j < b->count) {
+    unsigned i = 0, j = 0, count = 0, i_place[MOST_ATOMS], j_place[MOST_ATOMS];
+    for (;;) {
+        uint32_t left = i < MOST_ATOMS ? a->atom[i] : NO_ATOM, right = j < MOST_ATOMS ? b->atom[j] : NO_ATOM;
+        uint32_t next = left < right ? left : right;
+        if (next == NO_ATOM)
+            break;
         if (count == MOST_ATOMS)
             return false;
-        bool first = j == b->count || (i < a->count && a->atom[i] <= b->atom[j]);
-        bool second = i == a->count || (j < b->count && b->atom[j] <= a->atom[i]);
-        r->atom[count] = first ? a->atom[i] : b->atom[j];
-        if (first)
-            place_a[i++] = count;
-        if (second)
-            place_b[j++] = count;
+        atom[count] = next;
+        if (left == next)
+            i_place[i++] = count;
+        if (right == next)
+            j_place[j++] = count;
         count++;
     }
-    uint64_t x = a->table, y = b->table;
+    for (; count < MOST_ATOMS; count++)
+        atom[count] = NO_ATOM;
+    *x = a->table;
+    *y = b->table;
     while (i-- > 0) {
-        if (place_a[i] != i)
-            x = exchanged(x, i, place_a[i]);
+        if (i_place[i] != i)
+            *x = exchanged(*x, i, i_place[i]);
     }
     while (j-- > 0) {
-        if (place_b[j] != j)
-            y = exchanged(y, j, place_b[j]);
+        if (j_place[j] != j)
+            *y = exchanged(*y, j, j_place[j]);
     }
-    uint64_t table = kind == XOR ? x ^ y : x & y;
-    for (unsigned k = 0; k < count;) {
-        if (depends(table, k)) {
-            k++;
-            continue;
-        }
-        count--;
-        for (unsigned l = k; l < count; l++) {
-            r->atom[l] = r->atom[l + 1];
-            table = exchanged(table, l, l + 1);
-        }
-    }
-    r->table = table;
-    r->count = count;
     return true;
 }
 
-/* Whether the counts of ones over the four mask settings are the same for all values of the atoms that are not public: the
- * counts' three binary digits, a bit for each value, do not depend on them. */
-static bool even(const struct certifier *c, const struct record *r)
+/* Without the atoms that the table does not depend on. */
+ALWAYS void drop_atoms(struct record *r)
 {
-    uint64_t t0 = r->table & 0xffff, t1 = r->table >> 16 & 0xffff, t2 = r->table >> 32 & 0xffff, t3 = r->table >> 48;
-    uint64_t x = t0 ^ t1, y = t2 ^ t3, s = t0 & t1, t = t2 & t3;
-    uint64_t digits = (x ^ y) | (s ^ t ^ (x & y)) << 16 | (s & t) << 32;
-    for (unsigned j = 0; j < r->count; j++) {
-        if (!(c->facts[r->atom[j]] & PUBLIC) && depends(digits, j))
+    for (unsigned j = MOST_ATOMS; j-- > 0;) {
+        if (r->atom[j] == NO_ATOM || depends(r->table, j))
+            continue;
+        for (unsigned k = j; k + 1 < MOST_ATOMS; k++) {
+            r->atom[k] = r->atom[k + 1];
+            r->table = exchanged(r->table, k, k + 1);
+        }
+        r->atom[MOST_ATOMS - 1] = NO_ATOM;
+    }
+}
+
+ALWAYS bool public_atom(const struct certifier *c, uint32_t atom) { return c->marks[atom / 8] & PUBLIC; }
+
+/* Whether the counts of ones over the four mask settings are the same for all values of the atoms that are not public. */
+ALWAYS bool even(const struct certifier *c, const struct record *r)
+{
+    uint64_t each = counts(r->table);
+    for (unsigned j = 0; j < MOST_ATOMS && r->atom[j] != NO_ATOM; j++) {
+        if (depends(each, j) && !public_atom(c, r->atom[j]))
             return false;
     }
     return true;
 }
 
-/* Whether a record shows two values at most of the four mask settings' bits: one where the selector is 0, which is so with all
- * atoms 0, and the other, which differs from it in some mask settings, where it is 1. */
-static bool two_values(uint64_t table, uint32_t *selector, unsigned *value, unsigned *change)
+/* Keeps a record among the four behind the leaf, fewer atoms first; one with the atoms of another is not kept. */
+ALWAYS void keep(struct record *records, struct record r)
 {
-    *selector = *value = *change = 0;
-    for (unsigned m = 0; m < 4; m++) {
-        uint32_t lane = table >> 16 * m & 0xffff;
-        if (lane & 1) {
-            *value |= 1U << m;
-            lane ^= 0xffff;
-        }
-        if (lane == 0)
-            continue;
-        if (*selector != 0 && *selector != lane)
-            return false;
-        *selector = lane;
-        *change |= 1U << m;
-    }
-    return true;
-}
-
-static bool same_atoms(const struct record *a, const struct record *b)
-{
-    return a->count == b->count && memcmp(a->atom, b->atom, a->count * sizeof *a->atom) == 0;
-}
-
-/* The atom that a selector makes of a record's atoms: the latest with its hash, if that is made of the same, or a new one. */
-static uint32_t atom_of(struct certifier *c, uint32_t wire, unsigned slot, const struct record *r, uint64_t selector)
-{
-    uint64_t hash = selector * 0x9e3779b97f4a7c15U;
-    bool public = true;
-    for (unsigned j = 0; j < r->count; j++) {
-        hash = (hash ^ r->atom[j]) * 0x9e3779b97f4a7c15U;
-        hash ^= hash >> 29;
-        public = public && (c->facts[r->atom[j]] & PUBLIC);
-    }
-    uint64_t *latest = c->latest + (hash >> 20) % c->wires;
-    if (*latest != 0) {
-        uint32_t atom = (uint32_t)*latest - 1;
-        uint64_t facts = c->facts[atom];
-        struct record made_of;
-        if (facts >> SELECTOR == selector && load_record(c, atom, facts >> MADE_OF & 7, &made_of) && same_atoms(&made_of, r))
-            return atom;
-    }
-    *latest = (uint64_t)wire + 1;
-    c->facts[wire] |= selector << SELECTOR | (uint64_t)slot << MADE_OF | (public ? PUBLIC : 0);
-    return wire;
-}
-
-/* The leaf of a wire, from the first of its records that allows one. */
-static void keep_leaf(struct certifier *c, uint32_t wire, const struct record *kept, unsigned count)
-{
-    for (unsigned i = 0; i < count; i++) {
-        uint32_t selector;
-        unsigned value, change;
-        if (kept[i].count <= 1) {
-            store_record(c, wire, LEAF, &kept[i]);
+    unsigned count = atom_count(&r);
+    for (unsigned slot = 1; slot < SLOTS; slot++) {
+        struct record *other = &records[slot];
+        if (absent(other)) {
+            *other = r;
             return;
         }
-        if (!two_values(kept[i].table, &selector, &value, &change))
-            continue;
-        struct record leaf = {0, 1, {atom_of(c, wire, i + 1, &kept[i], selector), 0, 0, 0}};
-        for (unsigned m = 0; m < 4; m++) {
-            uint64_t lane = (value >> m & 1 ? 0xffff : 0) ^ (change >> m & 1 ? 0xaaaa : 0);
-            leaf.table |= lane << 16 * m;
+        if (memcmp(other->atom, r.atom, sizeof r.atom) == 0)
+            return;
+        unsigned other_count = atom_count(other);
+        if (other_count > count) {
+            struct record carried = *other;
+            *other = r;
+            r = carried;
+            count = other_count;
         }
-        store_record(c, wire, LEAF, &leaf);
+    }
+}
+
+/* The leaf: the first record of at most one atom, or that shows two values of the four mask settings' bits, which the wire's own atom
+ * then tells apart. */
+static void keep_leaf(struct certifier *c, uint32_t wire)
+{
+    struct record *records = c->records[wire];
+    for (unsigned slot = 1; slot < SLOTS && !absent(&records[slot]); slot++) {
+        const struct record *r = &records[slot];
+        if (atom_count(r) <= 1) {
+            records[LEAF] = *r;
+            return;
+        }
+        uint64_t first = r->table & 15, change = r->table ^ first * 0x1111111111111111U;
+        unsigned place = (unsigned)__builtin_ctzll(change), m = place % 4;
+        uint64_t difference = change >> place / 4 * 4 & 15, chosen = (change >> m & 0x1111111111111111U) * 15;
+        if (change != (chosen & difference * 0x1111111111111111U))
+            continue;
+        uint32_t atom = 8 * wire + 2 * m + (uint32_t)(first >> m & 1);
+        records[LEAF] = (struct record){first * 0x1111111111111111U ^ (variable[0] & difference * 0x1111111111111111U),
+                                        {atom, NO_ATOM, NO_ATOM, NO_ATOM}};
+        bool public = true;
+        for (unsigned j = 0; j < MOST_ATOMS && r->atom[j] != NO_ATOM; j++)
+            public = public && public_atom(c, r->atom[j]);
+        if (public)
+            c->marks[wire] |= PUBLIC;
         return;
     }
 }
 
-/* Room for a record among at most four of rising counts; one with the atoms of another is not kept. */
-static unsigned keep(struct record *kept, unsigned count, const struct record *r)
+/* A gate: each record of one operand with each of the other, or of one wire with itself. */
+static void certify_gate(struct certifier *c, uint32_t kind, uint32_t p, uint32_t q, uint32_t wire)
 {
-    unsigned place = count;
-    for (unsigned i = 0; i < count; i++) {
-        if (same_atoms(&kept[i], r))
-            return count;
-    }
-    while (place > 0 && kept[place - 1].count > r->count)
-        place--;
-    if (place == SLOTS - 1)
-        return count;
-    if (count < SLOTS - 1)
-        count++;
-    for (unsigned i = count - 1; i > place; i--)
-        kept[i] = kept[i - 1];
-    kept[place] = *r;
-    return count;
-}
-
-/* A gate of two operands: each record of one with each of the other. */
-static void certify_two(struct certifier *c, uint32_t kind, uint32_t a, uint32_t b, uint32_t wire)
-{
-    struct record kept[SLOTS - 1], x, y, r;
-    unsigned count = 0;
+    struct record *records = c->records[wire];
     bool clean = false;
+    memset(records, 0, sizeof *c->records);
+    c->marks[wire] = 0;
     for (unsigned i = 0; i < SLOTS; i++) {
-        if (!load_record(c, a, i, &x))
+        const struct record *a = &c->records[p][i];
+        if (absent(a))
             continue;
-        for (unsigned j = 0; j < SLOTS; j++) {
-            if (!load_record(c, b, j, &y) || !merge(kind, &x, &y, &r))
+        for (unsigned j = p == q ? i : 0; j < (p == q ? i + 1 : SLOTS); j++) {
+            const struct record *b = &c->records[q][j];
+            struct record r;
+            uint64_t x, y;
+            if (absent(b) || !align(a, b, &x, &y, r.atom))
                 continue;
+            r.table = ((x ^ y) & makes[kind].x) ^ (x & y & makes[kind].z) ^ makes[kind].c;
+            drop_atoms(&r);
             clean = clean || even(c, &r);
-            count = keep(kept, count, &r);
+            keep(records, r);
         }
     }
-    c->facts[wire] = ALL_ABSENT | (clean ? CLEAN : 0);
-    for (unsigned i = 0; i < count; i++)
-        store_record(c, wire, i + 1, &kept[i]);
-    keep_leaf(c, wire, kept, count);
+    if (clean)
+        c->marks[wire] = CLEAN;
+    keep_leaf(c, wire);
 }
 
-/* A gate of one operand has its records, inverted or not, and its verdict. */
-static void certify_one(struct certifier *c, uint32_t kind, uint32_t a, uint32_t wire)
+/* An input or a mask bit: its leaf is all that is known of it. */
+static void certify_input(struct certifier *c, uint32_t wire, uint64_t table, uint32_t atom, bool public)
 {
-    struct record r;
-    c->facts[wire] = ALL_ABSENT | (c->facts[a] & CLEAN);
-    for (unsigned i = 0; i < SLOTS; i++) {
-        if (!load_record(c, a, i, &r))
-            continue;
-        if (kind == INV)
-            r.table = ~r.table;
-        store_record(c, wire, i, &r);
-    }
-}
-
-/* A wire whose leaf is all that is known of it. */
-static void certify_leaf(struct certifier *c, uint32_t wire, uint64_t table, uint32_t count, bool public)
-{
-    struct record leaf = {table, count, {wire, 0, 0, 0}};
-    c->facts[wire] = ALL_ABSENT | (public ? PUBLIC : 0);
-    store_record(c, wire, LEAF, &leaf);
-    if (even(c, &leaf))
-        c->facts[wire] |= CLEAN;
+    memset(c->records[wire], 0, sizeof *c->records);
+    c->records[wire][LEAF] = (struct record){table, {atom, NO_ATOM, NO_ATOM, NO_ATOM}};
+    c->marks[wire] = public ? PUBLIC : 0;
+    if (even(c, &c->records[wire][LEAF]))
+        c->marks[wire] |= CLEAN;
 }
 
 /* The lowest wire that is not shown to be clean, or the number of wires. */
 static uint32_t certify_wires(struct certifier *c, const struct header *h, const uint64_t *operands,
                               const uint64_t *results, const uint8_t *codes, uint32_t bits)
 {
-    static const uint64_t masks[4] = {0, 0xffff0000ffff0000U, 0xffffffff00000000U, 0x0000ffffffff0000U};
-    memset(c->latest, 0, c->wires * sizeof *c->latest);
+    static const uint64_t masks[4] = {0, M0, M1, M0 ^ M1};
     for (uint32_t i = 0; i < bits; i++)
-        certify_leaf(c, i, masks[codes[i]] ^ variable[0], 1, codes[i] == 0);
-    certify_leaf(c, bits, masks[1], 0, false);
-    certify_leaf(c, bits + 1, masks[2], 0, false);
-    for (uint32_t i = 0; i < h->gates; i++) {
-        uint32_t kind = high(results[i]), wire = low(results[i]);
-        if (kind == XOR || kind == AND)
-            certify_two(c, kind, low(operands[i]), high(operands[i]), wire);
-        else if (kind == INV || kind == EQW)
-            certify_one(c, kind, low(operands[i]), wire);
-        else
-            certify_leaf(c, wire, kind == EQ1 ? ONES : 0, 0, false);
-    }
+        certify_input(c, i, masks[codes[i]] ^ variable[0], 8 * i, codes[i] == 0);
+    certify_input(c, bits, M0, NO_ATOM, false);
+    certify_input(c, bits + 1, M1, NO_ATOM, false);
+    for (uint32_t i = 0; i < h->gates; i++)
+        certify_gate(c, high(results[i]), low(operands[i]), high(operands[i]), low(results[i]));
     uint32_t wire = 0;
-    while (wire < c->wires && c->facts[wire] & CLEAN)
+    while (wire < h->wires && c->marks[wire] & CLEAN)
         wire++;
     return wire;
 }
@@ -1747,7 +1678,6 @@ static int64_t certify(const struct header *h, const uint64_t *operands, const u
     if (no != 0)
         return -no;
     size_t bits = codes_len;
-    c->wires = h->wires;
     uint32_t found = certify_wires(c, h, operands, results, codes, (uint32_t)bits);
     if (found == h->wires)
         return 0;
@@ -1797,7 +1727,7 @@ int64_t baseline_certify(const uint8_t *text, size_t text_len,
 {
     const struct limits *l = &large_limits[sizes != 0];
     struct header h;
-    struct certifier c = {0, records, base, words};
+    struct certifier c = {(struct record(*)[SLOTS])records, marks};
     int64_t answer;
     if (operands_len < l->table || results_len < l->table || marks_len < l->table || words_len < l->table
         || base_len < l->table || records_len / (3 * SLOTS) < l->table)
