@@ -154,10 +154,7 @@ fn assert_true(name: &str, netlist: &Netlist, codes: &[u8], said: &Certified, le
         }
         Certified::Unknown { wire } => {
             assert!((*wire as usize) < netlist.wires, "{name}: wire {wire}");
-            assert!(
-                lowest.map_or(true, |lowest| lowest as u64 >= *wire),
-                "{name}: a wire below {wire} leaks"
-            );
+            assert!(lowest.is_none_or(|lowest| lowest as u64 >= *wire), "{name}: a wire below {wire} leaks");
             2
         }
     }
@@ -411,7 +408,7 @@ fn further_circuits() {
 #[test]
 fn many_bits() {
     let count = setting("FIDROVELJ_CALLS", 200_000) / 200;
-    let tables = &mut Tables::whole();
+    let tables = &mut Tables::new();
     let sources: Vec<Netlist> = circuits::all()
         .into_iter()
         .filter_map(|circuit| read(&LARGE, &circuit.text).ok())
