@@ -1441,14 +1441,6 @@ struct certifier {
 static const uint64_t variable[MOST_ATOMS] = {0xf0f0f0f0f0f0f0f0U, 0xff00ff00ff00ff00U, 0xffff0000ffff0000U,
                                               0xffffffff00000000U};
 
-/* A table with the variables i and j, i the lower one, exchanged. */
-ALWAYS uint64_t exchanged(uint64_t table, unsigned i, unsigned j)
-{
-    unsigned distance = (4U << j) - (4U << i);
-    uint64_t moved = variable[i] & ~variable[j];
-    return (table & ~(moved | moved << distance)) | (table & moved) << distance | (table >> distance & moved);
-}
-
 ALWAYS bool depends(uint64_t table, unsigned j) { return ((table >> (4U << j) ^ table) & ~variable[j]) != 0; }
 
 ALWAYS bool absent(const struct record *r) { return r->atom[0] == 0 && r->atom[1] == 0; }
@@ -1458,51 +1450,55 @@ ALWAYS unsigned atom_count(const struct record *r)
     return (r->atom[0] != NO_ATOM) + (r->atom[1] != NO_ATOM) + (r->atom[2] != NO_ATOM) + (r->atom[3] != NO_ATOM);
 }
 
-/* Both tables over the atoms of both; false where these are more than four. */
-ALWAYS bool align(const struct record *a, const struct record *b, uint64_t *x, uint64_t *y, uint32_t *atom)
+/* A record with the atoms of two neighbouring places exchanged. */
+ALWAYS struct record exchanged(struct record r, unsigned place)
 {
-    unsigned i = 0, j = 0, count = 0, i_place[MOST_ATOMS], j_place[MOST_ATOMS];
-    for (;;) {
-        uint32_t left = i < MOST_ATOMS ? a->atom[i] : NO_ATOM, right = j < MOST_ATOMS ? b->atom[j] : NO_ATOM;
-        uint32_t next = left < right ? left : right;
-        if (next == NO_ATOM)
-            break;
-        if (count == MOST_ATOMS)
+    unsigned distance = 4U << place;
+    uint64_t moved = (r.table >> distance ^ r.table) & ~variable[place + 1] & variable[place];
+    uint32_t atom = r.atom[place];
+    r.table ^= moved ^ moved << distance;
+    r.atom[place] = r.atom[place + 1];
+    r.atom[place + 1] = atom;
+    return r;
+}
+
+/* The atoms from a place on move up, and the last one, which is none where two records fit together, comes there. */
+ALWAYS struct record with_room(struct record r, unsigned place)
+{
+    for (unsigned i = MOST_ATOMS - 1; i > place; i--)
+        r = exchanged(r, i - 1);
+    return r;
+}
+
+/* What a gate of a kind makes of two records, equal atoms brought to equal places; false where both have more than four. */
+ALWAYS bool merge(uint32_t kind, struct record a, struct record b, struct record *r)
+{
+    for (unsigned place = 0; place + 1 < MOST_ATOMS; place++) {
+        if (a.atom[place] < b.atom[place])
+            b = with_room(b, place);
+        else if (b.atom[place] < a.atom[place])
+            a = with_room(a, place);
+    }
+    for (unsigned i = 0; i < MOST_ATOMS; i++) {
+        if (a.atom[i] != b.atom[i] && a.atom[i] != NO_ATOM && b.atom[i] != NO_ATOM)
             return false;
-        atom[count] = next;
-        if (left == next)
-            i_place[i++] = count;
-        if (right == next)
-            j_place[j++] = count;
-        count++;
+        r->atom[i] = a.atom[i] < b.atom[i] ? a.atom[i] : b.atom[i];
     }
-    for (; count < MOST_ATOMS; count++)
-        atom[count] = NO_ATOM;
-    *x = a->table;
-    *y = b->table;
-    while (i-- > 0) {
-        if (i_place[i] != i)
-            *x = exchanged(*x, i, i_place[i]);
-    }
-    while (j-- > 0) {
-        if (j_place[j] != j)
-            *y = exchanged(*y, j, j_place[j]);
-    }
+    r->table = ((a.table ^ b.table) & makes[kind].x) ^ (a.table & b.table & makes[kind].z) ^ makes[kind].c;
     return true;
 }
 
 /* Without the atoms that the table does not depend on. */
-ALWAYS void drop_atoms(struct record *r)
+ALWAYS struct record reduced(struct record r)
 {
-    for (unsigned j = MOST_ATOMS; j-- > 0;) {
-        if (r->atom[j] == NO_ATOM || depends(r->table, j))
+    for (unsigned place = MOST_ATOMS; place-- > 0;) {
+        if (r.atom[place] == NO_ATOM || depends(r.table, place))
             continue;
-        for (unsigned k = j; k + 1 < MOST_ATOMS; k++) {
-            r->atom[k] = r->atom[k + 1];
-            r->table = exchanged(r->table, k, k + 1);
-        }
-        r->atom[MOST_ATOMS - 1] = NO_ATOM;
+        for (unsigned i = place; i + 1 < MOST_ATOMS; i++)
+            r = exchanged(r, i);
+        r.atom[MOST_ATOMS - 1] = NO_ATOM;
     }
+    return r;
 }
 
 ALWAYS bool public_atom(const struct certifier *c, uint32_t atom) { return c->marks[atom / 8] & PUBLIC; }
@@ -1582,11 +1578,9 @@ static void certify_gate(struct certifier *c, uint32_t kind, uint32_t p, uint32_
         for (unsigned j = p == q ? i : 0; j < (p == q ? i + 1 : SLOTS); j++) {
             const struct record *b = &c->records[q][j];
             struct record r;
-            uint64_t x, y;
-            if (absent(b) || !align(a, b, &x, &y, r.atom))
+            if (absent(b) || !merge(kind, *a, *b, &r))
                 continue;
-            r.table = ((x ^ y) & makes[kind].x) ^ (x & y & makes[kind].z) ^ makes[kind].c;
-            drop_atoms(&r);
+            r = reduced(r);
             clean = clean || even(c, &r);
             keep(records, r);
         }
