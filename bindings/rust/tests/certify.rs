@@ -13,7 +13,7 @@ mod reference;
 
 use calls::random::Random;
 use calls::{circuits, netlists, plan, Service};
-use fidrovelj::{certify, certify_lent, check, mask, Certified, Refused, Tables};
+use fidrovelj::{certify, certify_lent, check, join, mask, Certified, Refused, Tables};
 use reference::ask;
 use reference::evaluate::{masked_inputs, wires, MASKS};
 use reference::netlist::{read, Gate, Netlist, Sizes, LARGE, WHOLE_LARGE, WHOLE_SMALL};
@@ -380,6 +380,30 @@ fn masked_ciphers() {
             assert_eq!(certify(&masked.text, &codes, tables), Ok(Certified::Clean), "{}", cipher.name);
         }
     }
+}
+
+/// Two masked blocks, joined: clean, and a leak where the second was masked for other codes than the first puts out.
+#[test]
+fn joined_blocks() {
+    let tables = &mut Tables::new();
+    let text = circuits::circuit("aes_sub_bytes").text;
+    let random = &mut Random::new(4);
+    let codes = random.list(128, 0, 3);
+    let first = mask(&text, &codes, &[0; 128], tables).expect("it can be masked");
+    let second = mask(&text, &first.codes, &[0; 128], tables).expect("it can be masked");
+    let joined =
+        join(&first.text, &second.text, &codes, &first.codes, &first.codes, tables).expect("they join");
+    assert_eq!(certify(&joined, &codes, tables), Ok(Certified::Clean));
+
+    let mut others = first.codes.clone();
+    others[5] = others[5] % 3 + 1;
+    let second = mask(&text, &others, &[0; 128], tables).expect("it can be masked");
+    let joined =
+        join(&first.text, &second.text, &codes, &first.codes, &first.codes, tables).expect("they join");
+    let said = certify(&joined, &codes, tables).expect("it is good");
+    assert!(matches!(said, Certified::Leak { .. }), "{said:?}");
+    let netlist = read(&LARGE, &joined).expect("it is good");
+    assert_true("joined", &netlist, &codes, &said, &[]);
 }
 
 /// Further circuits, if a folder is named.
