@@ -1677,12 +1677,15 @@ static int64_t certify(const struct header *h, const uint64_t *operands, const u
         return 0;
 
     uint64_t state = 0;
+    uint32_t lowest = found;
     unsigned place = 0;
     for (int pass = 0; pass < PASSES && place == 0; pass++) {
         load_drawn(words, codes, bits, &state);
         evaluate(words, h->gates, operands, results);
-        place = other_count(words[found]);
+        for (found = lowest; found < h->wires && place == 0; found++)
+            place = other_count(words[found]);
     }
+    found = place == 0 ? lowest : found - 1;
     if (place == 0) {
         if (leak_len < 1)
             return -14;
