@@ -5,8 +5,9 @@
 //! - [`mask`] turns a source netlist into a masked one, in which every bit travels under a mask,
 //! - [`twins`] says where each source wire stands in the masked netlist,
 //! - [`check`] says whether a netlist is clean, or names a leak on one of its wires; [`check_pairs`] also
-//!   whether listed pairs of wires leak together; [`certify`] takes any number of inputs,
+//!   whether listed pairs of wires leak together,
 //! - [`run`] evaluates a netlist, [`run64`] on sixty-four settings at once,
+//! - [`certify`] says whether a netlist of any number of inputs is clean, a whole cipher too, where it can,
 //! - [`rewrite`] gives a netlist in its written form; [`from_old`] and [`to_old`] convert from and to the older
 //!   Bristol dialect,
 //! - [`join`] makes one netlist of two masked blocks.

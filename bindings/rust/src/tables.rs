@@ -57,22 +57,24 @@ pub struct Tables {
     pub(crate) words: Vec<u64>,
     pub(crate) base: Vec<u64>,
     pub(crate) bases: Vec<u64>,
-    pub(crate) records: Vec<u64>,
     pub(crate) wires: Vec<u32>,
     pub(crate) links: Vec<u64>,
     pub(crate) states: Vec<u32>,
     pub(crate) name_wires: Vec<u32>,
     pub(crate) text: Vec<u8>,
     pub(crate) bits: Vec<u8>,
+    pub(crate) records: Vec<u64>,
 }
 
 impl Tables {
-    /// Tables for the old limits: about 4 million bytes.
+    /// Tables for the old limits: about 1.7 million bytes.
+    /// The records of [`certify`](crate::certify) take 2.2 million more.
     pub fn new() -> Tables {
         Tables::of(Sizes::Old)
     }
 
-    /// Tables for whole ciphers: about 190 million bytes, of which 108 million serve [`certify`](crate::certify) alone.
+    /// Tables for whole ciphers: about 80 million bytes.
+    /// The records of [`certify`](crate::certify) take 108 million more.
     ///
     /// ```
     /// use fidrovelj::{rewrite, Refused, Tables};
@@ -95,13 +97,13 @@ impl Tables {
             words: vec![0; large],
             base: vec![0; large],
             bases: vec![0; large],
-            records: vec![0; sizes.records()],
             wires: vec![0; small],
             links: vec![0; 8 * small],
             states: vec![0; 8 * small],
             name_wires: vec![0; 8 * small],
             text: vec![0; sizes.text()],
             bits: vec![0; large],
+            records: vec![0; sizes.records()],
         }
     }
 }
