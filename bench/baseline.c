@@ -1618,34 +1618,26 @@ static uint32_t certify_wires(struct certifier *c, const struct header *h, const
 }
 
 /* A witness is looked for in so many passes of sixteen settings, the first of them without secrets. */
-#define PASSES 256
+#define PASSES 64
 
-static inline uint64_t drawn(uint64_t *state)
+/* The next number of a fixed generator. */
+static inline uint64_t drawn(uint64_t number)
 {
-    *state += 0x9e3779b97f4a7c15U;
-    uint64_t z = *state;
-    z = (z ^ z >> 30) * 0xbf58476d1ce4e5b9U;
-    z = (z ^ z >> 27) * 0x94d049bb133111ebU;
-    return z ^ z >> 31;
-}
-
-/* Four lanes for each of sixteen bits. */
-static inline uint64_t spread(uint64_t bits16)
-{
-    uint64_t x = (bits16 | bits16 << 24) & 0x000000ff000000ffU;
-    x = (x | x << 12) & 0x000f000f000f000fU;
-    x = (x | x << 6) & 0x0303030303030303U;
-    x = (x | x << 3) & 0x1111111111111111U;
-    return x * 15;
+    number ^= number << 13;
+    number ^= number >> 7;
+    return number ^ number << 17;
 }
 
 /* The input wires in sixteen settings: public bits are the same in all of them, secrets are zero in the first. */
-static void load_drawn(uint64_t *words, const uint8_t *codes, size_t bits, uint64_t *state)
+static void load_drawn(uint64_t *words, const uint8_t *codes, size_t bits, uint64_t *noise)
 {
     static const uint64_t masks[4] = {0, M0, M1, M0 ^ M1};
     for (size_t i = 0; i < bits; i++) {
-        uint64_t setting = drawn(state) & 0xffff;
-        words[i] = codes[i] == 0 ? (setting & 1 ? ONES : 0) : spread(setting & 0xfffe) ^ masks[codes[i]];
+        *noise = drawn(*noise);
+        if (codes[i] == 0)
+            words[i] = *noise >> 32 & 1 ? ONES : 0;
+        else
+            words[i] = (*noise >> 2 & 0x1111111111111110U) * 15 ^ masks[codes[i]];
     }
     words[bits] = M0;
     words[bits + 1] = M1;
@@ -1676,11 +1668,11 @@ static int64_t certify(const struct header *h, const uint64_t *operands, const u
     if (found == h->wires)
         return 0;
 
-    uint64_t state = 0;
+    uint64_t noise = 0x9e3779b97f4a7c15U;
     uint32_t lowest = found;
     unsigned place = 0;
     for (int pass = 0; pass < PASSES && place == 0; pass++) {
-        load_drawn(words, codes, bits, &state);
+        load_drawn(words, codes, bits, &noise);
         evaluate(words, h->gates, operands, results);
         for (found = lowest; found < h->wires && place == 0; found++)
             place = other_count(words[found]);
