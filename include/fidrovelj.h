@@ -5,9 +5,8 @@
  *
  * What holds of every function
  *
- * - It returns 0 or more for a result, or less than 0 for a refusal: minus the question's number,
- *   -1 to -15, -19 or -20 for an AIGER file, or -21 for a list of pairs, -22 for a budget of 0, or -25 for
- *   blocks that do not join.
+ * - It returns 0 or more for a result, or less than 0 for a refusal: minus the question's number. Only
+ *   the steps of a session answer with a struct, which has the number of the refusing question, or 0.
  * - A slice is a pointer and then its length, counted in entries. The pointer is not null, also
  *   where the length is 0. Slices that the function writes overlap no other.
  * - The last parameter chooses the limits: FIDROVELJ_OLD, or FIDROVELJ_WHOLE for whole ciphers. Any
@@ -36,16 +35,20 @@
  *  7  Has each gate line one of the five forms?                            (7 to 9 line by line)
  *  8  Is each operand an input or the result of an earlier line (of EQ: 0 or 1)?
  *  9  Is each result a wire that is no input and is not yet given?
- * 10  Check, Join: are there two or more input values, the last of width 2?
- * 11  Has the input list one entry for each input bit (Check, Join: without the mask pair), each 0 to 3
- *     (Run: 0 or 1; Run64: any word; Mask with fewer changes: 0 to 4)?
- * 12  Check: are there at most 12 input bits besides the mask pair?
+ * 10  Check, Certify, Join: are there two or more input values, the last of width 2?
+ * 11  Has the input list one entry for each input bit (Check, Certify, Join: without the mask pair), each
+ *     0 to 3 (Run: 0 or 1; Run64: any word; Mask with fewer changes: 0 to 4)?
+ * 12  Check: are there at most 12 input bits besides the mask pair? With many inputs, after 21: do at most
+ *     12 of them reach each wire and each listed pair? (Certify: not put.)
  * 13  Mask: has the wanted list one entry for each output bit, each 0 to 3?
  * 14  Can each result buffer hold its whole result?
  * 15  To the older dialect, after 9 and before 14: are the gates XOR, AND and INV, and are there at
  *     most two input values and one output value?
  * 21  Check with pairs, after 12: is the list's length even and each entry a wire of the netlist?
  * 22  Mask with fewer changes, after 13: is the budget 1 or more?
+ *
+ * 16 to 18 are put to equations, 19 and 20 to AIGER files, 23 and 24 to the steps of a session, 25 to
+ * blocks that are joined: they stand with those functions.
  */
 #ifndef FIDROVELJ_H
 #define FIDROVELJ_H

@@ -73,14 +73,14 @@ fn lay(records: &mut [u64], marks: &mut [u8], i: usize, code: u8)
     }
 }
 
-// Input wire i; a public one is marked so.
+// Input wire i; a public one is marked so last, since its leaf alone would mark it clean and no more.
 fn input(records: &mut [u64], marks: &mut [u8], i: usize, code: u8)
     requires { ⌜ (15 * i + 15 ≤ length (now records)) × (i < length (now marks)) ⌝ }
     ensures { λ _. ⌜ InputStep i code (now (records .entry)) (now (marks .entry)) (now (records .exit)) (now (marks .exit)) ⌝ }
 {
     if code == 0 {
-        gate::mark(marks, i, 3);
         lay(records, marks, i, code);
+        gate::mark(marks, i, 3);
         return;
     }
     lay(records, marks, i, code);

@@ -10,11 +10,11 @@ use Rattle.certify_pass.proofs.inputs.input.Lts as lts
 use Rattle.certify_pass.proofs.gate.mark.Reads as mark-reads
 use Rattle.certify_pass.proofs.inputs.lay.Reads as lay-reads
 
-mark-requires : tie.Need-mark-requires
-mark-requires c κs = search needs
-
 lay-requires : tie.Need-lay-requires
 lay-requires c κs = search needs
+
+mark-requires : tie.Need-mark-requires
+mark-requires c κs = search needs
 
 same-length : tie.Need-same-length
 same-length c = search needs
@@ -22,8 +22,17 @@ same-length c = search needs
 same-length-2 : tie.Need-same-length-2
 same-length-2 c = search needs
 
+-- the leaf first: the mark of a public wire stays behind it
 returns : tie.Need-returns
-returns c = record { holds = λ N codes M h e H. c .before .before .before .before .lay .ensures .holds N codes M h e (record { known = H .known; marked = c .before .before .before .before .before .before .before .before .before .mark .ensures .1 refl N codes (input-open M _ h (e ∙ c .before .before .before .before .before .before .before .before .before .before .before .if1 .taken)) (H .marked) }) }
+returns c = record {
+  holds = λ N codes M h e H.
+      let at-mark = c .before .before in
+      let laid = at-mark .before .before .before .before .before .before .lay .ensures .holds N codes M h e H in
+      record {
+        known = laid .known;
+        marked = at-mark .mark .ensures .1 refl N codes (input-open M _ h (e ∙ at-mark .before .before .before .before .before .before .before .before .before .if1 .taken)) (laid .marked);
+      };
+}
 
 lay-requires-2 : tie.Need-lay-requires-2
 lay-requires-2 c κs = search needs
@@ -41,8 +50,8 @@ pub input-spec : {M : Type 1} → statement M
 input-spec =
     tie.close
     (tie.spec
-    mark-requires
     lay-requires
+    mark-requires
     same-length
     same-length-2
     returns
