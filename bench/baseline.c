@@ -2104,6 +2104,325 @@ int64_t baseline_join(const uint8_t *first, size_t first_len,
     return answer;
 }
 
+/* ---- Certify */
+
+/* What is known of a wire: a table over at most four atoms and the two mask bits. Bit 4 s + m of the table is the wire's bit at mask
+ * setting m, m0 its lowest bit, where atom j has bit j of s. Atom 8 w + 2 m + p is the bit of wire w at mask setting m, XOR p, which
+ * depends on the input setting alone. Atoms rise, and NO_ATOM fills up. */
+enum { MOST_ATOMS = 4, LEAF = 0, SLOTS = 5 };
+#define NO_ATOM UINT32_MAX
+
+struct record {
+    uint64_t table;
+    uint32_t atom[MOST_ATOMS];
+};
+
+/* A wire has five records, three words each, of which the first is its leaf, of at most one atom; zeros are no record. Its marks say
+ * whether it is clean and whether its atom is public. */
+enum { CLEAN = 1, PUBLIC = 2 };
+
+struct certifier {
+    struct record (*records)[SLOTS];
+    uint8_t *marks;
+};
+
+/* The places in a table whose s has bit j. */
+static const uint64_t variable[MOST_ATOMS] = {0xf0f0f0f0f0f0f0f0U, 0xff00ff00ff00ff00U, 0xffff0000ffff0000U,
+                                              0xffffffff00000000U};
+
+ALWAYS bool depends(uint64_t table, unsigned j) { return ((table >> (4U << j) ^ table) & ~variable[j]) != 0; }
+
+ALWAYS bool absent(const struct record *r) { return r->atom[0] == 0 && r->atom[1] == 0; }
+
+ALWAYS unsigned atom_count(const struct record *r)
+{
+    return (r->atom[0] != NO_ATOM) + (r->atom[1] != NO_ATOM) + (r->atom[2] != NO_ATOM) + (r->atom[3] != NO_ATOM);
+}
+
+/* A record with the atoms of two neighbouring places exchanged. */
+ALWAYS struct record exchanged(struct record r, unsigned place)
+{
+    unsigned distance = 4U << place;
+    uint64_t moved = (r.table >> distance ^ r.table) & ~variable[place + 1] & variable[place];
+    uint32_t atom = r.atom[place];
+    r.table ^= moved ^ moved << distance;
+    r.atom[place] = r.atom[place + 1];
+    r.atom[place + 1] = atom;
+    return r;
+}
+
+/* The atoms from a place on move up, and the last one, which is none where two records fit together, comes there. */
+ALWAYS struct record with_room(struct record r, unsigned place)
+{
+    for (unsigned i = MOST_ATOMS - 1; i > place; i--)
+        r = exchanged(r, i - 1);
+    return r;
+}
+
+/* What a gate of a kind makes of two records, equal atoms brought to equal places; false where both have more than four. */
+ALWAYS bool merge(uint32_t kind, struct record a, struct record b, struct record *r)
+{
+    for (unsigned place = 0; place + 1 < MOST_ATOMS; place++) {
+        if (a.atom[place] < b.atom[place])
+            b = with_room(b, place);
+        else if (b.atom[place] < a.atom[place])
+            a = with_room(a, place);
+    }
+    for (unsigned i = 0; i < MOST_ATOMS; i++) {
+        if (a.atom[i] != b.atom[i] && a.atom[i] != NO_ATOM && b.atom[i] != NO_ATOM)
+            return false;
+        r->atom[i] = a.atom[i] < b.atom[i] ? a.atom[i] : b.atom[i];
+    }
+    r->table = ((a.table ^ b.table) & makes[kind].x) ^ (a.table & b.table & makes[kind].z) ^ makes[kind].c;
+    return true;
+}
+
+/* Without the atoms that the table does not depend on. */
+ALWAYS struct record reduced(struct record r)
+{
+    for (unsigned place = MOST_ATOMS; place-- > 0;) {
+        if (r.atom[place] == NO_ATOM || depends(r.table, place))
+            continue;
+        for (unsigned i = place; i + 1 < MOST_ATOMS; i++)
+            r = exchanged(r, i);
+        r.atom[MOST_ATOMS - 1] = NO_ATOM;
+    }
+    return r;
+}
+
+ALWAYS bool public_atom(const struct certifier *c, uint32_t atom) { return c->marks[atom / 8] & PUBLIC; }
+
+/* Whether the counts of ones over the four mask settings are the same for all values of the atoms that are not public. */
+ALWAYS bool even(const struct certifier *c, const struct record *r)
+{
+    uint64_t each = counts(r->table);
+    for (unsigned j = 0; j < MOST_ATOMS && r->atom[j] != NO_ATOM; j++) {
+        if (depends(each, j) && !public_atom(c, r->atom[j]))
+            return false;
+    }
+    return true;
+}
+
+/* Keeps a record among the four behind the leaf, fewer atoms first; one with the atoms of another is not kept. */
+ALWAYS void keep(struct record *records, struct record r)
+{
+    unsigned count = atom_count(&r);
+    for (unsigned slot = 1; slot < SLOTS; slot++) {
+        struct record *other = &records[slot];
+        if (absent(other)) {
+            *other = r;
+            return;
+        }
+        if (memcmp(other->atom, r.atom, sizeof r.atom) == 0)
+            return;
+        unsigned other_count = atom_count(other);
+        if (other_count > count) {
+            struct record carried = *other;
+            *other = r;
+            r = carried;
+            count = other_count;
+        }
+    }
+}
+
+/* The leaf: the first record of at most one atom, or that shows two values of the four mask settings' bits, which the wire's own atom
+ * then tells apart. */
+static void keep_leaf(struct certifier *c, uint32_t wire)
+{
+    struct record *records = c->records[wire];
+    for (unsigned slot = 1; slot < SLOTS && !absent(&records[slot]); slot++) {
+        const struct record *r = &records[slot];
+        if (atom_count(r) <= 1) {
+            records[LEAF] = *r;
+            return;
+        }
+        uint64_t first = r->table & 15, change = r->table ^ first * 0x1111111111111111U;
+        unsigned place = (unsigned)__builtin_ctzll(change), m = place % 4;
+        uint64_t difference = change >> place / 4 * 4 & 15, chosen = (change >> m & 0x1111111111111111U) * 15;
+        if (change != (chosen & difference * 0x1111111111111111U))
+            continue;
+        uint32_t atom = 8 * wire + 2 * m + (uint32_t)(first >> m & 1);
+        records[LEAF] = (struct record){first * 0x1111111111111111U ^ (variable[0] & difference * 0x1111111111111111U),
+                                        {atom, NO_ATOM, NO_ATOM, NO_ATOM}};
+        bool public = true;
+        for (unsigned j = 0; j < MOST_ATOMS && r->atom[j] != NO_ATOM; j++)
+            public = public && public_atom(c, r->atom[j]);
+        if (public)
+            c->marks[wire] |= PUBLIC;
+        return;
+    }
+}
+
+/* A gate: each record of one operand with each of the other, or of one wire with itself. */
+static void certify_gate(struct certifier *c, uint32_t kind, uint32_t p, uint32_t q, uint32_t wire)
+{
+    struct record *records = c->records[wire];
+    bool clean = false;
+    memset(records, 0, sizeof *c->records);
+    c->marks[wire] = 0;
+    for (unsigned i = 0; i < SLOTS; i++) {
+        const struct record *a = &c->records[p][i];
+        if (absent(a))
+            continue;
+        for (unsigned j = p == q ? i : 0; j < (p == q ? i + 1 : SLOTS); j++) {
+            const struct record *b = &c->records[q][j];
+            struct record r;
+            if (absent(b) || !merge(kind, *a, *b, &r))
+                continue;
+            r = reduced(r);
+            clean = clean || even(c, &r);
+            keep(records, r);
+        }
+    }
+    if (clean)
+        c->marks[wire] = CLEAN;
+    keep_leaf(c, wire);
+}
+
+/* An input or a mask bit: its leaf is all that is known of it. */
+static void certify_input(struct certifier *c, uint32_t wire, uint64_t table, uint32_t atom, bool public)
+{
+    memset(c->records[wire], 0, sizeof *c->records);
+    c->records[wire][LEAF] = (struct record){table, {atom, NO_ATOM, NO_ATOM, NO_ATOM}};
+    c->marks[wire] = public ? PUBLIC : 0;
+    if (even(c, &c->records[wire][LEAF]))
+        c->marks[wire] |= CLEAN;
+}
+
+/* The lowest wire that is not shown to be clean, or the number of wires. */
+static uint32_t certify_wires(struct certifier *c, const struct header *h, const uint64_t *operands,
+                              const uint64_t *results, const uint8_t *codes, uint32_t bits)
+{
+    static const uint64_t masks[4] = {0, M0, M1, M0 ^ M1};
+    for (uint32_t i = 0; i < bits; i++)
+        certify_input(c, i, masks[codes[i]] ^ variable[0], 8 * i, codes[i] == 0);
+    certify_input(c, bits, M0, NO_ATOM, false);
+    certify_input(c, bits + 1, M1, NO_ATOM, false);
+    for (uint32_t i = 0; i < h->gates; i++)
+        certify_gate(c, high(results[i]), low(operands[i]), high(operands[i]), low(results[i]));
+    uint32_t wire = 0;
+    while (wire < h->wires && c->marks[wire] & CLEAN)
+        wire++;
+    return wire;
+}
+
+/* A witness is looked for in so many passes of sixteen settings, the first of them without secrets. */
+#define PASSES 64
+
+/* The next number of a fixed generator. */
+static inline uint64_t drawn(uint64_t number)
+{
+    number ^= number << 13;
+    number ^= number >> 7;
+    return number ^ number << 17;
+}
+
+/* The input wires in sixteen settings: public bits are the same in all of them, secrets are zero in the first. */
+static void load_drawn(uint64_t *words, const uint8_t *codes, size_t bits, uint64_t *noise)
+{
+    static const uint64_t masks[4] = {0, M0, M1, M0 ^ M1};
+    for (size_t i = 0; i < bits; i++) {
+        *noise = drawn(*noise);
+        if (codes[i] == 0)
+            words[i] = *noise >> 32 & 1 ? ONES : 0;
+        else
+            words[i] = (*noise >> 2 & 0x1111111111111110U) * 15 ^ masks[codes[i]];
+    }
+    words[bits] = M0;
+    words[bits + 1] = M1;
+}
+
+/* The place of a setting whose count is not the first one's, or 0. */
+static inline unsigned other_count(uint64_t word)
+{
+    uint64_t each = counts(word), difference = each ^ (each & 15) * 0x1111111111111111U;
+    unsigned place = 0;
+    if (difference == 0)
+        return 0;
+    while ((difference >> 4 * place & 15) == 0)
+        place++;
+    return place;
+}
+
+/* Questions 10 and 11 are Check's; 12 is not put. */
+static int64_t certify(const struct header *h, const uint64_t *operands, const uint64_t *results, uint64_t *words,
+                       struct certifier *c, const uint8_t *codes, size_t codes_len, uint64_t *leak, size_t leak_len,
+                       uint64_t *ones, size_t ones_len)
+{
+    int no = ask_block(h, codes, codes_len);
+    if (no != 0)
+        return -no;
+    size_t bits = codes_len;
+    uint32_t found = certify_wires(c, h, operands, results, codes, (uint32_t)bits);
+    if (found == h->wires)
+        return 0;
+
+    uint64_t noise = 0x9e3779b97f4a7c15U;
+    uint32_t lowest = found;
+    unsigned place = 0;
+    for (int pass = 0; pass < PASSES && place == 0; pass++) {
+        load_drawn(words, codes, bits, &noise);
+        evaluate(words, h->gates, operands, results);
+        for (found = lowest; found < h->wires && place == 0; found++)
+            place = other_count(words[found]);
+    }
+    found = place == 0 ? lowest : found - 1;
+    if (place == 0) {
+        if (leak_len < 1)
+            return -14;
+        leak[0] = found;
+        return 2;
+    }
+    static const uint64_t masks[4] = {0, M0, M1, M0 ^ M1};
+    size_t count = 0;
+    for (size_t i = 0; i < bits; i++)
+        count += (words[i] ^ masks[codes[i]]) >> 4 * place & 1;
+    if (leak_len < 4 || ones_len < count)
+        return -14;
+    leak[0] = found;
+    leak[1] = count;
+    leak[2] = counts(words[found]) & 15;
+    leak[3] = counts(words[found]) >> 4 * place & 15;
+    count = 0;
+    for (size_t i = 0; i < bits; i++) {
+        if ((words[i] ^ masks[codes[i]]) >> 4 * place & 1)
+            ones[count++] = i;
+    }
+    return 1;
+}
+
+int64_t baseline_certify(const uint8_t *text, size_t text_len,
+                         const uint8_t *codes, size_t codes_len,
+                         uint64_t *leak, size_t leak_len,
+                         uint64_t *ones, size_t ones_len,
+                         uint64_t *operands, size_t operands_len,
+                         uint64_t *results, size_t results_len,
+                         uint8_t *marks, size_t marks_len,
+                         uint64_t *words, size_t words_len,
+                         uint64_t *base, size_t base_len,
+                         uint64_t *records, size_t records_len,
+                         uint8_t sizes)
+{
+    const struct limits *l = &large_limits[sizes != 0];
+    struct header h;
+    struct certifier c = {(struct record(*)[SLOTS])records, marks};
+    int64_t answer;
+    if (operands_len < l->table || results_len < l->table || marks_len < l->table || words_len < l->table
+        || base_len < l->table || records_len / (3 * SLOTS) < l->table)
+        answer = -1;
+    else
+        answer = -read_netlist(l, text, text_len, &h, operands, results, marks);
+    if (answer == 0)
+        answer = certify(&h, operands, results, words, &c, codes, codes_len, leak, leak_len, ones, ones_len);
+    memset(operands, 0, operands_len * sizeof *operands);
+    memset(results, 0, results_len * sizeof *results);
+    memset(marks, 0, marks_len);
+    memset(words, 0, words_len * sizeof *words);
+    memset(base, 0, base_len * sizeof *base);
+    memset(records, 0, records_len * sizeof *records);
+    return answer;
+}
+
 /* ---- Verilog */
 
 enum word { THE_END, MODULE, INPUT, OUTPUT, WIRE, ASSIGN, ENDMODULE, NAME, NO_WORD };

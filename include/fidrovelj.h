@@ -5,9 +5,8 @@
  *
  * What holds of every function
  *
- * - It returns 0 or more for a result, or less than 0 for a refusal: minus the question's number,
- *   -1 to -15, -19 or -20 for an AIGER file, or -21 for a list of pairs, -22 for a budget of 0, or -25 for
- *   blocks that do not join.
+ * - It returns 0 or more for a result, or less than 0 for a refusal: minus the question's number. Only
+ *   the steps of a session answer with a struct, which has the number of the refusing question, or 0.
  * - A slice is a pointer and then its length, counted in entries. The pointer is not null, also
  *   where the length is 0. Slices that the function writes overlap no other.
  * - The last parameter chooses the limits: FIDROVELJ_OLD, or FIDROVELJ_WHOLE for whole ciphers. Any
@@ -36,16 +35,20 @@
  *  7  Has each gate line one of the five forms?                            (7 to 9 line by line)
  *  8  Is each operand an input or the result of an earlier line (of EQ: 0 or 1)?
  *  9  Is each result a wire that is no input and is not yet given?
- * 10  Check, Join: are there two or more input values, the last of width 2?
- * 11  Has the input list one entry for each input bit (Check, Join: without the mask pair), each 0 to 3
- *     (Run: 0 or 1; Run64: any word; Mask with fewer changes: 0 to 4)?
- * 12  Check: are there at most 12 input bits besides the mask pair?
+ * 10  Check, Certify, Join: are there two or more input values, the last of width 2?
+ * 11  Has the input list one entry for each input bit (Check, Certify, Join: without the mask pair), each
+ *     0 to 3 (Run: 0 or 1; Run64: any word; Mask with fewer changes: 0 to 4)?
+ * 12  Check: are there at most 12 input bits besides the mask pair? With many inputs, after 21: do at most
+ *     12 of them reach each wire and each listed pair? (Certify: not put.)
  * 13  Mask: has the wanted list one entry for each output bit, each 0 to 3?
  * 14  Can each result buffer hold its whole result?
  * 15  To the older dialect, after 9 and before 14: are the gates XOR, AND and INV, and are there at
  *     most two input values and one output value?
  * 21  Check with pairs, after 12: is the list's length even and each entry a wire of the netlist?
  * 22  Mask with fewer changes, after 13: is the budget 1 or more?
+ *
+ * 16 to 18 are put to equations, 19 and 20 to AIGER files, 23 and 24 to the steps of a session, 25 to
+ * blocks that are joined: they stand with those functions.
  */
 #ifndef FIDROVELJ_H
 #define FIDROVELJ_H
@@ -261,6 +264,26 @@ int64_t fidrovelj_check_wide(const uint8_t *text, size_t text_len,
                              uint64_t *set3, size_t set3_len,
                              uint8_t *paints, size_t paints_len,
                              uint8_t sizes);
+
+/* Certify: says of a netlist of any number of input bits whether its wires' counts are the same for all input settings with the same
+ * public bits. Questions 1 to 11 as Check's (12 is not put), then 14. Returns 0 where every wire is clean: proved for all settings.
+ * Returns 1 for a leak, whose four numbers go to leak: its wire, how many input bits are one in its setting, the count of the
+ * setting with the same public bits and zero secrets, and its own; those input bits go to ones, rising. (The setting need not be the
+ * smallest, nor the wire the lowest that leaks.) Returns 2 where neither could be shown: the first entry of leak is the lowest wire that
+ * is not known to be clean. A list too short for what it is to be told, less than 4 entries of leak for a leak or 1 for the wire, or of
+ * ones for its input bits, is refused by 14, and then none is written. records holds fifteen entries a wire, so at least 276,465
+ * (13,499,985); the other working tables at least 18,431 entries each (899,999). */
+int64_t fidrovelj_certify(const uint8_t *text, size_t text_len,
+                          const uint8_t *codes, size_t codes_len,
+                          uint64_t *leak, size_t leak_len,
+                          uint64_t *ones, size_t ones_len,
+                          uint64_t *operands, size_t operands_len,
+                          uint64_t *results, size_t results_len,
+                          uint8_t *marks, size_t marks_len,
+                          uint64_t *words, size_t words_len,
+                          uint64_t *base, size_t base_len,
+                          uint64_t *records, size_t records_len,
+                          uint8_t sizes);
 
 /* From AIGER: reads an ASCII AIGER file (its first four bytes are "aag ") and writes the netlist made
  * of it to out, in the written form. The inputs form one value in the order of the input lines, the

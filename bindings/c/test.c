@@ -820,6 +820,55 @@ static void equations(void)
                         ROOM, NAMES) == -18, "equations: thirty-three deep is 18");
 }
 
+/* ---- certifying */
+
+static uint64_t records[15 * LARGE], certified_ones[64];
+
+/* Certify's answer, with lists of these lengths, and what it leaves in tables and lists. */
+static int64_t certify(const char *text, const char *codes, size_t leak_room, size_t ones_room)
+{
+    fill();
+    memset(records, PATTERN, sizeof records);
+    memset(certified_ones, PATTERN, sizeof certified_ones);
+    int64_t answer = fidrovelj_certify((const uint8_t *)text, strlen(text), entries(codes), strlen(codes), leak, leak_room,
+                                       certified_ones, ones_room, operands, LARGE, results, LARGE, given, LARGE, words, LARGE,
+                                       base, LARGE, records, 15 * LARGE, FIDROVELJ_OLD);
+    expect(all(operands, sizeof operands, 0) && all(results, sizeof results, 0) && all(given, sizeof given, 0)
+               && all(words, sizeof words, 0) && all(base, sizeof base, 0) && all(records, sizeof records, 0),
+           "Certify's tables are zero");
+    size_t told = answer == 1 ? 4 : answer == 2 ? 1 : 0, bits = answer == 1 ? leak[1] : 0;
+    expect(all(leak + told, (4 - told) * sizeof *leak, PATTERN), "Certify writes its numbers alone");
+    expect(all(certified_ones + bits, (64 - bits) * sizeof *certified_ones, PATTERN), "Certify writes the leak's bits alone");
+    return answer;
+}
+
+static void certifying(void)
+{
+    static const char *const open = "1 4\n2 1 2\n1 1\n2 1 0 1 3 XOR\n", *const covered = "1 4\n2 1 2\n1 1\n2 1 0 1 3 AND\n";
+    static const char *const mixed = "2 6\n2 2 2\n1 1\n2 1 0 1 4 AND\n2 1 4 2 5 XOR\n";
+    expect(certify(masked_and, "12", 4, 64) == 0, "Certify, M1's masked netlist");
+    expect(certify(masked_public, "02", 0, 0) == 0, "Certify, a public bit, and no lists");
+    expect(leak_is(certify(open, "1", 4, 1), 3, 1, 0, 4) && certified_ones[0] == 0, "Certify, M5");
+    expect(certify(open, "2", 4, 1) == 0 && certify(open, "0", 4, 1) == 0, "Certify, M6, and a public bit");
+    expect(leak_is(certify(covered, "1", 4, 1), 3, 1, 2, 0) && certified_ones[0] == 0, "Certify, M7");
+    expect(leak_is(certify(mixed, "01", 4, 2), 5, 2, 0, 4) && certified_ones[0] == 0 && certified_ones[1] == 1,
+           "Certify, a public bit mixed with a secret");
+    expect(certify("0 15\n2 13 2\n1 1\n", ones(13), 4, 64) == 0, "Certify, question 12 is not put");
+
+    expect(certify("", "", 4, 64) == -4, "Certify, question 4");
+    expect(certify("1 4\n2 1 2\n1 1\n2 1 0 1 2 XOR\n", "1", 4, 64) == -9, "Certify, question 9");
+    expect(certify("0 3\n1 3\n1 1\n", "1", 4, 64) == -10, "Certify, question 10");
+    expect(certify(open, "4", 4, 64) == -11 && certify(open, "11", 4, 64) == -11, "Certify, question 11");
+    expect(certify(open, "4", 0, 0) == -11, "Certify, 11 before 14");
+    for (size_t room = 0; room < 4; room++)
+        expect(certify(open, "1", room, 64) == -14, "Certify, a short list for the leak");
+    expect(certify(open, "1", 4, 0) == -14 && certify(mixed, "01", 4, 1) == -14, "Certify, a short list for its bits");
+    expect(fidrovelj_certify((const uint8_t *)open, strlen(open), entries("2"), 1, leak, 4, certified_ones, 64, operands, LARGE,
+                             results, LARGE, given, LARGE, words, LARGE, base, LARGE, records, 15 * LARGE - 1, FIDROVELJ_OLD)
+               == -1,
+           "Certify, a table of records that is short");
+}
+
 int main(void)
 {
     known_results();
@@ -837,6 +886,7 @@ int main(void)
     many_inputs();
     whole_limits();
     equations();
+    certifying();
     printf("C: %d checks, %d failed\n", checks, failures);
     return failures == 0 ? EXIT_SUCCESS : EXIT_FAILURE;
 }

@@ -8,6 +8,7 @@
 //! - [`check`] says whether a netlist is clean, or names a leak on one of its wires; [`check_pairs`] also
 //!   whether listed pairs of wires leak together, and [`check_wide`] both for netlists with many inputs,
 //! - [`run`] evaluates a netlist, [`run64`] on sixty-four settings at once,
+//! - [`certify`] says whether a netlist of any number of inputs is clean, a whole cipher too, where it can,
 //! - [`rewrite`] gives a netlist in its written form; [`from_old`] and [`to_old`] convert from and to the older
 //!   Bristol dialect,
 //! - [`Session`] keeps a source that grows gate by gate, and shrinks again, masked at every moment,
@@ -39,6 +40,7 @@ use std::error::Error;
 use std::fmt;
 
 mod aiger;
+mod certify;
 mod fewest;
 mod join;
 pub mod lent;
@@ -52,6 +54,7 @@ mod wide;
 mod words;
 
 pub use aiger::{from_aiger, from_aiger_lent};
+pub use certify::{certify, certify_lent, Certified};
 pub use fewest::{mask_fewest, mask_fewest_lent, Fewest};
 pub use join::{join, join_lent};
 pub use old::{from_old, from_old_lent, to_old, to_old_lent};

@@ -66,15 +66,18 @@ pub struct Tables {
     pub(crate) best: Vec<u8>,
     pub(crate) text: Vec<u8>,
     pub(crate) bits: Vec<u8>,
+    pub(crate) records: Vec<u64>,
 }
 
 impl Tables {
     /// Tables for the old limits: about 2.1 million bytes.
+    /// The records of [`certify`](crate::certify) take 2.2 million more.
     pub fn new() -> Tables {
         Tables::of(Sizes::Old)
     }
 
     /// Tables for whole ciphers: about 107 million bytes.
+    /// The records of [`certify`](crate::certify) take 108 million more.
     ///
     /// ```
     /// use fidrovelj::{rewrite, Refused, Tables};
@@ -106,6 +109,7 @@ impl Tables {
             best: vec![0; small],
             text: vec![0; sizes.text()],
             bits: vec![0; large],
+            records: vec![0; sizes.records()],
         }
     }
 }

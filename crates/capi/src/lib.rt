@@ -1,9 +1,10 @@
 // The services for programs in C and Rust: a slice comes as a pointer and a length, and the answer is one number, at
 // least 0 for a result and minus the number of the refusing question otherwise. include/fidrovelj.h declares them.
+mod certified;
 mod fewest;
 mod pairs;
-mod wide;
 mod sessions;
+mod wide;
 
 use capi_answers::number;
 use capi_answers::sizes;

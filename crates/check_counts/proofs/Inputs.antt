@@ -24,12 +24,12 @@ part-at false ps s i l =
     ∙ ap₂ (kept false) (codesOf-at ps i l) (paint-at ps s i l)
 
 module _ (m0 m1 : Bool) where
-  masked-long : (es : List ℕ) (x : List Bool) → length (masked m0 m1 es x) ≡ length es + 2
+  pub masked-long : (es : List ℕ) (x : List Bool) → length (masked m0 m1 es x) ≡ length es + 2
   masked-long [] x = refl
   masked-long (e ∷ es) [] = let p = masked-long es [] in omega arith
   masked-long (e ∷ es) (b ∷ x) = let p = masked-long es x in omega arith
 
-  masked-at : (es : List ℕ) (x : List Bool) (i : ℕ) → i < length es
+  pub masked-at : (es : List ℕ) (x : List Bool) (i : ℕ) → i < length es
       → getD (masked m0 m1 es x) i false ≡ differs (getD x i false) (maskOf m0 m1 (getD es i 0))
   masked-at [] x i l = absurd (not-suc-le-zero l)
   masked-at (e ∷ es) [] zero l = refl
@@ -37,12 +37,12 @@ module _ (m0 m1 : Bool) where
   masked-at (e ∷ es) [] (suc i) l = masked-at es [] i (le-of-suc-le-suc l)
   masked-at (e ∷ es) (b ∷ x) (suc i) l = masked-at es x i (le-of-suc-le-suc l)
 
-  masked-m0 : (es : List ℕ) (x : List Bool) → getD (masked m0 m1 es x) (length es) false ≡ m0
+  pub masked-m0 : (es : List ℕ) (x : List Bool) → getD (masked m0 m1 es x) (length es) false ≡ m0
   masked-m0 [] x = refl
   masked-m0 (e ∷ es) [] = masked-m0 es []
   masked-m0 (e ∷ es) (b ∷ x) = masked-m0 es x
 
-  masked-m1 : (es : List ℕ) (x : List Bool) → getD (masked m0 m1 es x) (suc (length es)) false ≡ m1
+  pub masked-m1 : (es : List ℕ) (x : List Bool) → getD (masked m0 m1 es x) (suc (length es)) false ≡ m1
   masked-m1 [] x = refl
   masked-m1 (e ∷ es) [] = masked-m1 es []
   masked-m1 (e ∷ es) (b ∷ x) = masked-m1 es x

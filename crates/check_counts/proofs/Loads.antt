@@ -16,7 +16,7 @@ use Rattle.check_counts.specs.Base.{kept}
 use Rattle.check_counts.specs.Block.{inputsAt}
 use Rattle.check_counts.proofs.Inputs.{inputs-long, inputs-at, inputs-m0, inputs-m1}
 
-lanes-take : (j n : ℕ) (ws : List ℕ) → lanes j (take n ws) ≡ take n (lanes j ws)
+pub lanes-take : (j n : ℕ) (ws : List ℕ) → lanes j (take n ws) ≡ take n (lanes j ws)
 lanes-take j zero ws = refl
 lanes-take j (suc n) [] = refl
 lanes-take j (suc n) (w ∷ ws) = ap (λ (l : List Bool). lane j w ∷ l) (lanes-take j n ws)

@@ -56,7 +56,7 @@ fn tally(words: &mut [u64])
 }
 
 // The counts of the first setting, for all.
-fn first(words: &[u64], base: &mut [u64])
+pub fn first(words: &[u64], base: &mut [u64])
     requires { ⌜ length (now base) ≡ length (now words) ⌝ }
     ensures { λ _. ⌜ ((w s : ℕ) → s < 16 → nibblesOf (now (base .exit)) w s ≡ onesOf (now (words .entry)) w 0) ⌝ }
 {

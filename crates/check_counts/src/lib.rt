@@ -1,5 +1,5 @@
 // The counts of all wires in one block of settings, and those that they are compared with.
 pub mod block;
-mod load;
+pub mod load;
 pub mod nibble;
 pub mod paint;

@@ -34,7 +34,7 @@ fn pattern(i: usize, block: u64) -> u64
 }
 
 // The mask of a code in a block's numbers, which is the same in every block.
-fn mask(code: u8) -> u64
+pub fn mask(code: u8) -> u64
     ensures { λ r. ⌜ ((b j : ℕ) → j < 64 → lane j r ≡ maskOf (lane 0 (b * 64 + j)) (lane 1 (b * 64 + j)) code) ⌝ }
 {
     match code {

@@ -36,7 +36,7 @@ use Rattle.pairs_judge.specs.Judge.{outcomeOf, WiresJudged, Judged}
 use Rattle.check_pairs.specs.Promise.{call}
 
 -- the shortest of three tables stands for them
-long-three : (L : Limits) (o r g w b z : ℕ) {m n : ℕ} → m ≡ min w b → n ≡ min m z
+pub long-three : (L : Limits) (o r g w b z : ℕ) {m n : ℕ} → m ≡ min w b → n ≡ min m z
     → tablesLong L (o ∷ r ∷ g ∷ n ∷ []) ≡ tablesLong L (o ∷ r ∷ g ∷ w ∷ b ∷ z ∷ [])
 long-three L o r g w b z {m} e d =
     ap (λ (n : ℕ). tablesLong L (o ∷ r ∷ g ∷ n ∷ [])) (d ∙ ap (λ (k : ℕ). min k z) e)

@@ -26,7 +26,7 @@ set-lanes j (x ∷ ws) zero w = refl
 set-lanes j (x ∷ ws) (suc c) w = ap (λ (l : List Bool). lane j x ∷ l) (set-lanes j ws c w)
 
 -- the kind picks a gate by five tests; what holds of each gate that it can pick holds of the one that it picks
-by-kind : (P : Gate → Bool → Type 0) (u : ℕ → Bool) (k a b c : ℕ)
+pub by-kind : (P : Gate → Bool → Type 0) (u : ℕ → Bool) (k a b c : ℕ)
     → ((g : Gate) → result g ≡ c → P g (made u g)) → P (gateOf k a b c) (madeOf k (u a) (u b))
 by-kind P u k a b c h = go (eqb k 1) (eqb k 2) (eqb k 3) (eqb k 4) (eqb k 5)
   where

@@ -25,7 +25,7 @@ bit-two w = go (w % 2) (omega arith)
     go (suc (suc r)) h = absurd (omega arith)
 
 -- the word of a number's lanes
-word-lanes : (k w : ℕ) → word k (λ j. lane j w) ≡ w % 2 ^ k
+pub word-lanes : (k w : ℕ) → word k (λ j. lane j w) ≡ w % 2 ^ k
 word-lanes zero w = omega arith
 word-lanes (suc k) w =
     let h = word-lanes k (w / 2) in
@@ -34,7 +34,7 @@ word-lanes (suc k) w =
     let p = pow-suc 2 k in
     rw p (omega (arith, h, b, m))
 
-word-same : (k : ℕ) (f g : ℕ → Bool) → ((j : ℕ) → j < k → f j ≡ g j) → word k f ≡ word k g
+pub word-same : (k : ℕ) (f g : ℕ → Bool) → ((j : ℕ) → j < k → f j ≡ g j) → word k f ≡ word k g
 word-same zero f g h = refl
 word-same (suc k) f g h =
     ap₂ (λ (b : Bool) (w : ℕ). bit b + 2 * w) (h 0 (omega arith)) (word-same k (λ j. f (suc j)) (λ j. g (suc j)) (λ j l. h (suc j) (omega arith)))
@@ -52,7 +52,7 @@ bit-high : (b : Bool) (w : ℕ) → (bit b + 2 * w) / 2 ≡ w
 bit-high true w = omega arith
 bit-high false w = omega arith
 
-lane-word : (k : ℕ) (f : ℕ → Bool) (j : ℕ) → j < k → lane j (word k f) ≡ f j
+pub lane-word : (k : ℕ) (f : ℕ → Bool) (j : ℕ) → j < k → lane j (word k f) ≡ f j
 lane-word zero f j h = absurd (omega arith)
 lane-word (suc k) f zero h = bit-low (f 0) (word k (λ j. f (suc j)))
 lane-word (suc k) f (suc j) h = ap (lane j) (bit-high (f 0) (word k (λ j. f (suc j)))) ∙ lane-word k (λ j. f (suc j)) j (omega arith)

@@ -44,7 +44,7 @@ fn term(kind: usize, b: u64) -> u64
 
 // What a kind makes of its operands' words. Kinds change from gate to gate, so there is no jump on
 // them: both ways of each choice are a few instructions.
-fn made(kind: usize, a: u64, b: u64) -> u64
+pub fn made(kind: usize, a: u64, b: u64) -> u64
     requires { ⌜ kind < 8 ⌝ }
     ensures { λ r. ⌜ ((j : ℕ) → j < 64 → lane j r ≡ madeOf kind (lane j a) (lane j b)) ⌝ }
 {

@@ -1,0 +1,2 @@
+-- What the certifier's contracts cite.
+pub mod Promise

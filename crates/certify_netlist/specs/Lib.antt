@@ -1,0 +1,3 @@
+-- What the contracts of the certifier's verdict cite.
+pub mod Ones
+pub mod Judge

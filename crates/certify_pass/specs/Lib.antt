@@ -1,0 +1,2 @@
+-- What the contracts of the certifier's pass cite.
+pub mod Pass

@@ -1,0 +1,138 @@
+// The records and the mark of a gate's result.
+use certify_records::Joined;
+use certify_records::Record;
+use certify_records::leaf;
+use certify_wires::keep;
+use certify_wires::marks;
+use certify_wires::store;
+use gate_table::Parts;
+ghost use mathlib.Core.Path.{_≡_};
+ghost use mathlib.Core.List.{List};
+ghost use Prim.Native.Nat.{ℕ, _+_, _*_, _/_, _<_, _≤_};
+ghost use lib.ListN.{length};
+ghost use Rattle.netlist.specs.Netlist.{Netlist};
+ghost use Rattle.netlist.specs.Leak.{EqualCounts};
+ghost use Rattle.gate_table.specs.Parts.{Within};
+ghost use Rattle.certify_wires.specs.Known.{Known, Open};
+ghost use Rattle.certify_wires.specs.Store.{Recorded, Marked};
+ghost use Rattle.certify_pass.specs.Pass.{Holding, KnownIf, GateMakes, GateStep};
+
+// A wire is marked clean, or public and so clean.
+pub fn mark(marks: &mut [u8], w: usize, value: u8)
+    requires { ⌜ w < length (now marks) ⌝ }
+    ensures { λ _. ⌜ (value ≡ 1 → (N : Netlist) (codes : List ℕ) → EqualCounts N codes w → Marked N codes (now (marks .entry))
+        → Marked N codes (now (marks .exit)))
+        × (value ≡ 3 → (N : Netlist) (codes : List ℕ) → Open N codes w → Marked N codes (now (marks .entry))
+        → Marked N codes (now (marks .exit))) ⌝ }
+{
+    marks[w] = value;
+}
+
+// The record that a pair of the operands' records gives: the n-th of twenty-five. Of a wire that is both operands, a record is
+// paired with itself only.
+fn paired(records: &[u64], gate: Parts, n: usize) -> Joined
+    requires { ⌜ Within (length (now records) / 15) gate × (n < 25) ⌝ }
+    ensures { λ r. ⌜ ((N : Netlist) (codes : List ℕ) → GateMakes N codes gate → Recorded N codes (now (records .entry))
+        → KnownIf N codes (gate .result) r) ⌝ }
+{
+    let i = n / 5;
+    let j = n % 5;
+    if gate.left == gate.right {
+        if i != j {
+            return Joined::None;
+        }
+    }
+    let x = store::get(records, 5 * gate.left + i);
+    if !store::present(x) {
+        return Joined::None;
+    }
+    let y = store::get(records, 5 * gate.right + j);
+    if !store::present(y) {
+        return Joined::None;
+    }
+    certify_records::combine(gate.kind, x, y)
+}
+
+// The n-th pair of the operands' records: what it gives is kept, and may show that the result is clean.
+fn pair(records: &mut [u64], marks: &mut [u8], gate: Parts, n: usize)
+    requires { ⌜ Within (length (now records) / 15) gate × (n < 25) × (gate .result < length (now marks)) ⌝ }
+    ensures { λ _. ⌜ GateStep gate (now (records .entry)) (now (marks .entry)) (now (records .exit)) (now (marks .exit)) ⌝ }
+{
+    match paired(records, gate, n) {
+        Joined::None => {}
+        Joined::One(r) => {
+            keep::keep(records, gate.result, r);
+            if marks::clean(marks, r) {
+                mark(marks, gate.result, 1);
+            }
+        }
+    }
+}
+
+// All pairs of the operands' records.
+fn pairs(records: &mut [u64], marks: &mut [u8], gate: Parts)
+    requires { ⌜ Within (length (now records) / 15) gate × (gate .result < length (now marks)) ⌝ }
+    ensures { λ _. ⌜ GateStep gate (now (records .entry)) (now (marks .entry)) (now (records .exit)) (now (marks .exit)) ⌝ }
+{
+    let mut n = 0;
+    while n < 25 {
+        pair(records, marks, gate, n);
+        n += 1;
+    }
+}
+
+// A record of at most one atom that a record of wire w gives.
+fn leaf_of(r: Record, w: usize) -> Joined
+    ensures { λ s. ⌜ ((N : Netlist) (codes : List ℕ) → Known N codes w r → KnownIf N codes w s) ⌝ }
+{
+    if keep::atoms(r) <= 1 {
+        return Joined::One(r);
+    }
+    leaf::leaf(r, w)
+}
+
+// A leaf from the k-th kept record of wire w, if it gives one; the wire may be public.
+fn settle(records: &mut [u64], marks: &mut [u8], w: usize, k: usize) -> bool
+    requires { ⌜ (15 * w + 15 ≤ length (now records)) × (w < length (now marks)) × (k < 5) ⌝ }
+    ensures { λ _. ⌜ ((N : Netlist) (codes : List ℕ) → Holding N codes (now (records .entry)) (now (marks .entry))
+        → Holding N codes (now (records .exit)) (now (marks .exit))) ⌝ }
+{
+    let r = store::get(records, 5 * w + k);
+    if !store::present(r) {
+        return true;
+    }
+    match leaf_of(r, w) {
+        Joined::None => false,
+        Joined::One(s) => {
+            store::put(records, 5 * w, s);
+            if marks::public(marks, r) {
+                mark(marks, w, 3);
+            }
+            true
+        }
+    }
+}
+
+// The leaf of wire w, from the first of its records that gives one.
+fn leaves(records: &mut [u64], marks: &mut [u8], w: usize)
+    requires { ⌜ (15 * w + 15 ≤ length (now records)) × (w < length (now marks)) ⌝ }
+    ensures { λ _. ⌜ ((N : Netlist) (codes : List ℕ) → Holding N codes (now (records .entry)) (now (marks .entry))
+        → Holding N codes (now (records .exit)) (now (marks .exit))) ⌝ }
+{
+    let mut k = 1;
+    while k < 5 {
+        if settle(records, marks, w, k) {
+            return;
+        }
+        k += 1;
+    }
+}
+
+// One gate.
+pub fn step(records: &mut [u64], marks: &mut [u8], gate: Parts)
+    requires { ⌜ Within (length (now records) / 15) gate × (gate .result < length (now marks)) ⌝ }
+    ensures { λ _. ⌜ GateStep gate (now (records .entry)) (now (marks .entry)) (now (records .exit)) (now (marks .exit)) ⌝ }
+{
+    pairs(records, marks, gate);
+    leaves(records, marks, gate.result);
+}

@@ -1,0 +1,4 @@
+// The certifier's pass: records and marks of all wires, gate by gate.
+mod gate;
+mod inputs;
+pub mod pass;

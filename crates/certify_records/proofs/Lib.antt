@@ -1,0 +1,6 @@
+-- Laws that several proofs cite.
+pub mod Tables
+pub mod Records
+pub mod Places
+pub mod Evens
+pub mod Leaves

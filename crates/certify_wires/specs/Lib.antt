@@ -1,0 +1,3 @@
+-- What the contracts of the certifier's tables cite.
+pub mod Known
+pub mod Store

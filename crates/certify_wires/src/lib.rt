@@ -1,0 +1,4 @@
+// What the certifier knows of all wires, in lent tables: five records a wire and a mark.
+pub mod keep;
+pub mod marks;
+pub mod store;
