@@ -7,6 +7,7 @@ use mathlib.Core.Option.{none, some}
 use native.Mathlib.Omega.{arith}
 use lib.ListN.{take, drop}
 use Rattle.netlist.specs.Number.{number}
+use Rattle.netlist.proofs.Tests.{clash}
 use Rattle.read_text.specs.Line.{nextWord, pastWord, lineWords, afterLine, isEmpty, WordAt, EndAt}
 use Rattle.read_text.specs.Answers.{EndIs, NumberAt, NumberIs}
 use Rattle.read_text.specs.declared.cursor.Cursor.{Cursor}
@@ -35,7 +36,7 @@ module _ (t : List ℕ) (at : ℕ) where
 
 no-empty : (v : ℕ) → number [] ≡ some v → ⊥
 unfolding number
-no-empty v e = let z : _≡_ {A = ℕ} 0 1 = cc in omega arith
+no-empty v e = clash (cc)
 
 module _ (t : List ℕ) (at v to : ℕ) (n : NumberAt t at v to) where
   pub number-word : lineWords (drop at t) ≡ nextWord (drop at t) ∷ lineWords (drop to t)

@@ -11,7 +11,7 @@ use lib.ListN.{length}
 use borrow.Author.Tests.{eqb-true, eqb-false, ne-eqb, leb-true, leb-false, le-leb, lt-leb}
 use Rattle.netlist.specs.Text.{space, lf, cr}
 use Rattle.netlist.specs.Number.{isDigit, allDigits, valueFrom, noLeadingZero, maxDigits, number}
-use Rattle.netlist.proofs.Tests.{onBool, isTrue, true-T, both}
+use Rattle.netlist.proofs.Tests.{onBool, isTrue, true-T, both, clash}
 use Rattle.read_text.specs.Line.{isBlank, inWord}
 use Rattle.read_text.specs.Answers.{isFull}
 
@@ -67,7 +67,7 @@ pub not-full : (v : ℕ) → isFull v ≡ false → (0 < v) × (v < 10 ^ (maxDig
 not-full v f = onBool (eqb v 0) zero-full (λ z. (omega (arith, eqb-false v 0 z), leb-false _ _ (rw z at f)))
   where
     zero-full : eqb v 0 ≡ true → (0 < v) × (v < 10 ^ (maxDigits - 1))
-    zero-full z = let n : _≡_ {A = Bool} true false = rw z at f in let y : _≡_ {A = ℕ} 0 1 = cc in absurd (omega arith)
+    zero-full z = let n : _≡_ {A = Bool} true false = rw z at f in clash (cc)
 
 -- powers of ten in the order of their exponents
 pub less : (a b : ℕ) → 10 ^ a < 10 ^ b → a < b

@@ -10,6 +10,7 @@ use Rattle.netlist.specs.Text.{space, lf}
 use Rattle.netlist.specs.Number.{decimal}
 use Rattle.netlist.specs.GateLine.{EQ}
 use Rattle.netlist.specs.Write.{line, one, two}
+use Rattle.netlist.proofs.Tests.{clash}
 use Rattle.write_buffer.specs.Wrote.{Wrote, top, cap}
 use Rattle.write_buffer.proofs.Decimals.{decimal-one, decimal-two}
 use Rattle.write_wires.specs.Packed.{Worded}
@@ -52,7 +53,7 @@ front2 a b c = simp append-assoc
 
 -- a test that is never passed
 pub untrue : {P : Type 0} → true ≡ false → P
-untrue e = let z : _≡_ {A = ℕ} 0 1 = cc in absurd (omega arith)
+untrue e = clash (cc)
 
 -- numbers that have words
 pub worded-whole : {k n : ℕ} → k ≡ 2000 → n < 1000000 → Worded k n
