@@ -21,7 +21,7 @@ use Rattle.netlist.proofs.Answering.{answers-refused, take-sets}
 use Rattle.netlist.proofs.Puts.{wired-same}
 use Rattle.netlist.proofs.Size.{formed-lines}
 use Rattle.netlist.proofs.Tests.{onBool}
-use Rattle.write_buffer.specs.Wrote.{Wrote, cap, top}
+use Rattle.write_buffer.specs.Wrote.{Wrote, top}
 use Rattle.write_gates.specs.Header.{headerText}
 use Rattle.write_buffer.proofs.Wrote.{wrote-then, wrote-as}
 use Rattle.write_gates.specs.Room.{longestLine}

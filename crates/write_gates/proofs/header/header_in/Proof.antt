@@ -1,5 +1,4 @@
 -- `header_in`: the header of the dialect.
-use native.Mathlib.Omega.{arith}
 use borrow.Author.Needs.{needs}
 use Rattle.write_gates.proofs.header.header_in.Statement.{statement}
 use Rattle.write_gates.proofs.header.header_in.Tie as tie

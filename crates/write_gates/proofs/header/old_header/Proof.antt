@@ -1,7 +1,6 @@
 -- `old_header`: two lines and a blank one.
 use Rattle.write_buffer.proofs.Wrote.{wrote-then}
 use Rattle.write_gates.proofs.Headers.{wrote-parties}
-use native.Mathlib.Omega.{arith}
 use borrow.Author.Needs.{needs}
 use Rattle.write_gates.proofs.header.old_header.Statement.{statement}
 use Rattle.write_gates.proofs.header.old_header.Tie as tie

@@ -1,7 +1,6 @@
 -- `width_at`: past the end there is none.
 use mathlib.Core.Path.{sym}
 use lib.ListN.{List·getD-eq-default}
-use native.Mathlib.Omega.{arith}
 use borrow.Author.Needs.{needs}
 use Rattle.write_gates.proofs.header.width_at.Statement.{statement}
 use Rattle.write_gates.proofs.header.width_at.Tie as tie
