@@ -17,14 +17,13 @@ abbrev FrontIs : ℕ → List ℕ → ℕ → Type 0
 FrontIs n xs r = ((r ≡ min n (length xs)) × Front xs r (take n xs)) × Counts r xs
 
 pub cut : (n : ℕ) (xs : List ℕ) → length xs < n → FrontIs n xs (length xs)
-cut n xs h =
-    (
-      (
-        sym (min-eq-right (omega arith)),
-        record { within = le-refl _; same = take-all (length xs) xs (le-refl _) ∙ sym (take-all n xs (omega arith)) },
-      ),
-      counts (length xs) xs (le-refl _),
-    )
+cut n xs h = (
+  (
+    sym (min-eq-right (omega arith)),
+    record { within = le-refl _; same = take-all (length xs) xs (le-refl _) ∙ sym (take-all n xs (omega arith)) },
+  ),
+  counts (length xs) xs (le-refl _),
+)
 
 pub whole : (n : ℕ) (xs : List ℕ) → n ≤ length xs → FrontIs n xs n
 whole n xs h = ((sym (min-eq-left h), record { within = h; same = refl }), counts n xs h)
