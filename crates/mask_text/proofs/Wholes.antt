@@ -29,7 +29,8 @@ use Rattle.write_gates.proofs.Delivering.{ample-holds}
 use Rattle.write_gates.proofs.Headers.{header-gates}
 use Rattle.mask_pass.specs.declared.gates.Next.{Next}
 use Rattle.mask_pass.specs.State.{codesOf}
-use Rattle.mask_pass.specs.Pass.{Ready, WrotePass, Counted}
+use Rattle.mask_twins.specs.Place.{Ready}
+use Rattle.mask_pass.specs.Pass.{WrotePass, Counted}
 use Rattle.mask_text.specs.Whole.{Source, Numbers, WroteText, Filled, MaskAnswers}
 
 text-made : (M : Netlist) (g w : ℕ) (ins outs : List ℕ) → g ≡ length (M .gates) → w ≡ M .wires → ins ≡ M .inputs → outs ≡ M .outputs

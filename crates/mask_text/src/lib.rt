@@ -13,7 +13,7 @@ ghost use Rattle.netlist.specs.Mask.{maskNetlist};
 ghost use Rattle.netlist.specs.Table.{tables};
 ghost use Rattle.netlist.specs.Services.{maskedText, deliverOutcome};
 ghost use Rattle.write_buffer.specs.Wrote.{top};
-ghost use Rattle.mask_pass.specs.Pass.{Ready};
+ghost use Rattle.mask_twins.specs.Place.{Ready};
 ghost use Rattle.mask_text.specs.Whole.{Source, Numbers, WroteText, Filled, MaskAnswers};
 
 // The masked text, with the numbers of its line one.

@@ -1,22 +1,21 @@
-// The twins of the source wires, in two tables: entry w of one is the wire that source wire w
-// stands on, entry w of the other its code.
+// The twins of the inputs: a public bit stands on the wire of its gate, every other one on its own.
 use netlist::Twin;
 ghost use mathlib.Core.Path.{_≡_};
 ghost use mathlib.Core.List.{_++_};
 ghost use Prim.Native.Nat.{_+_, _≤_, _<_, _^_};
-ghost use lib.ListN.{length, getD, drop};
-ghost use Rattle.netlist.specs.Mask.{inputTwin, inputTwins, pastPublics, noTwin};
-ghost use Rattle.mask_pass.specs.State.{twinsOf, Started};
+ghost use lib.ListN.{length, drop};
+ghost use Rattle.netlist.specs.Mask.{inputTwin, inputTwins, pastPublic, pastPublics};
+ghost use Rattle.mask_twins.specs.State.{twinsOf, Started};
 
-// The twin of source wire w.
-pub fn twin(wire: &[u32], code: &[u8], w: usize) -> Twin
-    requires { ⌜ (w < length (now wire)) × (length (now code) ≡ length (now wire)) ⌝ }
-    ensures { λ r. ⌜ r ≡ getD (twinsOf (now (wire .entry)) (now (code .entry))) w noTwin ⌝ }
+// The next wire behind an input.
+pub fn past(c: u32, e: u8) -> u32
+    requires { ⌜ c < 2 ^ 31 ⌝ }
+    ensures { λ r. ⌜ r ≡ pastPublic c e ⌝ }
 {
-    Twin {
-        wire: wire[w],
-        code: code[w],
+    if e != 0 {
+        return c;
     }
+    c + 1
 }
 
 // The twin of input w: where it is public the wire c of its gate, with code 1, and otherwise its own wire, with its code.
@@ -44,7 +43,7 @@ fn inputs(c: u32, codes: &[u8], wire: &mut [u32], code: &mut [u8]) -> u32
         let t = input(next, w, e);
         wire[i] = t.wire;
         code[i] = t.code;
-        next = crate::publics::past(next, e);
+        next = past(next, e);
         w += 1;
         i += 1;
     }

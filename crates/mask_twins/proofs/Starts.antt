@@ -8,9 +8,9 @@ use Rattle.netlist.specs.declared.Twin.{Twin}
 use Rattle.netlist.specs.Mask.{inputTwin, inputTwins, pastPublic, pastPublics, noTwin}
 use Rattle.netlist.proofs.PublicGates.{length-inputTwins, past-within}
 use Rattle.clear.proofs.Laid.{Laid, laid-none, laid-more, laid-all, drop-replicate}
-use Rattle.mask_pass.specs.State.{twinsOf, Started}
-use Rattle.mask_pass.proofs.States.{twins-set, twins-length}
-use Rattle.mask_pass.proofs.PublicBits.{Passed, passed-none, passed-more, passed-all, input-at}
+use Rattle.mask_twins.specs.State.{twinsOf, Started}
+use Rattle.mask_twins.proofs.States.{twins-set, twins-length}
+use Rattle.mask_twins.proofs.PublicWires.{Passed, passed-none, passed-more, passed-all, input-at}
 
 -- the twins of the first i inputs are laid; the tables have kept their length
 pub record Entered (c : ℕ) (cs ws₀ es₀ ws es : List ℕ) (v w i : ℕ) : Type 0 where

@@ -1,8 +1,8 @@
--- `mask_pass::twins::start` meets its contract.
-use Rattle.mask_pass.proofs.Starts.{started}
+-- `inputs::start` meets its contract.
+use Rattle.mask_twins.proofs.Starts.{started}
 use borrow.Author.Needs.{needs}
-use Rattle.mask_pass.proofs.twins.start.Statement.{statement}
-use Rattle.mask_pass.proofs.twins.start.Tie as tie
+use Rattle.mask_twins.proofs.inputs.start.Statement.{statement}
+use Rattle.mask_twins.proofs.inputs.start.Tie as tie
 
 wires-requires : tie.Need-wires-requires
 wires-requires c κs = search needs

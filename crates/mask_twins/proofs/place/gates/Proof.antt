@@ -2,12 +2,12 @@
 use Prim.Native.Nat.{_-_}
 use lib.ListN.{length}
 use Rattle.netlist.specs.Table.{tables}
-use Rattle.mask_pass.specs.State.{stateOf}
-use Rattle.mask_pass.proofs.Counting.{Advancing, advancing-none, advancing-more, advancing-all}
+use Rattle.mask_twins.specs.State.{stateOf}
+use Rattle.mask_twins.proofs.Advances.{Advancing, advancing-none, advancing-more, advancing-all}
 use borrow.Author.Needs.{needs}
 use native.Mathlib.Omega.{arith}
-use Rattle.mask_pass.proofs.count.gates.Statement.{statement}
-use Rattle.mask_pass.proofs.count.gates.Tie as tie
+use Rattle.mask_twins.proofs.place.gates.Statement.{statement}
+use Rattle.mask_twins.proofs.place.gates.Tie as tie
 
 abbrev Inv-loop : tie.InvT-loop
 Inv-loop c operands results count wire₀ code₀ next₀ i₀ wire code next i = Advancing (tables operands results) count (stateOf c wire₀ code₀) next (length wire₀) wire code i

@@ -1,11 +1,11 @@
--- `twins::inputs`: the twins of the first i inputs were laid.
+-- `inputs::inputs`: the twins of the first i inputs were laid.
 use Prim.Native.Nat.{_-_}
 use lib.ListN.{length}
-use Rattle.mask_pass.proofs.Starts.{Entered, entered-none, entered-more, entered-all}
+use Rattle.mask_twins.proofs.Starts.{Entered, entered-none, entered-more, entered-all}
 use borrow.Author.Needs.{needs}
 use native.Mathlib.Omega.{arith}
-use Rattle.mask_pass.proofs.twins.inputs.Statement.{statement}
-use Rattle.mask_pass.proofs.twins.inputs.Tie as tie
+use Rattle.mask_twins.proofs.inputs.inputs.Statement.{statement}
+use Rattle.mask_twins.proofs.inputs.inputs.Tie as tie
 
 abbrev Inv-loop : tie.InvT-loop
 Inv-loop c codes wire₀ code₀ i₀ w₀ next₀ wire code i w next = Entered c codes wire₀ code₀ wire code next w i

@@ -1,7 +1,7 @@
--- `twins::input`: the input is public, or not.
+-- `inputs::input`: the input is public, or not.
 use borrow.Author.Tests.{eq-eqb, ne-eqb}
-use Rattle.mask_pass.proofs.twins.input.Statement.{statement}
-use Rattle.mask_pass.proofs.twins.input.Tie as tie
+use Rattle.mask_twins.proofs.inputs.input.Statement.{statement}
+use Rattle.mask_twins.proofs.inputs.input.Tie as tie
 
 returns : tie.Need-returns
 returns c = rw (ne-eqb _ 0 (c .if1 .taken))

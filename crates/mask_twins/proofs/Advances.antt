@@ -1,7 +1,7 @@
 -- The state advanced without its gates.
 use Prim.Native.Nat.{ℕ, _+_, _*_, _/_, _%_, _≤_, _<_}
 use mathlib.Core.Path.{_≡_, refl, sym, ap, ap₂, _∙_}
-use mathlib.Core.List.{List, [], _∷_, _++_}
+use mathlib.Core.List.{List}
 use native.Mathlib.Omega.{arith}
 use lib.ListN.{length, set}
 use Rattle.netlist.specs.declared.Gate.{Gate}
@@ -14,11 +14,8 @@ use Rattle.netlist.proofs.Puts.{gates-more}
 use Rattle.mask_rule.specs.Rule.{operands}
 use Rattle.mask_rule.proofs.ByKind.{twin-of, result-of}
 use Rattle.mask_rule.proofs.Twins.{twin-small}
-use Rattle.mask_pass.specs.State.{twinsOf, stateOf, Advanced, AdvancedAll}
-use Rattle.mask_pass.proofs.States.{twins-set}
-
-abbrev stateWith : ℕ → List Twin → State
-stateWith c ts = record { next = c; twins = ts }
+use Rattle.mask_twins.specs.State.{twinsOf, stateOf, Advanced, AdvancedAll}
+use Rattle.mask_twins.proofs.States.{stateWith, twins-set, advanceAll-more}
 
 -- one step: the result's twin is stored
 advanced-made : {c : ℕ} {A B t : Twin} (ws es : List ℕ) (o r : ℕ) → A ≡ twin (stateOf c ws es) (o % half) → B ≡ twin (stateOf c ws es) (o / half)
@@ -42,10 +39,6 @@ pub advanced-parts : {c : ℕ} {A B t : Twin} {p : Parts} (ws es : List ℕ) (o 
     → A ≡ twin (stateOf c ws es) (p .left) → B ≡ twin (stateOf c ws es) (p .right) → t ≡ resultTwin (operands c A B) (gateOf (p .kind) 0 1 2)
     → Advanced (stateOf c ws es) (gateIn o r) (stateOf (t .wire + 1) (set ws (p .result) (t .wire)) (set es (p .result) (t .code)))
 advanced-parts ws es o r q a b h = rw q (advanced-made ws es o r (rw q at a) (rw q at b) (rw q at h))
-
-advanceAll-more : (S : State) (gs : List Gate) (g : Gate) → advanceAll S (gs ++ (g ∷ [])) ≡ advance (advanceAll S gs) g
-advanceAll-more S [] g = refl
-advanceAll-more S (h ∷ gs) g = advanceAll-more (advance S h) gs g
 
 -- the state has advanced by the first i gates of m; the tables have kept their length W
 pub record Advancing (t : Tables) (m : ℕ) (S₀ : State) (c W : ℕ) (ws es : List ℕ) (i : ℕ) : Type 0 where

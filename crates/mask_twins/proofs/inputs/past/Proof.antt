@@ -1,8 +1,8 @@
--- `publics::past`: the input is public, or not.
+-- `inputs::past`: the input is public, or not.
 use borrow.Author.Tests.{eq-eqb, ne-eqb}
 use borrow.Author.Needs.{needs}
-use Rattle.mask_pass.proofs.publics.past.Statement.{statement}
-use Rattle.mask_pass.proofs.publics.past.Tie as tie
+use Rattle.mask_twins.proofs.inputs.past.Statement.{statement}
+use Rattle.mask_twins.proofs.inputs.past.Tie as tie
 
 returns : tie.Need-returns
 returns c = rw (ne-eqb _ 0 (c .if1 .taken))

@@ -1,8 +1,8 @@
--- `mask_pass::twins::twin` meets its contract.
-use Rattle.mask_pass.proofs.States.{twins-at}
+-- `twin` meets its contract.
+use Rattle.mask_twins.proofs.States.{twins-at}
 use borrow.Author.Needs.{needs}
-use Rattle.mask_pass.proofs.twins.twin.Statement.{statement}
-use Rattle.mask_pass.proofs.twins.twin.Tie as tie
+use Rattle.mask_twins.proofs.twin.Statement.{statement}
+use Rattle.mask_twins.proofs.twin.Tie as tie
 
 mul-t4 : tie.Need-mul-t4
 mul-t4 c = search needs

@@ -2,12 +2,12 @@
 use lib.ListN.{length}
 use Rattle.netlist.specs.Table.{tables}
 use Rattle.netlist.proofs.Puts.{wired-same}
-use Rattle.mask_pass.proofs.Starts.{started-most}
-use Rattle.mask_pass.proofs.Passes.{finished}
+use Rattle.mask_twins.proofs.Starts.{started-most}
+use Rattle.mask_twins.proofs.Finishes.{finished}
 use native.Mathlib.Omega.{arith}
 use borrow.Author.Needs.{needs}
-use Rattle.mask_pass.proofs.count.place_twins.Statement.{statement}
-use Rattle.mask_pass.proofs.count.place_twins.Tie as tie
+use Rattle.mask_twins.proofs.place.place_twins.Statement.{statement}
+use Rattle.mask_twins.proofs.place.place_twins.Tie as tie
 
 cast-n : tie.Need-cast-n
 cast-n c = search needs

@@ -1,11 +1,11 @@
 -- `step`: the result's twin is stored.
 use Rattle.gate_table.proofs.Splitting.{right-of, result-of, parts-within}
 use Rattle.mask_rule.proofs.Twins.{twin-small}
-use Rattle.mask_pass.proofs.Counting.{advanced-parts}
+use Rattle.mask_twins.proofs.Advances.{advanced-parts}
 use native.Mathlib.Omega.{arith}
 use borrow.Author.Needs.{needs}
-use Rattle.mask_pass.proofs.count.step.Statement.{statement}
-use Rattle.mask_pass.proofs.count.step.Tie as tie
+use Rattle.mask_twins.proofs.place.step.Statement.{statement}
+use Rattle.mask_twins.proofs.place.step.Tie as tie
 
 split-requires : tie.Need-split-requires
 split-requires c κs = search needs
