@@ -22,11 +22,11 @@ use Rattle.netlist.proofs.Puts.{wired-same}
 use Rattle.netlist.proofs.Size.{formed-lines}
 use Rattle.netlist.proofs.Tests.{onBool}
 use Rattle.write_buffer.specs.Wrote.{Wrote, top}
-use Rattle.write_gates.specs.Header.{headerText}
+use Rattle.write_header.specs.Header.{headerText}
 use Rattle.write_buffer.proofs.Wrote.{wrote-then, wrote-as}
 use Rattle.write_gates.specs.Room.{longestLine}
 use Rattle.write_gates.proofs.Delivering.{ample-holds}
-use Rattle.write_gates.proofs.Headers.{header-gates}
+use Rattle.write_header.proofs.Headers.{header-gates}
 use Rattle.mask_pass.specs.declared.gates.Next.{Next}
 use Rattle.mask_pass.specs.State.{codesOf}
 use Rattle.mask_twins.specs.Place.{Ready}

@@ -1,10 +1,11 @@
-// The header's lines.
+// Writes a netlist's header into a lent buffer, from a place on, in either dialect. Each function stores only where the buffer reaches
+// and answers the next place in any case.
 ghost use mathlib.Core.List.{[], _∷_};
 ghost use mathlib.Core.Path.{_≡_};
 ghost use lib.ListN.{length, getD};
 ghost use Rattle.netlist.specs.Write.{line, decimals};
 ghost use Rattle.write_buffer.specs.Wrote.{Wrote};
-ghost use Rattle.write_gates.specs.Header.{spaced, headerText, oldHeaderText, headerTextIn};
+ghost use Rattle.write_header.specs.Header.{spaced, headerText, oldHeaderText, headerTextIn};
 use old_form::Dialect;
 
 // Line one: two numbers.

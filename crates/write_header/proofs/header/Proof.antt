@@ -1,8 +1,8 @@
 -- `header`: three lines and a blank one.
 use Rattle.write_buffer.proofs.Wrote.{wrote-then}
 use borrow.Author.Needs.{needs}
-use Rattle.write_gates.proofs.header.header.Statement.{statement}
-use Rattle.write_gates.proofs.header.header.Tie as tie
+use Rattle.write_header.proofs.header.Statement.{statement}
+use Rattle.write_header.proofs.header.Tie as tie
 
 counts-requires : tie.Need-counts-requires
 counts-requires c κs = search needs

@@ -1,7 +1,7 @@
 -- `header_in`: the header of the dialect.
 use borrow.Author.Needs.{needs}
-use Rattle.write_gates.proofs.header.header_in.Statement.{statement}
-use Rattle.write_gates.proofs.header.header_in.Tie as tie
+use Rattle.write_header.proofs.header_in.Statement.{statement}
+use Rattle.write_header.proofs.header_in.Tie as tie
 
 enum-told : tie.Need-enum-told
 enum-told c = search needs

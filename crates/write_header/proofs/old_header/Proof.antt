@@ -1,9 +1,9 @@
 -- `old_header`: two lines and a blank one.
 use Rattle.write_buffer.proofs.Wrote.{wrote-then}
-use Rattle.write_gates.proofs.Headers.{wrote-parties}
+use Rattle.write_header.proofs.Headers.{wrote-parties}
 use borrow.Author.Needs.{needs}
-use Rattle.write_gates.proofs.header.old_header.Statement.{statement}
-use Rattle.write_gates.proofs.header.old_header.Tie as tie
+use Rattle.write_header.proofs.old_header.Statement.{statement}
+use Rattle.write_header.proofs.old_header.Tie as tie
 
 counts-requires : tie.Need-counts-requires
 counts-requires c κs = search needs

@@ -1,9 +1,9 @@
 -- `width`: a space, and then the number.
 use Rattle.write_buffer.proofs.Wrote.{wrote-then}
-use Rattle.write_gates.proofs.Headers.{wrote-width}
+use Rattle.write_header.proofs.Headers.{wrote-width}
 use borrow.Author.Needs.{needs}
-use Rattle.write_gates.proofs.header.width.Statement.{statement}
-use Rattle.write_gates.proofs.header.width.Tie as tie
+use Rattle.write_header.proofs.width.Statement.{statement}
+use Rattle.write_header.proofs.width.Tie as tie
 
 put-requires : tie.Need-put-requires
 put-requires c κs = search needs

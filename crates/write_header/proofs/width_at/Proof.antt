@@ -2,8 +2,8 @@
 use mathlib.Core.Path.{sym}
 use lib.ListN.{List·getD-eq-default}
 use borrow.Author.Needs.{needs}
-use Rattle.write_gates.proofs.header.width_at.Statement.{statement}
-use Rattle.write_gates.proofs.header.width_at.Tie as tie
+use Rattle.write_header.proofs.width_at.Statement.{statement}
+use Rattle.write_header.proofs.width_at.Tie as tie
 
 mul-result : tie.Need-mul-result
 mul-result c = search needs

@@ -1,9 +1,9 @@
 -- `numbers`: the first, the others, and LF.
 use Rattle.write_buffer.proofs.Wrote.{wrote-then, wrote-as}
-use Rattle.write_gates.proofs.Headers.{line-spaced}
+use Rattle.write_header.proofs.Headers.{line-spaced}
 use borrow.Author.Needs.{needs}
-use Rattle.write_gates.proofs.header.numbers.Statement.{statement}
-use Rattle.write_gates.proofs.header.numbers.Tie as tie
+use Rattle.write_header.proofs.numbers.Statement.{statement}
+use Rattle.write_header.proofs.numbers.Tie as tie
 
 number-requires : tie.Need-number-requires
 number-requires c κs = search needs

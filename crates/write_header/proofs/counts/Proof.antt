@@ -1,8 +1,8 @@
 -- `counts`: two numbers.
 use Rattle.write_buffer.proofs.Wrote.{wrote-then}
 use borrow.Author.Needs.{needs}
-use Rattle.write_gates.proofs.header.counts.Statement.{statement}
-use Rattle.write_gates.proofs.header.counts.Tie as tie
+use Rattle.write_header.proofs.counts.Statement.{statement}
+use Rattle.write_header.proofs.counts.Tie as tie
 
 number-requires : tie.Need-number-requires
 number-requires c κs = search needs

@@ -2,11 +2,11 @@
 use Prim.Native.Nat.{_-_}
 use Rattle.write_buffer.proofs.Wrote.{wrote-length}
 use lib.ListN.{length}
-use Rattle.write_gates.proofs.Headers.{Spaced, spaced-none, spaced-more, spaced-all}
+use Rattle.write_header.proofs.Headers.{Spaced, spaced-none, spaced-more, spaced-all}
 use borrow.Author.Needs.{needs}
 use native.Mathlib.Omega.{arith}
-use Rattle.write_gates.proofs.header.widths.Statement.{statement}
-use Rattle.write_gates.proofs.header.widths.Tie as tie
+use Rattle.write_header.proofs.widths.Statement.{statement}
+use Rattle.write_header.proofs.widths.Tie as tie
 
 abbrev Inv-loop : tie.InvT-loop
 Inv-loop out₀ at ws next₀ i₀ out next i = Spaced out₀ at ws out next i
