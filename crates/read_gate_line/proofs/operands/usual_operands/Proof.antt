@@ -1,5 +1,4 @@
 -- Two digits, of which the second is 1.
-use mathlib.Core.Path.{refl}
 use borrow.Author.Needs.{needs}
 use Rattle.read_text.proofs.AnswerLaws.{digit-is}
 use Rattle.read_gate_line.proofs.OperandLaws.{one-result}
