@@ -78,22 +78,28 @@ static inline void skip_spaces(struct cursor *c)
         c->at++;
 }
 
-/* To the first word of the next line that is not blank; false where there is none. */
+/* To the first word of the next line that is not blank; false where there is none. A byte above the space is part of a word. */
 static inline bool next_line(struct cursor *c)
 {
-    while (c->at != c->end && (is_space(*c->at) || *c->at == '\n'))
+    while (c->at != c->end && *c->at <= ' ' && (is_space(*c->at) || *c->at == '\n'))
         c->at++;
     return c->at != c->end;
 }
 
-/* Whether a word ends at the cursor; if so, to the next word of the line or the line's end. */
+/* Whether a word ends at the cursor; if so, to the next word of the line or the line's end. Mostly one space stands between words. */
 static inline bool word_end(struct cursor *c)
 {
-    if (c->at == c->end || *c->at == '\n')
+    if (c->at == c->end)
         return true;
-    if (!is_space(*c->at))
-        return false;
-    skip_spaces(c);
+    if (*c->at != ' ') {
+        if (*c->at > ' ' || (*c->at != '\r' && *c->at != '\n'))
+            return false;
+        skip_spaces(c);
+        return true;
+    }
+    c->at++;
+    if (c->at != c->end && *c->at <= ' ')
+        skip_spaces(c);
     return true;
 }
 
@@ -177,7 +183,7 @@ static inline int gate_name(struct cursor *c, bool two)
         c->at += 2;
         kind = EQ0;
     }
-    return kind >= 0 && word_end(c) && line_end(c) ? kind : -1;
+    return kind >= 0 && (line_end(c) || (word_end(c) && line_end(c))) ? kind : -1;
 }
 
 /* One gate line: questions 7 to 9. Returns 0, or the number of the first no. */
@@ -186,7 +192,11 @@ static inline int read_gate(struct cursor *c, uint32_t wires, uint8_t *given, ui
 {
     uint32_t a, b, r;
     bool two = *c->at == '2';
-    if (!letter(c, two ? '2' : '1') || !letter(c, '1') || !number(c, &a))
+    if (c->end - c->at > 4 && c->at[1] == ' ' && c->at[2] == '1' && c->at[3] == ' ' && c->at[4] > ' ' && (two || *c->at == '1'))
+        c->at += 4;
+    else if (!letter(c, two ? '2' : '1') || !letter(c, '1'))
+        return 7;
+    if (!number(c, &a))
         return 7;
     b = a;
     if (two && !number(c, &b))

@@ -11,7 +11,7 @@ use borrow.Author.Tests.{eq-eqb, ne-eqb, eqb-true, eqb-false, le-leb, lt-leb}
 use Rattle.netlist.specs.declared.Gate.{Gate}
 use Rattle.netlist.specs.Lists.{member}
 use Rattle.netlist.specs.Table.{Tables, gatesOf, putEntry}
-use Rattle.netlist.proofs.Tests.{onBool}
+use Rattle.netlist.proofs.Tests.{onBool, clash}
 use Rattle.netlist.proofs.Puts.{Room}
 use Rattle.gate_table.specs.Entry.{Entered}
 use Rattle.gate_table.specs.Entry.{Stored}
@@ -22,7 +22,7 @@ use Rattle.aiger.specs.Made.{wireAt}
 use Rattle.aiger_gates.specs.Places.{Places, Holding, Keeps}
 
 pub not-so : {P : Type 0} → _≡_ {A = Bool} false true → P
-not-so e = let z : _≡_ {A = ℕ} 0 1 = cc in absurd (omega arith)
+not-so e = clash (cc)
 
 pub not-zero : (e : ℕ) → not (eqb e 0) ≡ true → 1 ≤ e
 not-zero e h = onBool (eqb e 0) (λ b. not-so (sym (ap not b) ∙ h)) (λ b. let n : e ≡ 0 → ⊥ = eqb-false e 0 b in omega arith)

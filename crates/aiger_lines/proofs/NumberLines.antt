@@ -11,7 +11,7 @@ use borrow.Author.Tests.{eqb-true}
 use Rattle.netlist.specs.Text.{space, lf, cr, atLF, isLineEnd, isSpace}
 use Rattle.netlist.specs.Number.{number}
 use Rattle.netlist.specs.Header.{numbers, consOption}
-use Rattle.netlist.proofs.Tests.{all-head, all-tail, onBool}
+use Rattle.netlist.proofs.Tests.{all-head, all-tail, onBool, clash}
 use Rattle.netlist.proofs.Questions.{none-some, some-same}
 use Rattle.netlist.proofs.LineEnds.{NoCR}
 use Rattle.read_text.specs.Line.{inWord, takeWhile, dropWhile, pastSpace, lineWords, nextWord, pastWord, afterLine, isEmpty, Scanned, EndAt, LineTaken}
@@ -153,7 +153,7 @@ module _ (t : List ℕ) (p q : ℕ) (s : Scanned isPlain t p q) where
 
 no-empty : (v : ℕ) → number [] ≡ some v → ⊥
 unfolding number
-no-empty v e = let z : _≡_ {A = ℕ} 0 1 = cc in omega arith
+no-empty v e = clash (cc)
 
 empty-none : number [] ≡ none
 unfolding number
@@ -206,7 +206,7 @@ module _ (t : List ℕ) (p q : ℕ) (s : Scanned isPlain t p q) where
       ap (λ (u : List ℕ). number (takeWhile inWord u)) (sym (ap (dropWhile isSpace) (s .left) ∙ plain-space (drop p t))) ∙ go (drop q t) refl e w
     where
       crlf : (x : ℕ) (xs : List ℕ) → atLF xs ≡ true → eqb x cr ≡ true → number (takeWhile inWord (dropWhile isSpace (x ∷ xs))) ≡ none
-      crlf x [] l e = let z : _≡_ {A = ℕ} 0 1 = cc in absurd (omega arith)
+      crlf x [] l e = clash (cc)
       crlf x (y ∷ ys) l e =
           let a : x ≡ cr = eqb-true x cr e in
           let b : y ≡ lf = eqb-true y lf l in
@@ -268,8 +268,7 @@ end-clean (x ∷ xs) f e w = go (eqb x cr) (isLineEnd x) refl refl e w
             let n : nextWord (x ∷ xs) ≡ x ∷ takeWhile inWord xs = rw (a, b) (rw (a, b, c) refl) in
             let k : (x ∷ takeWhile inWord xs) ∷ lineWords (pastWord (x ∷ xs)) ≡ []
             = sym (words-step (x ∷ xs) ∙ ap (λ (u : List ℕ). addWord u (lineWords (pastWord (x ∷ xs)))) n) ∙ h in
-            let z : _≡_ {A = ℕ} 0 1 = cc in
-            omega arith
+            clash (cc)
 
 clean-to : (t : List ℕ) (at to : ℕ) → LineTaken t at to → at ≤ strayAt t → Clean (drop at t) → to ≤ strayAt t
 clean-to t at to l h c =
@@ -365,7 +364,7 @@ module _ {t : List ℕ} {at n : ℕ} {into : List ℕ} {p i : ℕ} (N : Numberin
       longer (some x) (some xs) ms z = let y : suc (length xs) ≡ length ms = ap length (some-same (x ∷ xs) ms z) in omega arith
 
       go : (ws : List (List ℕ)) → isEmpty ws ≡ false → (ms : List ℕ) → numbers ws ≡ some ms → length xs ≡ length (take i into) + length ms → ⊥
-      go [] z ms q r = let y : _≡_ {A = ℕ} 0 1 = cc in omega arith
+      go [] z ms q r = clash (cc)
       go (w ∷ ws) z ms q r = let y = longer (number w) (numbers ws) ms q in let f = front in let m = N .few in omega arith
 
   pub numbering-long : n ≤ i → isEmpty (lineWords (drop q t)) ≡ false → NotSoMany (numbers (fileLine (drop at t))) n

@@ -13,7 +13,7 @@ use borrow.Author.Tests.{eqb-true}
 use Rattle.netlist.specs.Text.{space, lf, cr, atLF, lfEnds, isLineEnd, isSpace, onto, split, filled, words, wordLines, spaceWords}
 use Rattle.netlist.specs.Number.{isDigit, allDigits, noLeadingZero, maxDigits, valueFrom, number}
 use Rattle.netlist.specs.Header.{consOption, numbers}
-use Rattle.netlist.proofs.Tests.{All, empty, each, all-head, all-tail, all-map, onBool, both, both-true, isTrue}
+use Rattle.netlist.proofs.Tests.{All, empty, each, all-head, all-tail, all-map, onBool, both, both-true, isTrue, clash}
 use Rattle.netlist.proofs.Questions.{none-some, some-same, cond-some}
 use Rattle.netlist.proofs.LineEnds.{NoCR, ends-alike, space-words}
 use Rattle.read_text.specs.Line.{isBlank, firstLine, afterLine, dropWhile, lineWords}
@@ -84,7 +84,7 @@ between-blank t i b h e q = ap not q ∙ sym (go ∙ refl)
 
 -- a text that begins with one
 pub stray-here : (s : List ℕ) → isStray s ≡ true → (strayAt s ≡ 0) × (length (afterLine s) < length s)
-stray-here [] e = let z : _≡_ {A = ℕ} 0 1 = cc in absurd (omega arith)
+stray-here [] e = clash (cc)
 stray-here (x ∷ xs) e = (rw e, go (isLineEnd x) refl (after-shorter xs))
   where
     go : (b : Bool) → isLineEnd x ≡ b → length (afterLine xs) ≤ length xs → length (cond b xs (afterLine xs)) < suc (length xs)
@@ -119,7 +119,7 @@ clean-no-cr (x ∷ xs) h = go (eqb x cr) (atLF xs) (isLineEnd x) refl refl h (cl
   where
     go : (a b e : Bool) → eqb x cr ≡ a → isLineEnd x ≡ e → suc (length xs) ≤ length (after x xs e) + stray x xs a b
         → (Clean xs → NoCR (firstLine (lfEnds xs))) → length (afterLine xs) ≤ length xs → NoCR (firstLine (ends x xs a b))
-    go true b true p q h f l = let z : _≡_ {A = Bool} true false = sym q ∙ cr-no-end x p in let y : _≡_ {A = ℕ} 0 1 = cc in absurd (omega arith)
+    go true b true p q h f l = let z : _≡_ {A = Bool} true false = sym q ∙ cr-no-end x p in clash (cc)
     go true true false p q h f l = f (omega arith)
     go true false false p q h f l = absurd (omega arith)
     go false b true p q h f l = rw q empty
@@ -131,13 +131,12 @@ no-cr-clean (x ∷ xs) h = go (eqb x cr) (atLF xs) (isLineEnd x) refl refl h (no
   where
     go : (a b e : Bool) → eqb x cr ≡ a → isLineEnd x ≡ e → NoCR (firstLine (ends x xs a b)) → (NoCR (firstLine (lfEnds xs)) → Clean xs)
         → suc (length xs) ≤ length (after x xs e) + stray x xs a b
-    go true b true p q h f = let z : _≡_ {A = Bool} true false = sym q ∙ cr-no-end x p in let y : _≡_ {A = ℕ} 0 1 = cc in absurd (omega arith)
+    go true b true p q h f = let z : _≡_ {A = Bool} true false = sym q ∙ cr-no-end x p in clash (cc)
     go true true false p q h f = let z = f h in omega arith
     go true false false p q h f =
         let k : NoCR (x ∷ firstLine (lfEnds xs)) = rw q at h in
         let z : _≡_ {A = Bool} true false = sym p ∙ all-head k in
-        let y : _≡_ {A = ℕ} 0 1 = cc in
-        absurd (omega arith)
+        clash (cc)
     go false b true p q h f = omega arith
     go false b false p q h f =
         let k : NoCR (x ∷ firstLine (lfEnds xs)) = rw q at h in
@@ -186,7 +185,7 @@ digits-no-cr : (w : List ℕ) → allDigits w ≡ true → NoCR w
 digits-no-cr [] h = empty
 digits-no-cr (b ∷ w) h =
     let p = both-true (isDigit b) (allDigits w) h in
-    each (onBool (eqb b cr) (λ e. let z : isDigit b ≡ false = ap isDigit (eqb-true b cr e) in let y : _≡_ {A = ℕ} 0 1 = cc in absurd (omega arith)) (λ e. e))
+    each (onBool (eqb b cr) (λ e. let z : isDigit b ≡ false = ap isDigit (eqb-true b cr e) in clash (cc)) (λ e. e))
     (digits-no-cr w (p .1))
 
 pub number-no-cr : (w : List ℕ) (v : ℕ) → number w ≡ some v → NoCR w
@@ -251,7 +250,7 @@ space-no-return : (x : ℕ) → eqb x space ≡ true → eqb x cr ≡ false
 space-no-return x e = ap (λ (y : ℕ). eqb y cr) (eqb-true x space e)
 
 never : (b : Bool) → b ≡ true → b ≡ false → ⊥
-never b p q = let z : _≡_ {A = ℕ} 0 1 = cc in omega arith
+never b p q = clash (cc)
 
 module _ (x : ℕ) (xs : List ℕ) where
   abbrev between : Bool → Bool → Bool → Bool → Bool

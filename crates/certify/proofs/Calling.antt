@@ -14,6 +14,7 @@ use Rattle.netlist.specs.Table.{Tables, Holds}
 use Rattle.netlist.proofs.Accepted.{accepted}
 use Rattle.netlist.proofs.Answering.{call-refused, call-goes-on}
 use Rattle.netlist.proofs.Questions.{done-same}
+use Rattle.netlist.proofs.Tests.{clash}
 use Rattle.read_header.specs.declared.HeaderNumbers.{HeaderNumbers}
 use Rattle.read_netlist.specs.Whole.{ReadAt}
 use Rattle.check_netlist.specs.Judge.{codesAsked}
@@ -25,7 +26,7 @@ use Rattle.certify.specs.Promise.{codesFor, certifyCall, call, Answers}
 
 -- a refusal is no netlist
 no-netlist : {P : Type 0} {q : ℕ} {N : Netlist} → refused q ≡ done N → P
-no-netlist e = let z : _≡_ {A = ℕ} 0 1 = cc in absurd (omega arith)
+no-netlist e = clash (cc)
 
 same-question : {p q : ℕ} → _≡_ {A = Outcome Netlist} (refused p) (refused q) → p ≡ q
 same-question e = cc

@@ -11,6 +11,7 @@ use Rattle.netlist.specs.Netlist.{Netlist, inputBits}
 use Rattle.netlist.specs.Lists.{sum}
 use Rattle.netlist.specs.Outcome.{Outcome, refused, done}
 use Rattle.netlist.specs.Read.{WellFormed}
+use Rattle.netlist.proofs.Tests.{clash}
 use Rattle.evaluate.specs.Lane.{lane, lanes}
 use Rattle.evaluate.proofs.Steps.{getD-lanes}
 use Rattle.check_leak.specs.declared.spot.Spot.{Spot}
@@ -94,7 +95,7 @@ module _ {N : Netlist} {codes words : List ℕ} {p : Spot} (n many : ℕ) (e : n
 
 -- questions 10 and 11
 no-outcome : {P : Type 0} {q : ℕ} → _≡_ {A = Outcome Unit} (refused q) (done tt) → P
-no-outcome e = let z : _≡_ {A = ℕ} 0 1 = cc in absurd (omega arith)
+no-outcome e = clash (cc)
 
 same-question : {p q : ℕ} → _≡_ {A = Outcome Unit} (refused p) (refused q) → p ≡ q
 same-question e = cc

@@ -13,7 +13,8 @@ use Rattle.netlist.specs.Netlist.{Netlist}
 use Rattle.netlist.specs.Eval.{differs}
 use Rattle.netlist.specs.Table.{madeOf}
 use Rattle.netlist.specs.Leak.{bit, count, countOf, SamePublic, EqualCounts}
-use Rattle.netlist.proofs.Codes.{below, below-at, everyBit, everyBit-at, same, same-eq}
+use Rattle.netlist.specs.Lists.{below}
+use Rattle.netlist.proofs.Codes.{below-at, everyBit, everyBit-at, same, same-eq}
 use Rattle.netlist.proofs.Tests.{onBool}
 use Rattle.evaluate.specs.Lane.{lane}
 use Rattle.check_counts.proofs.Numbers.{low-lane}

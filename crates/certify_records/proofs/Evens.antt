@@ -4,7 +4,7 @@ use mathlib.Core.Bool.{Bool, true, false, not}
 use Prim.Native.Nat.{ℕ, _+_, _*_, _<_}
 use native.Mathlib.Omega.{arith}
 use Rattle.netlist.specs.Leak.{bit, countOf}
-use Rattle.netlist.proofs.Tests.{onBool}
+use Rattle.netlist.proofs.Tests.{onBool, clash}
 use Rattle.evaluate.specs.Lane.{lane}
 use Rattle.check_counts.specs.Block.{nibble, ones}
 use Rattle.certify_records.specs.declared.Record.{Record}
@@ -75,4 +75,4 @@ module _ (r : Record) (counts : ℕ) (a b c d : Bool) (counted : (s : ℕ) → s
   }
 
 pub no : {P : Type 0} → false ≡ true → P
-no e = let z : _≡_ {A = ℕ} 0 1 = cc in absurd (omega arith)
+no e = clash (cc)

@@ -9,7 +9,8 @@ use lib.Bits.{bitAnd, bitXor}
 use lib.Pow.{shr-shr}
 use Rattle.netlist.specs.Eval.{differs}
 use Rattle.netlist.specs.Leak.{bit}
-use Rattle.netlist.proofs.Codes.{below, below-at, same, same-below}
+use Rattle.netlist.specs.Lists.{below}
+use Rattle.netlist.proofs.Codes.{below-at, same, same-below}
 use Rattle.evaluate.specs.Lane.{lane, word}
 use Rattle.evaluate.proofs.Lanes.{lane-and, lane-xor}
 use Rattle.evaluate.proofs.Words.{word-same}

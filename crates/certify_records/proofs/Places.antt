@@ -6,7 +6,8 @@ use native.Mathlib.Omega.{arith}
 use lib.Dec.{T, eqb, ltb, eqb→eq, ltb→lt}
 use lib.Pow.{shr-shr}
 use Rattle.netlist.specs.Leak.{bit}
-use Rattle.netlist.proofs.Codes.{below, below-at, every4, every4-at, same, same-eq}
+use Rattle.netlist.specs.Lists.{below}
+use Rattle.netlist.proofs.Codes.{below-at, every4, every4-at, same, same-eq}
 use Rattle.netlist.proofs.Tests.{both}
 use Rattle.evaluate.specs.Lane.{lane, word}
 use Rattle.evaluate.proofs.Words.{word-lanes, word-same}

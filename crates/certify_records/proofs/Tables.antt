@@ -9,7 +9,8 @@ use lib.Bits.{bitAnd, bitXor}
 use borrow.Author.Tests.{leb-true, leb-false}
 use lib.Pow.{pow-pos}
 use Rattle.netlist.specs.Eval.{differs}
-use Rattle.netlist.proofs.Codes.{below, below-at, same, same-below}
+use Rattle.netlist.specs.Lists.{below}
+use Rattle.netlist.proofs.Codes.{below-at, same, same-below}
 use Rattle.netlist.proofs.Tests.{onBool, both, both-true, isTrue, isFalse}
 use Rattle.evaluate.specs.Lane.{lane}
 use Rattle.evaluate.proofs.Lanes.{lane-and, lane-xor, lane-zero}

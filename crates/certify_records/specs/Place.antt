@@ -3,7 +3,7 @@ use Prim.Native.Nat.{ℕ, _+_, _-_, _^_}
 use mathlib.Core.Bool.{Bool, cond, not, _&&_}
 use lib.Dec.{eqb, leb}
 use Rattle.netlist.specs.Eval.{differs}
-use Rattle.netlist.proofs.Codes.{below}
+use Rattle.netlist.specs.Lists.{below}
 use Rattle.evaluate.specs.Lane.{lane, word}
 
 -- atoms j and j + 1 exchanged: which bit of a place comes to bit i

@@ -15,7 +15,8 @@ use Rattle.netlist.specs.Mask.{isPublic}
 use Rattle.netlist.specs.Eval.{differs, bitsAt, wireBits}
 use Rattle.netlist.specs.Leak.{bit, maskOf, masked, publicOnly, count}
 use Rattle.netlist.specs.Table.{Tables, Holds}
-use Rattle.netlist.proofs.Codes.{below, below-at, same, same-below}
+use Rattle.netlist.specs.Lists.{below}
+use Rattle.netlist.proofs.Codes.{below-at, same, same-below}
 use Rattle.netlist.proofs.Tests.{onBool}
 use Rattle.netlist.proofs.Settings.{length-publicOnly, publicOnly-at}
 use Rattle.evaluate.specs.Lane.{lane, lanes}

@@ -11,7 +11,8 @@ use lib.Bits.{bitAnd, bitOr, bitXor, and-le-l, and-le-r, and-mask, or-add-and, x
 use lib.Count.{trailingZeros, under, trailing-le}
 use borrow.Author.Tests.{eqb-true, eq-eqb}
 use lib.Pow.{shr-shr, mod-mod-pow, mod-pow-add, field}
-use Rattle.netlist.proofs.Codes.{below, below-at, same, same-below}
+use Rattle.netlist.specs.Lists.{below}
+use Rattle.netlist.proofs.Codes.{below-at, same, same-below}
 use Rattle.check_counts.specs.Block.{nibble}
 
 -- two nibbles are equal where their XOR is zero

@@ -11,7 +11,8 @@ use lib.Pow.{shr-shr}
 use Rattle.netlist.specs.Eval.{differs}
 use Rattle.evaluate.specs.Lane.{lane}
 use Rattle.evaluate.proofs.Lanes.{lane-shr}
-use Rattle.netlist.proofs.Codes.{below, below-at, same, same-below}
+use Rattle.netlist.specs.Lists.{below}
+use Rattle.netlist.proofs.Codes.{below-at, same, same-below}
 
 -- the bits of a shifted number
 pub lane-shift : (k j n : ℕ) → lane j (n / 2 ^ k) ≡ lane (j + k) n

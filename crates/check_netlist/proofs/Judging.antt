@@ -15,7 +15,7 @@ use Rattle.netlist.specs.Mask.{isInputCode}
 use Rattle.netlist.specs.Leak.{Found, leak}
 use Rattle.netlist.specs.Services.{listGood, endsInMasks, maxChecked, checkOutcome}
 use Rattle.netlist.specs.Table.{Tables, Holds}
-use Rattle.netlist.proofs.Tests.{both, isTrue, true-T, every-at}
+use Rattle.netlist.proofs.Tests.{both, isTrue, true-T, every-at, clash}
 use Rattle.netlist.proofs.Questions.{ask-done}
 use Rattle.check_leak.specs.declared.search.Verdict.{Verdict}
 use Rattle.check_leak.specs.Search.{foundOf}
@@ -81,7 +81,7 @@ module _ (ws codes : List ℕ) where
       go : (a b : Bool) → ask 10 a (ask 11 b (done (tt {0}))) ≡ refused q → refused q ≡ ask 10 a (ask 11 b o)
       go false b e = let z : 10 ≡ q = cc in cc
       go true false e = let z : 11 ≡ q = cc in cc
-      go true true e = let z : _≡_ {A = ℕ} 0 1 = cc in absurd (omega arith)
+      go true true e = clash (cc)
 
 module _ (N : Netlist) (codes ws : List ℕ) (widths : ws ≡ N .inputs) where
   pub outcome-refused : {q : ℕ} → refused q ≡ codesAsked ws codes → refused q ≡ checkOutcome codes N

@@ -21,6 +21,7 @@ use Rattle.netlist.proofs.Accepted.{accepted}
 use Rattle.netlist.proofs.Answering.{call-refused, call-goes-on}
 use Rattle.netlist.proofs.Questions.{done-same, ask-done, andThen-done}
 use Rattle.netlist.proofs.LeakSearch.{none-clean, found-lowest}
+use Rattle.netlist.proofs.Tests.{clash}
 use Rattle.checker.proofs.Calling.{shorter-long}
 use Rattle.read_header.specs.declared.HeaderNumbers.{HeaderNumbers}
 use Rattle.read_netlist.specs.Whole.{ReadAt}
@@ -100,10 +101,10 @@ module _ (s : Sizes) (text codes ws o r g w b z s0 s1 s2 s3 p : List ℕ) where
 
   no-leak : (n : ℕ) (f : Option Found) → none ≡ listed n f → f ≡ none
   no-leak n none e = refl
-  no-leak n (some f) e = let z : _≡_ {A = ℕ} 0 1 = cc in absurd (omega arith)
+  no-leak n (some f) e = clash (cc)
 
   some-leak : {P : Type 0} (n : ℕ) (f : Option Found) {l : WideLeak} → some l ≡ listed n f → ((x : Found) → f ≡ some x → P) → P
-  some-leak n none e k = let z : _≡_ {A = ℕ} 0 1 = cc in absurd (omega arith)
+  some-leak n none e k = clash (cc)
   some-leak n (some f) e k = k f refl
 
   wires-judged : (v : WideVerdict) (is : List ℕ) (N : Netlist) → toldOf v is ≡ listed (length codes) (leak N codes) → WiresJudged N codes v

@@ -20,7 +20,7 @@ use Rattle.netlist.proofs.Answering.{take-sets}
 use Rattle.netlist.proofs.Tests.{clash}
 use Rattle.netlist.proofs.Questions.{done-same}
 use Rattle.netlist.proofs.Masking.{output-codes-length}
-use Rattle.mask_pass.proofs.Made.{made}
+use Rattle.mask_twins.proofs.Made.{made}
 use Rattle.mask_text.specs.Whole.{MaskAnswers}
 use Rattle.mask.specs.Promise.{call}
 use Rattle.program_text.specs.Front.{Front}

@@ -23,8 +23,8 @@ use Rattle.old_form.specs.declared.Dialect.{Dialect}
 use Rattle.old_form.specs.declared.Dialect.the-variants.{Fashion, Old}
 use Rattle.old_form.specs.OldWrite.{writeOld}
 use Rattle.old_form.specs.Dialects.{readIn}
-use Rattle.write_gates.specs.Header.{headerTextIn}
-use Rattle.write_gates.proofs.Headers.{header-gates, old-header-gates}
+use Rattle.write_header.specs.Header.{headerTextIn}
+use Rattle.write_header.proofs.Headers.{header-gates, old-header-gates}
 use Rattle.read_header.specs.declared.HeaderNumbers.{HeaderNumbers}
 use Rattle.read_netlist.specs.Whole.{ReadOf}
 use Rattle.write_netlist.specs.Form.{formTextIn}

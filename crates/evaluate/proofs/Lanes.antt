@@ -9,9 +9,10 @@ use lib.Pow.{shr-shr}
 use mir.Val.{boolByte}
 use Rattle.netlist.specs.Eval.{differs}
 use Rattle.netlist.specs.Leak.{bit}
+use Rattle.netlist.specs.Lists.{below}
 use Rattle.netlist.proofs.Tests.{both}
 use Rattle.evaluate.specs.Lane.{lane}
-use Rattle.netlist.proofs.Codes.{below, below-at, same, same-eq}
+use Rattle.netlist.proofs.Codes.{below-at, same, same-eq}
 
 -- an operation on words that works digit by digit, as f does on digits and g on bits
 module _ (op f : ℕ → ℕ → ℕ) (g : Bool → Bool → Bool)

@@ -10,7 +10,7 @@ use borrow.Author.Tests.{ltb-true, ltb-false, lt-ltb, le-ltb}
 use lib.ListN.{length, getD, set, replicate, drop-of-length-le}
 use lib.Seq.{getD-set-same}
 use Rattle.netlist.specs.Table.{Tables, gatesOf, Wired}
-use Rattle.netlist.proofs.Tests.{onBool}
+use Rattle.netlist.proofs.Tests.{onBool, clash}
 use Rattle.netlist.proofs.Puts.{length-gates}
 use Rattle.clear.proofs.Laid.{Laid, laid-all}
 use Rattle.gate_table.specs.declared.Parts.{Parts}
@@ -72,7 +72,7 @@ idle-place o n place u e =
     (λ z. ltb-false place n z)
   where
     false-true : false ≡ true → ⊥
-    false-true f = let z : _≡_ {A = ℕ} 0 1 = cc in omega arith
+    false-true f = clash (cc)
 
 module _ {t : Tables} {count : ℕ} {codes wanted way : List ℕ} {place least : ℕ} {best u₀ b₀ : List ℕ} where
   pub turn-idle : (r : Step) {x : _} → x ≡ idleAt (t .operands) (length codes) place u₀ → x ≡ true → r .stop ≡ suc (place - length codes) → r .least ≡ least

@@ -17,8 +17,8 @@ use Rattle.netlist.specs.Table.{Tables}
 use Rattle.netlist.proofs.Answering.{answers-as, answers-refused}
 use Rattle.netlist.proofs.Puts.{length-gates}
 use Rattle.netlist.proofs.Size.{roomy-small}
-use Rattle.write_gates.specs.Header.{headerText}
-use Rattle.write_gates.proofs.Headers.{header-gates}
+use Rattle.write_header.specs.Header.{headerText}
+use Rattle.write_header.proofs.Headers.{header-gates}
 use Rattle.write_netlist.specs.Form.{formText}
 use Rattle.aiger.specs.Call.{readAiger, aigerCall}
 use Rattle.aiger.specs.Delivered.{Delivered}

@@ -1,8 +1,5 @@
 // Gates as records, in lists that a caller lends: a gate alone, and a source gate with where its result stands in the masked netlist.
 // The kinds are those of `gate_table`; a gate of one operand has 0 as its second, and the operand of EQ is its constant.
-ghost use mathlib.Core.Path.{_≡_};
-ghost use lib.ListN.{length, getD};
-ghost use Rattle.gate_records.specs.Records.{blankSource};
 
 // One gate.
 #[repr(C)]

@@ -1,7 +1,6 @@
 -- A gate's two entries, taken apart.
-use Prim.Native.Nat.{ℕ, _/_, _%_, _<_}
-use mathlib.Core.Path.{_≡_, sym, ap}
-use native.Mathlib.Omega.{arith}
+use Prim.Native.Nat.{ℕ, _/_, _%_}
+use mathlib.Core.Path.{_≡_, ap}
 use Rattle.netlist.specs.Table.{half, gateIn, Named}
 use Rattle.gate_table.specs.declared.Parts.{Parts}
 use Rattle.gate_table.specs.Parts.{partsOf, gateBy, Within}

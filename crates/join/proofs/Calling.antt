@@ -24,8 +24,8 @@ use Rattle.netlist.proofs.Tests.{clash, both, true-T, isTrue, same-equal}
 use Rattle.netlist.proofs.Questions.{done-same, ask-done}
 use Rattle.netlist.proofs.Puts.{length-gates}
 use Rattle.netlist.proofs.Answering.{answers-as, answers-refused, call-refused, call-goes-on, table-at}
-use Rattle.write_gates.specs.Header.{headerText}
-use Rattle.write_gates.proofs.Headers.{header-gates}
+use Rattle.write_header.specs.Header.{headerText}
+use Rattle.write_header.proofs.Headers.{header-gates}
 use Rattle.read_header.specs.declared.HeaderNumbers.{HeaderNumbers}
 use Rattle.read_netlist.specs.declared.read.Reading.{Reading}
 use Rattle.read_netlist.specs.declared.read.Reading.the-variants as R

@@ -1,18 +1,16 @@
 -- What an accepted call delivers.
 use Prim.Native.Nat.{ℕ}
-use mathlib.Core.Path.{_≡_, sym, ap, _∙_}
+use mathlib.Core.Path.{_≡_, sym, _∙_}
 use mathlib.Core.Bool.{Bool}
 use mathlib.Core.List.{List}
 use Rattle.netlist.specs.declared.Sizes.{Sizes}
 use Rattle.netlist.specs.Netlist.{Netlist, large}
 use Rattle.netlist.specs.Outcome.{done}
-use Rattle.netlist.specs.Eval.{outputsOf}
 use Rattle.netlist.specs.Read.{readNetlist}
 use Rattle.netlist.proofs.Questions.{done-same}
 use Rattle.netlist.proofs.Size.{roomy-large}
-use Rattle.joined.specs.Join.{join}
 use Rattle.joined.specs.Call.{joinCall}
-use Rattle.joined.specs.Block.{Block, BlockText, FromMask}
+use Rattle.joined.specs.Block.{Block, BlockText}
 use Rattle.joined.specs.Delivered.{Delivered}
 use Rattle.joined.proofs.Runs.{joined-outputs}
 use Rattle.joined.proofs.Calls.{joined, call-seam, joined-reads}

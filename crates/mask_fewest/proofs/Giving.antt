@@ -17,7 +17,7 @@ use Rattle.netlist.specs.Write.{writeNetlist}
 use Rattle.netlist.specs.Mask.{maskNetlist}
 use Rattle.netlist.specs.Services.{maskedText, deliverOutcome, holds, Answers}
 use Rattle.netlist.specs.Table.{Tables, tables, Wired}
-use Rattle.netlist.proofs.Tests.{both, onBool}
+use Rattle.netlist.proofs.Tests.{both, onBool, clash}
 use Rattle.netlist.proofs.Puts.{wired-same, length-gates}
 use Rattle.mask_text.specs.Whole.{MaskAnswers, Source as MaskSource}
 use Rattle.fewest.specs.Choice.{Agree, ways, choice, chosenGates}
@@ -108,7 +108,7 @@ two-set (x ∷ []) a b h = absurd (omega arith)
 two-set (x ∷ y ∷ ts) a b h = refl
 
 refused-done : (q n : ℕ) → Refused q ≡ Done n → ⊥
-refused-done q n e = let z : _≡_ {A = ℕ} 0 1 = cc in omega arith
+refused-done q n e = clash (cc)
 
 room-is : (a b c d : Bool) → b ≡ true → d ≡ true → a && b && c && d ≡ a && c
 room-is true b true d p q = rw (p, q) refl

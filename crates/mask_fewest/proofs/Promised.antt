@@ -24,7 +24,7 @@ use Rattle.netlist.proofs.Questions.{done-same, andThen-done}
 use Rattle.netlist.proofs.Answering.{answers-refused, take-sets, call-refused, call-goes-on}
 use Rattle.read_header.specs.declared.HeaderNumbers.{HeaderNumbers}
 use Rattle.read_netlist.specs.Whole.{ReadAt}
-use Rattle.mask_pass.proofs.Made.{codes-length}
+use Rattle.mask_twins.proofs.Made.{codes-length}
 use Rattle.mask_text.specs.Whole.{Source as MaskSource}
 use Rattle.mask.specs.Fronts.{Read}
 use Rattle.mask.proofs.Promised.{read-of, source-of, masked-formed}

@@ -16,8 +16,9 @@ use Rattle.write_buffer.specs.Wrote.{Wrote, top}
 use Rattle.write_gates.specs.Gates.{WroteGates}
 use Rattle.write_buffer.proofs.Wrote.{wrote-none, wrote-then, wrote-as}
 use Rattle.write_gates.proofs.Gates.{gates-none, gates-then, gates-as}
-use Rattle.mask_pass.specs.State.{twinsOf, codesOf}
-use Rattle.mask_pass.proofs.States.{twins-length}
+use Rattle.mask_twins.specs.State.{twinsOf}
+use Rattle.mask_twins.proofs.States.{twins-length}
+use Rattle.mask_pass.specs.State.{codesOf}
 
 out-end : (n c : ℕ) (ts : List Twin) → outGates n c ts [] ≡ []
 out-end n c [] = refl

@@ -14,9 +14,11 @@ use Rattle.netlist.proofs.OutputGates.{length-outGates, length-outCodes}
 use Rattle.write_gates.specs.Gates.{WroteGates}
 use Rattle.write_gates.proofs.Gates.{gates-then, gates-as}
 use Rattle.mask_pass.specs.declared.gates.Next.{Next}
-use Rattle.mask_pass.specs.State.{twinsOf, stateOf, codesOf, Started, WroteAll}
+use Rattle.mask_twins.specs.State.{twinsOf, stateOf, Started}
+use Rattle.mask_twins.proofs.States.{twins-length}
+use Rattle.mask_twins.proofs.Finishes.{begun, finished}
+use Rattle.mask_pass.specs.State.{codesOf, WroteAll}
 use Rattle.mask_pass.specs.Pass.{WrotePass, Counted}
-use Rattle.mask_pass.proofs.States.{twins-length}
 use Rattle.mask_pass.proofs.PublicBits.{past-length}
 use Rattle.mask_pass.proofs.Outputs.{out-codes}
 
@@ -38,22 +40,6 @@ counted cs vs S gs c ws es first last k small =
     let many = lasts vs ws es k small in
     let out = length-outGates (length cs) c T vs many in
     simp length-append (omega arith)
-
-abbrev stateWith : ℕ → List Twin → State
-stateWith c ts = record { next = c; twins = ts }
-
-module _ (t : Tables) (count W : ℕ) {m : ℕ} (cs : List ℕ) (N : Netlist) (s : Holds t count W (length cs) m N) where
-  begun : {c : ℕ} {ws es : List ℕ} → Started (length cs + 5) cs W c ws es → stateOf c ws es ≡ start N cs
-  begun {c} {ws} {es} h =
-      let next : c ≡ start N cs .next = h .next ∙ ap (λ (n : ℕ). pastPublics (n + 5) cs) (sym (s .ins)) in
-      let twins : twinsOf ws es ≡ start N cs .twins
-      = h .twins ∙ ap₂ (λ (a b : ℕ). inputTwins (b + 5) 0 cs ++ replicate (a - b) noTwin) (sym (s .wires)) (sym (s .ins)) in
-      λ i. stateWith (next i) (twins i)
-
-  -- the state behind all source gates
-  pub finished : {c₁ c : ℕ} {ws₁ es₁ : List ℕ} (ws es : List ℕ) → Started (length cs + 5) cs W c₁ ws₁ es₁
-      → stateOf c ws es ≡ advanceAll (stateOf c₁ ws₁ es₁) (gatesOf t count) → stateOf c ws es ≡ finish N cs
-  finished ws es h a = a ∙ ap₂ advanceAll (begun h) (sym (s .gates))
 
 module _ (t : Tables) (count W : ℕ) (cs vs ws es : List ℕ) (N : Netlist) (s : Holds t count W (length cs) (length vs) N) where
   pub pass-count : {c : ℕ} → length vs ≤ W → length ws ≡ W → length es ≡ W → stateOf c ws es ≡ finish N cs

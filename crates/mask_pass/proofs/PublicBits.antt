@@ -1,6 +1,6 @@
--- The inputs walked: the gates of the public bits, and the wire behind them.
+-- The gates of the public bits.
 use Prim.Native.Nat.{ℕ, zero, suc, _+_, _≤_, _<_}
-use mathlib.Core.Path.{_≡_, refl, sym, ap, ap₂, _∙_}
+use mathlib.Core.Path.{_≡_, sym, ap, ap₂, _∙_}
 use mathlib.Core.List.{List, [], _∷_, _++_, append-assoc, append-nil}
 use native.Mathlib.Nat.{not-suc-le-zero, le-of-suc-le-suc}
 use native.Mathlib.Numerals.{add-one}
@@ -8,19 +8,12 @@ use native.Mathlib.Omega.{arith}
 use lib.ListN.{length, getD, take}
 use lib.Seq.{take-all}
 use Rattle.netlist.specs.declared.Gate.{Gate}
-use Rattle.netlist.specs.Mask.{isPublic, publicGate, publicGates, inputTwin, inputTwins, pastPublic, pastPublics, noTwin}
+use Rattle.netlist.specs.Mask.{isPublic, publicGate, publicGates, pastPublic, pastPublics}
 use Rattle.netlist.proofs.Tests.{onBool}
 use Rattle.write_buffer.specs.Wrote.{top}
 use Rattle.write_gates.specs.Gates.{WroteGates}
 use Rattle.write_gates.proofs.Gates.{gates-none, gates-then, gates-as}
-
-past-more : (c : ℕ) (es : List ℕ) (i : ℕ) → i < length es → pastPublics c (take (suc i) es) ≡ pastPublic (pastPublics c (take i es)) (getD es i 0)
-past-more c [] i h = absurd (not-suc-le-zero h)
-past-more c (e ∷ es) zero h = refl
-past-more c (e ∷ es) (suc i) h = past-more (pastPublic c e) es i (le-of-suc-le-suc h)
-
-past-most : (c e : ℕ) → pastPublic c e ≤ c + 1
-past-most c e = onBool (isPublic e) (λ z. rw z (omega arith)) (λ z. rw z (omega arith))
+use Rattle.mask_twins.proofs.PublicWires.{Passed, passed-none, passed-more}
 
 publics-more : (n c k : ℕ) (es : List ℕ) (i : ℕ) → i < length es
     → publicGates n c k (take i es) ++ publicGate n (pastPublics c (take i es)) (k + i) (getD es i 0) ≡ publicGates n c k (take (suc i) es)
@@ -36,14 +29,6 @@ publics-more n c k (e ∷ es) (suc i) h =
     (ap (λ (w : ℕ). publicGates n d (k + 1) (take i es) ++ publicGate n (pastPublics d (take i es)) w (getD es i 0)) z
     ∙ publics-more n d (k + 1) es i (le-of-suc-le-suc h))
 
-pub input-at : (c k : ℕ) (es : List ℕ) (i : ℕ) → i < length es
-    → inputTwin (pastPublics c (take i es)) (k + i) (getD es i 0) ≡ getD (inputTwins c k es) i noTwin
-input-at c k [] i h = absurd (not-suc-le-zero h)
-input-at c k (e ∷ es) zero h = let z : k + 0 ≡ k = omega arith in ap (λ (w : ℕ). inputTwin c w e) z
-input-at c k (e ∷ es) (suc i) h =
-    let z : k + suc i ≡ k + 1 + i = omega arith in
-    ap (λ (w : ℕ). inputTwin (pastPublics (pastPublic c e) (take i es)) w (getD es i 0)) z ∙ input-at (pastPublic c e) (k + 1) es i (le-of-suc-le-suc h)
-
 -- the next wire moves by the gates
 pub past-length : (n c k : ℕ) (es : List ℕ) → pastPublics c es ≡ c + length (publicGates n c k es)
 past-length n c k [] = omega arith
@@ -52,30 +37,7 @@ past-length n c k (e ∷ es) =
     (λ z. rw z (omega (arith, past-length n (c + 1) (k + 1) es)))
     (λ z. rw z (past-length n c (k + 1) es))
 
--- the first i inputs were passed: the next input is w, the next wire v
-pub record Passed (c : ℕ) (cs : List ℕ) (v w i : ℕ) : Type 0 where
-  pub passed : i ≤ length cs
-  pub input : w ≡ i
-  pub next : v ≡ pastPublics c (take i cs)
-  pub most : v ≤ c + i
-
-pub passed-none : (c : ℕ) (cs : List ℕ) → Passed c cs c 0 0
-passed-none c cs = record { passed = omega arith; input = refl; next = refl; most = omega arith }
-
-pub passed-more : {c v v′ w i : ℕ} {cs : List ℕ} → Passed c cs v w i → i < length cs → v′ ≡ pastPublic v (getD cs i 0) → Passed c cs v′ (w + 1) (i + 1)
-passed-more {c} {v} {i = i} {cs = cs} h l p =
-    let e : ℕ = getD cs i 0 in
-    record {
-      passed = omega arith;
-      input = omega (arith, h .input);
-      next = p ∙ ap (λ (u : ℕ). pastPublic u e) (h .next) ∙ sym (ap (λ (j : ℕ). pastPublics c (take j cs)) (add-one i) ∙ past-more c cs i l);
-      most = omega (arith, h .most, past-most v e);
-    }
-
-pub passed-all : {c v w i : ℕ} {cs : List ℕ} → Passed c cs v w i → length cs ≤ i → v ≡ pastPublics c cs
-passed-all {c} {i = i} {cs = cs} h l = h .next ∙ ap (pastPublics c) (take-all i cs l)
-
--- their gates were written
+-- the gates of the first i inputs were written
 pub record Opened (e : List ℕ) (at n c : ℕ) (cs x : List ℕ) (r v w i : ℕ) : Type 0 where
   pub inputs : Passed c cs v w i
   pub wrote : WroteGates e at (publicGates n c 0 (take i cs)) x r

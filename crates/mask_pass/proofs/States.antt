@@ -1,16 +1,15 @@
--- The state in its two tables, and what a source gate makes of it.
-use Prim.Native.Nat.{ℕ, zero, suc, _+_, _/_, _%_, _≤_, _<_}
+-- What a source gate makes of the state.
+use Prim.Native.Nat.{ℕ, _+_, _/_, _%_, _≤_, _<_}
 use mathlib.Core.Path.{_≡_, refl, sym, ap, ap₂, _∙_}
 use mathlib.Core.List.{List, [], _∷_, _++_, append-assoc, append-nil}
-use native.Mathlib.Nat.{not-suc-le-zero, le-of-suc-le-suc, suc-inj}
 use native.Mathlib.Omega.{arith}
-use lib.ListN.{length, getD, set}
+use lib.ListN.{length, set}
 use Rattle.netlist.specs.declared.Gate.{Gate}
 use Rattle.netlist.specs.declared.Twin.{Twin}
 use Rattle.gate_table.specs.declared.Parts.{Parts}
 use Rattle.gate_table.specs.Parts.{partsOf}
 use Rattle.netlist.specs.Table.{Tables, half, gateOf, gateIn, gateAt, gatesOf}
-use Rattle.netlist.specs.Mask.{State, twin, noTwin, emit, resultTwin, advance, emitAll, advanceAll}
+use Rattle.netlist.specs.Mask.{State, twin, emit, resultTwin, advance, emitAll, advanceAll}
 use Rattle.netlist.proofs.Puts.{gates-more}
 use Rattle.write_buffer.specs.Wrote.{top}
 use Rattle.write_gates.proofs.Gates.{gates-none, gates-then, gates-as}
@@ -20,31 +19,9 @@ use Rattle.mask_gate.specs.Emitted.{WroteKind}
 use Rattle.mask_rule.proofs.ByKind.{emit-of, twin-of, result-of}
 use Rattle.mask_gate.proofs.Emits.{kind-small}
 use Rattle.mask_pass.specs.declared.gates.Next.{Next}
-use Rattle.mask_pass.specs.State.{twinsOf, stateOf, WroteStep, WroteAll}
-
-abbrev pub tw : ℕ → ℕ → Twin
-tw w e = record { wire = w; code = e }
-
-abbrev stateWith : ℕ → List Twin → State
-stateWith c ts = record { next = c; twins = ts }
-
-pub twins-length : (ws es : List ℕ) → length es ≡ length ws → length (twinsOf ws es) ≡ length ws
-twins-length [] es l = refl
-twins-length (w ∷ ws) [] l = l
-twins-length (w ∷ ws) (e ∷ es) l = ap suc (twins-length ws es (suc-inj l))
-
-pub twins-at : (ws es : List ℕ) (i : ℕ) → i < length ws → length es ≡ length ws → tw (getD ws i 0) (getD es i 0) ≡ getD (twinsOf ws es) i noTwin
-twins-at [] es i h l = absurd (not-suc-le-zero h)
-twins-at (w ∷ ws) [] i h l = absurd (omega arith)
-twins-at (w ∷ ws) (e ∷ es) zero h l = refl
-twins-at (w ∷ ws) (e ∷ es) (suc i) h l = twins-at ws es i (le-of-suc-le-suc h) (suc-inj l)
-
-pub twins-set : (ws es : List ℕ) (i w e : ℕ) → twinsOf (set ws i w) (set es i e) ≡ set (twinsOf ws es) i (tw w e)
-twins-set [] es i w e = refl
-twins-set (v ∷ ws) [] zero w e = refl
-twins-set (v ∷ ws) [] (suc i) w e = refl
-twins-set (v ∷ ws) (f ∷ es) zero w e = refl
-twins-set (v ∷ ws) (f ∷ es) (suc i) w e = ap (λ (l : List Twin). tw v f ∷ l) (twins-set ws es i w e)
+use Rattle.mask_twins.specs.State.{twinsOf, stateOf}
+use Rattle.mask_twins.proofs.States.{twins-set, stateWith, advanceAll-more}
+use Rattle.mask_pass.specs.State.{WroteStep, WroteAll}
 
 -- one step: with the operands' twins the gates are written, and the result's twin is stored
 step-made : {e x : List ℕ} {at n c : ℕ} {R : Emitted} {A B : Twin} (ws es : List ℕ) (o r : ℕ) → A ≡ twin (stateOf c ws es) (o % half) → B ≡ twin (stateOf c ws es) (o / half)
@@ -77,10 +54,6 @@ emitAll-more n S [] g = append-nil (emit n S g)
 emitAll-more n S (h ∷ gs) g =
     ap (λ (l : List Gate). emit n S h ++ l) (emitAll-more n (advance S h) gs g)
     ∙ sym (append-assoc (emit n S h) (emitAll n (advance S h) gs) (emit n (advanceAll (advance S h) gs) g))
-
-advanceAll-more : (S : State) (gs : List Gate) (g : Gate) → advanceAll S (gs ++ (g ∷ [])) ≡ advance (advanceAll S gs) g
-advanceAll-more S [] g = refl
-advanceAll-more S (h ∷ gs) g = advanceAll-more (advance S h) gs g
 
 -- the first i gates of m were masked; the tables have kept their length W
 pub record Emitting (e : List ℕ) (at n : ℕ) (t : Tables) (m : ℕ) (S₀ : State) (x : List ℕ) (r c W : ℕ) (ws es : List ℕ) (i : ℕ) : Type 0 where

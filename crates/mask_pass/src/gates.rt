@@ -4,7 +4,8 @@ ghost use Prim.Native.Nat.{_+_, _*_, _<_, _^_};
 ghost use lib.ListN.{length};
 ghost use Rattle.write_wires.specs.Packed.{WordTable};
 ghost use Rattle.netlist.specs.Table.{gateIn, tables, Named, Wired};
-ghost use Rattle.mask_pass.specs.State.{stateOf, WroteStep, WroteAll};
+ghost use Rattle.mask_twins.specs.State.{stateOf};
+ghost use Rattle.mask_pass.specs.State.{WroteStep, WroteAll};
 
 // The next place in the buffer, and the next wire.
 pub struct Next {
@@ -32,8 +33,8 @@ fn step(
 {
     let g = gate_table::split(operands, results);
     let result = g.result;
-    let a = crate::twins::twin(wire, code, g.left);
-    let b = crate::twins::twin(wire, code, g.right);
+    let a = mask_twins::twin(wire, code, g.left);
+    let b = mask_twins::twin(wire, code, g.right);
     let made = mask_gate::emit(d, out, at, n, c, g.kind as u64, a, b);
     let t = made.twin;
     wire[result] = t.wire;

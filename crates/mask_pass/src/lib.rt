@@ -3,7 +3,6 @@ pub mod count;
 pub mod gates;
 pub mod outs;
 mod publics;
-mod twins;
 
 use crate::gates::Next;
 ghost use Prim.Native.Nat.{_<_, _^_};
@@ -13,7 +12,8 @@ ghost use Rattle.netlist.specs.Netlist.{Netlist};
 ghost use Rattle.netlist.specs.Mask.{maskGates, maskNetlist};
 ghost use Rattle.netlist.specs.Table.{tables, Holds};
 ghost use Rattle.write_gates.specs.Gates.{WroteGates};
-ghost use Rattle.mask_pass.specs.Pass.{Ready, WrotePass};
+ghost use Rattle.mask_twins.specs.Place.{Ready};
+ghost use Rattle.mask_pass.specs.Pass.{WrotePass};
 
 // The three gates that always follow the inputs: the sum, the product and the OR of the masks.
 fn masks(d: &[u64], out: &mut [u8], at: usize, n: u32) -> usize
@@ -48,7 +48,7 @@ pub fn pass(
         (now (wanted .entry)) (now (out .exit)) r (now (code .exit))) ⌝ }
 {
     let n = codes.len() as u32;
-    let next = crate::twins::start(n + 5, codes, wire, code);
+    let next = mask_twins::inputs::start(n + 5, codes, wire, code);
     let second = masks(d, out, at, n);
     let third = crate::publics::publics(d, out, second, n, n + 5, codes);
     let t = crate::gates::gates(d, out, third, n, next, operands, results, count, wire, code);

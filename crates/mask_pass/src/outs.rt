@@ -10,7 +10,8 @@ ghost use Rattle.write_wires.specs.Packed.{WordTable};
 ghost use Rattle.netlist.specs.Mask.{outGate, outGates, outCode};
 ghost use Rattle.write_buffer.specs.Wrote.{Wrote};
 ghost use Rattle.write_gates.specs.Gates.{WroteGates};
-ghost use Rattle.mask_pass.specs.State.{twinsOf, codesOf};
+ghost use Rattle.mask_twins.specs.State.{twinsOf};
+ghost use Rattle.mask_pass.specs.State.{codesOf};
 
 // One output bit's gate, at wire c.
 fn one(d: &[u64], out: &mut [u8], at: usize, n: u32, c: u32, t: Twin, want: u8) -> usize
@@ -51,7 +52,7 @@ pub fn outs(
     let mut next = c;
     let mut i = 0;
     while i < wanted.len() {
-        let t = crate::twins::twin(wire, code, from + i);
+        let t = mask_twins::twin(wire, code, from + i);
         place = one(d, out, place, n, next, t, wanted[i]);
         next += 1;
         i += 1;

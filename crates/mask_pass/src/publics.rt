@@ -1,21 +1,9 @@
 // The gates of the public bits: each such input XOR m0, in input order. All others arrive masked and have none.
-ghost use mathlib.Core.Path.{_≡_};
 ghost use Prim.Native.Nat.{_+_, _<_, _^_};
 ghost use lib.ListN.{length};
 ghost use Rattle.write_wires.specs.Packed.{WordTable};
-ghost use Rattle.netlist.specs.Mask.{publicGate, publicGates, pastPublic};
+ghost use Rattle.netlist.specs.Mask.{publicGate, publicGates};
 ghost use Rattle.write_gates.specs.Gates.{WroteGates};
-
-// The next wire behind an input.
-pub fn past(c: u32, e: u8) -> u32
-    requires { ⌜ c < 2 ^ 31 ⌝ }
-    ensures { λ r. ⌜ r ≡ pastPublic c e ⌝ }
-{
-    if e != 0 {
-        return c;
-    }
-    c + 1
-}
 
 // The gate of input w, where it is public, at wire c.
 fn one(d: &[u64], out: &mut [u8], at: usize, n: u32, c: u32, w: u32, e: u8) -> usize
@@ -41,7 +29,7 @@ pub fn publics(d: &[u64], out: &mut [u8], at: usize, n: u32, c: u32, codes: &[u8
     while i < codes.len() {
         let e = codes[i];
         place = one(d, out, place, n, next, w, e);
-        next = past(next, e);
+        next = mask_twins::inputs::past(next, e);
         w += 1;
         i += 1;
     }

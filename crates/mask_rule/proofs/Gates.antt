@@ -10,7 +10,7 @@ use borrow.Author.Tests.{eq-eqb, ne-eqb}
 use Rattle.netlist.specs.declared.Gate.{Gate}
 use Rattle.netlist.specs.declared.Gate.the-variants.{Xor, Inv, Eqw, Eq}
 use Rattle.netlist.specs.declared.Twin.{Twin}
-use Rattle.netlist.specs.Mask.{emit, rows, rowGates, changes, changeGates, xorGates, andGates, changed, past, maskWire, after}
+use Rattle.netlist.specs.Mask.{emit, rows, rowGates, changes, changeGates, andGates, changed, past, maskWire, after}
 use Rattle.netlist.specs.Table.{gateOf}
 use Rattle.netlist.specs.Leak.{bit}
 use Rattle.netlist.proofs.Tests.{onBool}

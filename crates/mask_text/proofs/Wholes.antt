@@ -21,15 +21,16 @@ use Rattle.netlist.proofs.Answering.{answers-refused, take-sets}
 use Rattle.netlist.proofs.Puts.{wired-same}
 use Rattle.netlist.proofs.Size.{formed-lines}
 use Rattle.netlist.proofs.Tests.{onBool}
-use Rattle.write_buffer.specs.Wrote.{Wrote, cap, top}
-use Rattle.write_gates.specs.Header.{headerText}
+use Rattle.write_buffer.specs.Wrote.{Wrote, top}
+use Rattle.write_header.specs.Header.{headerText}
 use Rattle.write_buffer.proofs.Wrote.{wrote-then, wrote-as}
 use Rattle.write_gates.specs.Room.{longestLine}
 use Rattle.write_gates.proofs.Delivering.{ample-holds}
-use Rattle.write_gates.proofs.Headers.{header-gates}
+use Rattle.write_header.proofs.Headers.{header-gates}
 use Rattle.mask_pass.specs.declared.gates.Next.{Next}
 use Rattle.mask_pass.specs.State.{codesOf}
-use Rattle.mask_pass.specs.Pass.{Ready, WrotePass, Counted}
+use Rattle.mask_twins.specs.Place.{Ready}
+use Rattle.mask_pass.specs.Pass.{WrotePass, Counted}
 use Rattle.mask_text.specs.Whole.{Source, Numbers, WroteText, Filled, MaskAnswers}
 
 text-made : (M : Netlist) (g w : ℕ) (ins outs : List ℕ) → g ≡ length (M .gates) → w ≡ M .wires → ins ≡ M .inputs → outs ≡ M .outputs

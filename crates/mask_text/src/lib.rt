@@ -13,7 +13,7 @@ ghost use Rattle.netlist.specs.Mask.{maskNetlist};
 ghost use Rattle.netlist.specs.Table.{tables};
 ghost use Rattle.netlist.specs.Services.{maskedText, deliverOutcome};
 ghost use Rattle.write_buffer.specs.Wrote.{top};
-ghost use Rattle.mask_pass.specs.Pass.{Ready};
+ghost use Rattle.mask_twins.specs.Place.{Ready};
 ghost use Rattle.mask_text.specs.Whole.{Source, Numbers, WroteText, Filled, MaskAnswers};
 
 // The masked text, with the numbers of its line one.
@@ -41,7 +41,7 @@ fn write(
         → WroteText (now (out .entry)) (maskNetlist N (now (codes .entry)) (now (wanted .entry))) (now (wanted .entry)) (now (out .exit))
         (now (code .exit)) r) ⌝ }
 {
-    let at = write_gates::header::header(out, 0, gates, wires, ins, outs);
+    let at = write_header::header(out, 0, gates, wires, ins, outs);
     let t = mask_pass::pass(
         d,
         out,
@@ -129,7 +129,7 @@ fn holds(
         → r ≡ leb (length (writeNetlist (maskNetlist N (now (codes .entry)) (now (wanted .entry)) .netlist))) room) ⌝ }
 {
     let mut none = [0u8; 1];
-    let header = write_gates::header::header(&mut none, 0, gates, wires, ins, outs);
+    let header = write_header::header(&mut none, 0, gates, wires, ins, outs);
     if write_gates::room::ample(room, header, gates, wires) {
         return true;
     }

@@ -1,12 +1,12 @@
 -- What the questions make sure of in the older dialect: the netlist of an accepted text is well formed and has an old form.
 use Prim.Native.Nat.{ℕ, suc, _-_, _≤_}
-use mathlib.Core.Path.{_≡_, refl, sym, ap, _∙_, subst}
+use mathlib.Core.Path.{_≡_, refl, ap, _∙_, subst}
 use mathlib.Core.Bool.{Bool, true, false, cond, _&&_}
 use mathlib.Core.List.{List, [], _∷_, map}
 use mathlib.Core.Option.{Option, none, some}
 use native.Mathlib.Omega.{arith}
 use lib.Dec.{T, eqb, leb, leb→le, eqb→eq, lit≤}
-use lib.ListN.{length, drop, length-map}
+use lib.ListN.{length, drop}
 use borrow.Author.Tests.{le-leb, eqb-false}
 use Rattle.netlist.specs.declared.Gate.{Gate}
 use Rattle.netlist.specs.declared.Limits.{Limits}
@@ -16,9 +16,9 @@ use Rattle.netlist.specs.Netlist.{Netlist, result}
 use Rattle.netlist.specs.Number.{number}
 use Rattle.netlist.specs.Outcome.{Outcome, done, ask, given, andThen}
 use Rattle.netlist.specs.Header.{Header, numbers, makeHeader, header, withinLimits}
-use Rattle.netlist.specs.Read.{bytesAllowed, countsAgree, operandsGiven, isGiven, resultGood, gateLines, netlistOf, readGates, gatesGood, WellFormed}
+use Rattle.netlist.specs.Read.{bytesAllowed, countsAgree, operandsGiven, isGiven, resultGood, gateLines, netlistOf, readGates, gatesGood}
 use Rattle.netlist.specs.Write.{one}
-use Rattle.netlist.proofs.Tests.{both, pair, isTrue, true-T}
+use Rattle.netlist.proofs.Tests.{both, pair, true-T}
 use Rattle.netlist.proofs.Questions.{none-some, some-same, done-same, ask-done, given-done, cond-some, andThen-done}
 use Rattle.netlist.proofs.Lines.{Fits}
 use Rattle.netlist.proofs.HeaderFacts.{Widths, HeaderGood, header-good}

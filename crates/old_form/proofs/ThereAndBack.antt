@@ -1,6 +1,6 @@
 -- From one dialect to the other and back: the netlist stays the same.
 use Prim.Native.Nat.{ℕ}
-use mathlib.Core.Path.{_≡_, refl, sym, _∙_}
+use mathlib.Core.Path.{_≡_}
 use mathlib.Core.Bool.{true}
 use mathlib.Core.List.{List}
 use Rattle.netlist.specs.declared.Limits.{Limits}

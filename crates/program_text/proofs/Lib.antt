@@ -1,3 +1,4 @@
 pub mod Files
 pub mod Printing
 pub mod Reporting
+pub mod Fronts

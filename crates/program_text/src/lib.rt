@@ -1,8 +1,9 @@
 // What the programs make of a list file's bytes, and the lines that they print.
 ghost use mathlib.Core.Path.{_≡_};
 ghost use mathlib.Core.List.{[], _∷_, _++_};
-ghost use Prim.Native.Nat.{_+_, _*_};
+ghost use Prim.Native.Nat.{_+_, _*_, min};
 ghost use lib.ListN.{length, take};
+ghost use Rattle.io.specs.Counts.{Counts};
 ghost use Rattle.netlist.specs.Text.{space, lf};
 ghost use Rattle.netlist.specs.Number.{decimal};
 ghost use Rattle.netlist.specs.Programs.{listBytes, entry as entryOf, listFile, printList, printRefused, printClean, printLeak};
@@ -32,8 +33,9 @@ fn entry(b: u8) -> u8
 }
 
 // How many bytes of a buffer its first n are.
-fn front(buffer: &[u8], n: usize) -> usize
-    ensures { λ r. ⌜ Front (now (buffer .entry)) r (take n (now (buffer .entry))) ⌝ }
+pub fn front(buffer: &[u8], n: usize) -> usize
+    ensures { λ r. ⌜ (r ≡ min n (length (now (buffer .entry)))) × Front (now (buffer .entry)) r (take n (now (buffer .entry))) ⌝ }
+    ensures { λ r. ⌜ Counts r (now (buffer .entry)) ⌝ }
 {
     if buffer.len() < n {
         return buffer.len();

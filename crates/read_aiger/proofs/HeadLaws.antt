@@ -13,7 +13,7 @@ use Rattle.netlist.specs.Lists.{ascii, sameBytes}
 use Rattle.netlist.specs.Number.{number, maxDigits}
 use Rattle.netlist.specs.Header.{consOption, numbers}
 use Rattle.netlist.specs.Outcome.{refused, done, ask}
-use Rattle.netlist.proofs.Tests.{All, empty, each, both-true, onBool}
+use Rattle.netlist.proofs.Tests.{All, empty, each, both-true, onBool, clash}
 use Rattle.netlist.proofs.Questions.{none-some, some-same}
 use Rattle.read_text.specs.declared.cursor.Cursor.{Cursor}
 use Rattle.aiger.specs.Lines.{fileLine, opens, Head, headOf, head, headGood}
@@ -30,7 +30,7 @@ use Rattle.read_aiger.proofs.NumberBound.{number-below}
 
 front : (w t : List ℕ) → sameBytes (take (length w) t) w ≡ true → t ≡ w ++ drop (length w) t
 front [] t e = refl
-front (b ∷ w) [] e = let z : _≡_ {A = ℕ} 0 1 = cc in absurd (omega arith)
+front (b ∷ w) [] e = clash (cc)
 front (b ∷ w) (a ∷ t) e =
     let p = both-true (eqb a b) (sameBytes (take (length w) t) w) e in
     ap (λ (x : ℕ). x ∷ t) (eqb-true a b (p .0)) ∙ ap (λ (u : List ℕ). b ∷ u) (front w t (p .1))

@@ -9,6 +9,7 @@ use lib.ListN.{take, drop}
 use Rattle.netlist.specs.declared.Gate.{Gate}
 use Rattle.netlist.specs.declared.Gate.the-variants as G
 use Rattle.netlist.specs.Number.{number}
+use Rattle.netlist.proofs.Tests.{clash}
 use Rattle.read_text.specs.declared.cursor.Cursor.{Cursor}
 use Rattle.read_text.specs.Line.{LineTaken, EndAt, WordAt, lineWords, nextWord, afterLine, isEmpty}
 use Rattle.read_text.specs.Answers.{NumberAt}
@@ -122,7 +123,7 @@ module _ (t : List ℕ) (at : ℕ) where
   last-more g h = line-not t at _ (go (lineWords (drop at t)) h)
     where
       go : (ws : List (List ℕ)) → isEmpty ws ≡ false → alone g ws ≡ none
-      go [] e = let z : _≡_ {A = ℕ} 0 1 = cc in absurd (omega arith)
+      go [] e = clash (cc)
       go (w ∷ ws) e = refl
 
   -- the line ends

@@ -12,7 +12,7 @@ use Rattle.read_text.specs.Answers.{NumberAt}
 use Rattle.read_text.proofs.AnswerLaws.{number-word, number-line, no-number}
 use Rattle.read_gate_line.specs.GateForm.{onNumber, counted, gateForm}
 use Rattle.read_gate_line.specs.GateAnswers.{LineIs}
-use Rattle.read_gate_line.specs.OperandAnswers.{OperandsAt, OperandsIs}
+use Rattle.read_gate_line.specs.OperandAnswers.{OperandsAt, OperandsIs, UsualIs}
 use Rattle.read_gate_line.specs.declared.gate.GateLine.{GateLine}
 use Rattle.read_gate_line.specs.declared.operands.Operands.{Operands}
 use Rattle.read_gate_line.specs.declared.operands.Operands.the-variants as O
@@ -27,6 +27,9 @@ module _ (t : List ℕ) (at : ℕ) where
 
   pub operands-not : (r : Operands) → r ≡ O.Not → OperandsIs t at r → gateForm (lineWords (drop at t)) ≡ none
   operands-not r e h = subst (OperandsIs t at) e h
+
+  pub usual-are : (r : Operands) (k : ℕ) (c : Cursor) → r ≡ O.Are k c → UsualIs t at r → OperandsAt t at k (c .at)
+  usual-are r k c e h = subst (UsualIs t at) e h
 
 -- ---- two numbers
 

@@ -24,3 +24,8 @@ pub record OperandsAt (t : List ℕ) (at k to : ℕ) : Type 0 where
 abbrev pub OperandsIs : List ℕ → ℕ → Operands → Type 0
 OperandsIs t at (O.Are k c) = OperandsAt t at k (c .at)
 OperandsIs t at O.Not = gateForm (lineWords (drop at t)) ≡ none
+
+-- where counts are told they are right; other counts may stand where none are told
+abbrev pub UsualIs : List ℕ → ℕ → Operands → Type 0
+UsualIs t at (O.Are k c) = OperandsAt t at k (c .at)
+UsualIs t at O.Not = Unit

@@ -7,8 +7,9 @@ use mathlib.Core.Option.{none, some}
 use native.Mathlib.Omega.{arith}
 use lib.ListN.{take, drop}
 use Rattle.netlist.specs.Number.{number}
+use Rattle.netlist.proofs.Tests.{clash}
 use Rattle.read_text.specs.Line.{nextWord, pastWord, lineWords, afterLine, isEmpty, WordAt, EndAt}
-use Rattle.read_text.specs.Answers.{EndIs, NumberAt, NumberIs}
+use Rattle.read_text.specs.Answers.{EndIs, NumberAt, NumberIs, DigitIs}
 use Rattle.read_text.specs.declared.cursor.Cursor.{Cursor}
 use Rattle.read_text.specs.declared.cursor.LineEnd.{LineEnd}
 use Rattle.read_text.specs.declared.cursor.LineEnd.the-variants as E
@@ -25,6 +26,9 @@ module _ (t : List ℕ) (at : ℕ) where
   pub number-not : (r : Number) → r ≡ N.Not → NumberIs t at r → number (nextWord (drop at t)) ≡ none
   number-not r e h = subst (NumberIs t at) e h
 
+  pub digit-is : (r : Number) (v : ℕ) (c : Cursor) → r ≡ N.Is v c → DigitIs t at r → NumberAt t at v (c .at)
+  digit-is r v c e h = let d : DigitIs t at (N.Is v c) = subst (DigitIs t at) e h in d .1
+
   pub end-is : (r : LineEnd) (c : Cursor) → r ≡ E.At c → EndIs t at r → EndAt t at (c .at)
   end-is r c e h = subst (EndIs t at) e h
 
@@ -35,7 +39,7 @@ module _ (t : List ℕ) (at : ℕ) where
 
 no-empty : (v : ℕ) → number [] ≡ some v → ⊥
 unfolding number
-no-empty v e = let z : _≡_ {A = ℕ} 0 1 = cc in omega arith
+no-empty v e = clash (cc)
 
 module _ (t : List ℕ) (at v to : ℕ) (n : NumberAt t at v to) where
   pub number-word : lineWords (drop at t) ≡ nextWord (drop at t) ∷ lineWords (drop to t)

@@ -1,17 +1,16 @@
 -- Which words are numbers, and the digits of a number.
-use Prim.Native.Nat.{ℕ, _+_, _-_, _^_, _<_, _≤_}
+use Prim.Native.Nat.{ℕ, _+_, _-_, _<_, _≤_}
 use mathlib.Core.Path.{_≡_, refl, sym, ap, _∙_}
 use mathlib.Core.Bool.{Bool, true, false, _&&_, _||_, not, and-false}
 use mathlib.Core.List.{List, [], _∷_}
 use mathlib.Core.Option.{none, some}
 use native.Mathlib.Omega.{arith}
-use native.Mathlib.Nat.{pow-le-pow-right}
 use lib.Dec.{eqb, leb}
 use lib.ListN.{length}
 use borrow.Author.Tests.{eqb-true, eqb-false, ne-eqb, leb-true, leb-false, le-leb, lt-leb}
 use Rattle.netlist.specs.Text.{space, lf, cr}
 use Rattle.netlist.specs.Number.{isDigit, allDigits, valueFrom, noLeadingZero, maxDigits, number}
-use Rattle.netlist.proofs.Tests.{onBool, isTrue, true-T, both}
+use Rattle.netlist.proofs.Tests.{onBool, isTrue, true-T, both, clash}
 use Rattle.read_text.specs.Line.{isBlank, inWord}
 use Rattle.read_text.specs.Answers.{isFull}
 
@@ -60,18 +59,11 @@ digit-range b h =
 
 -- ---- values that no digit may follow
 
-pub full-or : {P : Type 0} (v : ℕ) → isFull v ≡ true → (v ≡ 0 → P) → (10 ^ (maxDigits - 1) ≤ v → P) → P
-full-or v f atZero atLong = onBool (eqb v 0) (λ z. atZero (eqb-true v 0 z)) (λ z. atLong (leb-true _ _ (rw z at f)))
+pub full-or : {P : Type 0} (v more : ℕ) → isFull v more ≡ true → (v ≡ 0 → P) → (maxDigits - 1 ≤ more → P) → P
+full-or v more f atZero atLong = onBool (eqb v 0) (λ z. atZero (eqb-true v 0 z)) (λ z. atLong (leb-true _ _ (rw z at f)))
 
-pub not-full : (v : ℕ) → isFull v ≡ false → (0 < v) × (v < 10 ^ (maxDigits - 1))
-not-full v f = onBool (eqb v 0) zero-full (λ z. (omega (arith, eqb-false v 0 z), leb-false _ _ (rw z at f)))
+pub not-full : (v more : ℕ) → isFull v more ≡ false → (0 < v) × (more < maxDigits - 1)
+not-full v more f = onBool (eqb v 0) zero-full (λ z. (omega (arith, eqb-false v 0 z), leb-false _ _ (rw z at f)))
   where
-    zero-full : eqb v 0 ≡ true → (0 < v) × (v < 10 ^ (maxDigits - 1))
-    zero-full z = let n : _≡_ {A = Bool} true false = rw z at f in let y : _≡_ {A = ℕ} 0 1 = cc in absurd (omega arith)
-
--- powers of ten in the order of their exponents
-pub less : (a b : ℕ) → 10 ^ a < 10 ^ b → a < b
-less a b h =
-    onBool (leb b a)
-    (λ e. let m : b ≤ a = leb-true b a e in let q : 10 ^ b ≤ 10 ^ a = pow-le-pow-right {n = 10} (omega arith) m in absurd (omega arith))
-    (λ e. leb-false b a e)
+    zero-full : eqb v 0 ≡ true → (0 < v) × (more < maxDigits - 1)
+    zero-full z = let n : _≡_ {A = Bool} true false = rw z at f in clash (cc)

@@ -8,6 +8,7 @@ use native.Mathlib.Omega.{arith}
 use lib.ListN.{length, take, drop, getD, length-append, length-drop, drop-of-length-le}
 use lib.Seq.{drop-cons, take-at, drop-drop}
 use Rattle.netlist.specs.Text.{isSpace, isLineEnd}
+use Rattle.netlist.proofs.Tests.{clash}
 use Rattle.read_text.specs.Line.{isBlank, inWord, takeWhile, dropWhile, nextWord, pastWord, Scanned, ThreeBytes, WordAt}
 
 -- a scan on its way
@@ -61,7 +62,7 @@ module _ (p : ℕ → Bool) where
 
   -- where a scan stops the next byte fails the test
   pub dropped-head : (s : List ℕ) (x : ℕ) (xs : List ℕ) → x ∷ xs ≡ dropWhile p s → p x ≡ false
-  dropped-head [] x xs h = let z : _≡_ {A = ℕ} 0 1 = cc in absurd (omega arith)
+  dropped-head [] x xs h = clash (cc)
   dropped-head (y ∷ ys) x xs h = go (p y) refl h (dropped-head ys x xs)
     where
       go : (b : Bool) → p y ≡ b → x ∷ xs ≡ cond b (dropWhile p ys) (y ∷ ys) → (x ∷ xs ≡ dropWhile p ys → p x ≡ false) → p x ≡ false
@@ -82,7 +83,7 @@ word-at t at from to a b = record {
 -- ---- words of three bytes
 
 pub not-three : (t : List ℕ) (at : ℕ) → false ≡ true → ThreeBytes t at
-not-three t at e = let z : _≡_ {A = ℕ} 0 1 = cc in absurd (omega arith)
+not-three t at e = clash (cc)
 
 pub are-three : (t : List ℕ) (at : ℕ) (b : Bool) → at + 3 < length t → isBlank (getD t at 0) ≡ false → isBlank (getD t (at + 1) 0) ≡ false
     → isBlank (getD t (at + 2) 0) ≡ false → b ≡ isBlank (getD t (at + 3) 0) → b ≡ true → ThreeBytes t at
@@ -92,7 +93,7 @@ pub word-no-space : (x : ℕ) → inWord x ≡ true → isSpace x ≡ false
 word-no-space x h = go (isSpace x) (isLineEnd x) h
   where
     go : (b l : Bool) → not (b || l) ≡ true → b ≡ false
-    go true l e = let z : _≡_ {A = ℕ} 0 1 = cc in absurd (omega arith)
+    go true l e = clash (cc)
     go false l e = refl
 
 -- one byte more, at the place behind it

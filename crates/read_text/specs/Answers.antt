@@ -1,13 +1,13 @@
 -- What each answer of the readers means.
-use Prim.Native.Nat.{ℕ, _-_, _^_, _≤_, _<_}
+use Prim.Native.Nat.{ℕ, _+_, _-_, _≤_, _<_}
 use mathlib.Core.Path.{_≡_}
 use mathlib.Core.Bool.{Bool, true, false, _&&_, _||_}
 use mathlib.Core.List.{List}
 use mathlib.Core.Option.{none, some}
 use lib.Dec.{eqb, leb}
-use lib.ListN.{length, drop}
-use Rattle.netlist.specs.Text.{lf, cr}
-use Rattle.netlist.specs.Number.{number, maxDigits}
+use lib.ListN.{length, drop, getD}
+use Rattle.netlist.specs.Text.{space, lf, cr}
+use Rattle.netlist.specs.Number.{isDigit, number, maxDigits}
 use Rattle.netlist.specs.Read.{byteAllowed}
 use Rattle.read_text.specs.Line.{inWord, takeWhile, dropWhile, nextWord, pastWord, pastSpace, lineWords, isEmpty, EndAt}
 use Rattle.read_text.specs.declared.cursor.LineEnd.{LineEnd}
@@ -23,9 +23,9 @@ EndIs t at E.More = isEmpty (lineWords (drop at t)) ≡ false
 
 -- ---- numbers
 
--- a value that no digit may follow: 0, or one of the most digits
-abbrev pub isFull : ℕ → Bool
-isFull v = eqb v 0 || leb (10 ^ (maxDigits - 1)) v
+-- no digit may follow a value whose first digit so many follow: it is 0, or it has the most digits
+abbrev pub isFull : ℕ → ℕ → Bool
+isFull v more = eqb v 0 || leb (maxDigits - 1) more
 
 -- the word that starts at a place, and what follows it
 abbrev pub wordFrom : List ℕ → ℕ → List ℕ
@@ -55,6 +55,15 @@ pub record NumberAt (t : List ℕ) (at v to : ℕ) : Type 0 where
 abbrev pub NumberIs : List ℕ → ℕ → Number → Type 0
 NumberIs t at (N.Is v c) = NumberAt t at v (c .at)
 NumberIs t at N.Not = number (nextWord (drop at t)) ≡ none
+
+-- one digit stands at a place, and a space behind it
+abbrev pub oneDigit : List ℕ → ℕ → Bool
+oneDigit t at = isDigit (getD t at 0) && eqb (getD t (at + 1) 0) space
+
+-- the number of one digit with a space behind it, where there is one
+abbrev pub DigitIs : List ℕ → ℕ → Number → Type 0
+DigitIs t at (N.Is v c) = (oneDigit t at ≡ true) × NumberAt t at v (c .at)
+DigitIs t at N.Not = oneDigit t at ≡ false
 
 -- ---- question 3
 

@@ -18,7 +18,7 @@ use Rattle.netlist.specs.Netlist.{small, result}
 use Rattle.netlist.specs.Outcome.{Outcome, done, ask, given, andThen}
 use Rattle.netlist.specs.Read.{operandsGiven}
 use Rattle.netlist.specs.Mask.{State, noTwin, inputTwins, emit, resultTwin}
-use Rattle.netlist.proofs.Tests.{both, pair, isTrue}
+use Rattle.netlist.proofs.Tests.{both, pair, isTrue, clash}
 use Rattle.netlist.proofs.Questions.{ask-done, andThen-done}
 use Rattle.netlist.proofs.PublicGates.{length-inputTwins}
 use Rattle.gate_records.specs.declared.GateRecord.{GateRecord}
@@ -41,7 +41,7 @@ map-set f (x ∷ xs) zero a = refl
 map-set f (x ∷ xs) (suc i) a = ap (λ r. f x ∷ r) (map-set f xs i a)
 
 eqb-no : (x y : ℕ) → eqb x y ≡ false → x ≡ y → ⊥
-eqb-no x y e f = let z : eqb x y ≡ true = eq-eqb x y f in let w : _≡_ {A = Bool} true false = sym z ∙ e in let v : _≡_ {A = ℕ} 0 1 = cc in omega arith
+eqb-no x y e f = let z : eqb x y ≡ true = eq-eqb x y f in let w : _≡_ {A = Bool} true false = sym z ∙ e in clash (cc)
 
 -- an entry behind a front is set
 set-behind : {A : Type 0} (xs ys : List A) (i : ℕ) (a : A) → set (xs ++ ys) (length xs + i) a ≡ xs ++ set ys i a

@@ -18,7 +18,7 @@ use Rattle.netlist.specs.Outcome.{Outcome, refused, done, ask, given, andThen}
 use Rattle.netlist.specs.Read.{operandsGiven}
 use Rattle.netlist.specs.Table.{gateOf as tableGate}
 use Rattle.netlist.specs.Mask.{State, noTwin, twin, inputTwin, inputTwins, pastPublic, pastPublics, emit, resultTwin}
-use Rattle.netlist.proofs.Tests.{onBool, both, isTrue, true-T}
+use Rattle.netlist.proofs.Tests.{onBool, both, isTrue, true-T, clash}
 use Rattle.netlist.proofs.Questions.{ask-done, andThen-done, given-done}
 use Rattle.netlist.proofs.GateCount.{next-emit, next-most}
 use Rattle.netlist.proofs.PublicGates.{length-inputTwins}
@@ -49,7 +49,7 @@ kinds r a b c d e f =
     is j t = eqb→eq (r .kind) j (true-T (eqb (r .kind) j) t)
 
 single-named : (b : ℕ) (g h : Gate) → single b g ≡ some h → (g ≡ h) × (b ≡ 0)
-single-named b g h k = onBool (eqb b 0) (λ t. let j : some g ≡ some h = rw t at k in (cc, eqb→eq b 0 (true-T (eqb b 0) t))) (λ t. let j : none ≡ some h = rw t at k in let z : _≡_ {A = ℕ} 0 1 = cc in absurd (omega arith))
+single-named b g h k = onBool (eqb b 0) (λ t. let j : some g ≡ some h = rw t at k in (cc, eqb→eq b 0 (true-T (eqb b 0) t))) (λ t. let j : none ≡ some h = rw t at k in clash (cc))
 
 tableKind-other : (r : GateRecord) → (r .kind ≡ 5 → ⊥) → tableKind r ≡ r .kind
 tableKind-other r n = rw (ne-eqb (r .kind) 5 n)
@@ -58,7 +58,7 @@ record-is : (r : GateRecord) {k b : ℕ} → k ≡ r .kind → b ≡ r .second �
 record-is r e f = rw (e, f)
 
 never : {P : Type 0} (g : Gate) → none ≡ some g → P
-never g e = let z : _≡_ {A = ℕ} 0 1 = cc in absurd (omega arith)
+never g e = clash (cc)
 
 pub kind-other : (r : GateRecord) → (r .kind ≡ 5 → ⊥) → r .kind ≡ tableKind r
 kind-other r n = sym (tableKind-other r n)

@@ -11,7 +11,7 @@ use Rattle.netlist.specs.declared.Gate.the-variants.{Xor, And, Inv, Eqw, Eq}
 use Rattle.netlist.specs.Netlist.{result}
 use Rattle.netlist.specs.Outcome.{Outcome, done, ask, given, andThen}
 use Rattle.netlist.specs.Read.{operandsGiven}
-use Rattle.netlist.proofs.Tests.{onBool}
+use Rattle.netlist.proofs.Tests.{onBool, clash}
 use Rattle.gate_records.specs.declared.GateRecord.{GateRecord}
 use Rattle.gate_records.specs.Records.{gateOf, single}
 use Rattle.session.specs.Asked.{gateGood}
@@ -45,7 +45,7 @@ module _ (r : GateRecord) where
     where
       go : (t : Bool) → cond t (some g) none ≡ some h → g ≡ h
       go true e = cc
-      go false e = let z : _≡_ {A = ℕ} 0 1 = cc in absurd (omega arith)
+      go false e = clash (cc)
 
   -- question 8, by the kind
   module _ (next : ℕ) (b : Bool) where
@@ -64,7 +64,7 @@ module _ (r : GateRecord) where
         go : (t u : Bool) → cond t (single (r .second) (Inv (r .first) (r .result))) (cond u (single (r .second) (Eqw (r .first) (r .result))) none) ≡ some g → b ≡ operandsGiven (λ w. ltb w next) g
         go true u k = let t = single-same (r .second) (Inv (r .first) (r .result)) g k in rw (← t) h
         go false true k = let t = single-same (r .second) (Eqw (r .first) (r .result)) g k in rw (← t) h
-        go false false k = let z : _≡_ {A = ℕ} 0 1 = cc in absurd (omega arith)
+        go false false k = clash (cc)
 
 -- the first no of questions 7 to 9
 module _ (next : ℕ) (r : GateRecord) where
@@ -76,7 +76,7 @@ module _ (next : ℕ) (r : GateRecord) where
     where
       go : (o : Option Gate) → isSome o ≡ false → NoIs (rest o) 7
       go none e = (refl, omega arith)
-      go (some g) e = let z : _≡_ {A = ℕ} 0 1 = cc in absurd (omega arith)
+      go (some g) e = clash (cc)
 
   result-is : (g : Gate) → gateOf r ≡ some g → result g ≡ r .result
   result-is g = go (eqb (r .kind) 1) (eqb (r .kind) 2) (eqb (r .kind) 3) (eqb (r .kind) 4) (eqb (r .kind) 5)
@@ -91,20 +91,20 @@ module _ (next : ℕ) (r : GateRecord) where
       go false false true d e k = only (Inv (r .first) (r .result)) refl k
       go false false false true e k = only (Eqw (r .first) (r .result)) refl k
       go false false false false true k = only (Eq (r .first) (r .result)) refl k
-      go false false false false false k = let z : _≡_ {A = ℕ} 0 1 = cc in absurd (omega arith)
+      go false false false false false k = clash (cc)
 
   pub no-eight : isGate r ≡ true → {b : Bool} → OperandsAre next r b → b ≡ false → NoIs (gateGood next r) 8
   no-eight = go (gateOf r)
     where
       go : (o : Option Gate) → isSome o ≡ true → {b : Bool} → ((g : Gate) → o ≡ some g → b ≡ operandsGiven (λ w. ltb w next) g) → b ≡ false → NoIs (rest o) 8
-      go none e h f = let z : _≡_ {A = ℕ} 0 1 = cc in absurd (omega arith)
+      go none e h f = clash (cc)
       go (some g) e h f = let k : operandsGiven (λ w. ltb w next) g ≡ false = sym (h g refl) ∙ f in rw k (refl, omega arith)
 
   pub no-nine : isGate r ≡ true → {b : Bool} → OperandsAre next r b → b ≡ true → (r .result ≡ next → ⊥) → NoIs (gateGood next r) 9
   no-nine = go (gateOf r) result-is
     where
       go : (o : Option Gate) → ((g : Gate) → o ≡ some g → result g ≡ r .result) → isSome o ≡ true → {b : Bool} → ((g : Gate) → o ≡ some g → b ≡ operandsGiven (λ w. ltb w next) g) → b ≡ true → (r .result ≡ next → ⊥) → NoIs (rest o) 9
-      go none i e h f n = let z : _≡_ {A = ℕ} 0 1 = cc in absurd (omega arith)
+      go none i e h f n = clash (cc)
       go (some g) i e h f n =
           let k : operandsGiven (λ w. ltb w next) g ≡ true = sym (h g refl) ∙ f in
           rw (k, ne-eqb (result g) next (λ z. n (sym (i g refl) ∙ z))) (refl, omega arith)
@@ -113,18 +113,18 @@ module _ (next : ℕ) (r : GateRecord) where
   no-none = go (gateOf r) result-is
     where
       go : (o : Option Gate) → ((g : Gate) → o ≡ some g → result g ≡ r .result) → isSome o ≡ true → {b : Bool} → ((g : Gate) → o ≡ some g → b ≡ operandsGiven (λ w. ltb w next) g) → b ≡ true → r .result ≡ next → NoIs (rest o) 0
-      go none i e h f n = let z : _≡_ {A = ℕ} 0 1 = cc in absurd (omega arith)
+      go none i e h f n = clash (cc)
       go (some g) i e h f n =
           let k : operandsGiven (λ w. ltb w next) g ≡ true = sym (h g refl) ∙ f in
           rw (k, eq-eqb (result g) next (i g refl ∙ n)) refl
 
 pub not-yes : (b : Bool) → not b ≡ true → b ≡ false
-not-yes true e = let z : _≡_ {A = ℕ} 0 1 = cc in absurd (omega arith)
+not-yes true e = clash (cc)
 not-yes false e = refl
 
 pub not-no : (b : Bool) → not b ≡ false → b ≡ true
 not-no true e = refl
-not-no false e = let z : _≡_ {A = ℕ} 0 1 = cc in absurd (omega arith)
+not-no false e = clash (cc)
 
 pub both-no : (x y : Bool) {a : Bool} → a ≡ x → a ≡ false → false ≡ (x && y)
 both-no x y e f = rw (sym e ∙ f)

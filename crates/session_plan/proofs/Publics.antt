@@ -9,7 +9,7 @@ use lib.Dec.{eqb, ltb, ltb→lt}
 use lib.ListN.{length, getD, take, drop, length-append, length-map, length-drop, drop-of-length-le}
 use lib.Seq.{drop-cons, take-suc, getD-drop}
 use borrow.Author.Tests.{eq-eqb, ne-eqb, ltb-false}
-use Rattle.netlist.proofs.Tests.{onBool, true-T}
+use Rattle.netlist.proofs.Tests.{onBool, true-T, clash}
 use Rattle.netlist.specs.declared.Gate.{Gate}
 use Rattle.netlist.specs.declared.Gate.the-variants.{Xor}
 use Rattle.netlist.specs.Leak.{bit}
@@ -71,8 +71,8 @@ bit-secret e h = rw (ne-eqb e 0 h)
 
 -- the first of the gates that are left
 head-at : (gs : List Gate) (k : ℕ) (g : Gate) (rest : List Gate) → drop k gs ≡ g ∷ rest → (recordOf g ≡ getD (map recordOf gs) k blank) × (drop (k + 1) gs ≡ rest)
-head-at [] zero g rest e = let z : _≡_ {A = ℕ} 0 1 = cc in absurd (omega arith)
-head-at [] (suc k) g rest e = let z : _≡_ {A = ℕ} 0 1 = cc in absurd (omega arith)
+head-at [] zero g rest e = clash (cc)
+head-at [] (suc k) g rest e = clash (cc)
 head-at (x ∷ gs) zero g rest e = let a : x ≡ g = cc in let b : gs ≡ rest = cc in (ap recordOf (sym a), b)
 head-at (x ∷ gs) (suc k) g rest e = let q = head-at gs k g rest e in let z : suc k + 1 ≡ suc (k + 1) = omega arith in (q .0, rw z (q .1))
 

@@ -1,8 +1,4 @@
 // The line that a test program prints for a group of cases.
-ghost use mathlib.Core.Path.{_≡_};
-ghost use Prim.Native.Nat.{min};
-ghost use lib.ListN.{length};
-ghost use Rattle.io.specs.Counts.{Counts};
 ghost use Rattle.write_buffer.specs.Wrote.{Wrote};
 ghost use Rattle.test_report.specs.Line.{tallyLine};
 
@@ -16,15 +12,4 @@ pub fn line(out: &mut [u8], name: &[u8], agreed: usize, cases: usize) -> usize
     let d = write_buffer::bytes(out, c, b" of ");
     let e = write_buffer::number(out, d, cases);
     write_buffer::put(out, e, 10)
-}
-
-// How many bytes of a buffer its first n are.
-pub fn front(buffer: &[u8], n: usize) -> usize
-    ensures { λ r. ⌜ r ≡ min n (length (now (buffer .entry))) ⌝ }
-    ensures { λ r. ⌜ Counts r (now (buffer .entry)) ⌝ }
-{
-    if buffer.len() < n {
-        return buffer.len();
-    }
-    n
 }

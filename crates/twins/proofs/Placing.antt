@@ -18,10 +18,10 @@ use Rattle.netlist.specs.Services.{listGood}
 use Rattle.netlist.specs.Table.{Tables, Holds}
 use Rattle.netlist.proofs.Tests.{onBool}
 use Rattle.netlist.proofs.Answering.{answers-refused, take-sets}
-use Rattle.mask_pass.specs.State.{twinsOf}
-use Rattle.mask_pass.specs.Pass.{Finished}
+use Rattle.mask_twins.specs.State.{twinsOf}
+use Rattle.mask_twins.specs.Place.{Finished}
 use Rattle.netlist.proofs.Carried.{length-finish}
-use Rattle.mask_pass.proofs.Made.{codes-length}
+use Rattle.mask_twins.proofs.Made.{codes-length}
 use Rattle.twins.specs.Promise.{TwinLists, wireOf, codeOf, twinLists, listsOutcome, twinsOutcome, TwinsAnswers}
 
 -- ---- answers

@@ -18,9 +18,9 @@ use Rattle.netlist.proofs.Questions.{done-same, ask-done, andThen-done}
 use Rattle.netlist.proofs.Answering.{asked-again, call-refused, call-goes-on}
 use Rattle.read_header.specs.declared.HeaderNumbers.{HeaderNumbers}
 use Rattle.read_netlist.specs.Whole.{ReadAt}
-use Rattle.mask_pass.specs.State.{twinsOf}
+use Rattle.mask_twins.specs.State.{twinsOf}
 use Rattle.netlist.proofs.Carried.{twins-carried}
-use Rattle.mask_pass.proofs.Made.{made, made-back}
+use Rattle.mask_twins.proofs.Made.{made, made-back}
 use Rattle.twins.specs.Promise.{TwinLists, wireOf, codeOf, twinLists, wiresIn, codesIn, twinsOutcome, twinsCall, call, TwinsAnswers, Given}
 use Rattle.twins.proofs.Placing.{twins-as, twins-refused}
 

@@ -14,7 +14,7 @@ use Rattle.netlist.specs.Outcome.{Outcome, done, ask, andThen}
 use Rattle.netlist.specs.Read.{readNetlist}
 use Rattle.netlist.specs.Mask.{isInputCode, finish}
 use Rattle.netlist.specs.Services.{tablesLong, listGood, holds, MaskedText, maskCall, Answers, Cleared}
-use Rattle.mask_pass.specs.State.{twinsOf}
+use Rattle.mask_twins.specs.State.{twinsOf}
 use Rattle.netlist.specs.Twins.{Twins}
 
 -- for each source wire its masked wire and its code

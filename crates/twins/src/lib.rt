@@ -34,7 +34,7 @@ fn place(
     if out_codes.len() < all {
         return Answer::Refused(14);
     }
-    mask_pass::count::place_twins(
+    mask_twins::place::place_twins(
         operands,
         results,
         h.gates as usize,

@@ -21,7 +21,7 @@ use libc::STDOUT_FILENO;
 fn print(circuit: &[u8], group: &[u8], s: Score) {
     let mut out = [0u8; 256];
     let n = test_report::line(&mut out, group, s.agreed, s.cases);
-    let m = test_report::front(&out, n);
+    let m = program_text::front(&out, n);
     io::write_all(STDOUT_FILENO, circuit);
     io::write_all(STDOUT_FILENO, b", ");
     io::write_all(STDOUT_FILENO, &out[..m]);

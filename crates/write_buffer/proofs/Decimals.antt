@@ -1,6 +1,6 @@
 -- The digits of a number, the last ones apart, and how many there are.
 use Prim.Native.Nat.{ℕ, zero, suc, _+_, _-_, _/_, _%_, _^_, _≤_, _<_}
-use mathlib.Core.Path.{_≡_, sym, ap, _∙_}
+use mathlib.Core.Path.{_≡_, ap, _∙_}
 use mathlib.Core.Bool.{true, false}
 use mathlib.Core.List.{List, [], _∷_, _++_, append-assoc}
 use native.Mathlib.Nat.{lt-of-lt-of-le, one-le-pow, pow-suc, div-div-eq-div-mul, le-div-iff-mul-le, mul-comm}

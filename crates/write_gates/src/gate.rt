@@ -1,14 +1,12 @@
 // Gate lines. Where the buffer has room for the longest, a line is stored by words; near its end it is
 // written byte by byte as far as it fits; behind it only its length is added. `d` is the table of words.
 use write_buffer::store;
+use write_parts::LONGEST;
 ghost use mathlib.Core.List.{[], _∷_};
 ghost use Rattle.netlist.specs.declared.Gate.the-variants.{Xor, And, Inv, Eqw, Eq};
 ghost use Rattle.netlist.specs.Table.{gateIn};
 ghost use Rattle.write_wires.specs.Packed.{WordTable};
 ghost use Rattle.write_gates.specs.Gates.{WroteGates};
-
-// The bytes of the longest line: wires of ten digits, and a name of three letters.
-const LONGEST: usize = 41;
 
 // The line of an XOR.
 pub fn xor(d: &[u64], out: &mut [u8], at: usize, a: u32, b: u32, c: u32) -> usize

@@ -13,7 +13,7 @@ use Rattle.netlist.proofs.Puts.{gates-more}
 use Rattle.netlist.proofs.Size.{wired-lines}
 use Rattle.write_buffer.specs.Wrote.{Wrote, top}
 use Rattle.write_gates.specs.Gates.{WroteGates}
-use Rattle.write_gates.specs.Header.{headerTextIn}
+use Rattle.write_header.specs.Header.{headerTextIn}
 use Rattle.old_form.specs.declared.Dialect.{Dialect}
 use Rattle.write_gates.specs.Room.{longestLine}
 use Rattle.write_gates.proofs.Gates.{gates-none, gates-then, gates-as}

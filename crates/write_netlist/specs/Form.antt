@@ -3,7 +3,7 @@ use Prim.Native.Nat.{ℕ}
 use mathlib.Core.List.{List, _++_}
 use Rattle.netlist.specs.Write.{gateText}
 use Rattle.netlist.specs.Table.{Tables, gatesOf}
-use Rattle.write_gates.specs.Header.{headerTextIn}
+use Rattle.write_header.specs.Header.{headerTextIn}
 use Rattle.old_form.specs.declared.Dialect.{Dialect}
 use Rattle.old_form.specs.declared.Dialect.the-variants.{Fashion}
 

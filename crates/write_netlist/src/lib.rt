@@ -52,7 +52,7 @@ fn write(
     ensures { λ r. ⌜ Wrote (now (out .entry)) 0 (formTextIn dialect count wires (now (ins .entry)) (now (outs .entry))
         (tables (now (operands .entry)) (now (results .entry)))) (now (out .exit)) r ⌝ }
 {
-    let at = write_gates::header::header_in(out, 0, count, wires, ins, outs, dialect);
+    let at = write_header::header_in(out, 0, count, wires, ins, outs, dialect);
     gates(d, out, at, operands, results, count)
 }
 
@@ -74,7 +74,7 @@ fn holds(
         (tables (now (operands .entry)) (now (results .entry))))) room ⌝ }
 {
     let mut none = [0u8; 1];
-    let header = write_gates::header::header_in(&mut none, 0, count, wires, ins, outs, dialect);
+    let header = write_header::header_in(&mut none, 0, count, wires, ins, outs, dialect);
     if write_gates::room::ample(room, header, count, wires) {
         return true;
     }

@@ -10,13 +10,14 @@ use Rattle.netlist.specs.Text.{space, lf}
 use Rattle.netlist.specs.Number.{decimal}
 use Rattle.netlist.specs.GateLine.{EQ}
 use Rattle.netlist.specs.Write.{line, one, two}
+use Rattle.netlist.proofs.Tests.{clash}
 use Rattle.write_buffer.specs.Wrote.{Wrote, top, cap}
 use Rattle.write_buffer.proofs.Decimals.{decimal-one, decimal-two}
 use Rattle.write_wires.specs.Packed.{Worded}
 use Rattle.write_wires.specs.Spilt.{Spilt}
 use Rattle.write_wires.proofs.Spilling.{spilt-all}
 use Rattle.write_parts.specs.Parts.{parted, frontOf1, frontOf2, words1, words2}
-use Rattle.write_buffer.proofs.Wrote.{wrote-then, wrote-as, wrote-out}
+use Rattle.write_buffer.proofs.Wrote.{wrote-as, wrote-out}
 
 pub line1 : (a c : ℕ) (name : List ℕ) → frontOf1 a c ++ (name ++ (lf ∷ [])) ≡ line (words1 a c name)
 line1 a c name = simp append-assoc
@@ -52,7 +53,7 @@ front2 a b c = simp append-assoc
 
 -- a test that is never passed
 pub untrue : {P : Type 0} → true ≡ false → P
-untrue e = let z : _≡_ {A = ℕ} 0 1 = cc in absurd (omega arith)
+untrue e = clash (cc)
 
 -- numbers that have words
 pub worded-whole : {k n : ℕ} → k ≡ 2000 → n < 1000000 → Worded k n

@@ -14,7 +14,10 @@ ghost use Rattle.netlist.specs.Write.{line as lineOf};
 ghost use Rattle.write_buffer.specs.Wrote.{Wrote, cap};
 ghost use Rattle.write_wires.specs.Packed.{WordTable, Worded};
 ghost use Rattle.write_wires.specs.Spilt.{Spilt};
-ghost use Rattle.write_parts.specs.Parts.{parted, frontOf1, frontOf2, words1, words2, Packable1, Packable2, Low1, Low2};
+ghost use Rattle.write_parts.specs.Parts.{longest, parted, frontOf1, frontOf2, words1, words2, Packable1, Packable2, Low1, Low2};
+
+// The bytes of the longest line: `longest`.
+pub const LONGEST: usize = 41;
 
 // The entries of a whole table of words.
 const ENTRIES: usize = 2000;
@@ -69,7 +72,7 @@ pub fn spelt2(entries: usize, a: u32, b: u32, c: u32) -> bool
 
 // What a line of one operand has before the gate's name.
 pub fn front1(d: &[u64], out: &mut [u8], at: usize, a: u32, c: u32) -> usize
-    requires { ⌜ WordTable (now d) × Packable1 (length (now d)) a c × (at + 41 ≤ length (now out)) ⌝ }
+    requires { ⌜ WordTable (now d) × Packable1 (length (now d)) a c × (at + longest ≤ length (now out)) ⌝ }
     ensures { λ r. ⌜ Spilt 18 4 (now (out .entry)) at (frontOf1 a c) (now (out .exit)) r ⌝ }
 {
     let operand = store::four(out, at, b'1', b' ', b'1', b' ');
@@ -79,7 +82,7 @@ pub fn front1(d: &[u64], out: &mut [u8], at: usize, a: u32, c: u32) -> usize
 
 // What a line of two operands has before the gate's name.
 pub fn front2(d: &[u64], out: &mut [u8], at: usize, a: u32, b: u32, c: u32) -> usize
-    requires { ⌜ WordTable (now d) × Packable2 (length (now d)) a b c × (at + 41 ≤ length (now out)) ⌝ }
+    requires { ⌜ WordTable (now d) × Packable2 (length (now d)) a b c × (at + longest ≤ length (now out)) ⌝ }
     ensures { λ r. ⌜ Spilt 25 4 (now (out .entry)) at (frontOf2 a b c) (now (out .exit)) r ⌝ }
 {
     let left = store::four(out, at, b'2', b' ', b'1', b' ');
@@ -164,7 +167,7 @@ fn low(out: &mut [u8], at: usize, n: u32) -> usize
 
 // A line of one operand that is written without words, where the longest line fits.
 pub fn spell1(out: &mut [u8], at: usize, a: u32, c: u32, x: u8, y: u8, z: u8) -> usize
-    requires { ⌜ at + 41 ≤ length (now out) ⌝ }
+    requires { ⌜ at + longest ≤ length (now out) ⌝ }
     ensures { λ r. ⌜ Wrote (now (out .entry)) at (lineOf (words1 a c (x ∷ y ∷ z ∷ []))) (now (out .exit)) r ⌝ }
 {
     if !low1(a, c) {
@@ -178,7 +181,7 @@ pub fn spell1(out: &mut [u8], at: usize, a: u32, c: u32, x: u8, y: u8, z: u8) ->
 
 // The same of two operands.
 pub fn spell2(out: &mut [u8], at: usize, a: u32, b: u32, c: u32, x: u8, y: u8, z: u8) -> usize
-    requires { ⌜ at + 41 ≤ length (now out) ⌝ }
+    requires { ⌜ at + longest ≤ length (now out) ⌝ }
     ensures { λ r. ⌜ Wrote (now (out .entry)) at (lineOf (words2 a b c (x ∷ y ∷ z ∷ []))) (now (out .exit)) r ⌝ }
 {
     if !low2(a, b, c) {

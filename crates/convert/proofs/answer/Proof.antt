@@ -4,7 +4,6 @@ use lib.ListN.{length}
 use Rattle.netlist.specs.Table.{tables}
 use Rattle.read_netlist.proofs.Wholes.{read-in-is, readable-large}
 use Rattle.convert.proofs.Converting.{call-not, call-read}
-use native.Mathlib.Omega.{arith}
 use borrow.Author.Needs.{needs}
 use Rattle.convert.proofs.answer.Statement.{statement}
 use Rattle.convert.proofs.answer.Tie as tie

@@ -1,6 +1,5 @@
 -- `convert`: the answer, and then zero in every table.
 use Rattle.clear.proofs.Filled.{zeros-same}
-use native.Mathlib.Omega.{arith}
 use borrow.Author.Needs.{needs}
 use Rattle.convert.proofs.convert.Statement.{statement}
 use Rattle.convert.proofs.convert.Tie as tie

@@ -1,8 +1,6 @@
 -- The answer, and then zero in every table.
-use mathlib.Core.Path.{_∙_}
 use Rattle.clear.proofs.Filled.{zeros-same}
 use Rattle.from_verilog.proofs.Calling.{call-delivered}
-use native.Mathlib.Omega.{arith}
 use borrow.Author.Needs.{needs}
 use Rattle.from_verilog.proofs.from_verilog.Statement.{statement}
 use Rattle.from_verilog.proofs.from_verilog.Tie as tie
@@ -32,31 +30,46 @@ wires-requires-2 : tie.Need-wires-requires-2
 wires-requires-2 c κs = search needs
 
 same-length : tie.Need-same-length
-same-length c = c .before .before .before .before .before .before .before .before .before .before .before .before .before .before .before .before .before .before .before .before .before .before .before .before .before .before .before .before .before .before .before .before .before .before .before .before .before .before .before .before .before .before .before .before .answer .kept .1 .0
+same-length c = search needs
 
 same-length-2 : tie.Need-same-length-2
-same-length-2 c = c .before .before .before .before .before .before .before .before .before .before .before .before .before .before .before .before .before .before .before .before .before .before .before .before .before .before .words2 .kept .0 ∙ c .before .before .before .before .before .before .before .before .before .before .before .before .before .before .before .before .before .before .before .before .before .before .before .before .before .before .before .before .before .before .before .before .before .before .before .before .before .before .before .before .before .before .before .before .answer .kept .1 .1 .0
+same-length-2 c = search needs
 
 same-length-3 : tie.Need-same-length-3
-same-length-3 c = c .before .before .before .before .before .before .before .before .before .before .before .before .before .before .before .before .before .before .before .before .before .before .words3 .kept .0 ∙ c .before .before .before .before .before .before .before .before .before .before .before .before .before .before .before .before .before .before .before .before .before .before .before .before .before .before .before .before .before .before .before .before .before .before .before .before .before .before .before .before .before .before .before .before .answer .kept .1 .1 .1 .0
+same-length-3 c = search needs
 
 same-length-4 : tie.Need-same-length-4
-same-length-4 c = c .before .before .before .before .before .before .before .before .before .before .before .before .before .before .before .before .before .before .words4 .kept .0 ∙ c .before .before .before .before .before .before .before .before .before .before .before .before .before .before .before .before .before .before .before .before .before .before .before .before .before .before .before .before .before .before .before .before .before .before .before .before .before .before .before .before .before .before .before .before .answer .kept .1 .1 .1 .1 .0
+same-length-4 c = search needs
 
 same-length-5 : tie.Need-same-length-5
-same-length-5 c = c .before .before .before .before .before .before .before .before .before .before .before .before .before .before .words5 .kept .0 ∙ c .before .before .before .before .before .before .before .before .before .before .before .before .before .before .before .before .before .before .before .before .before .before .before .before .before .before .before .before .before .before .before .before .before .before .before .before .before .before .before .before .before .before .before .before .answer .kept .1 .1 .1 .1 .1 .0
+same-length-5 c = search needs
 
 same-length-6 : tie.Need-same-length-6
-same-length-6 c = c .before .before .before .before .before .before .before .before .before .before .words7 .kept .0 ∙ c .before .before .before .before .before .before .before .before .before .before .before .before .before .before .before .before .before .before .before .before .before .before .before .before .before .before .before .before .before .before .before .before .before .before .before .before .before .before .before .before .before .before .before .before .answer .kept .1 .1 .1 .1 .1 .1 .0
+same-length-6 c = search needs
 
 same-length-7 : tie.Need-same-length-7
-same-length-7 c = c .before .before .before .before .before .before .wires2 .kept .0 ∙ c .before .before .before .before .before .before .before .before .before .before .before .before .before .before .before .before .before .before .before .before .before .before .before .before .before .before .before .before .before .before .before .before .before .before .before .before .before .before .before .before .before .before .before .before .answer .kept .1 .1 .1 .1 .1 .1 .1 .0
+same-length-7 c = search needs
 
 same-length-8 : tie.Need-same-length-8
-same-length-8 c = c .before .before .wires3 .kept .0 ∙ c .before .before .before .before .before .before .before .before .before .before .before .before .before .before .before .before .before .before .before .before .before .before .before .before .before .before .before .before .before .before .before .before .before .before .before .before .before .before .before .before .before .before .before .before .answer .kept .1 .1 .1 .1 .1 .1 .1 .1 .0
+same-length-8 c = search needs
 
 returns : tie.Need-returns
-returns c = let s = c .before .before .before .before .before .before .before .before .before .before .before .before .before .before .before .before .before .before .before .before .before .before .before .before .before .before .before .before .before .before .before .before .before .before .before .before .before .before .before .before .before .before .before .before .before .before .before .before .before .before .before .before .before .before .before .before .before .before .before .before .before .before .args in record { answers = c .before .before .before .before .before .before .before .before .before .before .before .before .before .before .before .before .before .before .before .before .before .before .before .before .before .before .before .before .before .before .before .before .before .before .before .before .before .before .before .before .before .before .before .before .answer .ensures; delivered = call-delivered (s .sizes) (s .text .now) (s .out .now) (s .operands .now) (s .results .now) (s .heads .now) (s .words .now) (s .links .now) (s .states .now) (s .wires .now) (c .before .before .before .before .before .before .before .before .before .before .before .before .before .before .before .before .before .before .before .before .before .before .before .before .before .before .before .before .before .before .before .before .before .before .before .before .before .before .before .before .before .before .before .before .answer .ensures); operands = zeros-same (c .before .before .before .before .before .before .before .before .before .before .before .before .before .before .before .before .before .before .before .before .before .before .before .before .before .before .words2 .ensures) (c .before .before .before .before .before .before .before .before .before .before .before .before .before .before .before .before .before .before .before .before .before .before .before .before .before .before .before .before .before .before .before .before .before .before .before .before .before .before .before .before .before .before .before .before .answer .kept .1 .1 .0); results = zeros-same (c .before .before .before .before .before .before .before .before .before .before .before .before .before .before .before .before .before .before .before .before .before .before .words3 .ensures) (c .before .before .before .before .before .before .before .before .before .before .before .before .before .before .before .before .before .before .before .before .before .before .before .before .before .before .before .before .before .before .before .before .before .before .before .before .before .before .before .before .before .before .before .before .answer .kept .1 .1 .1 .0); heads = zeros-same (c .before .before .before .before .before .before .before .before .before .before .before .before .before .before .before .before .before .before .words4 .ensures) (c .before .before .before .before .before .before .before .before .before .before .before .before .before .before .before .before .before .before .before .before .before .before .before .before .before .before .before .before .before .before .before .before .before .before .before .before .before .before .before .before .before .before .before .before .answer .kept .1 .1 .1 .1 .0); words = zeros-same (c .before .before .before .before .before .before .before .before .before .before .before .before .before .before .words5 .ensures) (c .before .before .before .before .before .before .before .before .before .before .before .before .before .before .before .before .before .before .before .before .before .before .before .before .before .before .before .before .before .before .before .before .before .before .before .before .before .before .before .before .before .before .before .before .answer .kept .1 .1 .1 .1 .1 .0); links = zeros-same (c .before .before .before .before .before .before .before .before .before .before .words7 .ensures) (c .before .before .before .before .before .before .before .before .before .before .before .before .before .before .before .before .before .before .before .before .before .before .before .before .before .before .before .before .before .before .before .before .before .before .before .before .before .before .before .before .before .before .before .before .answer .kept .1 .1 .1 .1 .1 .1 .0); states = zeros-same (c .before .before .before .before .before .before .wires2 .ensures) (c .before .before .before .before .before .before .before .before .before .before .before .before .before .before .before .before .before .before .before .before .before .before .before .before .before .before .before .before .before .before .before .before .before .before .before .before .before .before .before .before .before .before .before .before .answer .kept .1 .1 .1 .1 .1 .1 .1 .0); wires = zeros-same (c .before .before .wires3 .ensures) (c .before .before .before .before .before .before .before .before .before .before .before .before .before .before .before .before .before .before .before .before .before .before .before .before .before .before .before .before .before .before .before .before .before .before .before .before .before .before .before .before .before .before .before .before .answer .kept .1 .1 .1 .1 .1 .1 .1 .1 .0) }
+returns c =
+    let s = c .before .before .before .before .before .before .before .before .before .before .before .before .before .before .before .before .before .before .before .before .before .before .before .before .before .before .before .before .before .before .before .before .before .before .before .before .before .before .before .before .before .before .before .before .before .before .before .before .before .before .before .before .before .before .before .before .before .before .before .before .before .before .args in
+    let a = c .before .before .before .before .before .before .before .before .before .before .before .before .before .before .before .before .before .before .before .before .before .before .before .before .before .before .before .before .before .before .before .before .before .before .before .before .before .before .before .before .before .before .before .before .answer in
+    record {
+      answers = a .ensures;
+      delivered =
+          call-delivered (s .sizes) (s .text .now) (s .out .now) (s .operands .now) (s .results .now) (s .heads .now) (s .words .now) (s .links .now) (s .states .now)
+          (s .wires .now) (a .ensures);
+      operands = zeros-same (c .before .before .before .before .before .before .before .before .before .before .before .before .before .before .before .before .before .before .before .before .before .before .before .before .before .before .words2 .ensures) (a .kept .1 .1 .0);
+      results = zeros-same (c .before .before .before .before .before .before .before .before .before .before .before .before .before .before .before .before .before .before .before .before .before .before .words3 .ensures) (a .kept .1 .1 .1 .0);
+      heads = zeros-same (c .before .before .before .before .before .before .before .before .before .before .before .before .before .before .before .before .before .before .words4 .ensures) (a .kept .1 .1 .1 .1 .0);
+      words = zeros-same (c .before .before .before .before .before .before .before .before .before .before .before .before .before .before .words5 .ensures) (a .kept .1 .1 .1 .1 .1 .0);
+      links = zeros-same (c .before .before .before .before .before .before .before .before .before .before .words7 .ensures) (a .kept .1 .1 .1 .1 .1 .1 .0);
+      states = zeros-same (c .before .before .before .before .before .before .wires2 .ensures) (a .kept .1 .1 .1 .1 .1 .1 .1 .0);
+      wires = zeros-same (c .before .before .wires3 .ensures) (a .kept .1 .1 .1 .1 .1 .1 .1 .1 .0);
+    }
 
 pub from-verilog-spec : {M : Type 1} → statement M
 from-verilog-spec =

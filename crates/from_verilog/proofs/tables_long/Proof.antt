@@ -1,7 +1,6 @@
 -- Each table in order.
 use Prim.Native.Nat.{_/_}
 use Rattle.netlist.proofs.Answering.{table-short, table-long}
-use native.Mathlib.Omega.{arith}
 use borrow.Author.Needs.{needs}
 use Rattle.from_verilog.proofs.tables_long.Statement.{statement}
 use Rattle.from_verilog.proofs.tables_long.Tie as tie

@@ -7,7 +7,6 @@ use borrow.Author.Tests.{eq-eqb, ne-eqb}
 use Rattle.joined.specs.Call.{isSecret}
 use Rattle.lists.proofs.Ranges.{Passing, passing-none, passing-more, passing-fails, passing-all}
 use borrow.Author.Needs.{needs}
-use native.Mathlib.Omega.{arith}
 use Rattle.join.proofs.all_secret.Statement.{statement}
 use Rattle.join.proofs.all_secret.Tie as tie
 

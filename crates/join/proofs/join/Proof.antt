@@ -1,7 +1,6 @@
 -- `join`: the answer, and then zero in every table.
 use Rattle.clear.proofs.Filled.{zeros-same}
 use Rattle.join.proofs.Calling.{call-delivered}
-use native.Mathlib.Omega.{arith}
 use borrow.Author.Needs.{needs}
 use Rattle.join.proofs.join.Statement.{statement}
 use Rattle.join.proofs.join.Tie as tie

@@ -2,7 +2,6 @@
 use mathlib.Core.Path.{refl, sym, _∙_}
 use borrow.Author.Tests.{not-true, not-false}
 use Rattle.join.proofs.Calling.{seam-number, seam-values, seam-public, seam-gates}
-use native.Mathlib.Omega.{arith}
 use borrow.Author.Needs.{needs}
 use Rattle.join.proofs.seam_holds.Statement.{statement}
 use Rattle.join.proofs.seam_holds.Tie as tie

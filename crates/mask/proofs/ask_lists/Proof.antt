@@ -2,7 +2,7 @@
 use mathlib.Core.Path.{sym, refl, _∙_}
 use borrow.Author.Tests.{not-true, not-false}
 use Rattle.netlist.specs.Mask.{isInputCode, isWanted}
-use Rattle.mask_pass.proofs.Made.{codes-length}
+use Rattle.mask_twins.proofs.Made.{codes-length}
 use Rattle.mask.proofs.Promised.{mask-11, mask-13, mask-14, source-of, masked-formed}
 use native.Mathlib.Omega.{arith}
 use borrow.Author.Needs.{needs}

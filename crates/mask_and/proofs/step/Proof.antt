@@ -7,8 +7,6 @@ use native.Mathlib.Omega.{arith}
 use borrow.Author.Needs.{needs}
 use Rattle.mask_and.proofs.step.Statement.{statement}
 use Rattle.mask_and.proofs.step.Tie as tie
-use Rattle.mask_and.proofs.step.Reads as reads
-use Rattle.mask_and.proofs.step.Lts as lts
 
 abbrev table : List (List ℕ)
 table =

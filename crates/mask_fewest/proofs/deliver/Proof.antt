@@ -2,7 +2,7 @@
 use mathlib.Core.Path.{refl, sym, _∙_}
 use borrow.Author.Tests.{not-true, not-false}
 use Rattle.netlist.specs.Mask.{isWanted}
-use Rattle.mask_pass.proofs.Made.{codes-length}
+use Rattle.mask_twins.proofs.Made.{codes-length}
 use Rattle.fewest.specs.Choice.{isCallCode}
 use Rattle.fewest_search.proofs.Standing.{left-some}
 use Rattle.mask_fewest.proofs.Promised.{fewest-11, fewest-13, fewest-22, fewest-14-inputs, fewest-14-tally, source-read, chosen-source, chosen-masked, fewest-14}

@@ -5,14 +5,6 @@ use native.Mathlib.Omega.{arith}
 use borrow.Author.Needs.{needs}
 use Rattle.mask_gate.proofs.and.Statement.{statement}
 use Rattle.mask_gate.proofs.and.Tie as tie
-use Rattle.mask_gate.proofs.and.Reads as reads
-use Rattle.mask_gate.proofs.and.Lts as lts
-use Rattle.mask_and.proofs.steps.Reads as steps-reads
-use Rattle.mask_codes.proofs.mask_wire.Reads as mask-wire-reads
-use Rattle.mask_gate.proofs.change.Reads as change-reads
-use Rattle.mask_rule.proofs.and_twin.Reads as and-twin-reads
-use Rattle.mask_rule.proofs.changed.Reads as changed-reads
-use Rattle.mask_rule.proofs.past.Reads as past-reads
 
 change-requires : tie.Need-change-requires
 change-requires c κs = search needs

@@ -4,11 +4,6 @@ use native.Mathlib.Omega.{arith}
 use borrow.Author.Needs.{needs}
 use Rattle.mask_gate.proofs.change.Statement.{statement}
 use Rattle.mask_gate.proofs.change.Tie as tie
-use Rattle.mask_gate.proofs.change.Reads as reads
-use Rattle.mask_gate.proofs.change.Lts as lts
-use Rattle.mask_codes.proofs.code_after.Reads as code-after-reads
-use Rattle.mask_codes.proofs.mask_wire.Reads as mask-wire-reads
-use Rattle.write_gates.proofs.gate.xor.Reads as xor-reads
 
 returns : tie.Need-returns
 returns c = let a = c .before .before .before .before .args in change-none (a .n) (a .c) (a .a) (a .b) _ _ (omega arith) (omega arith) (c .if1 .taken)

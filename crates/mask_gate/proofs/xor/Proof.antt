@@ -1,16 +1,8 @@
 -- `mask_gate::xor` meets its contract.
 use Rattle.mask_gate.proofs.Emits.{xor-made}
-use native.Mathlib.Omega.{arith}
 use borrow.Author.Needs.{needs}
 use Rattle.mask_gate.proofs.xor.Statement.{statement}
 use Rattle.mask_gate.proofs.xor.Tie as tie
-use Rattle.mask_gate.proofs.xor.Reads as reads
-use Rattle.mask_gate.proofs.xor.Lts as lts
-use Rattle.mask_gate.proofs.change.Reads as change-reads
-use Rattle.mask_rule.proofs.changed.Reads as changed-reads
-use Rattle.mask_rule.proofs.past.Reads as past-reads
-use Rattle.mask_rule.proofs.xor_twin.Reads as xor-twin-reads
-use Rattle.write_gates.proofs.gate.xor.Reads as xor-reads
 
 change-requires : tie.Need-change-requires
 change-requires c κs = search needs

@@ -3,7 +3,7 @@ use mathlib.Core.Path.{_∙_}
 use lib.ListN.{length}
 use Rattle.netlist.specs.Table.{tables}
 use Rattle.netlist.proofs.Puts.{wired-same}
-use Rattle.mask_pass.proofs.Starts.{started-most}
+use Rattle.mask_twins.proofs.Starts.{started-most}
 use Rattle.mask_pass.proofs.Passes.{pass-made}
 use native.Mathlib.Omega.{arith}
 use borrow.Author.Needs.{needs}

@@ -5,14 +5,6 @@ use native.Mathlib.Omega.{arith}
 use borrow.Author.Needs.{needs}
 use Rattle.mask_rule.proofs.and.Statement.{statement}
 use Rattle.mask_rule.proofs.and.Tie as tie
-use Rattle.mask_rule.proofs.and.Reads as reads
-use Rattle.mask_rule.proofs.and.Lts as lts
-use Rattle.mask_and.proofs.step.Reads as step-reads
-use Rattle.mask_codes.proofs.mask_wire.Reads as mask-wire-reads
-use Rattle.mask_rule.proofs.change.Reads as change-reads
-use Rattle.mask_rule.proofs.changed.Reads as changed-reads
-use Rattle.mask_rule.proofs.extra.Reads as extra-reads
-use Rattle.mask_rule.proofs.past.Reads as past-reads
 
 extra-requires : tie.Need-extra-requires
 extra-requires c κs = search needs

@@ -1,12 +1,7 @@
 -- `change` meets its contract.
-use native.Mathlib.Omega.{arith}
 use borrow.Author.Needs.{needs}
 use Rattle.mask_rule.proofs.change.Statement.{statement}
 use Rattle.mask_rule.proofs.change.Tie as tie
-use Rattle.mask_rule.proofs.change.Reads as reads
-use Rattle.mask_rule.proofs.change.Lts as lts
-use Rattle.mask_codes.proofs.code_after.Reads as code-after-reads
-use Rattle.mask_codes.proofs.mask_wire.Reads as mask-wire-reads
 
 code-after-requires : tie.Need-code-after-requires
 code-after-requires c κs = search needs

@@ -1,6 +1,5 @@
 -- `changed`: the codes are equal, or not.
 use Rattle.mask_rule.proofs.Twins.{changed-none, changed-made}
-use native.Mathlib.Omega.{arith}
 use borrow.Author.Needs.{needs}
 use Rattle.mask_rule.proofs.changed.Statement.{statement}
 use Rattle.mask_rule.proofs.changed.Tie as tie

@@ -4,9 +4,6 @@ use native.Mathlib.Omega.{arith}
 use borrow.Author.Needs.{needs}
 use Rattle.mask_rule.proofs.count.Statement.{statement}
 use Rattle.mask_rule.proofs.count.Tie as tie
-use Rattle.mask_rule.proofs.count.Reads as reads
-use Rattle.mask_rule.proofs.count.Lts as lts
-use Rattle.mask_rule.proofs.extra.Reads as extra-reads
 
 extra-requires : tie.Need-extra-requires
 extra-requires c κs = search needs

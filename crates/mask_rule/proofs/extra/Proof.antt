@@ -1,11 +1,7 @@
 -- `extra`: the codes are equal, or not.
 use Rattle.mask_rule.proofs.Gates.{bit-same, bit-other}
-use borrow.Author.Needs.{needs}
-use native.Mathlib.Omega.{arith}
 use Rattle.mask_rule.proofs.extra.Statement.{statement}
 use Rattle.mask_rule.proofs.extra.Tie as tie
-use Rattle.mask_rule.proofs.extra.Reads as reads
-use Rattle.mask_rule.proofs.extra.Lts as lts
 
 returns : tie.Need-returns
 returns c = let a = c .before .before .before .args in bit-same (a .a) (a .b) (c .if1 .taken)

@@ -1,14 +1,8 @@
 -- `gate`: by the kind.
 use Rattle.mask_rule.proofs.Gates.{by-kind, by-others, at-only, and-long}
-use native.Mathlib.Omega.{arith}
 use borrow.Author.Needs.{needs}
 use Rattle.mask_rule.proofs.gate.Statement.{statement}
 use Rattle.mask_rule.proofs.gate.Tie as tie
-use Rattle.mask_rule.proofs.gate.Reads as reads
-use Rattle.mask_rule.proofs.gate.Lts as lts
-use Rattle.mask_rule.proofs.and.Reads as and-reads
-use Rattle.mask_rule.proofs.one.Reads as one-reads
-use Rattle.mask_rule.proofs.xor.Reads as xor-reads
 
 xor-requires : tie.Need-xor-requires
 xor-requires c κs = search needs

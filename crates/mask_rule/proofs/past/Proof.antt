@@ -1,6 +1,5 @@
 -- `past`: the codes are equal, or not.
 use Rattle.mask_rule.proofs.Twins.{past-none, past-made}
-use native.Mathlib.Omega.{arith}
 use borrow.Author.Needs.{needs}
 use Rattle.mask_rule.proofs.past.Statement.{statement}
 use Rattle.mask_rule.proofs.past.Tie as tie

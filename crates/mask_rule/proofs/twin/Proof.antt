@@ -1,7 +1,6 @@
 -- `twin`: by the kind.
 use mathlib.Core.Path.{_∙_}
 use Rattle.mask_rule.proofs.Twins.{constant-twin}
-use native.Mathlib.Omega.{arith}
 use borrow.Author.Needs.{needs}
 use Rattle.mask_rule.proofs.twin.Statement.{statement}
 use Rattle.mask_rule.proofs.twin.Tie as tie

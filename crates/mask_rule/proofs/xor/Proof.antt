@@ -4,12 +4,6 @@ use native.Mathlib.Omega.{arith}
 use borrow.Author.Needs.{needs}
 use Rattle.mask_rule.proofs.xor.Statement.{statement}
 use Rattle.mask_rule.proofs.xor.Tie as tie
-use Rattle.mask_rule.proofs.xor.Reads as reads
-use Rattle.mask_rule.proofs.xor.Lts as lts
-use Rattle.mask_rule.proofs.change.Reads as change-reads
-use Rattle.mask_rule.proofs.changed.Reads as changed-reads
-use Rattle.mask_rule.proofs.extra.Reads as extra-reads
-use Rattle.mask_rule.proofs.past.Reads as past-reads
 
 extra-requires : tie.Need-extra-requires
 extra-requires c κs = search needs

@@ -1,6 +1,5 @@
 -- `xor_twin`: the third code, behind the mask change.
 use Rattle.mask_rule.proofs.Twins.{xor-twin}
-use native.Mathlib.Omega.{arith}
 use borrow.Author.Needs.{needs}
 use Rattle.mask_rule.proofs.xor_twin.Statement.{statement}
 use Rattle.mask_rule.proofs.xor_twin.Tie as tie

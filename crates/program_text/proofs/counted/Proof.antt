@@ -11,7 +11,7 @@ without-end-requires : tie.Need-without-end-requires
 without-end-requires c κs = search needs
 
 returns : tie.Need-returns
-returns c = counts (c .before .front .ensures) (c .without-end .ensures)
+returns c = counts (c .before .front .ensures .0 .1) (c .without-end .ensures)
 
 pub counted-spec : {M : Type 1} → statement M
 counted-spec = tie.close (tie.spec front-requires without-end-requires returns)

@@ -1,7 +1,6 @@
 -- `deliver`: questions 11 and 14 in order.
 use Rattle.run_netlist.proofs.Delivered.{holds-ins}
 use Rattle.run64.proofs.Running.{words-11, words-14, words-done}
-use native.Mathlib.Omega.{arith}
 use borrow.Author.Needs.{needs}
 use Rattle.run64.proofs.deliver.Statement.{statement}
 use Rattle.run64.proofs.deliver.Tie as tie

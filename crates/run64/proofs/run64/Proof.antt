@@ -1,7 +1,6 @@
 -- `run64`: the answer, and then zero in every table.
 use Rattle.clear.proofs.Filled.{zeros-same}
 use Rattle.run64.proofs.Running.{call-lanes}
-use native.Mathlib.Omega.{arith}
 use borrow.Author.Needs.{needs}
 use Rattle.run64.proofs.run64.Statement.{statement}
 use Rattle.run64.proofs.run64.Tie as tie

@@ -2,7 +2,7 @@
 use mathlib.Core.Path.{sym, _∙_}
 use borrow.Author.Tests.{not-true, not-false}
 use Rattle.netlist.specs.Mask.{isInputCode}
-use Rattle.mask_pass.proofs.Made.{codes-length}
+use Rattle.mask_twins.proofs.Made.{codes-length}
 use Rattle.twins.proofs.Placing.{twins-11, twins-14, holds-codes}
 use native.Mathlib.Omega.{arith}
 use borrow.Author.Needs.{needs}

@@ -2,7 +2,6 @@
 use mathlib.Core.Path.{sym}
 use lib.Seq.{length-take-le}
 use Rattle.write_wires.proofs.Filling.{low-table}
-use native.Mathlib.Omega.{arith}
 use borrow.Author.Needs.{needs}
 use Rattle.write_netlist.proofs.answer_on.Statement.{statement}
 use Rattle.write_netlist.proofs.answer_on.Tie as tie

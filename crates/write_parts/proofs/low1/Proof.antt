@@ -1,7 +1,6 @@
 -- `low1`: a test for each wire.
 use mathlib.Core.Path.{sym}
 use Rattle.write_parts.proofs.Lines.{untrue}
-use native.Mathlib.Omega.{arith}
 use borrow.Author.Needs.{needs}
 use Rattle.write_parts.proofs.low1.Statement.{statement}
 use Rattle.write_parts.proofs.low1.Tie as tie

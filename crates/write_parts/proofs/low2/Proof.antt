@@ -1,7 +1,6 @@
 -- `low2`: a test for each wire.
 use mathlib.Core.Path.{sym}
 use Rattle.write_parts.proofs.Lines.{untrue}
-use native.Mathlib.Omega.{arith}
 use borrow.Author.Needs.{needs}
 use Rattle.write_parts.proofs.low2.Statement.{statement}
 use Rattle.write_parts.proofs.low2.Tie as tie

@@ -5,6 +5,7 @@ use native.Mathlib.Omega.{arith}
 use mathlib.Core.Path.{sym, _∙_}
 use native.Mathlib.Omega.{arith}
 use borrow.Author.Needs.{needs}
+use Rattle.netlist.proofs.Tests.{clash}
 use Rattle.certify_records.proofs.even.settled.Statement.{statement}
 use Rattle.certify_records.proofs.even.settled.Tie as tie
 use Rattle.certify_records.proofs.even.settled.Reads as reads
@@ -12,7 +13,7 @@ use Rattle.certify_records.proofs.even.settled.Lts as lts
 use Rattle.certify_records.proofs.table.alike.Reads as alike-reads
 
 returns : tie.Need-returns
-returns c = λ e f. let z : _≡_ {A = ℕ} 0 1 = cc in absurd (omega arith)
+returns c = λ e f. clash (cc)
 
 alike-requires : tie.Need-alike-requires
 alike-requires c κs = search needs

@@ -1,5 +1,4 @@
 -- `has_form`: by the dialect.
-use native.Mathlib.Omega.{arith}
 use borrow.Author.Needs.{needs}
 use Rattle.convert.proofs.question.has_form.Statement.{statement}
 use Rattle.convert.proofs.question.has_form.Tie as tie

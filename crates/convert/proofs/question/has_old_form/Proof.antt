@@ -3,7 +3,6 @@ use Rattle.netlist.specs.Lists.{every}
 use Rattle.netlist.specs.Table.{tables, gatesOf}
 use Rattle.old_form.specs.OldWrite.{isOldGate}
 use Rattle.convert.proofs.OldEntries.{form-inputs, form-outputs, form-gates}
-use native.Mathlib.Omega.{arith}
 use borrow.Author.Needs.{needs}
 use Rattle.convert.proofs.question.has_old_form.Statement.{statement}
 use Rattle.convert.proofs.question.has_old_form.Tie as tie

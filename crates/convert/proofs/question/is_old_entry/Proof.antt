@@ -1,7 +1,5 @@
 -- `is_old_entry`: by the kind.
 use Rattle.convert.proofs.OldEntries.{entry-none, entry-kind}
-use borrow.Author.Needs.{needs}
-use native.Mathlib.Omega.{arith}
 use Rattle.convert.proofs.question.is_old_entry.Statement.{statement}
 use Rattle.convert.proofs.question.is_old_entry.Tie as tie
 

@@ -3,7 +3,7 @@ use Prim.Native.Nat.{_-_}
 use lib.ListN.{length}
 use Rattle.netlist.specs.Table.{tables}
 use Rattle.write_buffer.proofs.Wrote.{wrote-length}
-use Rattle.mask_pass.specs.State.{stateOf}
+use Rattle.mask_twins.specs.State.{stateOf}
 use Rattle.mask_pass.proofs.States.{Emitting, emitting-none, emitting-more, emitting-all}
 use borrow.Author.Needs.{needs}
 use native.Mathlib.Omega.{arith}

@@ -1,5 +1,5 @@
 -- `step`: the gate's masked gates are written, and its result's twin is stored.
-use Rattle.gate_table.proofs.Splitting.{result-of, parts-within}
+use Rattle.gate_table.proofs.Splitting.{right-of, result-of, parts-within}
 use Rattle.mask_gate.proofs.Emits.{kind-small}
 use Rattle.mask_pass.proofs.States.{step-parts}
 use native.Mathlib.Omega.{arith}
@@ -26,17 +26,19 @@ emit-requires c κs = search needs
 mul-wire : tie.Need-mul-wire
 mul-wire c =
     let s = c .before .before .before .before .before .before .before .before .before .before .before .before .before .before .before .before in
-    omega (arith, result-of (s .args .operands) (s .args .results) (c .before .before .before .before .before .before .before .before .before .before .before .split .ensures))
+    omega (arith, result-of (s .args .operands) (s .args .results) (c .before .before .before .before .before .before .before .before .before .before .before .split .ensures), right-of (s .args .operands) (s .args .results) (c .before .before .before .before .before .before .before .before .before .before .before .split .ensures))
 
 slice-write-wire : tie.Need-slice-write-wire
 slice-write-wire c =
     let s = c .before .before .before .before .before .before .before .before .before .before .before .before .before .before .before .before in
-    omega (arith, parts-within (s .args .operands) (s .args .results) (c .before .before .before .before .before .before .before .before .before .before .before .split .ensures) (s .pre .1 .1 .0) .result)
+    let w = parts-within (s .args .operands) (s .args .results) (c .before .before .before .before .before .before .before .before .before .before .before .split .ensures) (s .pre .1 .1 .0) in
+    omega (arith, w .result, w .right)
 
 slice-write-code : tie.Need-slice-write-code
 slice-write-code c =
     let s = c .before .before .before .before .before .before .before .before .before .before .before .before .before .before .before .before in
-    omega (arith, parts-within (s .args .operands) (s .args .results) (c .before .before .before .before .before .before .before .before .before .before .before .split .ensures) (s .pre .1 .1 .0) .result, s .pre .1 .1 .1)
+    let w = parts-within (s .args .operands) (s .args .results) (c .before .before .before .before .before .before .before .before .before .before .before .split .ensures) (s .pre .1 .1 .0) in
+    omega (arith, w .result, w .right, s .pre .1 .1 .1)
 
 add-t30 : tie.Need-add-t30
 add-t30 c = omega (arith, kind-small (c .before .before .before .before .emit .ensures), c .before .before .before .before .before .before .before .before .before .before .before .before .before .before .before .before .before .pre .1 .0 .1)

@@ -1,5 +1,4 @@
 -- `wire`: the word's bytes, and the place behind its text.
-use native.Mathlib.Omega.{arith}
 use Rattle.write_wires.proofs.Spilling.{stored}
 use borrow.Author.Needs.{needs}
 use Rattle.write_wires.proofs.wire.wire.Statement.{statement}

@@ -1,0 +1,3 @@
+-- What the contracts of `mask_twins` cite.
+pub mod State
+pub mod Place

@@ -1,0 +1,2 @@
+-- What the contracts of `write_header` cite.
+pub mod Header
