@@ -22,9 +22,9 @@ use Rattle.check_counts.specs.Paint.{paintEach}
 use Rattle.check_counts.specs.Base.{part}
 use Rattle.check_counts.proofs.Paints.{codes-each, paint-each, each-count}
 use Rattle.check_counts.specs.Block.{onesOf, nibblesOf, Evaluated}
-use Rattle.check_leak.specs.declared.spot.Spot.{Spot}
-use Rattle.check_leak.specs.Spot.{Spotted, from}
-use Rattle.check_leak.proofs.Spots.{spot-none, spot-same}
+use Rattle.check_leak.specs.declared.difference.Difference.{Difference}
+use Rattle.check_leak.specs.Difference.{LowestDifference, from}
+use Rattle.check_leak.proofs.Differences.{difference-none, difference-same}
 use Rattle.pairs.specs.Pairs.{bothCount, cleanPair, firstBad}
 use Rattle.pairs.proofs.PairCounts.{SameThree}
 use Rattle.pairs.proofs.PairCheck.{ThreeAsBase, passes-three, three-passes, Tested, first-is}
@@ -37,15 +37,15 @@ use Rattle.pairs_search.proofs.Uneven.{uneven-none, uneven-as, uneven-m
 
 -- ---- what one block shows
 
-pub look-law : (words bases base ws : List ℕ) (block : ℕ) {best : Best} {spot next : Spot} {k : ℕ}
-    → Spotted (nibblesOf base) (onesOf words) (best .spot .wire) 16 spot
+pub look-law : (words bases base ws : List ℕ) (block : ℕ) {best : Best} {found next : Difference} {k : ℕ}
+    → LowestDifference (nibblesOf base) (onesOf words) (best .difference .wire) 16 found
     → FirstUneven (LevelAt (heldBase bases base) (heldIn words) ws) (best .pair) 16 k
-    → ((f g : ℕ → ℕ → ℕ) (W : ℕ) → Spotted f g W (block * 16) (best .spot) → Spotted (from (block * 16) f) (from (block * 16) g) (best .spot .wire) 16 spot
-    → Spotted f g W (block * 16 + 16) next)
+    → ((f g : ℕ → ℕ → ℕ) (W : ℕ) → LowestDifference f g W (block * 16) (best .difference) → LowestDifference (from (block * 16) f) (from (block * 16) g) (best .difference .wire) 16 found
+    → LowestDifference f g W (block * 16 + 16) next)
     → (based own : Counts) (W n : ℕ) → Alike (heldBase bases base) (onFrom (block * 16) based) → Alike (heldIn words) (onFrom (block * 16) own)
-    → Found based own ws W n (block * 16) best → Found based own ws W n (block * 16 + 16) (record { spot = next; pair = k })
+    → Found based own ws W n (block * 16) best → Found based own ws W n (block * 16 + 16) (record { difference = next; pair = k })
 look-law words bases base ws block scanned uneven better based own W n a b past = record {
-  spotted = better (based .one) (own .one) W (past .spotted) (spot-same (a .one) (b .one) scanned);
+  lowest = better (based .one) (own .one) W (past .lowest) (difference-same (a .one) (b .one) scanned);
   uneven = uneven-more (past .uneven)
       (uneven-as (λ j s l h. level-on (block * 16) (first j) (second j) s (level-as a b (first j) (second j) s l h))
       (λ j s l h. level-back a b (first j) (second j) s l (level-off (block * 16) (first j) (second j) s h)) uneven);
@@ -76,7 +76,7 @@ pub record Finding (t : Tables) (n W limit : ℕ) (ps ws : List ℕ) (publics : 
 
 pub find-none : {t : Tables} {n W limit : ℕ} {ps : List ℕ} (ws : List ℕ) {publics : Bool} (blocks : ℕ) {words bases base : List ℕ} {best : Best}
     → length words ≡ W → length bases ≡ W → length base ≡ W → HeldOn publics (bare t n W) ps bases base 0
-    → best .spot .wire ≡ limit → best .pair ≡ length ws / 2 → Finding t n W limit ps ws publics blocks words bases base best 0
+    → best .difference .wire ≡ limit → best .pair ≡ length ws / 2 → Finding t n W limit ps ws publics blocks words bases base best 0
 find-none {t} {n} {W} {limit} {ps} ws blocks {best = best} a b c h w p = record {
   passed = omega arith;
   long-words = a;
@@ -84,7 +84,7 @@ find-none {t} {n} {W} {limit} {ps} ws blocks {best = best} a b c h w p = record 
   long-base = c;
   held = h;
   found = record {
-    spotted = spot-none w (λ w l s m. absurd (omega arith));
+    lowest = difference-none w (λ w l s m. absurd (omega arith));
     uneven = subst (FirstUneven (LevelAt (baseOf t n W ps) (ownOf t n W ps) ws) (length ws / 2) 0) (sym p)
         (uneven-none (LevelAt (baseOf t n W ps) (ownOf t n W ps) ws) (length ws / 2));
   };

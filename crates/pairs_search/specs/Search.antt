@@ -4,7 +4,7 @@ use mathlib.Core.Bool.{cond}
 use mathlib.Core.List.{List}
 use mathlib.Core.Option.{Option, none, some}
 use lib.Dec.{ltb}
-use Rattle.check_leak.specs.Spot.{Spotted}
+use Rattle.check_leak.specs.Difference.{LowestDifference}
 use Rattle.pairs_search.specs.declared.search.Best.{Best}
 use Rattle.pairs_search.specs.declared.search.PairsVerdict.{PairsVerdict}
 use Rattle.pairs_search.specs.declared.search.PairsVerdict.the-variants.{Clean, Bad}
@@ -19,7 +19,7 @@ badOf (Bad k) = some k
 abbrev pub badAt : ℕ → ℕ → Option ℕ
 badAt k n = cond (ltb k n) (some k) none
 
--- the best spot on wires below W and the first bad one of n pairs, over the settings below S
+-- the lowest difference on wires below W and the first bad one of n pairs, over the settings below S
 pub record Found (base own : Counts) (ws : List ℕ) (W n S : ℕ) (b : Best) : Type 0 where
-  pub spotted : Spotted (base .one) (own .one) W S (b .spot)
+  pub lowest : LowestDifference (base .one) (own .one) W S (b .difference)
   pub uneven : FirstUneven (LevelAt base own ws) n S (b .pair)

@@ -4,8 +4,8 @@ use crate::pair;
 use check_counts::block;
 use check_counts::paint;
 use check_leak::search::Verdict;
-use check_leak::spot;
-use check_leak::spot::Spot;
+use check_leak::difference;
+use check_leak::difference::Difference;
 ghost use mathlib.Core.Path.{_≡_};
 ghost use mathlib.Core.Bool.{true, false};
 ghost use Prim.Native.Nat.{ℕ, _+_, _*_, _/_, _^_, _<_, _≤_};
@@ -34,9 +34,9 @@ pub struct Verdicts {
     pub pairs: PairsVerdict,
 }
 
-// The best spot so far, and the first bad pair so far or the number of pairs.
+// The lowest difference on a wire so far, and the first bad pair so far or the number of pairs.
 pub struct Best {
-    pub spot: Spot,
+    pub difference: Difference,
     pub pair: usize,
 }
 
@@ -75,22 +75,22 @@ fn run(
     );
 }
 
-// The better of the best so far and what a block shows. Wires above the best spot, and pairs behind the first bad one, are looked at no more.
+// The better of the best so far and what a block shows. Wires above the lowest difference, and pairs behind the first bad one, are looked at no more.
 fn look(words: &[u64], bases: &[u64], base: &[u64], pairs: &[u32], best: Best, block: u64) -> Best
-    requires { ⌜ (block < 65536) × (best .spot .wire ≤ length (now words)) × (2 * best .pair ≤ length (now pairs))
+    requires { ⌜ (block < 65536) × (best .difference .wire ≤ length (now words)) × (2 * best .pair ≤ length (now pairs))
         × (length (now bases) ≡ length (now words)) × (length (now base) ≡ length (now words))
         × ((i : ℕ) → i < length (now pairs) → getD (now pairs) i 0 < length (now words)) ⌝ }
     ensures { λ r. ⌜ ((based own : Counts) (W n : ℕ) → Alike (heldBase (now (bases .entry)) (now (base .entry))) (onFrom (block * 16) based)
         → Alike (heldIn (now (words .entry))) (onFrom (block * 16) own)
         → Found based own (now (pairs .entry)) W n (block * 16) best → Found based own (now (pairs .entry)) W n (block * 16 + 16) r) ⌝ }
 {
-    let limit = best.spot.wire;
-    let spot = spot::scan(words, base, limit);
+    let limit = best.difference.wire;
+    let found = difference::scan(words, base, limit);
     let first = best.pair;
-    let agreed = spot.wire == words.len();
+    let agreed = found.wire == words.len();
     let pair = pair::scan(pairs, first, words, bases, base, agreed);
     Best {
-        spot: spot::better(best.spot, spot, block),
+        difference: difference::better(best.difference, found, block),
         pair: pair,
     }
 }
@@ -118,7 +118,7 @@ pub fn find(
 {
     let publics = block::public(paints);
     let mut best = Best {
-        spot: spot::none(limit),
+        difference: difference::none(limit),
         pair: pairs.len() / 2,
     };
     let mut block = 0;
@@ -188,7 +188,7 @@ pub fn search(
         base,
     );
     Verdicts {
-        wires: check_leak::search::verdict_of(best.spot, words.len()),
+        wires: check_leak::search::verdict_of(best.difference, words.len()),
         pairs: pairs_verdict_of(best.pair, pairs.len() / 2),
     }
 }

@@ -88,7 +88,7 @@ module _ (t : Tables) (m W : ℕ) (S : Sets) (codes ws : List ℕ) (below : (i :
     cs = codesOf ps
 
     abbrev wire′ : ℕ
-    wire′ = found .spot .wire
+    wire′ = found .difference .wire
 
     abbrev pair′ : ℕ
     pair′ = found .pair
@@ -97,7 +97,7 @@ module _ (t : Tables) (m W : ℕ) (S : Sets) (codes ws : List ℕ) (below : (i :
     long = sym (length-codesOf ps) ∙ ap length plain
 
     pub lower-wire : wire′ ≤ wire
-    lower-wire = F .spotted .within
+    lower-wire = F .lowest .within
 
     pub lower-pair : pair′ ≤ pair
     lower-pair = let e = length-take-le (2 * pair) ws even in omega (arith, F .uneven .within)
@@ -132,8 +132,8 @@ module _ (t : Tables) (m W : ℕ) (S : Sets) (codes ws : List ℕ) (below : (i :
 
       pub wire-leaks : wire′ < wire → Level N codes wire′ → ⊥
       wire-leaks l h =
-          let d = F .spotted .differs l in
-          d .other (same-one false wire′ (found .spot .at) ∙ level-painted N ps wire′ (uncode wire′ h) (found .spot .at) ∙ sym (same-one true wire′ (found .spot .at)))
+          let d = F .lowest .differs l in
+          d .other (same-one false wire′ (found .difference .setting) ∙ level-painted N ps wire′ (uncode wire′ h) (found .difference .setting) ∙ sym (same-one true wire′ (found .difference .setting)))
 
       entry : (j : ℕ) → j < 2 * pair → getD (take (2 * pair) ws) j 0 ≡ getD ws j 0
       entry j l = getD-take (2 * pair) ws j 0 l
@@ -153,7 +153,7 @@ module _ (t : Tables) (m W : ℕ) (S : Sets) (codes ws : List ℕ) (below : (i :
       item-judged y k D = record {
         level = λ a b. recode y (painted-level N ps fits K (λ i _. upto i) y
             (subst (λ (is : List ℕ). Different is ps) (wire-set G ws below y a ∙ ap (λ (j : ℕ). reachSet N j y) (sym long)) D)
-            (λ s l. sym (same-one false y s) ∙ F .spotted .lower y b s (omega arith) ∙ same-one true y s));
+            (λ s l. sym (same-one false y s) ∙ F .lowest .lower y b s (omega arith) ∙ same-one true y s));
         clean = λ a b.
             let j = y - W in
             let u = getD ws (2 * j) 0 in

@@ -133,9 +133,9 @@ fn pass(
         bases,
         base,
     );
-    let spot = found.spot;
+    let difference = found.difference;
     Worst {
-        wire: spot.wire,
+        wire: difference.wire,
         pair: found.pair,
     }
 }

@@ -186,11 +186,11 @@ fn tell(
         bases,
         base,
     );
-    let spot = found.spot;
+    let difference = found.difference;
     Told {
-        ones: pick(m, spot.at),
-        base: spot.base,
-        own: spot.own,
+        ones: pick(m, difference.setting),
+        base: difference.base,
+        own: difference.count,
     }
 }
 

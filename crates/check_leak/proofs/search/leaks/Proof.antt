@@ -8,7 +8,7 @@ use Rattle.netlist.specs.Table.{tables}
 use Rattle.evaluate.specs.Bare.{bare}
 use Rattle.check_counts.specs.Base.{countIn}
 use Rattle.check_counts.proofs.Paints.{length-each}
-use Rattle.check_leak.specs.Spot.{Spotted}
+use Rattle.check_leak.specs.Difference.{LowestDifference}
 use Rattle.check_leak.specs.Search.{foundAt}
 use Rattle.check_leak.proofs.Answers.{tells-found}
 use native.Mathlib.Omega.{arith}
@@ -56,7 +56,7 @@ returns c = λ n o N h. let s = c .before .before .before .before .before .befor
     let N′ = bare (tables (a .operands .now) (a .results .now)) (a .count) (length (a .words .now)) in
     c .verdict-of .ensures ∙ ap (foundAt (find .result)) (find .kept .1 .1 .1 .1 .1 .0)
     ∙ tells-found h (a .codes .now) (blocks .result * 16) (find .result) (blocks .ensures .0) (s .pre .1 .3)
-    (subst (λ (ps : List ℕ). Spotted (countIn N′ false ps) (countIn N′ true ps) (length (a .words .now)) (blocks .result * 16) (find .result))
+    (subst (λ (ps : List ℕ). LowestDifference (countIn N′ false ps) (countIn N′ true ps) (length (a .words .now)) (blocks .result * 16) (find .result))
     (c .before .before .before .before .before .before .before .before .before .before .each .ensures) (find .ensures))
 
 pub leaks-spec : {M : Type 1} → statement M

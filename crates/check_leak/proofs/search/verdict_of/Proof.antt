@@ -5,10 +5,10 @@ use Rattle.check_leak.proofs.search.verdict_of.Statement.{statement}
 use Rattle.check_leak.proofs.search.verdict_of.Tie as tie
 
 returns : tie.Need-returns
-returns c = let a = c .before .args in sym (rw (lt-ltb (a .spot .wire) (a .wires) (c .if1 .taken)))
+returns c = let a = c .before .args in sym (rw (lt-ltb (a .found .wire) (a .wires) (c .if1 .taken)))
 
 returns-2 : tie.Need-returns-2
-returns-2 c = let a = c .before .args in sym (rw (le-ltb (a .spot .wire) (a .wires) (c .if1 .left)))
+returns-2 c = let a = c .before .args in sym (rw (le-ltb (a .found .wire) (a .wires) (c .if1 .left)))
 
 pub verdict-of-spec : {M : Type 1} → statement M
 verdict-of-spec = tie.close (tie.spec returns returns-2)

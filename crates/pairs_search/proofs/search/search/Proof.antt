@@ -66,8 +66,8 @@ returns c = λ n o N h. let s = c .before .before .before .before .before .befor
     let S = blocks .result * 16 in
     let found = subst (λ (ps : List ℕ). Found (countsOf N′ false ps) (countsOf N′ true ps) (a .pairs .now) W (length (a .pairs .now) / 2) S (find .result))
     (c .before .before .before .before .before .before .before .before .before .before .before .before .before .before .each .ensures) (find .ensures) in (
-      c .before .verdict-of .ensures ∙ ap (foundAt (find .result .spot)) (find .kept .1 .1 .1 .1 .1 .1 .1 .0)
-          ∙ tells-found h (a .codes .now) S (find .result .spot) (blocks .ensures .0) (s .pre .1 .5) (found .spotted),
+      c .before .verdict-of .ensures ∙ ap (foundAt (find .result .difference)) (find .kept .1 .1 .1 .1 .1 .1 .1 .0)
+          ∙ tells-found h (a .codes .now) S (find .result .difference) (blocks .ensures .0) (s .pre .1 .5) (found .lowest),
       c .pairs-verdict-of .ensures
           ∙ tells-pairs h (a .codes .now) (s .pre .1 .5) (a .pairs .now) S (find .result .pair) (blocks .ensures .0) (found .uneven),
     )
