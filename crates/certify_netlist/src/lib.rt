@@ -28,7 +28,13 @@ pub enum Certified {
 }
 
 // A leak is told where both lists have room.
-fn tell_leak(words: &[u64], n: usize, found: Difference, leak: &mut [u64], ones: &mut [u64]) -> Certified
+fn tell_leak(
+    words: &[u64],
+    n: usize,
+    found: Difference,
+    leak: &mut [u64],
+    ones: &mut [u64],
+) -> Certified
     requires { ⌜ (n ≤ length (now words)) × (found .setting < 16) ⌝ }
     ensures { λ r. ⌜ ((N : Netlist) (codes : List ℕ) → n ≡ length codes → found .wire < N .wires → Witness N codes (now (words .entry)) found
         → Judged N codes (now (leak .entry)) (now (leak .exit)) (now (ones .entry)) (now (ones .exit)) r) ⌝ }
