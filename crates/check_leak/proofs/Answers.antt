@@ -42,9 +42,9 @@ module _ {t : Tables} {m W n o : ℕ} {N : Netlist} (h : Holds t m W n o N) (cod
   g = countAt N codes
 
   -- settings go round after the last
-  round : (whole : Bool) (w s : ℕ)
-      → count N codes w (part whole codes (setting (length codes) s)) ≡ count N codes w (part whole codes (setting (length codes) (s % 2 ^ length codes)))
-  round whole w s = ap (λ (x : List Bool). count N codes w (part whole codes x)) (setting-mod (length codes) s)
+  round : (secrets : Bool) (w s : ℕ)
+      → count N codes w (part secrets codes (setting (length codes) s)) ≡ count N codes w (part secrets codes (setting (length codes) (s % 2 ^ length codes)))
+  round secrets w s = ap (λ (x : List Bool). count N codes w (part secrets codes x)) (setting-mod (length codes) s)
 
   found : LowestDifference f g W S p
   found =

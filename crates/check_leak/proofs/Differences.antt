@@ -89,10 +89,10 @@ module _ {f g : ℕ → ℕ → ℕ} {W S T : ℕ} {best found : Difference}
 -- ---- the loop over the blocks
 
 -- a scan of a block's counts and of those of its bases
-pub search-block-law : {N : Netlist} {ps : List ℕ} {own held : ℕ → ℕ → ℕ} {block limit : ℕ} {p : Difference} → Counted N true ps own block
+pub search-block-law : {N : Netlist} {ps : List ℕ} {counts held : ℕ → ℕ → ℕ} {block limit : ℕ} {p : Difference} → Counted N true ps counts block
     → Counted N false ps held block
-    → LowestDifference held own limit 16 p → LowestDifference (from (block * 16) (countIn N false ps)) (from (block * 16) (countIn N true ps)) limit 16 p
-search-block-law own based scanned = difference-same (based .each) (own .each) scanned
+    → LowestDifference held counts limit 16 p → LowestDifference (from (block * 16) (countIn N false ps)) (from (block * 16) (countIn N true ps)) limit 16 p
+search-block-law counts based scanned = difference-same (based .each) (counts .each) scanned
 
 -- the blocks before this one are searched, and the tables keep their lengths
 pub record Finding (t : Tables) (n W : ℕ) (ps : List ℕ) (publics : Bool) (blocks : ℕ) (words base : List ℕ) (best : Difference) (block : ℕ) : Type 0 where
@@ -127,7 +127,7 @@ find-more {t} {n} {W} {ps} {publics} {best = best} {block} r l us vs found next 
     let f = countIn (bare t n W) false ps in
     let g = countIn (bare t n W) true ps in
     let q : block * 16 + 16 ≡ (block + 1) * 16 = omega arith in
-    let counts : Bool → ℕ → ℕ → ℕ → ℕ = λ whole k. from (block * 16) (countIn (bare t n k) whole ps) in
+    let counts : Bool → ℕ → ℕ → ℕ → ℕ = λ secrets k. from (block * 16) (countIn (bare t n k) secrets ps) in
     let turned′ : LowestDifference (from (block * 16) f) (from (block * 16) g) (best .wire) 16 found =
     subst (λ (k : ℕ). LowestDifference (counts false k) (counts true k) (best .wire) 16 found) (r .long-words) turned in
     record {

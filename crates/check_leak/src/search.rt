@@ -15,13 +15,7 @@ ghost use Rattle.evaluate.specs.Bare.{bare};
 ghost use Rattle.check_counts.specs.Base.{countIn};
 ghost use Rattle.check_counts.specs.Block.{Ready};
 ghost use Rattle.check_leak.specs.Difference.{LowestDifference, from};
-ghost use Rattle.check_leak.specs.Search.{foundOf, foundAt};
-
-// Clean, or a leak: its wire, its setting, its base's count and its own.
-pub enum Verdict {
-    Clean,
-    Leak(usize, u64, u8, u8),
-}
+ghost use Rattle.check_leak.specs.Search.{foundAt};
 
 // A block is run and searched, for wires below a limit.
 fn search_block(
@@ -104,20 +98,8 @@ pub fn blocks_of(k: usize) -> u64
     if k < 4 { 1 } else { 1 << (k - 4) }
 }
 
-// What a difference among so many wires says, or none.
-pub fn verdict_of(found: Difference, wires: usize) -> Verdict
-    ensures { λ r. ⌜ foundOf r ≡ foundAt found wires ⌝ }
-{
-    let wire = found.wire;
-    if wire < wires {
-        Verdict::Leak(wire, found.setting, found.base, found.count)
-    } else {
-        Verdict::Clean
-    }
-}
-
-// Whether the tables' netlist is clean under the input codes, and the leak if not. The words and the
-// base, one entry for each wire, are working store.
+// The leak of the tables' netlist under the input codes, or none: then it is clean. The words and
+// the base, one entry for each wire, are working store.
 pub fn leaks(
     operands: &[u64],
     results: &[u64],
@@ -125,16 +107,16 @@ pub fn leaks(
     codes: &[u8],
     words: &mut [u64],
     base: &mut [u64],
-) -> Verdict
+) -> Difference
     requires { ⌜ Wired (tables (now operands) (now results)) (length (now words)) count ⌝ }
     requires { ⌜ (length (now codes) ≤ maxChecked) × (length (now codes) + 2 ≤ length (now words)) × (length (now base) ≡ length (now words))
         × ((i : ℕ) → i < length (now codes) → getD (now codes) i 0 < 4) ⌝ }
     ensures { λ r. ⌜ ((n o : ℕ) (N : Netlist) → Holds (tables (now (operands .entry)) (now (results .entry))) count
-        (length (now (words .entry))) n o N → foundOf r ≡ leak N (now (codes .entry))) ⌝ }
+        (length (now (words .entry))) n o N → foundAt r (length (now (words .entry))) ≡ leak N (now (codes .entry))) ⌝ }
 {
     let paints = paint::each(codes);
     let n = codes.len();
-    let found = find(
+    find(
         operands,
         results,
         count,
@@ -142,6 +124,5 @@ pub fn leaks(
         blocks_of(n),
         words,
         base,
-    );
-    verdict_of(found, words.len())
+    )
 }

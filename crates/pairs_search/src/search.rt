@@ -5,7 +5,6 @@ use check_counts::block;
 use check_counts::paint;
 use check_leak::difference;
 use check_leak::difference::Difference;
-use check_leak::search::Verdict;
 ghost use mathlib.Core.Path.{_≡_};
 ghost use mathlib.Core.Bool.{true, false};
 ghost use Prim.Native.Nat.{ℕ, _+_, _*_, _/_, _^_, _<_, _≤_};
@@ -16,11 +15,17 @@ ghost use Rattle.netlist.specs.Services.{maxChecked};
 ghost use Rattle.netlist.specs.Table.{tables, Wired, Holds};
 ghost use Rattle.evaluate.specs.Bare.{bare};
 ghost use Rattle.check_counts.specs.Block.{Evaluated};
-ghost use Rattle.check_leak.specs.Search.{foundOf};
+ghost use Rattle.check_leak.specs.Search.{foundAt};
 ghost use Rattle.pairs.specs.Pairs.{cleanPair, firstBad};
 ghost use Rattle.pairs_search.specs.Level.{Counts, countsOf, heldIn, heldBase, onFrom, Alike};
 ghost use Rattle.pairs_search.specs.Bases.{Based, HeldOn};
-ghost use Rattle.pairs_search.specs.Search.{badOf, badAt, Found};
+ghost use Rattle.pairs_search.specs.Search.{foundOf, badOf, badAt, Found};
+
+// Clean, or a leak: its wire, its setting, its base's count and the setting's.
+pub enum WiresVerdict {
+    Clean,
+    Leak(usize, u64, u8, u8),
+}
 
 // Clean, or how many pairs stand before the first bad one.
 pub enum PairsVerdict {
@@ -30,7 +35,7 @@ pub enum PairsVerdict {
 
 // Both answers.
 pub struct Verdicts {
-    pub wires: Verdict,
+    pub wires: WiresVerdict,
     pub pairs: PairsVerdict,
 }
 
@@ -80,9 +85,9 @@ fn look(words: &[u64], bases: &[u64], base: &[u64], pairs: &[u32], best: Best, b
     requires { ⌜ (block < 65536) × (best .difference .wire ≤ length (now words)) × (2 * best .pair ≤ length (now pairs))
         × (length (now bases) ≡ length (now words)) × (length (now base) ≡ length (now words))
         × ((i : ℕ) → i < length (now pairs) → getD (now pairs) i 0 < length (now words)) ⌝ }
-    ensures { λ r. ⌜ ((based own : Counts) (W n : ℕ) → Alike (heldBase (now (bases .entry)) (now (base .entry))) (onFrom (block * 16) based)
-        → Alike (heldIn (now (words .entry))) (onFrom (block * 16) own)
-        → Found based own (now (pairs .entry)) W n (block * 16) best → Found based own (now (pairs .entry)) W n (block * 16 + 16) r) ⌝ }
+    ensures { λ r. ⌜ ((based counts : Counts) (W n : ℕ) → Alike (heldBase (now (bases .entry)) (now (base .entry))) (onFrom (block * 16) based)
+        → Alike (heldIn (now (words .entry))) (onFrom (block * 16) counts)
+        → Found based counts (now (pairs .entry)) W n (block * 16) best → Found based counts (now (pairs .entry)) W n (block * 16 + 16) r) ⌝ }
 {
     let limit = best.difference.wire;
     let found = difference::scan(words, base, limit);
@@ -140,6 +145,18 @@ pub fn find(
     best
 }
 
+// What a difference among so many wires says, or none.
+fn wires_verdict_of(found: Difference, wires: usize) -> WiresVerdict
+    ensures { λ r. ⌜ foundOf r ≡ foundAt found wires ⌝ }
+{
+    let wire = found.wire;
+    if wire < wires {
+        WiresVerdict::Leak(wire, found.setting, found.base, found.count)
+    } else {
+        WiresVerdict::Clean
+    }
+}
+
 // What the first bad one of so many pairs says, or none.
 pub fn pairs_verdict_of(pair: usize, count: usize) -> PairsVerdict
     ensures { λ r. ⌜ badOf r ≡ badAt pair count ⌝ }
@@ -188,7 +205,7 @@ pub fn search(
         base,
     );
     Verdicts {
-        wires: check_leak::search::verdict_of(best.difference, words.len()),
+        wires: wires_verdict_of(best.difference, words.len()),
         pairs: pairs_verdict_of(best.pair, pairs.len() / 2),
     }
 }

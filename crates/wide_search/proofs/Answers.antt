@@ -106,8 +106,8 @@ module _ {t : Tables} {m W o : ℕ} {S : Sets} {N : Netlist} {codes ws : List �
   cs : List ℕ
   cs = codesOf ps
 
-  same-one : (whole : Bool) (w s : ℕ) → countIn (bare t m W) whole ps w s ≡ countIn N whole ps w s
-  same-one whole w s = one-bare (G .holds) (codesOf ps) w (part whole (codesOf ps) (paint ps s))
+  same-one : (secrets : Bool) (w s : ℕ) → countIn (bare t m W) secrets ps w s ≡ countIn N secrets ps w s
+  same-one secrets w s = one-bare (G .holds) (codesOf ps) w (part secrets (codesOf ps) (paint ps s))
 
   fits : length (codesOf ps) + 2 ≤ N .wires
   fits = let e = G .holds .wires in let l = ap length plain in omega arith

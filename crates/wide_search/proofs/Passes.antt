@@ -103,8 +103,8 @@ module _ (t : Tables) (m W : ℕ) (S : Sets) (codes ws : List ℕ) (below : (i :
     lower-pair = let e = length-take-le (2 * pair) ws even in omega (arith, F .uneven .within)
 
     module _ {o : ℕ} {N : Netlist} (G : Given t m W (length codes) S o N) where
-      same-one : (whole : Bool) (w s : ℕ) → countIn (bare t m W) whole ps w s ≡ countIn N whole ps w s
-      same-one whole w s = one-bare (G .holds) cs w (part whole cs (paint ps s))
+      same-one : (secrets : Bool) (w s : ℕ) → countIn (bare t m W) secrets ps w s ≡ countIn N secrets ps w s
+      same-one secrets w s = one-bare (G .holds) cs w (part secrets cs (paint ps s))
 
       fits : length cs + 2 ≤ N .wires
       fits = let e = G .holds .wires in let l = ap length plain in omega arith
@@ -173,7 +173,7 @@ module _ (t : Tables) (m W : ℕ) (S : Sets) (codes ws : List ℕ) (below : (i :
       passed start x n {ms} {ms′} {ps₀} {ps₁} l k e A U J =
           let p = lower-wire in
           let q = lower-pair in
-          let own : Different (itemSet S ws W (start + x)) ps
+          let apart : Different (itemSet S ws W (start + x)) ps
           = different-kept (U .kept) (seeded-different A (subst (Inputs (itemSet S ws W (start + x))) (sym e) (item-inputs G ws below (start + x) (omega arith)))) in
           record {
             wires = let z = J .wires in omega arith;
@@ -186,7 +186,7 @@ module _ (t : Tables) (m W : ℕ) (S : Sets) (codes ws : List ℕ) (below : (i :
             marked = λ y b c. ⊎-elim (λ d. judged-worse p q (J .marked y b d)) (λ d. item-judged (start + y) (omega arith) d) (U .each y c);
             done = λ y b c. onBool (ltb x y) (λ d. let z = ltb-true x y d in judged-worse p q (J .done y (omega arith) c))
                 (λ d. let z = ltb-false x y d in let v : x ≡ y = omega arith in
-                subst (λ (w : ℕ). Judged N codes ws W wire′ pair′ (start + w)) v (item-judged (start + x) (omega arith) own));
+                subst (λ (w : ℕ). Judged N codes ws W wire′ pair′ (start + w)) v (item-judged (start + x) (omega arith) apart));
           }
 
 -- an item that is marked is left out

@@ -4,7 +4,7 @@ ghost use mathlib.Core.Path.{_≡_};
 ghost use Prim.Native.Nat.{ℕ, _≤_, _<_};
 ghost use lib.ListN.{length, getD, take};
 ghost use mathlib.Core.List.{List, []};
-ghost use Rattle.wide_sets.specs.Packed.{listIn, countIn, sets, setAt, sizeAt, ownEntry, ownSet, Items, Holding, Put};
+ghost use Rattle.wide_sets.specs.Packed.{listIn, countIn, sets, setAt, sizeAt, startEntry, startSet, Items, Holding, Put};
 
 // The first `count` items, rising.
 pub struct Members {
@@ -133,9 +133,9 @@ pub fn none(set0: &mut [u64], w: usize)
 }
 
 // The first entry of wire w before the first gate line: one of the first n wires is reached by itself, the others by none.
-fn own(w: usize, n: usize) -> u64
+fn start_entry(w: usize, n: usize) -> u64
     requires { ⌜ n ≤ 1048576 ⌝ }
-    ensures { λ r. ⌜ r ≡ ownEntry n w ⌝ }
+    ensures { λ r. ⌜ r ≡ startEntry n w ⌝ }
 {
     if w < n { w as u64 + COUNT } else { 0 }
 }
@@ -143,12 +143,12 @@ fn own(w: usize, n: usize) -> u64
 // The sets before the first gate line: each of the first n wires is reached by itself, and the others by none.
 pub fn start(set0: &mut [u64], n: usize)
     requires { ⌜ n ≤ 1048576 ⌝ }
-    ensures { λ _. ⌜ ((b c d : List ℕ) (w : ℕ) → setAt (sets (now (set0 .exit)) b c d) w ≡ ownSet n (length (now (set0 .entry))) w)
+    ensures { λ _. ⌜ ((b c d : List ℕ) (w : ℕ) → setAt (sets (now (set0 .exit)) b c d) w ≡ startSet n (length (now (set0 .entry))) w)
         × ((w : ℕ) → countIn (getD (now (set0 .exit)) w 0) ≤ 12) ⌝ }
 {
     let mut w = 0;
     while w < set0.len() {
-        set0[w] = own(w, n);
+        set0[w] = start_entry(w, n);
         w += 1;
     }
 }
