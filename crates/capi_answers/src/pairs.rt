@@ -70,7 +70,7 @@ fn show_leak(leak: &mut [u64], v: WiresVerdict)
 {
     match v {
         WiresVerdict::Clean => {}
-        WiresVerdict::Leak(wire, setting, base, own) => show(leak, wire, setting, base, own),
+        WiresVerdict::Leak(wire, setting, base, count) => show(leak, wire, setting, base, count),
     }
 }
 

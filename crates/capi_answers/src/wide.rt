@@ -21,11 +21,11 @@ fn ones_room(room: usize, a: CheckedWide) -> CheckedPairs
         CheckedWide::Refused(question) => CheckedPairs::Refused(question),
         CheckedWide::Done(wires, pairs) => match wires {
             WideVerdict::Clean => CheckedPairs::Done(WiresVerdict::Clean, pairs),
-            WideVerdict::Leak(wire, count, base, own) => {
-                if room < count {
+            WideVerdict::Leak(wire, ones, base, count) => {
+                if room < ones {
                     return CheckedPairs::Refused(14);
                 }
-                CheckedPairs::Done(WiresVerdict::Leak(wire, count as u64, base, own), pairs)
+                CheckedPairs::Done(WiresVerdict::Leak(wire, ones as u64, base, count), pairs)
             }
         },
     }

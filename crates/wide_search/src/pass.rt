@@ -41,8 +41,7 @@ fn serve(
         return;
     }
     let m = item::set(pairs, set0, set1, set2, set3, start + x);
-    wide_colours::give(m, paints);
-    if wide_colours::different(m, paints) {
+    if wide_colours::fit(m, paints) {
         item::mark(marks, x);
     }
 }

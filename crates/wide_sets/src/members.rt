@@ -1,6 +1,7 @@
 // A set of inputs: in an array of twelve, and in one entry of each of four tables. An entry holds three members of twenty bits; the
 // first entry holds above its three how many there are.
 ghost use mathlib.Core.Path.{_≡_};
+ghost use mathlib.Core.Bool.{true};
 ghost use Prim.Native.Nat.{ℕ, _≤_, _<_};
 ghost use lib.ListN.{length, getD, take};
 ghost use mathlib.Core.List.{List, []};
@@ -122,6 +123,33 @@ pub fn copy(
     set1[to] = set1[from];
     set2[to] = set2[from];
     set3[to] = set3[from];
+}
+
+// Whether the entries of wire w say that no input reaches it.
+pub fn empty(set0: &[u64], w: usize) -> bool
+    requires { ⌜ w < length (now set0) ⌝ }
+    ensures { λ r. ⌜ (r ≡ true → (b c d : List ℕ) → setAt (sets (now (set0 .entry)) b c d) w ≡ []) ⌝ }
+{
+    set0[w] < COUNT
+}
+
+// Whether the entries of two wires are the same.
+pub fn same(set0: &[u64], set1: &[u64], set2: &[u64], set3: &[u64], a: usize, b: usize) -> bool
+    requires { ⌜ (a < length (now set0)) × (a < length (now set1)) × (a < length (now set2)) × (a < length (now set3))
+        × (b < length (now set0)) × (b < length (now set1)) × (b < length (now set2)) × (b < length (now set3)) ⌝ }
+    ensures { λ r. ⌜ (let S = sets (now (set0 .entry)) (now (set1 .entry)) (now (set2 .entry)) (now (set3 .entry)) in
+        r ≡ true → setAt S a ≡ setAt S b) ⌝ }
+{
+    if set0[a] != set0[b] {
+        return false;
+    }
+    if set1[a] != set1[b] {
+        return false;
+    }
+    if set2[a] != set2[b] {
+        return false;
+    }
+    set3[a] == set3[b]
 }
 
 // Wire w is reached by no input: the first entry alone tells.
