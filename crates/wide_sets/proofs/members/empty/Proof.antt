@@ -1,3 +1,4 @@
+-- `members::empty`: the count in the first entry.
 use borrow.Author.Needs.{needs}
 use borrow.Author.Tests.{ltb-true}
 use lib.ListN.{getD}
@@ -5,8 +6,6 @@ use Rattle.wide_sets.proofs.Packing.{none-listed}
 use Rattle.wide_sets.specs.Packed.{above}
 use Rattle.wide_sets.proofs.members.empty.Statement.{statement}
 use Rattle.wide_sets.proofs.members.empty.Tie as tie
-use Rattle.wide_sets.proofs.members.empty.Reads as reads
-use Rattle.wide_sets.proofs.members.empty.Lts as lts
 
 mul-result : tie.Need-mul-result
 mul-result c = search needs

@@ -1,3 +1,4 @@
+-- `members::same`: entry by entry.
 use mathlib.Core.Path.{sym, subst}
 use lib.Dec.{T}
 use lib.ListN.{getD}
@@ -7,8 +8,6 @@ use Rattle.wide_sets.proofs.Packing.{same-listed}
 use borrow.Author.Needs.{needs}
 use Rattle.wide_sets.proofs.members.same.Statement.{statement}
 use Rattle.wide_sets.proofs.members.same.Tie as tie
-use Rattle.wide_sets.proofs.members.same.Reads as reads
-use Rattle.wide_sets.proofs.members.same.Lts as lts
 
 mul-if1 : tie.Need-mul-if1
 mul-if1 c = search needs

@@ -1,3 +1,4 @@
+-- `reach::join`: a set copied, or two put together.
 use mathlib.Core.Path.{sym, subst}
 use lib.Dec.{T}
 use lib.ListN.{length}
@@ -7,11 +8,6 @@ use native.Mathlib.Omega.{arith}
 use borrow.Author.Needs.{needs}
 use Rattle.wide_sets.proofs.reach.join.Statement.{statement}
 use Rattle.wide_sets.proofs.reach.join.Tie as tie
-use Rattle.wide_sets.proofs.reach.join.Reads as reads
-use Rattle.wide_sets.proofs.reach.join.Lts as lts
-use Rattle.wide_sets.proofs.members.copy.Reads as copy-reads
-use Rattle.wide_sets.proofs.reach.one_of.Reads as one-of-reads
-use Rattle.wide_sets.proofs.reach.unite_sets.Reads as unite-sets-reads
 
 one-of-requires : tie.Need-one-of-requires
 one-of-requires c κs = search needs

@@ -1,3 +1,4 @@
+-- `reach::one_of`: nothing is added by no members, or by the same.
 use mathlib.Core.Path.{sym, ap, _∙_}
 use mathlib.Core.List.{List}
 use Prim.Native.Nat.{ℕ}
@@ -7,10 +8,6 @@ use Rattle.wide_sets.specs.Packed.{sets, setAt}
 use borrow.Author.Needs.{needs}
 use Rattle.wide_sets.proofs.reach.one_of.Statement.{statement}
 use Rattle.wide_sets.proofs.reach.one_of.Tie as tie
-use Rattle.wide_sets.proofs.reach.one_of.Reads as reads
-use Rattle.wide_sets.proofs.reach.one_of.Lts as lts
-use Rattle.wide_sets.proofs.members.empty.Reads as empty-reads
-use Rattle.wide_sets.proofs.members.same.Reads as same-reads
 
 empty-requires : tie.Need-empty-requires
 empty-requires c κs = search needs
