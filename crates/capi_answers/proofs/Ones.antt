@@ -7,8 +7,8 @@ use native.Mathlib.Numerals.{add-one}
 use mathlib.Core.Bool.{Bool, cond}
 use lib.Dec.{leb}
 use borrow.Author.Tests.{le-leb, lt-leb}
-use Rattle.check_leak.specs.declared.search.Verdict.{Verdict}
-use Rattle.check_leak.specs.declared.search.Verdict.the-variants as wires
+use Rattle.pairs_search.specs.declared.search.WiresVerdict.{WiresVerdict}
+use Rattle.pairs_search.specs.declared.search.WiresVerdict.the-variants as wires
 use Rattle.pairs_search.specs.declared.search.PairsVerdict.{PairsVerdict}
 use Rattle.pairs_judge.specs.declared.CheckedPairs.{CheckedPairs}
 use Rattle.pairs_judge.specs.declared.CheckedPairs.the-variants.{Done, Refused}
@@ -52,12 +52,12 @@ module _ (room : ℕ) (a : CheckedWide) where
     ones-fit l = sym (by-room ∙ ap (λ (t : Bool). cond t (Done (wires.Leak w k b o) p) (Refused 14)) (le-leb k room l))
 
 -- what is written of an answer that was told
-pub shown-leak : {a : CheckedPairs} {v : Verdict} {p : PairsVerdict} {w k b o : ℕ} (is : List ℕ) → a ≡ Done v p → v ≡ wires.Leak w k b o
+pub shown-leak : {a : CheckedPairs} {v : WiresVerdict} {p : PairsVerdict} {w k b o : ℕ} (is : List ℕ) → a ≡ Done v p → v ≡ wires.Leak w k b o
     → take (min k 12) is ≡ toOnes a is
-shown-leak {p = p} is e f = sym (ap (λ (a : CheckedPairs). toOnes a is) e ∙ ap (λ (v : Verdict). toOnes (Done v p) is) f)
+shown-leak {p = p} is e f = sym (ap (λ (a : CheckedPairs). toOnes a is) e ∙ ap (λ (v : WiresVerdict). toOnes (Done v p) is) f)
 
-pub shown-clean : {a : CheckedPairs} {v : Verdict} {p : PairsVerdict} (is : List ℕ) → a ≡ Done v p → v ≡ wires.Clean → [] ≡ toOnes a is
-shown-clean {p = p} is e f = sym (ap (λ (a : CheckedPairs). toOnes a is) e ∙ ap (λ (v : Verdict). toOnes (Done v p) is) f)
+pub shown-clean : {a : CheckedPairs} {v : WiresVerdict} {p : PairsVerdict} (is : List ℕ) → a ≡ Done v p → v ≡ wires.Clean → [] ≡ toOnes a is
+shown-clean {p = p} is e f = sym (ap (λ (a : CheckedPairs). toOnes a is) e ∙ ap (λ (v : WiresVerdict). toOnes (Done v p) is) f)
 
 pub shown-refused : {a : CheckedPairs} {q : ℕ} (is : List ℕ) → a ≡ Refused q → [] ≡ toOnes a is
 shown-refused is e = sym (ap (λ (a : CheckedPairs). toOnes a is) e)

@@ -11,8 +11,8 @@ use lib.Seq.{sets}
 use mir.Syntax.{w64}
 use mir.Val.{toZ, ofZ}
 use borrow.Author.Tests.{le-leb, lt-leb}
-use Rattle.check_leak.specs.declared.search.Verdict.{Verdict}
-use Rattle.check_leak.specs.declared.search.Verdict.the-variants as wires
+use Rattle.pairs_search.specs.declared.search.WiresVerdict.{WiresVerdict}
+use Rattle.pairs_search.specs.declared.search.WiresVerdict.the-variants as wires
 use Rattle.pairs_search.specs.declared.search.PairsVerdict.{PairsVerdict}
 use Rattle.pairs_search.specs.declared.search.PairsVerdict.the-variants as pairs
 use Rattle.pairs_judge.specs.declared.CheckedPairs.{CheckedPairs}
@@ -24,34 +24,34 @@ module _ (leak bad : ℕ) (a : CheckedPairs) where
   room-refused e = ap (roomFor leak bad) (sym e)
 
   -- what the answer comes to, by whether each list is long enough
-  chosen : (v : Verdict) (p : PairsVerdict) (x y : Bool) → leb (length (leakNumbers v)) leak ≡ x → leb (length (badNumbers p)) bad ≡ y → a ≡ Done v p
+  chosen : (v : WiresVerdict) (p : PairsVerdict) (x y : Bool) → leb (length (leakNumbers v)) leak ≡ x → leb (length (badNumbers p)) bad ≡ y → a ≡ Done v p
       → cond (x && y) (Done v p) (Refused 14) ≡ roomFor leak bad a
   chosen v p x y d f e = sym (ap (roomFor leak bad) e ∙ ap (λ (b : Bool). cond (b && leb (length (badNumbers p)) bad) (Done v p) (Refused 14)) d
       ∙ ap (λ (b : Bool). cond (x && b) (Done v p) (Refused 14)) f)
 
-  pub leak-short : {v : Verdict} {p : PairsVerdict} {n : ℕ} → a ≡ Done v p → n ≡ length (leakNumbers v) → leak < n → Refused 14 ≡ roomFor leak bad a
+  pub leak-short : {v : WiresVerdict} {p : PairsVerdict} {n : ℕ} → a ≡ Done v p → n ≡ length (leakNumbers v) → leak < n → Refused 14 ≡ roomFor leak bad a
   leak-short {v} {p} e d l = chosen v p false (leb (length (badNumbers p)) bad) (lt-leb (length (leakNumbers v)) leak (omega arith)) refl e
 
-  pub bad-short : {v : Verdict} {p : PairsVerdict} {n : ℕ} → a ≡ Done v p → n ≡ length (badNumbers p) → bad < n → Refused 14 ≡ roomFor leak bad a
+  pub bad-short : {v : WiresVerdict} {p : PairsVerdict} {n : ℕ} → a ≡ Done v p → n ≡ length (badNumbers p) → bad < n → Refused 14 ≡ roomFor leak bad a
   bad-short {v} {p} e d l = go (leb (length (leakNumbers v)) leak) refl
     where
       go : (x : Bool) → leb (length (leakNumbers v)) leak ≡ x → Refused 14 ≡ roomFor leak bad a
       go true f = chosen v p true false f (lt-leb (length (badNumbers p)) bad (omega arith)) e
       go false f = chosen v p false false f (lt-leb (length (badNumbers p)) bad (omega arith)) e
 
-  pub both-fit : {v : Verdict} {p : PairsVerdict} {n m : ℕ} → a ≡ Done v p → n ≡ length (leakNumbers v) → n ≤ leak → m ≡ length (badNumbers p) → m ≤ bad
+  pub both-fit : {v : WiresVerdict} {p : PairsVerdict} {n m : ℕ} → a ≡ Done v p → n ≡ length (leakNumbers v) → n ≤ leak → m ≡ length (badNumbers p) → m ≤ bad
       → Done v p ≡ roomFor leak bad a
   both-fit {v} {p} e d l f k =
       chosen v p true true (le-leb (length (leakNumbers v)) leak (omega arith)) (le-leb (length (badNumbers p)) bad (omega arith)) e
 
 -- what was written reads back
-round : (v : Verdict) (p : PairsVerdict) → toZ w64 (ofZ w64 (both v p)) ≡ both v p
+round : (v : WiresVerdict) (p : PairsVerdict) → toZ w64 (ofZ w64 (both v p)) ≡ both v p
 round wires.Clean pairs.Clean = refl
 round wires.Clean (pairs.Bad k) = refl
 round (wires.Leak w s b o) pairs.Clean = refl
 round (wires.Leak w s b o) (pairs.Bad k) = refl
 
-pub both-back : (v : Verdict) (p : PairsVerdict) {z : ℤ} → z ≡ both v p → toZ w64 (ofZ w64 z) ≡ both v p
+pub both-back : (v : WiresVerdict) (p : PairsVerdict) {z : ℤ} → z ≡ both v p → toZ w64 (ofZ w64 z) ≡ both v p
 both-back v p e = ap (λ (z : ℤ). toZ w64 (ofZ w64 z)) e ∙ round v p
 
 module _ (leak bad : List ℕ) (a : CheckedPairs) where
@@ -62,7 +62,7 @@ module _ (leak bad : List ℕ) (a : CheckedPairs) where
     badList = ap (λ (b : CheckedPairs). sets bad 0 (toBad b)) (sym e);
   }
 
-  pub shows-done : {leak′ bad′ : List ℕ} {v : Verdict} {p : PairsVerdict} {r : ℤ} → roomFor (length leak) (length bad) a ≡ Done v p
+  pub shows-done : {leak′ bad′ : List ℕ} {v : WiresVerdict} {p : PairsVerdict} {r : ℤ} → roomFor (length leak) (length bad) a ≡ Done v p
       → leak′ ≡ sets leak 0 (leakNumbers v) → bad′ ≡ sets bad 0 (badNumbers p) → r ≡ both v p → ShowsBoth leak leak′ bad bad′ r a
   shows-done e l b t = record {
     told = t ∙ ap bothNumber (sym e);

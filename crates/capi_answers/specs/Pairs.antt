@@ -7,22 +7,22 @@ use lib.IntN.{ℤ, pos, negℤ}
 use lib.ListN.{length}
 use lib.Seq.{sets}
 use Rattle.netlist.specs.Services.{holds}
-use Rattle.check_leak.specs.declared.search.Verdict.{Verdict}
-use Rattle.check_leak.specs.declared.search.Verdict.the-variants as wires
+use Rattle.pairs_search.specs.declared.search.WiresVerdict.{WiresVerdict}
+use Rattle.pairs_search.specs.declared.search.WiresVerdict.the-variants as wires
 use Rattle.pairs_search.specs.declared.search.PairsVerdict.{PairsVerdict}
 use Rattle.pairs_search.specs.declared.search.PairsVerdict.the-variants as pairs
 use Rattle.pairs_judge.specs.declared.CheckedPairs.{CheckedPairs}
 use Rattle.pairs_judge.specs.declared.CheckedPairs.the-variants.{Done, Refused}
 
 -- 1 for a leak on a wire, and 2 more for a bad pair
-abbrev pub both : Verdict → PairsVerdict → ℤ
+abbrev pub both : WiresVerdict → PairsVerdict → ℤ
 both wires.Clean pairs.Clean = pos 0
 both (wires.Leak w s b o) pairs.Clean = pos 1
 both wires.Clean (pairs.Bad k) = pos 2
 both (wires.Leak w s b o) (pairs.Bad k) = pos 3
 
 -- the wire of a leak, its setting, its base's count and its own
-abbrev pub leakNumbers : Verdict → List ℕ
+abbrev pub leakNumbers : WiresVerdict → List ℕ
 leakNumbers wires.Clean = []
 leakNumbers (wires.Leak w s b o) = w ∷ s ∷ b ∷ o ∷ []
 

@@ -7,8 +7,8 @@ use lib.Dec.{leb}
 use lib.IntN.{ℤ}
 use lib.ListN.{length, take}
 use lib.Seq.{sets}
-use Rattle.check_leak.specs.declared.search.Verdict.{Verdict}
-use Rattle.check_leak.specs.declared.search.Verdict.the-variants as wires
+use Rattle.pairs_search.specs.declared.search.WiresVerdict.{WiresVerdict}
+use Rattle.pairs_search.specs.declared.search.WiresVerdict.the-variants as wires
 use Rattle.pairs_judge.specs.declared.CheckedPairs.{CheckedPairs}
 use Rattle.pairs_judge.specs.declared.CheckedPairs.the-variants.{Done, Refused}
 use Rattle.wide_search.specs.declared.search.WideVerdict.{WideVerdict}

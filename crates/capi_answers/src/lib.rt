@@ -41,14 +41,14 @@ pub fn put(list: &mut [u64], at: usize, entry: u64)
     }
 }
 
-// The numbers of a leak: its wire, its setting, its base's count and its own.
-pub fn show(leak: &mut [u64], wire: usize, setting: u64, base: u8, own: u8)
-    ensures { λ _. ⌜ now (leak .exit) ≡ sets (now (leak .entry)) 0 (wire ∷ setting ∷ base ∷ own ∷ []) ⌝ }
+// The numbers of a leak: its wire, its setting, its base's count and the setting's.
+pub fn show(leak: &mut [u64], wire: usize, setting: u64, base: u8, count: u8)
+    ensures { λ _. ⌜ now (leak .exit) ≡ sets (now (leak .entry)) 0 (wire ∷ setting ∷ base ∷ count ∷ []) ⌝ }
 {
     put(leak, 0, wire as u64);
     put(leak, 1, setting);
     put(leak, 2, base as u64);
-    put(leak, 3, own as u64);
+    put(leak, 3, count as u64);
 }
 
 // Check's answer: its number, and the numbers of a leak at the front of `leak`; a list that cannot hold them is refused by 14.
@@ -57,11 +57,11 @@ pub fn tell(leak: &mut [u64], a: Checked) -> i64
 {
     match a {
         Checked::Clean => 0,
-        Checked::Leak(wire, setting, base, own) => {
+        Checked::Leak(wire, setting, base, count) => {
             if leak.len() < 4 {
                 return minus(14);
             }
-            show(leak, wire, setting, base, own);
+            show(leak, wire, setting, base, count);
             1
         }
         Checked::Refused(question) => minus(question),

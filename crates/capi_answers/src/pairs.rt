@@ -2,21 +2,21 @@
 use crate::minus;
 use crate::put;
 use crate::show;
-use check_leak::search::Verdict;
 use pairs_judge::CheckedPairs;
 use pairs_search::search::PairsVerdict;
+use pairs_search::search::WiresVerdict;
 ghost use mathlib.Core.Path.{_≡_};
 ghost use lib.ListN.{length};
 ghost use lib.Seq.{sets};
 ghost use Rattle.capi_answers.specs.Pairs.{both as bothOf, leakNumbers, badNumbers, roomFor, ShowsBoth};
 
 // How many numbers a leak has.
-fn leak_size(v: Verdict) -> usize
+fn leak_size(v: WiresVerdict) -> usize
     ensures { λ r. ⌜ r ≡ length (leakNumbers v) ⌝ }
 {
     match v {
-        Verdict::Clean => 0,
-        Verdict::Leak(_, _, _, _) => 4,
+        WiresVerdict::Clean => 0,
+        WiresVerdict::Leak(_, _, _, _) => 4,
     }
 }
 
@@ -49,15 +49,15 @@ pub fn room_for(leak: usize, bad: usize, a: CheckedPairs) -> CheckedPairs
 }
 
 // The number of both answers: 1 for a leak, and 2 more for a bad pair.
-fn both(v: Verdict, p: PairsVerdict) -> i64
+fn both(v: WiresVerdict, p: PairsVerdict) -> i64
     ensures { λ r. ⌜ r ≡ bothOf v p ⌝ }
 {
     match v {
-        Verdict::Clean => match p {
+        WiresVerdict::Clean => match p {
             PairsVerdict::Clean => 0,
             PairsVerdict::Bad(_) => 2,
         },
-        Verdict::Leak(_, _, _, _) => match p {
+        WiresVerdict::Leak(_, _, _, _) => match p {
             PairsVerdict::Clean => 1,
             PairsVerdict::Bad(_) => 3,
         },
@@ -65,12 +65,12 @@ fn both(v: Verdict, p: PairsVerdict) -> i64
 }
 
 // The numbers of a leak at the front of a list, if there is one.
-fn show_leak(leak: &mut [u64], v: Verdict)
+fn show_leak(leak: &mut [u64], v: WiresVerdict)
     ensures { λ _. ⌜ now (leak .exit) ≡ sets (now (leak .entry)) 0 (leakNumbers v) ⌝ }
 {
     match v {
-        Verdict::Clean => {}
-        Verdict::Leak(wire, setting, base, own) => show(leak, wire, setting, base, own),
+        WiresVerdict::Clean => {}
+        WiresVerdict::Leak(wire, setting, base, count) => show(leak, wire, setting, base, count),
     }
 }
 

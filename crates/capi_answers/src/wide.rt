@@ -2,8 +2,8 @@
 // setting, and those bits in a list of their own.
 use crate::pairs;
 use crate::put;
-use check_leak::search::Verdict;
 use pairs_judge::CheckedPairs;
+use pairs_search::search::WiresVerdict;
 use wide_judge::CheckedWide;
 use wide_judge::WideAnswer;
 use wide_search::search::WideVerdict;
@@ -20,12 +20,12 @@ fn ones_room(room: usize, a: CheckedWide) -> CheckedPairs
     match a {
         CheckedWide::Refused(question) => CheckedPairs::Refused(question),
         CheckedWide::Done(wires, pairs) => match wires {
-            WideVerdict::Clean => CheckedPairs::Done(Verdict::Clean, pairs),
-            WideVerdict::Leak(wire, count, base, own) => {
-                if room < count {
+            WideVerdict::Clean => CheckedPairs::Done(WiresVerdict::Clean, pairs),
+            WideVerdict::Leak(wire, ones, base, count) => {
+                if room < ones {
                     return CheckedPairs::Refused(14);
                 }
-                CheckedPairs::Done(Verdict::Leak(wire, count as u64, base, own), pairs)
+                CheckedPairs::Done(WiresVerdict::Leak(wire, ones as u64, base, count), pairs)
             }
         },
     }
@@ -52,8 +52,8 @@ fn show_ones(ones: &mut [u64], items: [u32; 12], a: CheckedPairs)
     match a {
         CheckedPairs::Refused(_) => {}
         CheckedPairs::Done(wires, _) => match wires {
-            Verdict::Clean => {}
-            Verdict::Leak(_, count, _, _) => lay(ones, items, count),
+            WiresVerdict::Clean => {}
+            WiresVerdict::Leak(_, count, _, _) => lay(ones, items, count),
         },
     }
 }

@@ -14,7 +14,7 @@ use Rattle.netlist.specs.Read.{WellFormed}
 use Rattle.netlist.proofs.Tests.{clash}
 use Rattle.evaluate.specs.Lane.{lane, lanes}
 use Rattle.evaluate.proofs.Steps.{getD-lanes}
-use Rattle.check_leak.specs.declared.spot.Spot.{Spot}
+use Rattle.check_leak.specs.declared.difference.Difference.{Difference}
 use Rattle.check_netlist.specs.Judge.{codesAsked, askedOf}
 use Rattle.check_netlist.specs.declared.Asked.{Asked}
 use Rattle.check_netlist.specs.declared.Asked.the-variants as asked
@@ -43,10 +43,10 @@ module _ (codes words : List ℕ) (s : ℕ) (room : length codes ≤ length word
       (λ i h. sym (getD-lanes (4 * s) (take (length codes) words) i ∙ ap (lane (4 * s)) (getD-take (length codes) words i 0 h)))
       ∙ ap (onesBelow (λ i. getD (settingIn codes words s) i false)) (sym setting-long)
 
-pub leak-in : {N : Netlist} {codes words : List ℕ} {p : Spot} → Witness N codes words p → p .wire < N .wires → length codes ≤ length words
-    → LeakIn N codes (p .wire) (p .base) (p .own) (settingIn codes words (p .at))
+pub leak-in : {N : Netlist} {codes words : List ℕ} {p : Difference} → Witness N codes words p → p .wire < N .wires → length codes ≤ length words
+    → LeakIn N codes (p .wire) (p .base) (p .count) (settingIn codes words (p .setting))
 leak-in {codes = codes} {words = words} {p = p} W h room =
-    record { long = setting-long codes words (p .at) room; wire = h; own = W .own; base = W .base; differ = W .differ }
+    record { long = setting-long codes words (p .setting) room; wire = h; own = W .own; base = W .base; differ = W .differ }
 
 -- questions 10 and 11 are passed: the last two input bits are the mask pair
 pub masked-asked : {N : Netlist} {ws codes : List ℕ} → WellFormed N → ws ≡ N .inputs → codesAsked ws codes ≡ done tt → Masked N codes
@@ -62,35 +62,35 @@ module _ (n : ℕ) (codes words : List ℕ) (s : ℕ) (e : n ≡ length codes) (
   pub many-length : length (onesBelow (λ i. lane (4 * s) (getD words i 0)) n) ≡ length (onesIn (settingIn codes words s))
   many-length = ap length many-ones
 
-module _ {N : Netlist} {codes words : List ℕ} {p : Spot} (n many : ℕ) (e : n ≡ length codes) (room : n ≤ length words) (inside : p .wire < N .wires)
-    (W : Witness N codes words p) (counted : many ≡ length (onesBelow (λ i. lane (4 * p .at) (getD words i 0)) n)) (leak ones : List ℕ) where
+module _ {N : Netlist} {codes words : List ℕ} {p : Difference} (n many : ℕ) (e : n ≡ length codes) (room : n ≤ length words) (inside : p .wire < N .wires)
+    (W : Witness N codes words p) (counted : many ≡ length (onesBelow (λ i. lane (4 * p .setting) (getD words i 0)) n)) (leak ones : List ℕ) where
   pub leak-short : (length leak < 4) ⊎ (length ones < many) → LeakShort N codes leak ones
   leak-short h =
-      let l = many-length n codes words (p .at) e room in
+      let l = many-length n codes words (p .setting) e room in
       record {
         wire = p .wire;
         base = p .base;
-        own = p .own;
-        setting = settingIn codes words (p .at);
+        own = p .count;
+        setting = settingIn codes words (p .setting);
         found = leak-in W inside (omega arith);
         short = ⊎-elim (λ a. inl a) (λ b. inr (omega (arith, l, counted))) h;
       }
 
   pub leak-told : {ones′ : List ℕ} → 4 ≤ length leak → many ≤ length ones
-      → ones′ ≡ sets ones 0 (onesBelow (λ i. lane (4 * p .at) (getD words i 0)) n)
-      → LeakTold N codes leak (set (set (set (set leak 0 (p .wire)) 1 many) 2 (p .base)) 3 (p .own)) ones ones′
+      → ones′ ≡ sets ones 0 (onesBelow (λ i. lane (4 * p .setting) (getD words i 0)) n)
+      → LeakTold N codes leak (set (set (set (set leak 0 (p .wire)) 1 many) 2 (p .base)) 3 (p .count)) ones ones′
   leak-told four fits written =
-      let l = many-length n codes words (p .at) e room in
+      let l = many-length n codes words (p .setting) e room in
       record {
         wire = p .wire;
         base = p .base;
-        own = p .own;
-        setting = settingIn codes words (p .at);
+        own = p .count;
+        setting = settingIn codes words (p .setting);
         found = leak-in W inside (omega arith);
         room = four;
         fits = omega (arith, l, counted);
-        numbers = ap (λ (k : ℕ). set (set (set (set leak 0 (p .wire)) 1 k) 2 (p .base)) 3 (p .own)) (counted ∙ l);
-        bits = written ∙ ap (sets ones 0) (many-ones n codes words (p .at) e room);
+        numbers = ap (λ (k : ℕ). set (set (set (set leak 0 (p .wire)) 1 k) 2 (p .base)) 3 (p .count)) (counted ∙ l);
+        bits = written ∙ ap (sets ones 0) (many-ones n codes words (p .setting) e room);
       }
 
 -- questions 10 and 11

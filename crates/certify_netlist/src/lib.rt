@@ -1,7 +1,7 @@
 // Questions 10, 11 and 14 of a netlist that was read, and what the certifier says of it.
 mod ones;
 
-use check_leak::spot::Spot;
+use check_leak::difference::Difference;
 use check_netlist::Asked;
 use read_header::HeaderNumbers;
 ghost use mathlib.Core.Path.{_≡_};
@@ -28,12 +28,18 @@ pub enum Certified {
 }
 
 // A leak is told where both lists have room.
-fn tell_leak(words: &[u64], n: usize, spot: Spot, leak: &mut [u64], ones: &mut [u64]) -> Certified
-    requires { ⌜ (n ≤ length (now words)) × (spot .at < 16) ⌝ }
-    ensures { λ r. ⌜ ((N : Netlist) (codes : List ℕ) → n ≡ length codes → spot .wire < N .wires → Witness N codes (now (words .entry)) spot
+fn tell_leak(
+    words: &[u64],
+    n: usize,
+    found: Difference,
+    leak: &mut [u64],
+    ones: &mut [u64],
+) -> Certified
+    requires { ⌜ (n ≤ length (now words)) × (found .setting < 16) ⌝ }
+    ensures { λ r. ⌜ ((N : Netlist) (codes : List ℕ) → n ≡ length codes → found .wire < N .wires → Witness N codes (now (words .entry)) found
         → Judged N codes (now (leak .entry)) (now (leak .exit)) (now (ones .entry)) (now (ones .exit)) r) ⌝ }
 {
-    let place = 4 * spot.at;
+    let place = 4 * found.setting;
     let many = ones::count(words, n, place);
     if leak.len() < 4 {
         return Certified::Refused(14);
@@ -41,10 +47,10 @@ fn tell_leak(words: &[u64], n: usize, spot: Spot, leak: &mut [u64], ones: &mut [
     if ones.len() < many {
         return Certified::Refused(14);
     }
-    leak[0] = spot.wire as u64;
+    leak[0] = found.wire as u64;
     leak[1] = many as u64;
-    leak[2] = spot.base as u64;
-    leak[3] = spot.own as u64;
+    leak[2] = found.base as u64;
+    leak[3] = found.count as u64;
     ones::write(words, n, place, ones);
     Certified::Leak
 }
@@ -79,10 +85,10 @@ fn witness(
         o N → Masked N (now (codes .entry)) → ((w : ℕ) → w < sure → EqualCounts N (now (codes .entry)) w)
         → Judged N (now (codes .entry)) (now (leak .entry)) (now (leak .exit)) (now (ones .entry)) (now (ones .exit)) r) ⌝ }
 {
-    let spot = certify_search::search::search(operands, results, count, codes, words, base);
-    if spot.wire < words.len() {
-        if spot.at < 16 {
-            return tell_leak(words, codes.len(), spot, leak, ones);
+    let found = certify_search::search::search(operands, results, count, codes, words, base);
+    if found.wire < words.len() {
+        if found.setting < 16 {
+            return tell_leak(words, codes.len(), found, leak, ones);
         }
     }
     tell_unknown(sure, leak)

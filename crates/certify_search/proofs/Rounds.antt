@@ -26,8 +26,8 @@ use Rattle.evaluate.proofs.Runs.{bare-wires}
 use Rattle.evaluate.proofs.Steps.{getD-lanes}
 use Rattle.check_counts.specs.Block.{onesOf, nibblesOf}
 use Rattle.check_counts.proofs.Inputs.{masked-long, masked-at, masked-m0, masked-m1}
-use Rattle.check_leak.specs.declared.spot.Spot.{Spot}
-use Rattle.check_leak.specs.Spot.{Spotted}
+use Rattle.check_leak.specs.declared.difference.Difference.{Difference}
+use Rattle.check_leak.specs.Difference.{LowestDifference}
 use Rattle.certify_records.proofs.Leaves.{chosen-lane}
 use Rattle.certify_records.proofs.Tables.{and-no}
 use Rattle.certify_pass.specs.Pass.{Masked}
@@ -232,14 +232,14 @@ module _ {N : Netlist} {codes ws : List ℕ} (R : Ran N codes ws) where
       let d = ap bit (lane-bit w s 3 (4 * s + 3) h (omega arith) refl) in
       λ i. a i + b i + c i + d i
 
-  pub witness : (base : List ℕ) {p : Spot} → ((w s : ℕ) → s < 16 → nibblesOf base w s ≡ onesOf ws w 0)
-      → Spotted (nibblesOf base) (onesOf ws) (length ws) 16 p → p .wire < length ws → Witness N codes ws p
+  pub witness : (base : List ℕ) {p : Difference} → ((w s : ℕ) → s < 16 → nibblesOf base w s ≡ onesOf ws w 0)
+      → LowestDifference (nibblesOf base) (onesOf ws) (length ws) 16 p → p .wire < length ws → Witness N codes ws p
   witness base {p} first S h =
       let D = S .differs h in
       record {
         inside = D .inside;
-        own = D .own ∙ ran-count (p .wire) (p .at) (D .inside);
-        base = D .base ∙ first (p .wire) (p .at) (D .inside) ∙ ran-count (p .wire) 0 (omega arith)
-            ∙ ap (count N codes (p .wire)) (sym (R .base (p .at) (D .inside)));
-        differ = λ e. D .other (sym (D .base) ∙ e ∙ D .own);
+        own = D .count ∙ ran-count (p .wire) (p .setting) (D .inside);
+        base = D .base ∙ first (p .wire) (p .setting) (D .inside) ∙ ran-count (p .wire) 0 (omega arith)
+            ∙ ap (count N codes (p .wire)) (sym (R .base (p .setting) (D .inside)));
+        differ = λ e. D .other (sym (D .base) ∙ e ∙ D .count);
       }

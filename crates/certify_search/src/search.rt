@@ -1,8 +1,8 @@
 // Rounds of chosen settings.
 use crate::load;
 use check_counts::block;
-use check_leak::spot;
-use check_leak::spot::Spot;
+use check_leak::difference;
+use check_leak::difference::Difference;
 ghost use mathlib.Core.Path.{_≡_};
 ghost use mathlib.Core.List.{List};
 ghost use Prim.Native.Nat.{ℕ, _+_, _<_, _≤_};
@@ -32,14 +32,14 @@ fn run(
 }
 
 // The lowest wire with another count than its base in a round that was run.
-fn look(words: &[u64], base: &mut [u64]) -> Spot
+fn look(words: &[u64], base: &mut [u64]) -> Difference
     requires { ⌜ length (now base) ≡ length (now words) ⌝ }
     ensures { λ r. ⌜ ((N : Netlist) (codes : List ℕ) → Ran N codes (now (words .entry)) → r .wire < length (now (words .entry))
         → Witness N codes (now (words .entry)) r) ⌝ }
 {
     block::first(words, base);
     let limit = words.len();
-    spot::scan(words, base, limit)
+    difference::scan(words, base, limit)
 }
 
 // How many rounds are run.
@@ -53,7 +53,7 @@ pub fn search(
     codes: &[u8],
     words: &mut [u64],
     base: &mut [u64],
-) -> Spot
+) -> Difference
     requires { ⌜ Wired (tables (now operands) (now results)) (length (now words)) count × (length (now codes) + 2 ≤ length (now words))
         × (length (now base) ≡ length (now words)) ⌝ }
     ensures { λ r. ⌜ ((n o : ℕ) (N : Netlist) → Holds (tables (now (operands .entry)) (now (results .entry))) count (length (now (words .entry))) n
@@ -69,5 +69,5 @@ pub fn search(
         }
         round += 1;
     }
-    spot::none(words.len())
+    difference::none(words.len())
 }

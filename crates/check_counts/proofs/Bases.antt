@@ -12,8 +12,8 @@ use Rattle.check_counts.specs.Block.{Counted}
 use Rattle.check_counts.proofs.Paints.{zero-base}
 
 -- the same counts held in another way
-pub counted-same : {N : Netlist} {whole : Bool} {ps : List ℕ} {own held : ℕ → ℕ → ℕ} {block : ℕ} → Counted N whole ps own block
-    → ((w s : ℕ) → s < 16 → held w s ≡ own w s) → Counted N whole ps held block
+pub counted-same : {N : Netlist} {secrets : Bool} {ps : List ℕ} {counts held : ℕ → ℕ → ℕ} {block : ℕ} → Counted N secrets ps counts block
+    → ((w s : ℕ) → s < 16 → held w s ≡ counts w s) → Counted N secrets ps held block
 counted-same c h = record { each = λ w s l. h w s l ∙ c .each w s l }
 
 -- without public bits all blocks are compared with the same counts
@@ -28,7 +28,7 @@ module _ (N : Netlist) (ps : List ℕ) (secret : Secret (codesOf ps)) where
   }
 
   -- those of the first setting
-  pub first-base : {own held : ℕ → ℕ → ℕ} {b : ℕ} (block : ℕ) → b ≡ 0 → Counted N true ps own b → ((w s : ℕ) → s < 16 → held w s ≡ own w 0)
+  pub first-base : {counts held : ℕ → ℕ → ℕ} {b : ℕ} (block : ℕ) → b ≡ 0 → Counted N true ps counts b → ((w s : ℕ) → s < 16 → held w s ≡ counts w 0)
       → Counted N false ps held block
   first-base block e c h = record {
     each = λ w s l.

@@ -15,10 +15,10 @@ use Rattle.check_counts.specs.Base.{part}
 use Rattle.check_counts.specs.Block.{inputsAt, onesOf, Evaluated, Counted}
 use Rattle.check_counts.proofs.Numbers.{low-lane}
 
-module _ {N : Netlist} {whole : Bool} {ps : List ℕ} {block : ℕ} {us : List ℕ} (ran : Evaluated N whole ps us block) where
+module _ {N : Netlist} {secrets : Bool} {ps : List ℕ} {block : ℕ} {us : List ℕ} (ran : Evaluated N secrets ps us block) where
   -- the setting that a number belongs to
   abbrev at : ℕ → List Bool
-  at s = part whole (codesOf ps) (paint ps (block * 16 + s))
+  at s = part secrets (codesOf ps) (paint ps (block * 16 + s))
 
   -- wire w in lane m of setting s, whose mask bits are m's
   pub wire-lane : (w s m : ℕ) → s < 16 → m < 4 → lane (4 * s + m) (getD us w 0) ≡ bitsAt (wireBits N (masked (lane 0 m) (lane 1 m) (codesOf ps) (at s))) w
@@ -28,13 +28,13 @@ module _ {N : Netlist} {whole : Bool} {ps : List ℕ} {block : ℕ} {us : List �
       let e : n ≡ (block * 16 + s) * 4 + m = omega arith in
       let m0 : lane 0 n ≡ lane 0 m = ap (lane 0) e ∙ low-lane 2 0 (block * 16 + s) m (omega arith) in
       let m1 : lane 1 n ≡ lane 1 m = ap (lane 1) e ∙ low-lane 2 1 (block * 16 + s) m (omega arith) in
-      let o : inputsAt whole ps n ≡ masked (lane 0 m) (lane 1 m) (codesOf ps) (at s) = rw (m0, m1, q) in
+      let o : inputsAt secrets ps n ≡ masked (lane 0 m) (lane 1 m) (codesOf ps) (at s) = rw (m0, m1, q) in
       sym (getD-lanes (4 * s + m) us w) ∙ ap (λ (v : List Bool). bitsAt v w) (ran .each (4 * s + m) (omega arith) ∙ ap (wireBits N) o)
 
   one : (w s m : ℕ) → s < 16 → m < 4 → bit (lane (4 * s + m) (getD us w 0)) ≡ bit (bitsAt (wireBits N (masked (lane 0 m) (lane 1 m) (codesOf ps) (at s))) w)
   one w s m l k = ap bit (wire-lane w s m l k)
 
-  pub run-block-law : Counted N whole ps (onesOf us) block
+  pub run-block-law : Counted N secrets ps (onesOf us) block
   unfolding count
   run-block-law = record {
     each = λ w s l.

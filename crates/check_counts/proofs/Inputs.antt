@@ -16,8 +16,8 @@ use Rattle.check_counts.specs.Base.{kept, part}
 use Rattle.check_counts.specs.Block.{inputsAt}
 use Rattle.check_counts.proofs.Paints.{length-codesOf, codesOf-at, paint-at}
 
-part-at : (whole : Bool) (ps : List ℕ) (s i : ℕ) → i < length ps
-    → getD (part whole (codesOf ps) (paint ps s)) i false ≡ kept whole (codeOf (getD ps i 0)) (shade (colourOf (getD ps i 0)) s)
+part-at : (secrets : Bool) (ps : List ℕ) (s i : ℕ) → i < length ps
+    → getD (part secrets (codesOf ps) (paint ps s)) i false ≡ kept secrets (codeOf (getD ps i 0)) (shade (colourOf (getD ps i 0)) s)
 part-at true ps s i l = paint-at ps s i l
 part-at false ps s i l =
     publicOnly-at (codesOf ps) (paint ps s) i (rw length-codesOf l)
@@ -47,25 +47,25 @@ module _ (m0 m1 : Bool) where
   masked-m1 (e ∷ es) [] = masked-m1 es []
   masked-m1 (e ∷ es) (b ∷ x) = masked-m1 es x
 
-module _ (whole : Bool) (ps : List ℕ) (n : ℕ) where
+module _ (secrets : Bool) (ps : List ℕ) (n : ℕ) where
   abbrev x : List Bool
-  x = part whole (codesOf ps) (paint ps (n / 4))
+  x = part secrets (codesOf ps) (paint ps (n / 4))
 
-  pub inputs-long : length (inputsAt whole ps n) ≡ length ps + 2
+  pub inputs-long : length (inputsAt secrets ps n) ≡ length ps + 2
   inputs-long = masked-long (lane 0 n) (lane 1 n) (codesOf ps) x ∙ ap (λ (k : ℕ). k + 2) (length-codesOf ps)
 
   pub inputs-at : (i : ℕ) → i < length ps
-      → getD (inputsAt whole ps n) i false
-      ≡ differs (kept whole (codeOf (getD ps i 0)) (shade (colourOf (getD ps i 0)) (n / 4))) (maskOf (lane 0 n) (lane 1 n) (codeOf (getD ps i 0)))
+      → getD (inputsAt secrets ps n) i false
+      ≡ differs (kept secrets (codeOf (getD ps i 0)) (shade (colourOf (getD ps i 0)) (n / 4))) (maskOf (lane 0 n) (lane 1 n) (codeOf (getD ps i 0)))
   inputs-at i l =
       masked-at (lane 0 n) (lane 1 n) (codesOf ps) x i (rw length-codesOf l)
-      ∙ ap₂ (λ (b : Bool) (e : ℕ). differs b (maskOf (lane 0 n) (lane 1 n) e)) (part-at whole ps (n / 4) i l) (codesOf-at ps i l)
+      ∙ ap₂ (λ (b : Bool) (e : ℕ). differs b (maskOf (lane 0 n) (lane 1 n) e)) (part-at secrets ps (n / 4) i l) (codesOf-at ps i l)
 
-  pub inputs-m0 : getD (inputsAt whole ps n) (length ps) false ≡ lane 0 n
+  pub inputs-m0 : getD (inputsAt secrets ps n) (length ps) false ≡ lane 0 n
   inputs-m0 =
-      ap (λ (k : ℕ). getD (inputsAt whole ps n) k false) (sym (length-codesOf ps)) ∙ masked-m0 (lane 0 n) (lane 1 n) (codesOf ps) x
+      ap (λ (k : ℕ). getD (inputsAt secrets ps n) k false) (sym (length-codesOf ps)) ∙ masked-m0 (lane 0 n) (lane 1 n) (codesOf ps) x
 
-  pub inputs-m1 : getD (inputsAt whole ps n) (length ps + 1) false ≡ lane 1 n
+  pub inputs-m1 : getD (inputsAt secrets ps n) (length ps + 1) false ≡ lane 1 n
   inputs-m1 =
-      ap (λ (k : ℕ). getD (inputsAt whole ps n) k false) (add-one (length ps) ∙ ap suc (sym (length-codesOf ps)))
+      ap (λ (k : ℕ). getD (inputsAt secrets ps n) k false) (add-one (length ps) ∙ ap suc (sym (length-codesOf ps)))
       ∙ masked-m1 (lane 0 n) (lane 1 n) (codesOf ps) x

@@ -21,10 +21,10 @@ lanes-take j zero ws = refl
 lanes-take j (suc n) [] = refl
 lanes-take j (suc n) (w ∷ ws) = ap (λ (l : List Bool). lane j w ∷ l) (lanes-take j n ws)
 
-module _ (ps : List ℕ) (whole : Bool) (block : ℕ) where
+module _ (ps : List ℕ) (secrets : Bool) (block : ℕ) where
   -- the input wires of lane j
   abbrev source : ℕ → List Bool
-  source j = inputsAt whole ps (block * 64 + j)
+  source j = inputsAt secrets ps (block * 64 + j)
 
   -- the first i input wires are laid in each lane
   pub record Loaded (ws₀ ws : List ℕ) (i : ℕ) : Type 0 where
@@ -42,16 +42,16 @@ module _ (ps : List ℕ) (whole : Bool) (block : ℕ) where
       passed = omega arith;
       long = length-set ws i w ∙ s .long;
       each = λ j b.
-          let e = inputs-long whole ps (block * 64 + j) in
+          let e = inputs-long secrets ps (block * 64 + j) in
           let f = length-map ws (lane j) in
           rw (set-lanes j ws i w) (laid-more (lane j w) (s .each j b) (omega arith) (omega (arith, s .long)) (h j b));
     }
 
     pub loaded-input : (i w : ℕ) → Loaded ws₀ ws i → i < length ps
-        → ((j : ℕ) → j < 64 → lane j w ≡ differs (kept whole (codeOf (getD ps i 0)) (shade (colourOf (getD ps i 0)) ((block * 64 + j) / 4)))
+        → ((j : ℕ) → j < 64 → lane j w ≡ differs (kept secrets (codeOf (getD ps i 0)) (shade (colourOf (getD ps i 0)) ((block * 64 + j) / 4)))
         (maskOf (lane 0 (block * 64 + j)) (lane 1 (block * 64 + j)) (codeOf (getD ps i 0))))
         → Loaded ws₀ (set ws i w) (i + 1)
-    loaded-input i w s l h = put i w s (omega arith) (λ j b. h j b ∙ sym (inputs-at whole ps (block * 64 + j) i l))
+    loaded-input i w s l h = put i w s (omega arith) (λ j b. h j b ∙ sym (inputs-at secrets ps (block * 64 + j) i l))
 
   -- the mask pair behind them
   pub loaded-all : (ws₀ ws : List ℕ) (i m0 m1 : ℕ) → length ps + 2 ≤ length ws₀ → Loaded ws₀ ws i → i ≡ length ps
@@ -60,9 +60,9 @@ module _ (ps : List ℕ) (whole : Bool) (block : ℕ) where
   loaded-all ws₀ ws i m0 m1 room s e h0 h1 j l =
       let n = length ps in
       let t : Loaded ws₀ ws n = subst (Loaded ws₀ ws) e s in
-      let u = put ws₀ ws room n m0 t (omega arith) (λ j b. h0 j b ∙ sym (inputs-m0 whole ps (block * 64 + j))) in
-      let v = put ws₀ (set ws n m0) room (n + 1) m1 u (omega arith) (λ j b. h1 j b ∙ sym (inputs-m1 whole ps (block * 64 + j))) in
-      let f = inputs-long whole ps (block * 64 + j) in
+      let u = put ws₀ ws room n m0 t (omega arith) (λ j b. h0 j b ∙ sym (inputs-m0 secrets ps (block * 64 + j))) in
+      let v = put ws₀ (set ws n m0) room (n + 1) m1 u (omega arith) (λ j b. h1 j b ∙ sym (inputs-m1 secrets ps (block * 64 + j))) in
+      let f = inputs-long secrets ps (block * 64 + j) in
       lanes-take j (n + 2) (set (set ws n m0) (n + 1) m1)
       ∙ ap (take (n + 2)) (laid-all (v .each j l) (omega arith))
       ∙ take-at (source j) (drop (length (source j)) (lanes j ws₀)) (n + 2) f

@@ -79,7 +79,7 @@ pub shade-some : (c t : ℕ) → (c ≡ 0 → ⊥) → shade c t ≡ lane (c - 1
 shade-some zero t h = absurd (h refl)
 shade-some (suc c) t h = let e : c ≡ suc c - 1 = omega arith in ap (λ (k : ℕ). lane k t) e
 
-pub kept-none : (whole : Bool) (e : ℕ) → kept whole e false ≡ false
+pub kept-none : (secrets : Bool) (e : ℕ) → kept secrets e false ≡ false
 kept-none true e = refl
 kept-none false e = and-none (isPublic e)
   where
@@ -97,8 +97,8 @@ each-at k (e ∷ es) zero l = omega arith
 each-at k (e ∷ es) (suc i) l = let h = each-at (suc k) es i (omega arith) in omega arith
 
 -- so counts are those of numbered settings
-pub each-count : (N : Netlist) (whole : Bool) (codes : List ℕ) → ((i : ℕ) → i < length codes → getD codes i 0 < 4) → (w s : ℕ)
-    → countIn N whole (paintEach 0 codes) w s ≡ count N codes w (part whole codes (setting (length codes) s))
-each-count N whole codes h w s =
-    ap₂ (λ (es : List ℕ) (x : List Bool). count N es w (part whole es x)) (codes-each 0 codes h)
+pub each-count : (N : Netlist) (secrets : Bool) (codes : List ℕ) → ((i : ℕ) → i < length codes → getD codes i 0 < 4) → (w s : ℕ)
+    → countIn N secrets (paintEach 0 codes) w s ≡ count N codes w (part secrets codes (setting (length codes) s))
+each-count N secrets codes h w s =
+    ap₂ (λ (es : List ℕ) (x : List Bool). count N es w (part secrets es x)) (codes-each 0 codes h)
     (paint-each 0 codes s s h (λ i. let e : 0 + i ≡ i = omega arith in ap (λ (j : ℕ). lane j s) e))

@@ -12,11 +12,11 @@ abbrev pub kept : Bool → ℕ → Bool → Bool
 kept true e b = b
 kept false e b = isPublic e && b
 
--- the whole setting, or its base
+-- a setting with its secrets, or its base
 abbrev pub part : Bool → List ℕ → List Bool → List Bool
 part true codes x = x
 part false codes x = publicOnly codes x
 
 -- the count of wire w in the setting that the paints give to a number, or in its base
 abbrev pub countIn : Netlist → Bool → List ℕ → ℕ → ℕ → ℕ
-countIn N whole paints w s = count N (codesOf paints) w (part whole (codesOf paints) (paint paints s))
+countIn N secrets paints w s = count N (codesOf paints) w (part secrets (codesOf paints) (paint paints s))

@@ -15,11 +15,11 @@ use Rattle.check_counts.specs.Base.{part, countIn}
 
 -- the input wires under the mask setting and the input setting of a number, or that setting's base
 abbrev pub inputsAt : Bool → List ℕ → ℕ → List Bool
-inputsAt whole paints n = masked (lane 0 n) (lane 1 n) (codesOf paints) (part whole (codesOf paints) (paint paints (n / 4)))
+inputsAt secrets paints n = masked (lane 0 n) (lane 1 n) (codesOf paints) (part secrets (codesOf paints) (paint paints (n / 4)))
 
 -- the words hold the bits of all wires in a block's settings, or in their bases, each lane for itself
-pub record Evaluated (N : Netlist) (whole : Bool) (paints words : List ℕ) (block : ℕ) : Type 0 where
-  pub each : (j : ℕ) → j < 64 → lanes j words ≡ wireBits N (inputsAt whole paints (block * 64 + j))
+pub record Evaluated (N : Netlist) (secrets : Bool) (paints words : List ℕ) (block : ℕ) : Type 0 where
+  pub each : (j : ℕ) → j < 64 → lanes j words ≡ wireBits N (inputsAt secrets paints (block * 64 + j))
 
 -- four bits of a word
 abbrev pub nibble : ℕ → ℕ → ℕ
@@ -37,8 +37,8 @@ abbrev pub nibblesOf : List ℕ → ℕ → ℕ → ℕ
 nibblesOf base w s = nibble (getD base w 0) s
 
 -- they are those of a block's settings, or of their bases
-pub record Counted (N : Netlist) (whole : Bool) (paints : List ℕ) (held : ℕ → ℕ → ℕ) (block : ℕ) : Type 0 where
-  pub each : (w s : ℕ) → s < 16 → held w s ≡ countIn N whole paints w (block * 16 + s)
+pub record Counted (N : Netlist) (secrets : Bool) (paints : List ℕ) (held : ℕ → ℕ → ℕ) (block : ℕ) : Type 0 where
+  pub each : (w s : ℕ) → s < 16 → held w s ≡ countIn N secrets paints w (block * 16 + s)
 
 -- where no bit is public, all settings have the same base, whose counts are held from the second block on
 abbrev pub Ready : Bool → Netlist → List ℕ → List ℕ → ℕ → Type 0

@@ -17,16 +17,16 @@ pub fn run_block(
     results: &[u64],
     count: usize,
     paints: &[u8],
-    whole: bool,
+    secrets: bool,
     block: u64,
     words: &mut [u64],
 )
     requires { ⌜ Wired (tables (now operands) (now results)) (length (now words)) count ⌝ }
     requires { ⌜ (length (now paints) + 2 ≤ length (now words)) ⌝ }
     ensures { λ _. ⌜ (let N = bare (tables (now (operands .entry)) (now (results .entry))) count (length (now (words .entry))) in Evaluated
-        N whole (now (paints .entry)) (now (words .exit)) block) ⌝ }
+        N secrets (now (paints .entry)) (now (words .exit)) block) ⌝ }
 {
-    load::inputs(paints, whole, block, words);
+    load::inputs(paints, secrets, block, words);
     evaluate::wires(operands, results, count, paints.len() + 2, words);
 }
 

@@ -46,11 +46,11 @@ pub fn mask(code: u8) -> u64
 }
 
 // Bit i of the numbers, or zero where a base is asked for and the code is that of a secret bit.
-fn chosen(i: usize, code: u8, whole: bool, block: u64) -> u64
+fn chosen(i: usize, code: u8, secrets: bool, block: u64) -> u64
     requires { ⌜ i < 64 ⌝ }
-    ensures { λ r. ⌜ ((j : ℕ) → j < 64 → lane j r ≡ kept whole code (lane i ((block * 64 + j) / 4))) ⌝ }
+    ensures { λ r. ⌜ ((j : ℕ) → j < 64 → lane j r ≡ kept secrets code (lane i ((block * 64 + j) / 4))) ⌝ }
 {
-    if whole {
+    if secrets {
         pattern(i + 2, block)
     } else if code == 0 {
         pattern(i + 2, block)
@@ -60,8 +60,8 @@ fn chosen(i: usize, code: u8, whole: bool, block: u64) -> u64
 }
 
 // An input wire by its paint: its bit, masked.
-fn input(paint: u8, whole: bool, block: u64) -> u64
-    ensures { λ r. ⌜ ((j : ℕ) → j < 64 → lane j r ≡ differs (kept whole (codeOf paint) (shade (colourOf paint) ((block * 64 + j) / 4)))
+fn input(paint: u8, secrets: bool, block: u64) -> u64
+    ensures { λ r. ⌜ ((j : ℕ) → j < 64 → lane j r ≡ differs (kept secrets (codeOf paint) (shade (colourOf paint) ((block * 64 + j) / 4)))
         (maskOf (lane 0 (block * 64 + j)) (lane 1 (block * 64 + j)) (codeOf paint))) ⌝ }
 {
     let code = paint % 4;
@@ -69,19 +69,19 @@ fn input(paint: u8, whole: bool, block: u64) -> u64
     if colour == 0 {
         return mask(code);
     }
-    chosen(colour - 1, code, whole, block) ^ mask(code)
+    chosen(colour - 1, code, secrets, block) ^ mask(code)
 }
 
 // All input wires of a block's settings, or of their bases: the masked bits, then the mask pair.
-pub fn inputs(paints: &[u8], whole: bool, block: u64, words: &mut [u64])
+pub fn inputs(paints: &[u8], secrets: bool, block: u64, words: &mut [u64])
     requires { ⌜ length (now paints) + 2 ≤ length (now words) ⌝ }
     ensures { λ _. ⌜ ((j : ℕ) → j < 64 → lanes j (take (length (now (paints .entry)) + 2) (now (words .exit)))
-        ≡ inputsAt whole (now (paints .entry)) (block * 64 + j)) ⌝ }
+        ≡ inputsAt secrets (now (paints .entry)) (block * 64 + j)) ⌝ }
 {
     let n = paints.len();
     let mut i = 0;
     while i < n {
-        words[i] = input(paints[i], whole, block);
+        words[i] = input(paints[i], secrets, block);
         i += 1;
     }
     words[n] = mask(1);

@@ -1,3 +1,3 @@
 -- Laws that several proofs cite.
-pub mod Spots
+pub mod Differences
 pub mod Answers

@@ -1,3 +1,3 @@
 -- What the contracts of Check's core cite.
-pub mod Spot
+pub mod Difference
 pub mod Search

@@ -1,6 +1,6 @@
 // The search for a leak, block by block.
-use crate::spot;
-use crate::spot::Spot;
+use crate::difference;
+use crate::difference::Difference;
 use check_counts::block;
 use check_counts::paint;
 ghost use mathlib.Core.Path.{_≡_};
@@ -14,14 +14,8 @@ ghost use Rattle.netlist.specs.Table.{tables, Wired, Holds};
 ghost use Rattle.evaluate.specs.Bare.{bare};
 ghost use Rattle.check_counts.specs.Base.{countIn};
 ghost use Rattle.check_counts.specs.Block.{Ready};
-ghost use Rattle.check_leak.specs.Spot.{Spotted, from};
-ghost use Rattle.check_leak.specs.Search.{foundOf, foundAt};
-
-// Clean, or a leak: its wire, its setting, its base's count and its own.
-pub enum Verdict {
-    Clean,
-    Leak(usize, u64, u8, u8),
-}
+ghost use Rattle.check_leak.specs.Difference.{LowestDifference, from};
+ghost use Rattle.check_leak.specs.Search.{foundAt};
 
 // A block is run and searched, for wires below a limit.
 fn search_block(
@@ -34,12 +28,12 @@ fn search_block(
     words: &mut [u64],
     base: &mut [u64],
     limit: usize,
-) -> Spot
+) -> Difference
     requires { ⌜ Wired (tables (now operands) (now results)) (length (now words)) count ⌝ }
     requires { ⌜ (length (now paints) + 2 ≤ length (now words)) × (length (now base) ≡ length (now words))
         × (limit ≤ length (now words)) × Ready publics (bare (tables (now operands) (now results)) count (length (now words))) (now paints)
         (now base) block ⌝ }
-    ensures { λ r. ⌜ (let N = bare (tables (now (operands .entry)) (now (results .entry))) count (length (now (words .entry))) in Spotted
+    ensures { λ r. ⌜ (let N = bare (tables (now (operands .entry)) (now (results .entry))) count (length (now (words .entry))) in LowestDifference
         (from (block * 16) (countIn N false (now (paints .entry)))) (from (block * 16) (countIn N true (now (paints .entry)))) limit 16 r
         × Ready publics N (now (paints .entry)) (now (base .exit)) (block + 1)) ⌝ }
 {
@@ -54,11 +48,11 @@ fn search_block(
         words,
         base,
     );
-    spot::scan(words, base, limit)
+    difference::scan(words, base, limit)
 }
 
 // The first wire whose counts are not those of its base, over all settings of these blocks. Blocks
-// rise, and wires above the best spot are looked at no more.
+// rise, and wires above the lowest difference are looked at no more.
 fn find(
     operands: &[u64],
     results: &[u64],
@@ -67,19 +61,19 @@ fn find(
     blocks: u64,
     words: &mut [u64],
     base: &mut [u64],
-) -> Spot
+) -> Difference
     requires { ⌜ Wired (tables (now operands) (now results)) (length (now words)) count ⌝ }
     requires { ⌜ (length (now paints) + 2 ≤ length (now words)) × (length (now base) ≡ length (now words))
         × (blocks < 65536) ⌝ }
-    ensures { λ r. ⌜ (let N = bare (tables (now (operands .entry)) (now (results .entry))) count (length (now (words .entry))) in Spotted
+    ensures { λ r. ⌜ (let N = bare (tables (now (operands .entry)) (now (results .entry))) count (length (now (words .entry))) in LowestDifference
         (countIn N false (now (paints .entry))) (countIn N true (now (paints .entry))) (length (now (words .entry))) (blocks * 16) r) ⌝ }
 {
     let publics = block::public(paints);
-    let mut best = spot::none(words.len());
+    let mut best = difference::none(words.len());
     let mut block = 0;
     while block < blocks {
         let limit = best.wire;
-        let spot = search_block(
+        let found = search_block(
             operands,
             results,
             count,
@@ -90,7 +84,7 @@ fn find(
             base,
             limit,
         );
-        best = spot::better(best, spot, block);
+        best = difference::better(best, found, block);
         block += 1;
     }
     best
@@ -104,20 +98,8 @@ pub fn blocks_of(k: usize) -> u64
     if k < 4 { 1 } else { 1 << (k - 4) }
 }
 
-// What a spot among so many wires says, or none.
-pub fn verdict_of(spot: Spot, wires: usize) -> Verdict
-    ensures { λ r. ⌜ foundOf r ≡ foundAt spot wires ⌝ }
-{
-    let wire = spot.wire;
-    if wire < wires {
-        Verdict::Leak(wire, spot.at, spot.base, spot.own)
-    } else {
-        Verdict::Clean
-    }
-}
-
-// Whether the tables' netlist is clean under the input codes, and the leak if not. The words and the
-// base, one entry for each wire, are working store.
+// The leak of the tables' netlist under the input codes, or none: then it is clean. The words and
+// the base, one entry for each wire, are working store.
 pub fn leaks(
     operands: &[u64],
     results: &[u64],
@@ -125,16 +107,16 @@ pub fn leaks(
     codes: &[u8],
     words: &mut [u64],
     base: &mut [u64],
-) -> Verdict
+) -> Difference
     requires { ⌜ Wired (tables (now operands) (now results)) (length (now words)) count ⌝ }
     requires { ⌜ (length (now codes) ≤ maxChecked) × (length (now codes) + 2 ≤ length (now words)) × (length (now base) ≡ length (now words))
         × ((i : ℕ) → i < length (now codes) → getD (now codes) i 0 < 4) ⌝ }
     ensures { λ r. ⌜ ((n o : ℕ) (N : Netlist) → Holds (tables (now (operands .entry)) (now (results .entry))) count
-        (length (now (words .entry))) n o N → foundOf r ≡ leak N (now (codes .entry))) ⌝ }
+        (length (now (words .entry))) n o N → foundAt r (length (now (words .entry))) ≡ leak N (now (codes .entry))) ⌝ }
 {
     let paints = paint::each(codes);
     let n = codes.len();
-    let spot = find(
+    find(
         operands,
         results,
         count,
@@ -142,6 +124,5 @@ pub fn leaks(
         blocks_of(n),
         words,
         base,
-    );
-    verdict_of(spot, words.len())
+    )
 }

@@ -3,11 +3,11 @@ use Prim.Native.Nat.{ℕ, zero, suc, _+_, _-_, _≤_, _<_}
 use mathlib.Core.Path.{_≡_, refl, sym, ap, _∙_}
 use mathlib.Core.Bool.{Bool, true, false}
 use mathlib.Core.List.{List, [], _∷_}
-use mathlib.Core.Option.{Option}
+use mathlib.Core.Option.{Option, none, some}
 use native.Mathlib.Omega.{arith}
 use lib.Dec.{eqb, leb, eqb→eq, leb→le}
 use lib.ListN.{length, getD}
-use borrow.Author.Tests.{le-leb, lt-leb}
+use borrow.Author.Tests.{le-leb, lt-leb, lt-ltb, le-ltb}
 use Rattle.netlist.specs.Lists.{every, sum}
 use Rattle.netlist.specs.Netlist.{Netlist, inputBits}
 use Rattle.netlist.specs.Outcome.{Outcome, refused, done, ask}
@@ -17,8 +17,8 @@ use Rattle.netlist.specs.Services.{listGood, endsInMasks, maxChecked, checkOutc
 use Rattle.netlist.specs.Table.{Tables, Holds}
 use Rattle.netlist.proofs.Tests.{both, isTrue, true-T, every-at, clash}
 use Rattle.netlist.proofs.Questions.{ask-done}
-use Rattle.check_leak.specs.declared.search.Verdict.{Verdict}
-use Rattle.check_leak.specs.Search.{foundOf}
+use Rattle.check_leak.specs.declared.difference.Difference.{Difference}
+use Rattle.check_leak.specs.Search.{foundAt}
 use Rattle.check_netlist.specs.Judge.{codesAsked}
 
 -- ---- question 10
@@ -43,10 +43,17 @@ codes-length n codes good = eqb→eq (length codes) n (both (eqb (length codes) 
 
 -- ---- the core's verdict, where it is handed as many words as there are wires
 
-pub told : {t : Tables} {m k W n o : ℕ} {N : Netlist} {v : Verdict} (codes : List ℕ) (u : Verdict) → k ≡ W → v ≡ u
-    → ((n o : ℕ) (N : Netlist) → Holds t m k n o N → foundOf v ≡ leak N codes) → Holds t m W n o N
-    → _≡_ {A = Outcome (Option Found)} (done (foundOf u)) (done (leak N codes))
-told {n = n} {o = o} {N = N} codes u p e f h = ap done (ap foundOf (sym e) ∙ f n o N (rw p h))
+module _ {t : Tables} {m k W n o : ℕ} {N : Netlist} (codes : List ℕ) (p : Difference) (e : k ≡ W)
+    (found : (n o : ℕ) (N : Netlist) → Holds t m k n o N → foundAt p k ≡ leak N codes) (h : Holds t m W n o N) where
+  told : foundAt p W ≡ leak N codes
+  told = ap (foundAt p) (sym e) ∙ found n o N (rw e h)
+
+  pub told-leak : p .wire < W
+      → _≡_ {A = Outcome (Option Found)} (done (some (record { wire = p .wire; at = p .setting; base = p .base; own = p .count }))) (done (leak N codes))
+  told-leak l = ap done (sym (rw (lt-ltb (p .wire) W l) refl) ∙ told)
+
+  pub told-clean : W ≤ p .wire → _≡_ {A = Outcome (Option Found)} (done none) (done (leak N codes))
+  told-clean l = ap done (sym (rw (le-ltb (p .wire) W l) refl) ∙ told)
 
 -- ---- questions 10 and 11, and then 12
 

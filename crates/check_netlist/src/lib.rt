@@ -1,5 +1,4 @@
 // Questions 10 to 12 of a netlist that was read, and the verdict on it.
-use check_leak::search::Verdict;
 use read_header::HeaderNumbers;
 ghost use mathlib.Core.Path.{_≡_};
 ghost use Prim.Native.Nat.{ℕ, _+_, _<_, _≤_};
@@ -12,7 +11,7 @@ ghost use Rattle.netlist.specs.Services.{endsInMasks, checkOutcome, maxChecked}
 ghost use Rattle.netlist.specs.Table.{tables, Wired, Holds};
 ghost use Rattle.check_netlist.specs.Judge.{askedOf, codesAsked, outcomeOf};
 
-// Clean; or a leak: its wire, its setting, its base's count and its own; or the first question that gets a no.
+// Clean; or a leak: its wire, its setting, its base's count and the setting's; or the first question that gets a no.
 pub enum Checked {
     Clean,
     Leak(usize, u64, u8, u8),
@@ -71,16 +70,19 @@ fn verdict(
     ensures { λ r. ⌜ ((n o : ℕ) (N : Netlist) → Holds (tables (now (operands .entry)) (now (results .entry))) count wires n o N
         → outcomeOf r ≡ done (leakOf N (now (codes .entry)))) ⌝ }
 {
-    match check_leak::search::leaks(
+    let found = check_leak::search::leaks(
         operands,
         results,
         count,
         codes,
         &mut words[..wires],
         &mut base[..wires],
-    ) {
-        Verdict::Clean => Checked::Clean,
-        Verdict::Leak(wire, setting, base, own) => Checked::Leak(wire, setting, base, own),
+    );
+    let wire = found.wire;
+    if wire < wires {
+        Checked::Leak(wire, found.setting, found.base, found.count)
+    } else {
+        Checked::Clean
     }
 }
 

@@ -19,9 +19,8 @@ use Rattle.netlist.proofs.Questions.{done-same, ask-done, andThen-done}
 use Rattle.netlist.proofs.LeakSearch.{none-clean, found-lowest}
 use Rattle.read_header.specs.declared.HeaderNumbers.{HeaderNumbers}
 use Rattle.read_netlist.specs.Whole.{ReadAt}
-use Rattle.check_leak.specs.declared.search.Verdict.{Verdict}
-use Rattle.check_leak.specs.declared.search.Verdict.the-variants.{Clean, Leak}
-use Rattle.check_leak.specs.Search.{foundOf}
+use Rattle.pairs_search.specs.declared.search.WiresVerdict.{WiresVerdict}
+use Rattle.pairs_search.specs.declared.search.WiresVerdict.the-variants.{Clean, Leak}
 use Rattle.check_netlist.specs.Judge.{found}
 use Rattle.checker.proofs.Calling.{shorter-long, outcome-leak}
 use Rattle.pairs.specs.Pairs.{cleanPair, firstBad, PairsJudged}
@@ -29,7 +28,7 @@ use Rattle.pairs.specs.Call.{BothAnswers, pairsOutcome, pairsCall}
 use Rattle.pairs.proofs.PairCalls.{pairs-done}
 use Rattle.pairs.proofs.PairCheck.{pairs-judged}
 use Rattle.pairs_search.specs.declared.search.PairsVerdict.{PairsVerdict}
-use Rattle.pairs_search.specs.Search.{badOf}
+use Rattle.pairs_search.specs.Search.{foundOf, badOf}
 use Rattle.pairs_judge.specs.declared.CheckedPairs.{CheckedPairs}
 use Rattle.pairs_judge.specs.declared.CheckedPairs.the-variants.{Done, Refused}
 use Rattle.pairs_judge.specs.Judge.{outcomeOf, WiresJudged, Judged}
@@ -81,7 +80,7 @@ module _ (s : Sizes) (text codes ws o r g w b z : List ℕ) where
       let one = ask-done 1 (tablesLong (large s) lengths) (andThen (readNetlist (large s) text) (pairsOutcome codes ws)) a (sym e) .1 in
       andThen-done (readNetlist (large s) text) (pairsOutcome codes ws) a one
 
-  module _ (v : Verdict) (p : PairsVerdict) (e : done (record { leak = foundOf v; pairs = badOf p }) ≡ call s text codes ws o r g w b z) where
+  module _ (v : WiresVerdict) (p : PairsVerdict) (e : done (record { leak = foundOf v; pairs = badOf p }) ≡ call s text codes ws o r g w b z) where
     -- the one-wire answer is Check's
     pub call-check : (tables : List ℕ) → tablesLong (large s) tables ≡ true → checkCall (large s) tables text codes ≡ done (foundOf v)
     unfolding checkCall
@@ -104,7 +103,7 @@ module _ (s : Sizes) (text codes ws o r g w b z : List ℕ) where
           let f = pairs-done codes ws N (record { leak = foundOf v; pairs = badOf p }) asked .1 in
           rw f at (pairs-judged N codes ws)
 
-  wires-judged : (v : Verdict) (N : Netlist) → leak N codes ≡ foundOf v → WiresJudged N codes v
+  wires-judged : (v : WiresVerdict) (N : Netlist) → leak N codes ≡ foundOf v → WiresJudged N codes v
   wires-judged Clean N e = none-clean N codes e
   wires-judged (Leak l j y k) N e =
       let f = found-lowest N codes (found l j y k) e in

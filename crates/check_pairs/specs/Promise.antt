@@ -10,8 +10,8 @@ use Rattle.netlist.specs.Outcome.{Outcome, done}
 use Rattle.netlist.specs.Read.{readNetlist}
 use Rattle.netlist.specs.Leak.{Found}
 use Rattle.netlist.specs.Services.{tablesLong, checkCall, Cleared}
-use Rattle.check_leak.specs.declared.search.Verdict.{Verdict}
-use Rattle.check_leak.specs.Search.{foundOf}
+use Rattle.pairs_search.specs.declared.search.WiresVerdict.{WiresVerdict}
+use Rattle.pairs_search.specs.Search.{foundOf}
 use Rattle.pairs.specs.Call.{BothAnswers, pairsCall}
 use Rattle.pairs_search.specs.declared.search.PairsVerdict.{PairsVerdict}
 use Rattle.pairs_judge.specs.declared.CheckedPairs.{CheckedPairs}
@@ -29,7 +29,7 @@ pub record Promise (s : Sizes) (text codes pairs o o′ r r′ g g′ w w′ b b
   -- the answers judge the netlist that the text reads as
   pub judged : (N : Netlist) → readNetlist (large s) text ≡ done N → Judged N codes pairs a
   -- the one-wire answer is what Check gives, with any tables that are long enough for it
-  pub check : (v : Verdict) (p : PairsVerdict) → a ≡ Done v p → (tables : List ℕ) → tablesLong (large s) tables ≡ true
+  pub check : (v : WiresVerdict) (p : PairsVerdict) → a ≡ Done v p → (tables : List ℕ) → tablesLong (large s) tables ≡ true
       → checkCall (large s) tables text codes ≡ done (foundOf v)
   pub operands : Cleared o o′
   pub results : Cleared r r′

@@ -53,8 +53,8 @@ fn print(out: &mut [u8], a: Checked) -> usize
 {
     match a {
         Checked::Clean => program_text::clean(out),
-        Checked::Leak(wire, setting, zero, own) => {
-            program_text::leak(out, wire, setting as usize, zero as usize, own as usize)
+        Checked::Leak(wire, setting, base, count) => {
+            program_text::leak(out, wire, setting as usize, base as usize, count as usize)
         }
         Checked::Refused(question) => program_text::refused(out, question),
     }

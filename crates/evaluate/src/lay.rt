@@ -33,7 +33,7 @@ pub fn bits(src: &[u8], dst: &mut [u64])
 }
 
 // Lane 0 of words, as bits.
-pub fn lows(src: &[u64], dst: &mut [u8])
+pub fn low_bits(src: &[u64], dst: &mut [u8])
     requires { ⌜ length (now src) ≤ length (now dst) ⌝ }
     ensures { λ _. ⌜ now (dst .exit) ≡ sets (now (dst .entry)) 0 (map bit (lanes 0 (now (src .entry)))) ⌝ }
 {

@@ -27,5 +27,5 @@ pub fn outputs(
     lay::bits(bits, words);
     crate::wires(operands, results, count, bits.len(), words);
     let from = words.len() - outs;
-    lay::lows(&words[from..], out);
+    lay::low_bits(&words[from..], out);
 }

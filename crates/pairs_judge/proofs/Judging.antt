@@ -15,15 +15,14 @@ use Rattle.netlist.specs.Leak.{Found, leak}
 use Rattle.netlist.specs.Services.{maxChecked, checkOutcome}
 use Rattle.netlist.specs.Table.{Tables, Holds}
 use Rattle.netlist.proofs.Tests.{both, true-T, every-at}
-use Rattle.check_leak.specs.declared.search.Verdict.{Verdict}
-use Rattle.check_leak.specs.Search.{foundOf}
+use Rattle.pairs_search.specs.declared.search.WiresVerdict.{WiresVerdict}
 use Rattle.check_netlist.specs.Judge.{codesAsked}
 use Rattle.check_netlist.proofs.Judging.{outcome-refused, outcome-twelve, outcome-told}
 use Rattle.pairs.specs.Pairs.{cleanPair, firstBad}
 use Rattle.pairs.specs.Call.{BothAnswers, pairsGood, pairsOutcome}
 use Rattle.pairs.proofs.PairCalls.{pairs-refused, pairs-bad, pairs-told}
 use Rattle.pairs_search.specs.declared.search.PairsVerdict.{PairsVerdict}
-use Rattle.pairs_search.specs.Search.{badOf}
+use Rattle.pairs_search.specs.Search.{foundOf, badOf}
 
 -- ---- question 21
 
@@ -43,7 +42,7 @@ good-below W ws e i l =
 abbrev answersOf : Netlist → List ℕ → List ℕ → BothAnswers Found
 answersOf N codes ws = record { leak = leak N codes; pairs = firstBad (cleanPair N codes) ws }
 
-pub told : {t : Tables} {m k W n o : ℕ} {N : Netlist} (codes ws : List ℕ) (v : Verdict) (p : PairsVerdict) → k ≡ W
+pub told : {t : Tables} {m k W n o : ℕ} {N : Netlist} (codes ws : List ℕ) (v : WiresVerdict) (p : PairsVerdict) → k ≡ W
     → ((n o : ℕ) (N : Netlist) → Holds t m k n o N → (foundOf v ≡ leak N codes) × (badOf p ≡ firstBad (cleanPair N codes) ws)) → Holds t m W n o N
     → _≡_ {A = Outcome (BothAnswers Found)} (done (record { leak = foundOf v; pairs = badOf p })) (done (answersOf N codes ws))
 told {n = n} {o = o} {N = N} codes ws v p e f h =

@@ -5,13 +5,12 @@ use Rattle.netlist.specs.Netlist.{Netlist}
 use Rattle.netlist.specs.Outcome.{Outcome, refused, done}
 use Rattle.netlist.specs.Leak.{Found, LowestLeak}
 use Rattle.netlist.specs.Leak as L
-use Rattle.check_leak.specs.declared.search.Verdict.{Verdict}
-use Rattle.check_leak.specs.declared.search.Verdict.the-variants.{Clean, Leak}
-use Rattle.check_leak.specs.Search.{foundOf}
+use Rattle.pairs_search.specs.declared.search.WiresVerdict.{WiresVerdict}
+use Rattle.pairs_search.specs.declared.search.WiresVerdict.the-variants.{Clean, Leak}
 use Rattle.check_netlist.specs.Judge.{found}
 use Rattle.pairs.specs.Pairs.{PairsJudged}
 use Rattle.pairs.specs.Call.{BothAnswers}
-use Rattle.pairs_search.specs.Search.{badOf}
+use Rattle.pairs_search.specs.Search.{foundOf, badOf}
 use Rattle.pairs_judge.specs.declared.CheckedPairs.{CheckedPairs}
 use Rattle.pairs_judge.specs.declared.CheckedPairs.the-variants.{Done, Refused}
 
@@ -21,7 +20,7 @@ outcomeOf (Done v p) = done (record { leak = foundOf v; pairs = badOf p })
 outcomeOf (Refused q) = refused q
 
 -- the equal-count rule, as the one-wire answer has it: clean, so every wire meets the rule; or the lowest leak, so one does not
-abbrev pub WiresJudged : Netlist → List ℕ → Verdict → Type 0
+abbrev pub WiresJudged : Netlist → List ℕ → WiresVerdict → Type 0
 WiresJudged N codes Clean = L.Clean N codes
 WiresJudged N codes (Leak w s b o) = LowestLeak N codes (found w s b o) × (L.Clean N codes → ⊥)
 

@@ -1,7 +1,7 @@
 // Questions 10 to 12 and 21 of a netlist that was read, and the verdicts on its wires and on pairs of them.
-use check_leak::search::Verdict;
 use check_netlist::Asked;
 use pairs_search::search::PairsVerdict;
+use pairs_search::search::WiresVerdict;
 use read_header::HeaderNumbers;
 ghost use mathlib.Core.Path.{_≡_};
 ghost use Prim.Native.Nat.{ℕ, _+_, _<_, _≤_};
@@ -19,7 +19,7 @@ ghost use Rattle.pairs_judge.specs.Judge.{outcomeOf};
 
 // Both answers; or the first question that gets a no.
 pub enum CheckedPairs {
-    Done(Verdict, PairsVerdict),
+    Done(WiresVerdict, PairsVerdict),
     Refused(u8),
 }
 

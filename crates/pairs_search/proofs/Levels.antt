@@ -23,9 +23,9 @@ use Rattle.pairs_search.specs.Bases.{Based}
 
 -- ---- the counts of two wires together
 
-module _ {N : Netlist} {whole : Bool} {ps : List ℕ} {block : ℕ} {us : List ℕ} (ran : Evaluated N whole ps us block) where
+module _ {N : Netlist} {secrets : Bool} {ps : List ℕ} {block : ℕ} {us : List ℕ} (ran : Evaluated N secrets ps us block) where
   abbrev at : ℕ → List Bool
-  at s = part whole (codesOf ps) (paint ps (block * 16 + s))
+  at s = part secrets (codesOf ps) (paint ps (block * 16 + s))
 
   -- both wires in lane m of setting s
   one : (u v s m : ℕ) → s < 16 → m < 4
@@ -34,7 +34,7 @@ module _ {N : Netlist} {whole : Bool} {ps : List ℕ} {block : ℕ} {us : List �
   one u v s m l k =
       ap bit (lane-and (4 * s + m) (getD us u 0) (getD us v 0) ∙ ap₂ _&&_ (wire-lane ran u s m l k) (wire-lane ran v s m l k))
 
-  pub both-law : (u v s : ℕ) → s < 16 → bothOnes us u v s ≡ countsOf N whole ps .both u v (block * 16 + s)
+  pub both-law : (u v s : ℕ) → s < 16 → bothOnes us u v s ≡ countsOf N secrets ps .both u v (block * 16 + s)
   unfolding bothCount
   both-law u v s l =
       let z : 4 * s ≡ 4 * s + 0 = omega arith in
@@ -43,8 +43,8 @@ module _ {N : Netlist} {whole : Bool} {ps : List ℕ} {block : ℕ} {us : List �
       (one u v s 2 l (omega arith)))
       (one u v s 3 l (omega arith))
 
-  pub alike-own : Alike (heldIn us) (onFrom (block * 16) (countsOf N whole ps))
-  alike-own = record { one = run-block-law ran .each; both = both-law }
+  pub alike-setting : Alike (heldIn us) (onFrom (block * 16) (countsOf N secrets ps))
+  alike-setting = record { one = run-block-law ran .each; both = both-law }
 
 pub alike-base : {N : Netlist} {ps bases base : List ℕ} {block : ℕ} → Based N ps bases base block
     → Alike (heldBase bases base) (onFrom (block * 16) (countsOf N false ps))

@@ -18,9 +18,9 @@ pub record Counts : Type 0 where
 
 -- those of a netlist in the setting that the paints give to number s, or in its base
 abbrev pub countsOf : Netlist → Bool → List ℕ → Counts
-countsOf N whole paints = record {
-  one = countIn N whole paints;
-  both = λ u v s. bothCount N (codesOf paints) u v (part whole (codesOf paints) (paint paints s));
+countsOf N secrets paints = record {
+  one = countIn N secrets paints;
+  both = λ u v s. bothCount N (codesOf paints) u v (part secrets (codesOf paints) (paint paints s));
 }
 
 -- those of two words' lanes
@@ -45,14 +45,14 @@ pub record Alike (c d : Counts) : Type 0 where
   pub both : (u v s : ℕ) → s < 16 → c .both u v s ≡ d .both u v s
 
 -- in setting s, the counts of the first wire, of the second and of both together are those of the base
-pub record Level (base own : Counts) (u v s : ℕ) : Type 0 where
-  pub first : base .one u s ≡ own .one u s
-  pub second : base .one v s ≡ own .one v s
-  pub both : base .both u v s ≡ own .both u v s
+pub record Level (base counts : Counts) (u v s : ℕ) : Type 0 where
+  pub first : base .one u s ≡ counts .one u s
+  pub second : base .one v s ≡ counts .one v s
+  pub both : base .both u v s ≡ counts .both u v s
 
 -- so for pair j of a list
 abbrev pub LevelAt : Counts → Counts → List ℕ → ℕ → ℕ → Type 0
-LevelAt base own ws j s = Level base own (getD ws (2 * j) 0) (getD ws (2 * j + 1) 0) s
+LevelAt base counts ws j s = Level base counts (getD ws (2 * j) 0) (getD ws (2 * j + 1) 0) s
 
 -- of n pairs, k is the first that is not level in some setting below S, or it is n
 pub record FirstUneven (level : ℕ → ℕ → Type 0) (n S k : ℕ) : Type 0 where

@@ -3,9 +3,8 @@ use crate::base;
 use crate::pair;
 use check_counts::block;
 use check_counts::paint;
-use check_leak::search::Verdict;
-use check_leak::spot;
-use check_leak::spot::Spot;
+use check_leak::difference;
+use check_leak::difference::Difference;
 ghost use mathlib.Core.Path.{_≡_};
 ghost use mathlib.Core.Bool.{true, false};
 ghost use Prim.Native.Nat.{ℕ, _+_, _*_, _/_, _^_, _<_, _≤_};
@@ -16,11 +15,17 @@ ghost use Rattle.netlist.specs.Services.{maxChecked};
 ghost use Rattle.netlist.specs.Table.{tables, Wired, Holds};
 ghost use Rattle.evaluate.specs.Bare.{bare};
 ghost use Rattle.check_counts.specs.Block.{Evaluated};
-ghost use Rattle.check_leak.specs.Search.{foundOf};
+ghost use Rattle.check_leak.specs.Search.{foundAt};
 ghost use Rattle.pairs.specs.Pairs.{cleanPair, firstBad};
 ghost use Rattle.pairs_search.specs.Level.{Counts, countsOf, heldIn, heldBase, onFrom, Alike};
 ghost use Rattle.pairs_search.specs.Bases.{Based, HeldOn};
-ghost use Rattle.pairs_search.specs.Search.{badOf, badAt, Found};
+ghost use Rattle.pairs_search.specs.Search.{foundOf, badOf, badAt, Found};
+
+// Clean, or a leak: its wire, its setting, its base's count and the setting's.
+pub enum WiresVerdict {
+    Clean,
+    Leak(usize, u64, u8, u8),
+}
 
 // Clean, or how many pairs stand before the first bad one.
 pub enum PairsVerdict {
@@ -30,13 +35,13 @@ pub enum PairsVerdict {
 
 // Both answers.
 pub struct Verdicts {
-    pub wires: Verdict,
+    pub wires: WiresVerdict,
     pub pairs: PairsVerdict,
 }
 
-// The best spot so far, and the first bad pair so far or the number of pairs.
+// The lowest difference on a wire so far, and the first bad pair so far or the number of pairs.
 pub struct Best {
-    pub spot: Spot,
+    pub difference: Difference,
     pub pair: usize,
 }
 
@@ -75,22 +80,22 @@ fn run(
     );
 }
 
-// The better of the best so far and what a block shows. Wires above the best spot, and pairs behind the first bad one, are looked at no more.
+// The better of the best so far and what a block shows. Wires above the lowest difference, and pairs behind the first bad one, are looked at no more.
 fn look(words: &[u64], bases: &[u64], base: &[u64], pairs: &[u32], best: Best, block: u64) -> Best
-    requires { ⌜ (block < 65536) × (best .spot .wire ≤ length (now words)) × (2 * best .pair ≤ length (now pairs))
+    requires { ⌜ (block < 65536) × (best .difference .wire ≤ length (now words)) × (2 * best .pair ≤ length (now pairs))
         × (length (now bases) ≡ length (now words)) × (length (now base) ≡ length (now words))
         × ((i : ℕ) → i < length (now pairs) → getD (now pairs) i 0 < length (now words)) ⌝ }
-    ensures { λ r. ⌜ ((based own : Counts) (W n : ℕ) → Alike (heldBase (now (bases .entry)) (now (base .entry))) (onFrom (block * 16) based)
-        → Alike (heldIn (now (words .entry))) (onFrom (block * 16) own)
-        → Found based own (now (pairs .entry)) W n (block * 16) best → Found based own (now (pairs .entry)) W n (block * 16 + 16) r) ⌝ }
+    ensures { λ r. ⌜ ((based counts : Counts) (W n : ℕ) → Alike (heldBase (now (bases .entry)) (now (base .entry))) (onFrom (block * 16) based)
+        → Alike (heldIn (now (words .entry))) (onFrom (block * 16) counts)
+        → Found based counts (now (pairs .entry)) W n (block * 16) best → Found based counts (now (pairs .entry)) W n (block * 16 + 16) r) ⌝ }
 {
-    let limit = best.spot.wire;
-    let spot = spot::scan(words, base, limit);
+    let limit = best.difference.wire;
+    let found = difference::scan(words, base, limit);
     let first = best.pair;
-    let agreed = spot.wire == words.len();
+    let agreed = found.wire == words.len();
     let pair = pair::scan(pairs, first, words, bases, base, agreed);
     Best {
-        spot: spot::better(best.spot, spot, block),
+        difference: difference::better(best.difference, found, block),
         pair: pair,
     }
 }
@@ -118,7 +123,7 @@ pub fn find(
 {
     let publics = block::public(paints);
     let mut best = Best {
-        spot: spot::none(limit),
+        difference: difference::none(limit),
         pair: pairs.len() / 2,
     };
     let mut block = 0;
@@ -138,6 +143,18 @@ pub fn find(
         block += 1;
     }
     best
+}
+
+// What a difference among so many wires says, or none.
+fn wires_verdict_of(found: Difference, wires: usize) -> WiresVerdict
+    ensures { λ r. ⌜ foundOf r ≡ foundAt found wires ⌝ }
+{
+    let wire = found.wire;
+    if wire < wires {
+        WiresVerdict::Leak(wire, found.setting, found.base, found.count)
+    } else {
+        WiresVerdict::Clean
+    }
 }
 
 // What the first bad one of so many pairs says, or none.
@@ -188,7 +205,7 @@ pub fn search(
         base,
     );
     Verdicts {
-        wires: check_leak::search::verdict_of(best.spot, words.len()),
+        wires: wires_verdict_of(best.difference, words.len()),
         pairs: pairs_verdict_of(best.pair, pairs.len() / 2),
     }
 }

@@ -89,14 +89,14 @@ fn spaced(out: &mut [u8], at: usize, n: usize) -> usize
 }
 
 // Check's line for a leak.
-pub fn leak(out: &mut [u8], wire: usize, setting: usize, base: usize, own: usize) -> usize
-    ensures { λ r. ⌜ Wrote (now (out .entry)) 0 (printLeak wire setting base own) (now (out .exit)) r ⌝ }
+pub fn leak(out: &mut [u8], wire: usize, setting: usize, base: usize, count: usize) -> usize
+    ensures { λ r. ⌜ Wrote (now (out .entry)) 0 (printLeak wire setting base count) (now (out .exit)) r ⌝ }
 {
     let a = write_buffer::bytes(out, 0, b"leak");
     let b = spaced(out, a, wire);
     let c = spaced(out, b, setting);
     let d = spaced(out, c, base);
-    let e = spaced(out, d, own);
+    let e = spaced(out, d, count);
     write_buffer::put(out, e, 10)
 }
 

@@ -11,7 +11,7 @@ fn mask(code: u8, m: u8) -> u8 {
 }
 
 // A list of the codes from `low` to `high` in turn.
-pub(crate) fn turn(list: &mut [u8], low: u8, high: u8) {
+pub(crate) fn cycle(list: &mut [u8], low: u8, high: u8) {
     let mut code = low;
     for i in 0..list.len() {
         words::put(list, i, code);

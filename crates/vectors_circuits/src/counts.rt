@@ -11,7 +11,7 @@ pub(crate) struct Leak {
     pub(crate) wire: usize,
     pub(crate) setting: usize,
     pub(crate) base: u8,
-    pub(crate) own: u8,
+    pub(crate) count: u8,
 }
 
 // The bits of a setting, input bit 0 its lowest.
@@ -72,9 +72,9 @@ fn count(
 }
 
 // The lowest wire below `end` whose two counts differ, and `end` where there is none.
-fn differ(base: &[u8], own: &[u8], end: usize) -> usize {
+fn differ(base: &[u8], counts: &[u8], end: usize) -> usize {
     for i in 0..end {
-        if words::byte(base, i) != words::byte(own, i) {
+        if words::byte(base, i) != words::byte(counts, i) {
             return i;
         }
     }
@@ -98,10 +98,10 @@ fn lower(
     gates: &[u32],
     wires: &mut [u8],
     base: &[u8],
-    own: &mut [u8],
+    counts: &mut [u8],
 ) -> usize {
-    count(own, codes, setting, shape, gates, wires);
-    differ(base, own, end)
+    count(counts, codes, setting, shape, gates, wires);
+    differ(base, counts, end)
 }
 
 // The lowest wire that leaks, and its smallest setting, from the counts of setting 0; the two counts are left open.
@@ -111,12 +111,12 @@ fn search(
     gates: &[u32],
     wires: &mut [u8],
     base: &[u8],
-    own: &mut [u8],
+    counts: &mut [u8],
 ) -> Leak {
     let mut wire = shape.wires;
     let mut smallest = 0;
     for setting in 1..settings(codes.len()) {
-        let lowest = lower(wire, setting, codes, shape, gates, wires, base, own);
+        let lowest = lower(wire, setting, codes, shape, gates, wires, base, counts);
         smallest = shown(lowest, wire, setting, smallest);
         wire = lowest;
     }
@@ -124,7 +124,7 @@ fn search(
         wire,
         setting: smallest,
         base: 0,
-        own: 0,
+        count: 0,
     }
 }
 
@@ -135,16 +135,16 @@ fn found(
     gates: &[u32],
     wires: &mut [u8],
     base: &mut [u8],
-    own: &mut [u8],
+    counts: &mut [u8],
 ) -> Leak {
     count(base, codes, 0, shape, gates, wires);
-    let l = search(codes, shape, gates, wires, base, own);
-    count(own, codes, l.setting, shape, gates, wires);
+    let l = search(codes, shape, gates, wires, base, counts);
+    count(counts, codes, l.setting, shape, gates, wires);
     Leak {
         wire: l.wire,
         setting: l.setting,
         base: words::byte(base, l.wire),
-        own: words::byte(own, l.wire),
+        count: words::byte(counts, l.wire),
     }
 }
 
@@ -161,7 +161,7 @@ pub(crate) fn lowest(text: &[u8], codes: &[u8]) -> Leak {
     let mut gates = buffers::gates();
     let mut wires = buffers::bytes();
     let mut base = buffers::bytes();
-    let mut own = buffers::bytes();
+    let mut counts = buffers::bytes();
     second::gates(text, &mut gates);
     found(
         codes,
@@ -169,6 +169,6 @@ pub(crate) fn lowest(text: &[u8], codes: &[u8]) -> Leak {
         &gates,
         &mut wires,
         &mut base,
-        &mut own,
+        &mut counts,
     )
 }

@@ -114,8 +114,8 @@ pub(crate) fn scored(
     let mut wanted = buffers::list();
     let mut out_codes = buffers::list();
     let mut out = buffers::text();
-    codes::turn(&mut ins, low, high);
-    codes::turn(&mut wanted, least, most);
+    codes::cycle(&mut ins, low, high);
+    codes::cycle(&mut wanted, least, most);
     delivered(
         text,
         file,

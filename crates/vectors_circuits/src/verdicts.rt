@@ -18,11 +18,11 @@ pub(crate) struct Edited {
 fn same(verdict: Checked, leak: Leak, wires: usize) -> bool {
     match verdict {
         Checked::Clean => leak.wire == wires,
-        Checked::Leak(wire, setting, base, own) => {
+        Checked::Leak(wire, setting, base, count) => {
             wire == leak.wire
                 && setting == leak.setting as u64
                 && base == leak.base
-                && own == leak.own
+                && count == leak.count
         }
         Checked::Refused(_) => false,
     }

@@ -41,6 +41,10 @@ merge-right i (x ∷ xs) ys h = rw (le-ltb x i (omega arith), lt-ltb i x h)
 merge-both : (i : ℕ) (xs ys : List ℕ) → merge (i ∷ xs) (i ∷ ys) ≡ i ∷ merge xs ys
 merge-both i xs ys = rw (le-ltb i i (omega arith))
 
+pub merge-same : (xs : List ℕ) → merge xs xs ≡ xs
+merge-same [] = refl
+merge-same (x ∷ xs) = merge-both x xs xs ∙ ap (λ (l : List ℕ). x ∷ l) (merge-same xs)
+
 merge-step : (a b : Bool) (i : ℕ) (ks ls ms : List Bool) → merge (places (i + 1) ks) (places (i + 1) ls) ≡ places (i + 1) ms
     → merge (places i (a ∷ ks)) (places i (b ∷ ls)) ≡ places i ((a || b) ∷ ms)
 merge-step true true i ks ls ms h = merge-both i (places (i + 1) ks) (places (i + 1) ls) ∙ ap (λ (l : List ℕ). i ∷ l) h

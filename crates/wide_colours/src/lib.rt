@@ -29,7 +29,7 @@ fn put(paints: &mut [u8], i: usize, colour: u8)
 }
 
 // Whether the members of a set have different colours from 1 to 12.
-pub fn different(m: Members, paints: &[u8]) -> bool
+fn different(m: Members, paints: &[u8]) -> bool
     requires { ⌜ (m .count ≤ 12) × Items (m .items) ⌝ }
     ensures { λ r. ⌜ (r ≡ true → Different (take (m .count) (m .items)) (now (paints .entry))) ⌝ }
 {
@@ -144,7 +144,7 @@ fn next(paints: &mut [u8], i: usize, seen: [u8; 13], from: usize) -> usize
 
 // The members of a set that have no colour get the lowest that the others have not, unless two members have the same. Whether the
 // set then has different colours is for `different` to say.
-pub fn give(m: Members, paints: &mut [u8])
+fn give(m: Members, paints: &mut [u8])
     requires { ⌜ m .count ≤ 12 ⌝ }
     ensures { λ _. ⌜ Kept (now (paints .entry)) (now (paints .exit)) ⌝ }
 {
@@ -160,6 +160,19 @@ pub fn give(m: Members, paints: &mut [u8])
         c = next(paints, items[a] as usize, seen, c);
         a += 1;
     }
+}
+
+// Whether the members of a set have different colours from 1 to 12; where they have not, those without a colour get one first.
+pub fn fit(m: Members, paints: &mut [u8]) -> bool
+    requires { ⌜ (m .count ≤ 12) × Items (m .items) ⌝ }
+    ensures { λ r. ⌜ Kept (now (paints .entry)) (now (paints .exit))
+        × (r ≡ true → Different (take (m .count) (m .items)) (now (paints .exit))) ⌝ }
+{
+    if different(m, paints) {
+        return true;
+    }
+    give(m, paints);
+    different(m, paints)
 }
 
 // The input codes become paints without colours.

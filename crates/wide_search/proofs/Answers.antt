@@ -18,8 +18,8 @@ use Rattle.evaluate.specs.Bare.{bare}
 use Rattle.check_counts.specs.Paint.{codesOf, paint}
 use Rattle.check_counts.specs.Base.{part, countIn}
 use Rattle.check_counts.proofs.Paints.{length-codesOf}
-use Rattle.check_leak.specs.declared.spot.Spot.{Spot}
-use Rattle.check_leak.specs.Spot.{Spotted}
+use Rattle.check_leak.specs.declared.difference.Difference.{Difference}
+use Rattle.check_leak.specs.Difference.{LowestDifference}
 use Rattle.pairs.specs.Pairs.{cleanPair, firstBad}
 use Rattle.pairs.proofs.PairCheck.{first-is}
 use Rattle.pairs_search.specs.Search.{badAt}
@@ -101,13 +101,13 @@ clean-told {N = N} {codes} G L l =
 module _ {t : Tables} {m W o : ℕ} {S : Sets} {N : Netlist} {codes ws : List ℕ} {wire pair : ℕ} (G : Given t m W (length codes) S o N)
     (L : Lowest N codes ws W wire pair) (inside : wire < W) (room : length codes + 2 ≤ W) (ps : List ℕ) (plain : codesOf ps ≡ codes)
     (ranked : (a : ℕ) → a < length (reachSet N (length ps) wire) → colourAt (reachSet N (length ps) wire) ps a ≡ a + 1) (B : ℕ)
-    (blocks : 2 ^ length (reachSet N (length ps) wire) ≤ B * 16) (p : Spot)
-    (F : Spotted (countIn (bare t m W) false ps) (countIn (bare t m W) true ps) (wire + 1) (B * 16) p) where
+    (blocks : 2 ^ length (reachSet N (length ps) wire) ≤ B * 16) (p : Difference)
+    (F : LowestDifference (countIn (bare t m W) false ps) (countIn (bare t m W) true ps) (wire + 1) (B * 16) p) where
   cs : List ℕ
   cs = codesOf ps
 
-  same-one : (whole : Bool) (w s : ℕ) → countIn (bare t m W) whole ps w s ≡ countIn N whole ps w s
-  same-one whole w s = one-bare (G .holds) (codesOf ps) w (part whole (codesOf ps) (paint ps s))
+  same-one : (secrets : Bool) (w s : ℕ) → countIn (bare t m W) secrets ps w s ≡ countIn N secrets ps w s
+  same-one secrets w s = one-bare (G .holds) (codesOf ps) w (part secrets (codesOf ps) (paint ps s))
 
   fits : length (codesOf ps) + 2 ≤ N .wires
   fits = let e = G .holds .wires in let l = ap length plain in omega arith
@@ -119,8 +119,8 @@ module _ {t : Tables} {m W o : ℕ} {S : Sets} {N : Netlist} {codes ws : List �
   not-lower : p .wire < wire → ⊥
   not-lower l =
       let d = F .differs (omega arith) in
-      d .other (same-one false (p .wire) (p .at) ∙ level-painted N ps (p .wire) (uncode (p .wire) (L .level (p .wire) l)) (p .at)
-      ∙ sym (same-one true (p .wire) (p .at)))
+      d .other (same-one false (p .wire) (p .setting) ∙ level-painted N ps (p .wire) (uncode (p .wire) (L .level (p .wire) l)) (p .setting)
+      ∙ sym (same-one true (p .wire) (p .setting)))
 
   not-higher : wire < p .wire → ⊥
   not-higher l =
@@ -137,18 +137,18 @@ module _ {t : Tables} {m W o : ℕ} {S : Sets} {N : Netlist} {codes ws : List �
       (λ b. let x = ltb-false (p .wire) wire a in let y = ltb-false wire (p .wire) b in omega arith))
 
   pub leak-told : listed (length codes) (leak N codes)
-      ≡ some (record { wire = wire; ones = picked (reachSet N (length ps) wire) (p .at); base = p .base; own = p .own })
+      ≡ some (record { wire = wire; ones = picked (reachSet N (length ps) wire) (p .setting); base = p .base; own = p .count })
   leak-told =
       let e = ends in
       let d = F .differs (omega arith) in
       let at : (w : ℕ) → w ≡ wire → (s : ℕ) → countIn (bare t m W) false ps w s ≡ countIn (bare t m W) true ps w s → countIn N false ps wire s ≡ countIn N true ps wire s
       = λ w q s h. subst (λ (v : ℕ). countIn N false ps v s ≡ countIn N true ps v s) q (sym (same-one false w s) ∙ h ∙ same-one true w s) in
-      subst (λ (es : List ℕ). listed (length es) (leak N es) ≡ some (record { wire = wire; ones = picked (reachSet N (length ps) wire) (p .at); base = p .base; own = p .own })) plain
-      (lowest-listed N ps wire fits ranked (p .at) (p .base) (p .own) (let q = G .holds .wires in omega arith) (λ v l. uncode v (L .level v l))
+      subst (λ (es : List ℕ). listed (length es) (leak N es) ≡ some (record { wire = wire; ones = picked (reachSet N (length ps) wire) (p .setting); base = p .base; own = p .count })) plain
+      (lowest-listed N ps wire fits ranked (p .setting) (p .base) (p .count) (let q = G .holds .wires in omega arith) (λ v l. uncode v (L .level v l))
       (λ u l. at (p .wire) e u (d .smaller u l))
-      (λ h. d .other (same-one false (p .wire) (p .at) ∙ subst (λ (v : ℕ). countIn N false ps v (p .at) ≡ countIn N true ps v (p .at)) (sym e) h ∙ sym (same-one true (p .wire) (p .at))))
-      (d .base ∙ same-one false (p .wire) (p .at) ∙ ap (λ (v : ℕ). countIn N false ps v (p .at)) e)
-      (d .own ∙ same-one true (p .wire) (p .at) ∙ ap (λ (v : ℕ). countIn N true ps v (p .at)) e))
+      (λ h. d .other (same-one false (p .wire) (p .setting) ∙ subst (λ (v : ℕ). countIn N false ps v (p .setting) ≡ countIn N true ps v (p .setting)) (sym e) h ∙ sym (same-one true (p .wire) (p .setting))))
+      (d .base ∙ same-one false (p .wire) (p .setting) ∙ ap (λ (v : ℕ). countIn N false ps v (p .setting)) e)
+      (d .count ∙ same-one true (p .wire) (p .setting) ∙ ap (λ (v : ℕ). countIn N true ps v (p .setting)) e))
 
 -- ---- the ones of a setting
 

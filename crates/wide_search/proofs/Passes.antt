@@ -88,7 +88,7 @@ module _ (t : Tables) (m W : ℕ) (S : Sets) (codes ws : List ℕ) (below : (i :
     cs = codesOf ps
 
     abbrev wire′ : ℕ
-    wire′ = found .spot .wire
+    wire′ = found .difference .wire
 
     abbrev pair′ : ℕ
     pair′ = found .pair
@@ -97,14 +97,14 @@ module _ (t : Tables) (m W : ℕ) (S : Sets) (codes ws : List ℕ) (below : (i :
     long = sym (length-codesOf ps) ∙ ap length plain
 
     pub lower-wire : wire′ ≤ wire
-    lower-wire = F .spotted .within
+    lower-wire = F .lowest .within
 
     pub lower-pair : pair′ ≤ pair
     lower-pair = let e = length-take-le (2 * pair) ws even in omega (arith, F .uneven .within)
 
     module _ {o : ℕ} {N : Netlist} (G : Given t m W (length codes) S o N) where
-      same-one : (whole : Bool) (w s : ℕ) → countIn (bare t m W) whole ps w s ≡ countIn N whole ps w s
-      same-one whole w s = one-bare (G .holds) cs w (part whole cs (paint ps s))
+      same-one : (secrets : Bool) (w s : ℕ) → countIn (bare t m W) secrets ps w s ≡ countIn N secrets ps w s
+      same-one secrets w s = one-bare (G .holds) cs w (part secrets cs (paint ps s))
 
       fits : length cs + 2 ≤ N .wires
       fits = let e = G .holds .wires in let l = ap length plain in omega arith
@@ -132,8 +132,8 @@ module _ (t : Tables) (m W : ℕ) (S : Sets) (codes ws : List ℕ) (below : (i :
 
       pub wire-leaks : wire′ < wire → Level N codes wire′ → ⊥
       wire-leaks l h =
-          let d = F .spotted .differs l in
-          d .other (same-one false wire′ (found .spot .at) ∙ level-painted N ps wire′ (uncode wire′ h) (found .spot .at) ∙ sym (same-one true wire′ (found .spot .at)))
+          let d = F .lowest .differs l in
+          d .other (same-one false wire′ (found .difference .setting) ∙ level-painted N ps wire′ (uncode wire′ h) (found .difference .setting) ∙ sym (same-one true wire′ (found .difference .setting)))
 
       entry : (j : ℕ) → j < 2 * pair → getD (take (2 * pair) ws) j 0 ≡ getD ws j 0
       entry j l = getD-take (2 * pair) ws j 0 l
@@ -153,7 +153,7 @@ module _ (t : Tables) (m W : ℕ) (S : Sets) (codes ws : List ℕ) (below : (i :
       item-judged y k D = record {
         level = λ a b. recode y (painted-level N ps fits K (λ i _. upto i) y
             (subst (λ (is : List ℕ). Different is ps) (wire-set G ws below y a ∙ ap (λ (j : ℕ). reachSet N j y) (sym long)) D)
-            (λ s l. sym (same-one false y s) ∙ F .spotted .lower y b s (omega arith) ∙ same-one true y s));
+            (λ s l. sym (same-one false y s) ∙ F .lowest .lower y b s (omega arith) ∙ same-one true y s));
         clean = λ a b.
             let j = y - W in
             let u = getD ws (2 * j) 0 in
@@ -173,7 +173,7 @@ module _ (t : Tables) (m W : ℕ) (S : Sets) (codes ws : List ℕ) (below : (i :
       passed start x n {ms} {ms′} {ps₀} {ps₁} l k e A U J =
           let p = lower-wire in
           let q = lower-pair in
-          let own : Different (itemSet S ws W (start + x)) ps
+          let apart : Different (itemSet S ws W (start + x)) ps
           = different-kept (U .kept) (seeded-different A (subst (Inputs (itemSet S ws W (start + x))) (sym e) (item-inputs G ws below (start + x) (omega arith)))) in
           record {
             wires = let z = J .wires in omega arith;
@@ -186,7 +186,7 @@ module _ (t : Tables) (m W : ℕ) (S : Sets) (codes ws : List ℕ) (below : (i :
             marked = λ y b c. ⊎-elim (λ d. judged-worse p q (J .marked y b d)) (λ d. item-judged (start + y) (omega arith) d) (U .each y c);
             done = λ y b c. onBool (ltb x y) (λ d. let z = ltb-true x y d in judged-worse p q (J .done y (omega arith) c))
                 (λ d. let z = ltb-false x y d in let v : x ≡ y = omega arith in
-                subst (λ (w : ℕ). Judged N codes ws W wire′ pair′ (start + w)) v (item-judged (start + x) (omega arith) own));
+                subst (λ (w : ℕ). Judged N codes ws W wire′ pair′ (start + w)) v (item-judged (start + x) (omega arith) apart));
           }
 
 -- an item that is marked is left out

@@ -41,8 +41,7 @@ fn serve(
         return;
     }
     let m = item::set(pairs, set0, set1, set2, set3, start + x);
-    wide_colours::give(m, paints);
-    if wide_colours::different(m, paints) {
+    if wide_colours::fit(m, paints) {
         item::mark(marks, x);
     }
 }
@@ -133,9 +132,9 @@ fn pass(
         bases,
         base,
     );
-    let spot = found.spot;
+    let difference = found.difference;
     Worst {
-        wire: spot.wire,
+        wire: difference.wire,
         pair: found.pair,
     }
 }

@@ -22,7 +22,7 @@ ghost use Rattle.wide_search.specs.Told.{toldOf};
 ghost use Rattle.wide_search.specs.declared.search.WideVerdict.the-variants.{Leak};
 ghost use mathlib.Core.List.{List};
 
-// Clean, or a leak: its wire, how many input bits are one in its setting, its base's count and its own.
+// Clean, or a leak: its wire, how many input bits are one in its setting, its base's count and the setting's.
 pub enum WideVerdict {
     Clean,
     Leak(usize, usize, u8, u8),
@@ -35,11 +35,11 @@ pub struct WideVerdicts {
     pub pairs: PairsVerdict,
 }
 
-// The ones of a leak's setting, its base's count and its own.
+// The ones of a leak's setting, its base's count and the setting's.
 pub struct Told {
     pub ones: Members,
     pub base: u8,
-    pub own: u8,
+    pub count: u8,
 }
 
 // Of the members of a set, those whose bit of a number is one. Each is written, and the next written over it where its bit is zero.
@@ -167,7 +167,7 @@ fn tell(
         (length (now (words .entry))) (length (now (codes .entry)))
         (sets (now (set0 .entry)) (now (set1 .entry)) (now (set2 .entry)) (now (set3 .entry))) o N
         → Lowest N (now (codes .entry)) ws (length (now (words .entry))) wire pair
-        → toldOf (Leak wire (r .ones .count) (r .base) (r .own)) (r .ones .items) ≡ listed (length (now (codes .entry))) (leakOf N (now (codes .entry)))) ⌝ }
+        → toldOf (Leak wire (r .ones .count) (r .base) (r .count)) (r .ones .items) ≡ listed (length (now (codes .entry))) (leakOf N (now (codes .entry)))) ⌝ }
 {
     wide_colours::lay(codes, paints);
     let m = members::get(set0, set1, set2, set3, wire);
@@ -186,11 +186,11 @@ fn tell(
         bases,
         base,
     );
-    let spot = found.spot;
+    let difference = found.difference;
     Told {
-        ones: pick(m, spot.at),
-        base: spot.base,
-        own: spot.own,
+        ones: pick(m, difference.setting),
+        base: difference.base,
+        count: difference.count,
     }
 }
 
@@ -267,7 +267,7 @@ pub fn search(
     let ones = told.ones;
     let items = ones.items;
     WideVerdicts {
-        wires: WideVerdict::Leak(wire, ones.count, told.base, told.own),
+        wires: WideVerdict::Leak(wire, ones.count, told.base, told.count),
         ones: items,
         pairs: bad,
     }

@@ -59,6 +59,17 @@ module _ (is : List ℕ) (long : length is ≡ 12) (k : ℕ) {a b c d : ℕ} (A 
       ap₂ take (A .count)
       (three-held _ _ A (three-held _ _ B (three-held _ _ C (three-held [] [] D refl))) ∙ twelve is long)
 
+-- no member, by the first entry
+pub none-listed : {a : ℕ} → a < above → (b c d : ℕ) → listIn a b c d ≡ []
+none-listed {a} l b c d =
+    let e : countIn a ≡ 0 = omega arith in
+    ap (λ (k : ℕ). take k (threeOf a (threeOf b (threeOf c (threeOf d []))))) e
+
+-- the same entries
+pub same-listed : (S : Sets) (u v : ℕ) → getD (S .set0) u 0 ≡ getD (S .set0) v 0 → getD (S .set1) u 0 ≡ getD (S .set1) v 0
+    → getD (S .set2) u 0 ≡ getD (S .set2) v 0 → getD (S .set3) u 0 ≡ getD (S .set3) v 0 → setAt S u ≡ setAt S v
+same-listed S u v a b c d = λ i. listIn (a i) (b i) (c i) (d i)
+
 -- ---- stores
 
 -- an entry of each table was stored at wire c

@@ -20,7 +20,7 @@ use Rattle.gate_table.specs.declared.Parts.{Parts}
 use Rattle.gate_table.specs.Parts.{partsOf, gateBy, Within}
 use Rattle.wide.specs.Sets.{merge, gateSet, reachSet}
 use Rattle.wide.proofs.Merges.{reach-line, reach-own}
-use Rattle.wide_sets.specs.Packed.{Sets, setAt, ownSet, Sized, Put}
+use Rattle.wide_sets.specs.Packed.{Sets, setAt, startSet, Sized, Put}
 use Rattle.wide_sets.specs.Reached.{Lined, Reached}
 
 -- ---- what a kind makes of sets
@@ -89,8 +89,8 @@ pub record Reaching (t : Tables) (m W n : ℕ) (S : Sets) (i : ℕ) : Type 0 whe
   pub sized : Sized S W
   pub known : Known t m W n S i
 
-pub reaching-none : {t : Tables} {m W n : ℕ} {S : Sets} → Sized S W → ((w : ℕ) → setAt S w ≡ ownSet n W w) → Reaching t m W n S 0
-reaching-none {t} {m} {W} {n} {S} z own = record {
+pub reaching-none : {t : Tables} {m W n : ℕ} {S : Sets} → Sized S W → ((w : ℕ) → setAt S w ≡ startSet n W w) → Reaching t m W n S 0
+reaching-none {t} {m} {W} {n} {S} z start = record {
   passed = omega arith;
   sized = z;
   known = λ o N H F w g.
@@ -99,7 +99,7 @@ reaching-none {t} {m} {W} {n} {S} z own = record {
       let e = H .ins in
       let v = H .wires in
       let b : w < W = omega arith in
-      own w ∙ ap (λ (t : Bool). cond (ltb w n && t) (w ∷ []) []) (lt-ltb w W b) ∙ and-true (ltb w n) w
+      start w ∙ ap (λ (t : Bool). cond (ltb w n && t) (w ∷ []) []) (lt-ltb w W b) ∙ and-true (ltb w n) w
       ∙ sym (reach-own F n w (omega arith) (omega arith));
 }
   where

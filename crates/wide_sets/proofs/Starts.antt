@@ -10,26 +10,26 @@ use lib.Seq.{getD-set-same, getD-set-other}
 use borrow.Author.Count.{below-more}
 use borrow.Author.Tests.{ltb-true, ltb-false}
 use Rattle.netlist.proofs.Tests.{onBool}
-use Rattle.wide_sets.specs.Packed.{above, countIn, listIn, sets, setAt, ownSet, ownEntry}
+use Rattle.wide_sets.specs.Packed.{above, countIn, listIn, sets, setAt, startSet, startEntry}
 
 pub record Started (n : ℕ) (set₀ set₁ : List ℕ) (w : ℕ) : Type 0 where
   pub passed : w ≤ length set₀
   pub long : length set₁ ≡ length set₀
-  pub done : (v : ℕ) → v < w → getD set₁ v 0 ≡ ownEntry n v
+  pub done : (v : ℕ) → v < w → getD set₁ v 0 ≡ startEntry n v
 
 pub started-none : (n : ℕ) (s : List ℕ) → Started n s s 0
 started-none n s = record { passed = omega arith; long = refl; done = λ v l. absurd (omega arith) }
 
-pub started-more : {n : ℕ} {s t : List ℕ} {w : ℕ} (x : ℕ) → Started n s t w → w < length s → x ≡ ownEntry n w → Started n s (set t w x) (w + 1)
+pub started-more : {n : ℕ} {s t : List ℕ} {w : ℕ} (x : ℕ) → Started n s t w → w < length s → x ≡ startEntry n w → Started n s (set t w x) (w + 1)
 started-more {n} {s} {t} {w} x h l e = record {
   passed = omega arith;
   long = length-set t w x ∙ h .long;
-  done = below-more (λ v. getD (set t w x) v 0 ≡ ownEntry n v) w (λ v m. getD-set-other t w v x 0 (λ q. omega arith) ∙ h .done v m)
+  done = below-more (λ v. getD (set t w x) v 0 ≡ startEntry n v) w (λ v m. getD-set-other t w v x 0 (λ q. omega arith) ∙ h .done v m)
       (getD-set-same t w x 0 (omega (arith, h .long)) ∙ e);
 }
 
 module _ {n : ℕ} {s t : List ℕ} {w : ℕ} (h : Started n s t w) (all : length s ≤ w) (few : n ≤ 1048576) where
-  entry : (v : ℕ) → v < length s → getD t v 0 ≡ ownEntry n v
+  entry : (v : ℕ) → v < length s → getD t v 0 ≡ startEntry n v
   entry v l = h .done v (omega arith)
 
   past : (v : ℕ) → length s ≤ v → getD t v 0 ≡ 0
@@ -42,7 +42,7 @@ module _ {n : ℕ} {s t : List ℕ} {w : ℕ} (h : Started n s t w) (all : lengt
       (λ c. let k = ltb-true v n c in rw c (omega arith)) (λ c. rw c (omega arith))))
       (λ b. rw (past v (ltb-false v (length s) b)) (omega arith))
 
-  pub started-all : (b c d : List ℕ) (v : ℕ) → setAt (sets t b c d) v ≡ ownSet n (length s) v
+  pub started-all : (b c d : List ℕ) (v : ℕ) → setAt (sets t b c d) v ≡ startSet n (length s) v
   started-all b c d v =
       onBool (ltb v (length s))
       (λ p. let l = ltb-true v (length s) p in

@@ -54,11 +54,11 @@ pub record Sized (S : Sets) (W : ℕ) : Type 0 where
   pub few : (w : ℕ) → sizeAt S w ≤ 12
 
 -- of n inputs and W wires, those that reach wire w before the first gate line
-abbrev pub ownSet : ℕ → ℕ → ℕ → List ℕ
-ownSet n W w = cond (ltb w n && ltb w W) (w ∷ []) []
+abbrev pub startSet : ℕ → ℕ → ℕ → List ℕ
+startSet n W w = cond (ltb w n && ltb w W) (w ∷ []) []
 
-abbrev pub ownEntry : ℕ → ℕ → ℕ
-ownEntry n w = cond (ltb w n) (w + above) 0
+abbrev pub startEntry : ℕ → ℕ → ℕ
+startEntry n w = cond (ltb w n) (w + above) 0
 
 -- members fit in twenty bits
 abbrev pub Small : List ℕ → Type 0

@@ -5,8 +5,15 @@ use mathlib.Core.List.{List}
 use mathlib.Core.Path.{_≡_}
 use lib.ListN.{length}
 use Rattle.netlist.specs.Netlist.{Netlist}
-use Rattle.wide.specs.Sets.{reachSet}
+use Rattle.wide.specs.Sets.{merge, reachSet}
+use Rattle.wide_sets.specs.declared.reach.One.{One}
+use Rattle.wide_sets.specs.declared.reach.One.the-variants.{Wire, Neither}
 use Rattle.wide_sets.specs.Packed.{Sets, setAt, Sized, Put}
+
+-- the set of a wire below W is that of two wires together
+abbrev pub OneOf : Sets → ℕ → ℕ → ℕ → One → Type 0
+OneOf S W a b (Wire w) = (w < W) × (merge (setAt S a) (setAt S b) ≡ setAt S w)
+OneOf S W a b Neither = Unit
 
 -- a list of at most twelve became the set of wire c, or it is longer
 pub record Lined (S S′ : Sets) (c : ℕ) (is : List ℕ) (r : Bool) : Type 0 where

@@ -1,10 +1,11 @@
 // A set of inputs: in an array of twelve, and in one entry of each of four tables. An entry holds three members of twenty bits; the
 // first entry holds above its three how many there are.
 ghost use mathlib.Core.Path.{_≡_};
+ghost use mathlib.Core.Bool.{true};
 ghost use Prim.Native.Nat.{ℕ, _≤_, _<_};
 ghost use lib.ListN.{length, getD, take};
 ghost use mathlib.Core.List.{List, []};
-ghost use Rattle.wide_sets.specs.Packed.{listIn, countIn, sets, setAt, sizeAt, ownEntry, ownSet, Items, Holding, Put};
+ghost use Rattle.wide_sets.specs.Packed.{listIn, countIn, sets, setAt, sizeAt, startEntry, startSet, Items, Holding, Put};
 
 // The first `count` items, rising.
 pub struct Members {
@@ -124,6 +125,33 @@ pub fn copy(
     set3[to] = set3[from];
 }
 
+// Whether the entries of wire w say that no input reaches it.
+pub fn empty(set0: &[u64], w: usize) -> bool
+    requires { ⌜ w < length (now set0) ⌝ }
+    ensures { λ r. ⌜ (r ≡ true → (b c d : List ℕ) → setAt (sets (now (set0 .entry)) b c d) w ≡ []) ⌝ }
+{
+    set0[w] < COUNT
+}
+
+// Whether the entries of two wires are the same.
+pub fn same(set0: &[u64], set1: &[u64], set2: &[u64], set3: &[u64], a: usize, b: usize) -> bool
+    requires { ⌜ (a < length (now set0)) × (a < length (now set1)) × (a < length (now set2)) × (a < length (now set3))
+        × (b < length (now set0)) × (b < length (now set1)) × (b < length (now set2)) × (b < length (now set3)) ⌝ }
+    ensures { λ r. ⌜ (let S = sets (now (set0 .entry)) (now (set1 .entry)) (now (set2 .entry)) (now (set3 .entry)) in
+        r ≡ true → setAt S a ≡ setAt S b) ⌝ }
+{
+    if set0[a] != set0[b] {
+        return false;
+    }
+    if set1[a] != set1[b] {
+        return false;
+    }
+    if set2[a] != set2[b] {
+        return false;
+    }
+    set3[a] == set3[b]
+}
+
 // Wire w is reached by no input: the first entry alone tells.
 pub fn none(set0: &mut [u64], w: usize)
     requires { ⌜ w < length (now set0) ⌝ }
@@ -133,9 +161,9 @@ pub fn none(set0: &mut [u64], w: usize)
 }
 
 // The first entry of wire w before the first gate line: one of the first n wires is reached by itself, the others by none.
-fn own(w: usize, n: usize) -> u64
+fn start_entry(w: usize, n: usize) -> u64
     requires { ⌜ n ≤ 1048576 ⌝ }
-    ensures { λ r. ⌜ r ≡ ownEntry n w ⌝ }
+    ensures { λ r. ⌜ r ≡ startEntry n w ⌝ }
 {
     if w < n { w as u64 + COUNT } else { 0 }
 }
@@ -143,12 +171,12 @@ fn own(w: usize, n: usize) -> u64
 // The sets before the first gate line: each of the first n wires is reached by itself, and the others by none.
 pub fn start(set0: &mut [u64], n: usize)
     requires { ⌜ n ≤ 1048576 ⌝ }
-    ensures { λ _. ⌜ ((b c d : List ℕ) (w : ℕ) → setAt (sets (now (set0 .exit)) b c d) w ≡ ownSet n (length (now (set0 .entry))) w)
+    ensures { λ _. ⌜ ((b c d : List ℕ) (w : ℕ) → setAt (sets (now (set0 .exit)) b c d) w ≡ startSet n (length (now (set0 .entry))) w)
         × ((w : ℕ) → countIn (getD (now (set0 .exit)) w 0) ≤ 12) ⌝ }
 {
     let mut w = 0;
     while w < set0.len() {
-        set0[w] = own(w, n);
+        set0[w] = start_entry(w, n);
         w += 1;
     }
 }

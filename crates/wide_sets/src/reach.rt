@@ -12,10 +12,34 @@ ghost use Rattle.netlist.specs.Table.{tables, Wired, Holds};
 ghost use Rattle.gate_table.specs.Parts.{gateBy, Within};
 ghost use Rattle.wide.specs.Sets.{merge, gateSet};
 ghost use Rattle.wide_sets.specs.Packed.{sets, setAt, Sized};
-ghost use Rattle.wide_sets.specs.Reached.{Lined, Reached};
+ghost use Rattle.wide_sets.specs.Reached.{OneOf, Lined, Reached};
+
+// A wire whose set is that of two wires together: the other has none, or both have the same.
+pub enum One {
+    Wire(usize),
+    Neither,
+}
+
+fn one_of(set0: &[u64], set1: &[u64], set2: &[u64], set3: &[u64], a: usize, b: usize) -> One
+    requires { ⌜ Sized (sets (now set0) (now set1) (now set2) (now set3)) (length (now set0))
+        × (a < length (now set0)) × (b < length (now set0)) ⌝ }
+    ensures { λ r. ⌜ OneOf (sets (now (set0 .entry)) (now (set1 .entry)) (now (set2 .entry)) (now (set3 .entry)))
+        (length (now (set0 .entry))) a b r ⌝ }
+{
+    if members::empty(set0, b) {
+        return One::Wire(a);
+    }
+    if members::same(set0, set1, set2, set3, a, b) {
+        return One::Wire(a);
+    }
+    if members::empty(set0, a) {
+        return One::Wire(b);
+    }
+    One::Neither
+}
 
 // Wire c is reached by what reaches wire a or wire b. Says whether those are at most twelve.
-fn join(
+fn unite_sets(
     set0: &mut [u64],
     set1: &mut [u64],
     set2: &mut [u64],
@@ -37,6 +61,30 @@ fn join(
     }
     members::put(set0, set1, set2, set3, c, u);
     true
+}
+
+// The same. A set that is that of both is copied.
+fn join(
+    set0: &mut [u64],
+    set1: &mut [u64],
+    set2: &mut [u64],
+    set3: &mut [u64],
+    a: usize,
+    b: usize,
+    c: usize,
+) -> bool
+    requires { ⌜ Sized (sets (now set0) (now set1) (now set2) (now set3)) (length (now set0))
+        × (a < length (now set0)) × (b < length (now set0)) × (c < length (now set0)) ⌝ }
+    ensures { λ r. ⌜ (let S = sets (now (set0 .entry)) (now (set1 .entry)) (now (set2 .entry)) (now (set3 .entry)) in
+        Lined S (sets (now (set0 .exit)) (now (set1 .exit)) (now (set2 .exit)) (now (set3 .exit))) c (merge (setAt S a) (setAt S b)) r) ⌝ }
+{
+    match one_of(set0, set1, set2, set3, a, b) {
+        One::Wire(w) => {
+            members::copy(set0, set1, set2, set3, w, c);
+            true
+        }
+        One::Neither => unite_sets(set0, set1, set2, set3, a, b, c),
+    }
 }
 
 // A gate's result is reached by what reaches its operands, and that of an EQ by none. Says whether those are at most twelve.

@@ -1,8 +1,7 @@
 -- `verdict`: the core on the fronts of the tables of words.
 use mathlib.Core.Path.{sym, _∙_}
 use lib.Seq.{length-take-le}
-use Rattle.check_leak.specs.declared.search.Verdict.the-variants.{Clean, Leak}
-use Rattle.check_netlist.proofs.Judging.{told}
+use Rattle.check_netlist.proofs.Judging.{told-leak, told-clean}
 use native.Mathlib.Omega.{arith}
 use borrow.Author.Needs.{needs}
 use Rattle.check_netlist.proofs.verdict.Statement.{statement}
@@ -28,12 +27,6 @@ leaks-requires c κs =
     let b = length-take-le (s .args .wires) (s .args .base .now) (p .1 .3) in
     (rw w (p .0), (p .1 .0, omega arith, b ∙ sym w, p .1 .4))
 
-enum-told : tie.Need-enum-told
-enum-told c = search needs
-
-enum-known-wire : tie.Need-enum-known-wire
-enum-known-wire c = search needs
-
 same-length : tie.Need-same-length
 same-length c = search needs
 
@@ -42,9 +35,9 @@ same-length-2 c = search needs
 
 returns : tie.Need-returns
 returns c n o N h =
-    let s = c .before .before .before .before .before .before .before .before .before .before .before .before .before .before in
-    let r = c .before .before .before .before .before .before .leaks in
-    told (s .args .codes .now) Clean (length-take-le (s .args .wires) (s .args .words .now) (s .pre .1 .2)) (c .enum-told .given .1) (r .ensures) h
+    let s = c .before .before .before .before .before .before .before .before .before .before .before .before .before in
+    let r = c .before .before .before .before .before .leaks in
+    told-leak (s .args .codes .now) (r .result) (length-take-le (s .args .wires) (s .args .words .now) (s .pre .1 .2)) (r .ensures) h (c .if1 .taken)
 
 same-length-3 : tie.Need-same-length-3
 same-length-3 c = search needs
@@ -54,10 +47,9 @@ same-length-4 c = search needs
 
 returns-2 : tie.Need-returns-2
 returns-2 c n o N h =
-    let s = c .before .before .before .before .before .before .before .before .before .before .before .before .before .before .before in
-    let r = c .before .before .before .before .before .before .before .leaks in
-    told (s .args .codes .now) (Leak _ _ _ _) (length-take-le (s .args .wires) (s .args .words .now) (s .pre .1 .2)) (c .before .wire .given .1) (r .ensures)
-    h
+    let s = c .before .before .before .before .before .before .before .before .before .before .before .before .before in
+    let r = c .before .before .before .before .before .leaks in
+    told-clean (s .args .codes .now) (r .result) (length-take-le (s .args .wires) (s .args .words .now) (s .pre .1 .2)) (r .ensures) h (c .if1 .left)
 
 pub verdict-spec : {M : Type 1} → statement M
 verdict-spec =
@@ -68,8 +60,6 @@ verdict-spec =
     slice-relend-prefix-leaks-2
     slice-aggregate-leaks-2
     leaks-requires
-    enum-told
-    enum-known-wire
     same-length
     same-length-2
     returns

@@ -7,7 +7,7 @@ use Rattle.certify_search.proofs.search.look.Tie as tie
 use Rattle.certify_search.proofs.search.look.Reads as reads
 use Rattle.certify_search.proofs.search.look.Lts as lts
 use Rattle.check_counts.proofs.block.first.Reads as first-reads
-use Rattle.check_leak.proofs.spot.scan.Reads as scan-reads
+use Rattle.check_leak.proofs.difference.scan.Reads as scan-reads
 
 first-requires : tie.Need-first-requires
 first-requires c κs = search needs

@@ -12,7 +12,7 @@ use Rattle.certify_search.proofs.search.search.Reads as reads
 use Rattle.certify_search.proofs.search.search.Lts as lts
 use Rattle.certify_search.proofs.search.look.Reads as look-reads
 use Rattle.certify_search.proofs.search.run.Reads as run-reads
-use Rattle.check_leak.proofs.spot.none.Reads as none-reads
+use Rattle.check_leak.proofs.difference.none.Reads as none-reads
 
 abbrev Inv-loop : tie.InvT-loop
 Inv-loop operands results count codes words₀ base₀ seed₀ round₀ words base seed round = (length words ≡ length words₀) × (length base ≡ length base₀)

@@ -28,7 +28,7 @@ returns : tie.Need-returns
 returns c = let a = c .before .before .args in
     λ j l. c .mask .ensures (a .block) j l
     ∙ sym (ap (λ (b : Bool). differs b (maskOf (lane 0 (a .block * 64 + j)) (lane 1 (a .block * 64 + j)) (codeOf (a .paint))))
-    (ap (λ (k : ℕ). kept (a .whole) (codeOf (a .paint)) (shade k ((a .block * 64 + j) / 4))) (c .before .if1 .taken) ∙ kept-none (a .whole) (codeOf (a .paint))))
+    (ap (λ (k : ℕ). kept (a .secrets) (codeOf (a .paint)) (shade k ((a .block * 64 + j) / 4))) (c .before .if1 .taken) ∙ kept-none (a .secrets) (codeOf (a .paint))))
 
 sub-chosen : tie.Need-sub-chosen
 sub-chosen c = search needs
@@ -43,7 +43,7 @@ returns-2 : tie.Need-returns-2
 returns-2 c = let a = c .before .before .before .args in
     λ j l. lane-xor j (c .before .chosen .result) (c .mask2 .result)
     ∙ ap₂ differs
-    (c .before .chosen .ensures j l ∙ ap (kept (a .whole) (codeOf (a .paint))) (sym (shade-some (colourOf (a .paint)) ((a .block * 64 + j) / 4) (c .before .before .if1 .left))))
+    (c .before .chosen .ensures j l ∙ ap (kept (a .secrets) (codeOf (a .paint))) (sym (shade-some (colourOf (a .paint)) ((a .block * 64 + j) / 4) (c .before .before .if1 .left))))
     (c .mask2 .ensures (a .block) j l)
 
 pub input-spec : {M : Type 1} → statement M

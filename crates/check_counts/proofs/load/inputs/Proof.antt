@@ -8,13 +8,13 @@ use Rattle.check_counts.proofs.load.inputs.Statement.{statement}
 use Rattle.check_counts.proofs.load.inputs.Tie as tie
 
 abbrev Inv-loop : tie.InvT-loop
-Inv-loop paints whole block words₀ n i₀ words i = Loaded paints whole block words₀ words i × (i ≤ length paints)
+Inv-loop paints secrets block words₀ n i₀ words i = Loaded paints secrets block words₀ words i × (i ≤ length paints)
 
 abbrev μ-loop : tie.MeasureT-loop
-μ-loop paints whole block words₀ n i₀ words i = length paints - i
+μ-loop paints secrets block words₀ n i₀ words i = length paints - i
 
 loop-holds : tie.Need-loop-holds Inv-loop μ-loop
-loop-holds c = let s = c .before .before .args in (loaded-none (s .paints .now) (s .whole) (s .block) (s .words .now), omega arith)
+loop-holds c = let s = c .before .before .args in (loaded-none (s .paints .now) (s .secrets) (s .block) (s .words .now), omega arith)
 
 shared-slice-read-input : tie.Need-shared-slice-read-input Inv-loop μ-loop
 shared-slice-read-input c = omega arith
@@ -38,7 +38,7 @@ loop-again : tie.Need-loop-again Inv-loop μ-loop
 loop-again c =
     let s = c .before .before .before .before .before .before in
     let at = c .before .before .before .loop in (
-      loaded-input (s .args .paints .now) (s .args .whole) (s .args .block) (s .args .words .now) (at .words) (s .pre) (at .i) (c .input .result)
+      loaded-input (s .args .paints .now) (s .args .secrets) (s .args .block) (s .args .words .now) (at .words) (s .pre) (at .i) (c .input .result)
           (at .inv .0) (c .before .before .loop-test .taken) (c .input .ensures),
       omega arith,
     )
@@ -71,7 +71,7 @@ returns : tie.Need-returns Inv-loop μ-loop
 returns c j l =
     let s = c .before .before .before .before .before .before in
     let at = c .before .before .before .loop in
-    loaded-all (s .args .paints .now) (s .args .whole) (s .args .block) (s .args .words .now) (at .words) (at .i) (c .before .mask .result)
+    loaded-all (s .args .paints .now) (s .args .secrets) (s .args .block) (s .args .words .now) (at .words) (at .i) (c .before .mask .result)
     (c .mask2 .result) (s .pre) (at .inv .0) (omega arith)
     (c .before .mask .ensures (s .args .block)) (c .mask2 .ensures (s .args .block)) j l
 

@@ -8,7 +8,7 @@ use Rattle.netlist.specs.Table.{tables}
 use Rattle.netlist.proofs.Puts.{wired-same}
 use Rattle.evaluate.specs.Bare.{bare}
 use Rattle.check_counts.specs.Block.{Ready}
-use Rattle.check_leak.proofs.Spots.{Finding, find-none, find-more, find-all}
+use Rattle.check_leak.proofs.Differences.{Finding, find-none, find-more, find-all}
 use Rattle.check_leak.proofs.search.find.Statement.{statement}
 use Rattle.check_leak.proofs.search.find.Tie as tie
 
@@ -41,7 +41,7 @@ search-block-requires c κs =
       (
         omega (arith, s .pre .1 .0, w),
         at .inv .long-base ∙ sym w,
-        omega (arith, at .inv .spotted .within, w),
+        omega (arith, at .inv .lowest .within, w),
         subst
             (λ (W : ℕ). Ready (c .before .before .before .before .before .public .result) (bare t (s .args .count) W) (s .args .paints .now) (at .base)
             (at .block))

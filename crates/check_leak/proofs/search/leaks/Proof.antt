@@ -8,7 +8,7 @@ use Rattle.netlist.specs.Table.{tables}
 use Rattle.evaluate.specs.Bare.{bare}
 use Rattle.check_counts.specs.Base.{countIn}
 use Rattle.check_counts.proofs.Paints.{length-each}
-use Rattle.check_leak.specs.Spot.{Spotted}
+use Rattle.check_leak.specs.Difference.{LowestDifference}
 use Rattle.check_leak.specs.Search.{foundAt}
 use Rattle.check_leak.proofs.Answers.{tells-found}
 use native.Mathlib.Omega.{arith}
@@ -20,7 +20,6 @@ use Rattle.check_leak.proofs.search.leaks.Lts as lts
 use Rattle.check_counts.proofs.paint.each.Reads as each-reads
 use Rattle.check_leak.proofs.search.blocks_of.Reads as blocks-of-reads
 use Rattle.check_leak.proofs.search.find.Reads as find-reads
-use Rattle.check_leak.proofs.search.verdict_of.Reads as verdict-of-reads
 
 each-requires : tie.Need-each-requires
 each-requires c κs = search needs
@@ -39,9 +38,6 @@ find-requires c κs = let s = c .before .before .before .before .before .before 
     let e = ap length (c .before .before .before .before .each .ensures) ∙ length-each 0 (s .args .codes .now) in
     (s .pre .0, (omega (arith, s .pre .1 .1, e), s .pre .1 .2, c .before .before .blocks-of .ensures .1))
 
-verdict-of-requires : tie.Need-verdict-of-requires
-verdict-of-requires c κs = search needs
-
 same-length : tie.Need-same-length
 same-length c = search needs
 
@@ -49,15 +45,14 @@ same-length-2 : tie.Need-same-length-2
 same-length-2 c = search needs
 
 returns : tie.Need-returns
-returns c = λ n o N h. let s = c .before .before .before .before .before .before .before .before .before .before .before .before .before .before .before .before in
+returns c = λ n o N h. let s = c .before .before .before .before .before .before .before .before .before .before .before .before .before .before .before in
     let a = s .args in
-    let find = c .before .before .before .before .before .find in
-    let blocks = c .before .before .before .before .before .before .before .before .blocks-of in
+    let find = c .before .before .before .before .find in
+    let blocks = c .before .before .before .before .before .before .before .blocks-of in
     let N′ = bare (tables (a .operands .now) (a .results .now)) (a .count) (length (a .words .now)) in
-    c .verdict-of .ensures ∙ ap (foundAt (find .result)) (find .kept .1 .1 .1 .1 .1 .0)
-    ∙ tells-found h (a .codes .now) (blocks .result * 16) (find .result) (blocks .ensures .0) (s .pre .1 .3)
-    (subst (λ (ps : List ℕ). Spotted (countIn N′ false ps) (countIn N′ true ps) (length (a .words .now)) (blocks .result * 16) (find .result))
-    (c .before .before .before .before .before .before .before .before .before .before .each .ensures) (find .ensures))
+    tells-found h (a .codes .now) (blocks .result * 16) (find .result) (blocks .ensures .0) (s .pre .1 .3)
+    (subst (λ (ps : List ℕ). LowestDifference (countIn N′ false ps) (countIn N′ true ps) (length (a .words .now)) (blocks .result * 16) (find .result))
+    (c .before .before .before .before .before .before .before .before .before .each .ensures) (find .ensures))
 
 pub leaks-spec : {M : Type 1} → statement M
 leaks-spec =
@@ -68,7 +63,6 @@ leaks-spec =
     slice-aggregate-find
     blocks-of-requires
     find-requires
-    verdict-of-requires
     same-length
     same-length-2
     returns)

@@ -9,7 +9,7 @@ use Rattle.netlist.proofs.Puts.{wired-same}
 use Rattle.evaluate.specs.Bare.{bare}
 use Rattle.check_counts.specs.Block.{onesOf, nibblesOf, Counted, Ready}
 use Rattle.check_counts.proofs.BlockRuns.{run-block-law}
-use Rattle.check_leak.proofs.Spots.{search-block-law}
+use Rattle.check_leak.proofs.Differences.{search-block-law}
 use Rattle.check_leak.proofs.search.search_block.Statement.{statement}
 use Rattle.check_leak.proofs.search.search_block.Tie as tie
 

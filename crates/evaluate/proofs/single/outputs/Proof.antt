@@ -20,20 +20,20 @@ wires-requires c κs =
 sub-from : tie.Need-sub-from
 sub-from c = search needs
 
-mul-lows : tie.Need-mul-lows
-mul-lows c = search needs
+mul-low-bits : tie.Need-mul-low-bits
+mul-low-bits c = search needs
 
-sub-lows : tie.Need-sub-lows
-sub-lows c = search needs
+sub-low-bits : tie.Need-sub-low-bits
+sub-low-bits c = search needs
 
-part-lows-start : tie.Need-part-lows-start
-part-lows-start c = search needs
+part-low-bits-start : tie.Need-part-low-bits-start
+part-low-bits-start c = search needs
 
-part-lows-end : tie.Need-part-lows-end
-part-lows-end c = search needs
+part-low-bits-end : tie.Need-part-low-bits-end
+part-low-bits-end c = search needs
 
-lows-requires : tie.Need-lows-requires
-lows-requires c κs = search needs
+low-bits-requires : tie.Need-low-bits-requires
+low-bits-requires c κs = search needs
 
 same-length : tie.Need-same-length
 same-length c = search needs
@@ -48,9 +48,9 @@ returns c N h =
     let laid = c .before .before .before .before .before .before .before .before .before .before .before .before .bits in
     let wires = c .before .before .before .before .before .before .before .before .wires in
     single-law (s .args .words .now) (s .args .bits .now) (laid .last .1 .0) (wires .last .1 .1 .1 .1 .0) (s .args .out .now)
-    (c .before .before .lows .last .1 .0)
+    (c .before .before .low-bits .last .1 .0)
     h (laid .ensures) (s .pre .1 .0) (wires .kept .1 .1 .1 .1 .0 ∙ laid .kept .1 .0) (s .pre .1 .1) (wires .ensures 0 (lit< tt))
-    (c .before .before .lows .ensures)
+    (c .before .before .low-bits .ensures)
 
 pub outputs-spec : {M : Type 1} → statement M
 outputs-spec =
@@ -59,11 +59,11 @@ outputs-spec =
     bits-requires
     wires-requires
     sub-from
-    mul-lows
-    sub-lows
-    part-lows-start
-    part-lows-end
-    lows-requires
+    mul-low-bits
+    sub-low-bits
+    part-low-bits-start
+    part-low-bits-end
+    low-bits-requires
     same-length
     same-length-2
     returns)

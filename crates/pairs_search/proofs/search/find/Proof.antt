@@ -53,7 +53,7 @@ look-requires c κs = let s = c .before .before .before .before .before .before 
     let run = c .before .before .before .before .before .before .before .before .before .run in
     let w = run .kept .1 .1 .1 .1 .1 .1 .0 ∙ at .inv .long-words in (
       omega (arith, s .pre .1 .3, c .before .before .before .before .before .before .before .before .before .before .before .before .before .loop-test .taken),
-      omega (arith, at .inv .found .spotted .within, s .pre .1 .4, w),
+      omega (arith, at .inv .found .lowest .within, s .pre .1 .4, w),
       omega (arith, at .inv .found .uneven .within),
       run .kept .1 .1 .1 .1 .1 .1 .1 .0 ∙ at .inv .long-bases ∙ sym w,
       run .kept .1 .1 .1 .1 .1 .1 .1 .1 .0 ∙ at .inv .long-base ∙ sym w,

@@ -1,4 +1,4 @@
--- `look`: a block's spot and its first uneven pair.
+-- `look`: a block's lowest difference and its first uneven pair.
 use mathlib.Core.Path.{_≡_, subst}
 use Prim.Native.Nat.{ℕ}
 use lib.ListN.{length}
@@ -16,13 +16,13 @@ scan-requires c κs = search needs
 scan-requires-2 : tie.Need-scan-requires-2
 scan-requires-2 c κs = let s = c .before .before .before .before .before .before in
     let a = s .args in
-    let spot = c .before .scan in (
+    let found = c .before .scan in (
       s .pre .2,
       s .pre .3,
       s .pre .4,
       s .pre .5,
-      λ e. subst (λ (W : ℕ). Agree (nibblesOf (a .base .now)) (onesOf (a .words .now)) W 16) (eqb-true (spot .result .wire) (length (a .words .now)) e)
-          (spot .ensures .lower),
+      λ e. subst (λ (W : ℕ). Agree (nibblesOf (a .base .now)) (onesOf (a .words .now)) W 16) (eqb-true (found .result .wire) (length (a .words .now)) e)
+          (found .ensures .lower),
     )
 
 better-requires : tie.Need-better-requires

@@ -20,7 +20,7 @@ use Rattle.pairs_search.proofs.search.search.Reads as reads
 use Rattle.pairs_search.proofs.search.search.Lts as lts
 use Rattle.check_counts.proofs.paint.each.Reads as each-reads
 use Rattle.check_leak.proofs.search.blocks_of.Reads as blocks-of-reads
-use Rattle.check_leak.proofs.search.verdict_of.Reads as verdict-of-reads
+use Rattle.pairs_search.proofs.search.wires_verdict_of.Reads as wires-verdict-of-reads
 use Rattle.pairs_search.proofs.search.find.Reads as find-reads
 use Rattle.pairs_search.proofs.search.pairs_verdict_of.Reads as pairs-verdict-of-reads
 
@@ -41,8 +41,8 @@ find-requires c κs = let s = c .before .before .before .before .before .before 
     let e = ap length (c .before .before .before .before .before .each .ensures) ∙ length-each 0 (s .args .codes .now) in
     (s .pre .0, (omega (arith, s .pre .1 .1, e), s .pre .1 .2, s .pre .1 .3, c .before .before .before .blocks-of .ensures .1, omega arith, s .pre .1 .4))
 
-verdict-of-requires : tie.Need-verdict-of-requires
-verdict-of-requires c κs = search needs
+wires-verdict-of-requires : tie.Need-wires-verdict-of-requires
+wires-verdict-of-requires c κs = search needs
 
 pairs-verdict-of-requires : tie.Need-pairs-verdict-of-requires
 pairs-verdict-of-requires c κs = search needs
@@ -66,8 +66,8 @@ returns c = λ n o N h. let s = c .before .before .before .before .before .befor
     let S = blocks .result * 16 in
     let found = subst (λ (ps : List ℕ). Found (countsOf N′ false ps) (countsOf N′ true ps) (a .pairs .now) W (length (a .pairs .now) / 2) S (find .result))
     (c .before .before .before .before .before .before .before .before .before .before .before .before .before .before .each .ensures) (find .ensures) in (
-      c .before .verdict-of .ensures ∙ ap (foundAt (find .result .spot)) (find .kept .1 .1 .1 .1 .1 .1 .1 .0)
-          ∙ tells-found h (a .codes .now) S (find .result .spot) (blocks .ensures .0) (s .pre .1 .5) (found .spotted),
+      c .before .wires-verdict-of .ensures ∙ ap (foundAt (find .result .difference)) (find .kept .1 .1 .1 .1 .1 .1 .1 .0)
+          ∙ tells-found h (a .codes .now) S (find .result .difference) (blocks .ensures .0) (s .pre .1 .5) (found .lowest),
       c .pairs-verdict-of .ensures
           ∙ tells-pairs h (a .codes .now) (s .pre .1 .5) (a .pairs .now) S (find .result .pair) (blocks .ensures .0) (found .uneven),
     )
@@ -81,7 +81,7 @@ search-spec =
     slice-aggregate-find
     blocks-of-requires
     find-requires
-    verdict-of-requires
+    wires-verdict-of-requires
     pairs-verdict-of-requires
     same-length
     same-length-2

@@ -5,10 +5,10 @@ use Rattle.vectors_circuits.proofs.counts.differ.Statement.{statement}
 use Rattle.vectors_circuits.proofs.counts.differ.Tie as tie
 
 abbrev Inv-loop : tie.InvT-loop
-Inv-loop base own end i₀ i = Unit
+Inv-loop base counts end i₀ i = Unit
 
 abbrev μ-loop : tie.MeasureT-loop
-μ-loop base own end i₀ i = end - i
+μ-loop base counts end i₀ i = end - i
 
 pub differ-spec : {M : Type 1} → statement M
 differ-spec =

@@ -7,11 +7,11 @@ use Rattle.vectors_circuits.proofs.counts.search.Statement.{statement}
 use Rattle.vectors_circuits.proofs.counts.search.Tie as tie
 
 abbrev Inv-loop : tie.InvT-loop
-Inv-loop codes shape gates wires₀ base own₀ wire₀ smallest₀ setting₀ setting-end wires own wire smallest setting =
-    (length wires ≡ length wires₀) × (length own ≡ length own₀)
+Inv-loop codes shape gates wires₀ base counts₀ wire₀ smallest₀ setting₀ setting-end wires counts wire smallest setting =
+    (length wires ≡ length wires₀) × (length counts ≡ length counts₀)
 
 abbrev μ-loop : tie.MeasureT-loop
-μ-loop codes shape gates wires₀ base own₀ wire₀ smallest₀ setting₀ setting-end wires own wire smallest setting = setting-end - setting
+μ-loop codes shape gates wires₀ base counts₀ wire₀ smallest₀ setting₀ setting-end wires counts wire smallest setting = setting-end - setting
 
 pub search-spec : {M : Type 1} → statement M
 search-spec =

@@ -13,8 +13,7 @@ use Rattle.wide_search.proofs.pass.serve.Statement.{statement}
 use Rattle.wide_search.proofs.pass.serve.Tie as tie
 use Rattle.wide_search.proofs.pass.serve.Reads as reads
 use Rattle.wide_search.proofs.pass.serve.Lts as lts
-use Rattle.wide_colours.proofs.different.Reads as different-reads
-use Rattle.wide_colours.proofs.give.Reads as give-reads
+use Rattle.wide_colours.proofs.fit.Reads as fit-reads
 use Rattle.wide_search.proofs.item.mark.Reads as mark-reads
 use Rattle.wide_search.proofs.item.marked.Reads as marked-reads
 use Rattle.wide_search.proofs.item.set.Reads as set-reads
@@ -34,11 +33,8 @@ add-set c = search needs
 set-requires : tie.Need-set-requires
 set-requires c κs = search needs
 
-give-requires : tie.Need-give-requires
-give-requires c κs = search needs
-
-different-requires : tie.Need-different-requires
-different-requires c κs = search needs
+fit-requires : tie.Need-fit-requires
+fit-requires c κs = search needs
 
 mark-requires : tie.Need-mark-requires
 mark-requires c κs = search needs
@@ -50,12 +46,12 @@ same-length-3 : tie.Need-same-length-3
 same-length-3 c = search needs
 
 returns-2 : tie.Need-returns-2
-returns-2 c = let a = c .before .before .before .before .before .before .before .before .before .before .before .before .before .before .before .before .before .before .before .before .before .before .args in
+returns-2 c = let a = c .before .before .before .before .before .before .before .before .before .before .before .before .before .before .before .before .before .before .before .before .args in
     let S = sets (a .set0 .now) (a .set1 .now) (a .set2 .now) (a .set3 .now) in
-    let give = c .before .before .before .before .before .before .before .before .before .give in
-    let D = subst (λ (is : List ℕ). Different is (give .last .1 .0)) (c .before .before .before .before .before .before .before .before .before .before .before .set .ensures .0) (c .before .before .before .before .before .different .ensures (c .before .before .before .before .if2 .taken)) in
-    subst (λ (ms : List ℕ). Serving S (a .pairs .now) (length (a .set0 .now)) (a .start) (a .marks .now) ms (a .paints .now) (give .last .1 .0)) (sym (c .before .before .mark .ensures))
-    (serving-mark (a .marks .now) (a .x) (give .ensures) D)
+    let fit = c .before .before .before .before .before .before .before .fit in
+    let D = subst (λ (is : List ℕ). Different is (fit .last .1 .0)) (c .before .before .before .before .before .before .before .before .before .set .ensures .0) (fit .ensures .1 (c .before .before .before .before .if2 .taken)) in
+    subst (λ (ms : List ℕ). Serving S (a .pairs .now) (length (a .set0 .now)) (a .start) (a .marks .now) ms (a .paints .now) (fit .last .1 .0)) (sym (c .before .before .mark .ensures))
+    (serving-mark (a .marks .now) (a .x) (fit .ensures .0) D)
 
 same-length-4 : tie.Need-same-length-4
 same-length-4 c = search needs
@@ -64,7 +60,7 @@ same-length-5 : tie.Need-same-length-5
 same-length-5 c = search needs
 
 returns-3 : tie.Need-returns-3
-returns-3 c = serving-kept _ (c .before .before .before .before .before .give .ensures)
+returns-3 c = serving-kept _ (c .before .before .before .fit .ensures .0)
 
 pub serve-spec : {M : Type 1} → statement M
 serve-spec =
@@ -75,8 +71,7 @@ serve-spec =
     returns
     add-set
     set-requires
-    give-requires
-    different-requires
+    fit-requires
     mark-requires
     same-length-2
     same-length-3

@@ -85,7 +85,7 @@ returns c = let s = c .before .before .before .before .before .before .before .b
     let get = c .before .before .before .before .before .before .before .before .before .before .before .before .before .before .before .before .before .before .before .get in
     let m = get .result in
     let find = c .before .before .before .before .before .before .before .before .find in
-    let spot = find .result .spot in
+    let difference = find .result .difference in
     let blocks = c .before .before .before .before .before .before .before .before .before .before .before .before .before .before .blocks-of in
     let ps₀ = lay .last .1 .0 in
     let ps = seed .last .1 .0 in
@@ -100,8 +100,8 @@ returns c = let s = c .before .before .before .before .before .before .before .b
     let ranked : (b : ℕ) → b < length (reachSet N (length ps) (a .wire)) → colourAt (reachSet N (length ps) (a .wire)) ps b ≡ b + 1
     = subst (λ (js : List ℕ). Inputs js (length ps₀) → (b : ℕ) → b < length js → colourAt js ps b ≡ b + 1) e (seed .ensures .each) inputs in
     let room : 2 ^ length (reachSet N (length ps) (a .wire)) ≤ blocks .result * 16 = subst (λ (k : ℕ). 2 ^ k ≤ blocks .result * 16) (sym count ∙ ap length e) (blocks .ensures .0) in
-    ap (λ (js : List ℕ). some (record { wire = a .wire; ones = js; base = spot .base; own = spot .own })) (c .pick .ensures .0 ∙ ap (λ (js : List ℕ). picked js (spot .at)) e)
-    ∙ sym (leak-told G L (s .pre .0 .2) (p .2) ps plain ranked (blocks .result) room spot (find .ensures .spotted))
+    ap (λ (js : List ℕ). some (record { wire = a .wire; ones = js; base = difference .base; own = difference .count })) (c .pick .ensures .0 ∙ ap (λ (js : List ℕ). picked js (difference .setting)) e)
+    ∙ sym (leak-told G L (s .pre .0 .2) (p .2) ps plain ranked (blocks .result) room difference (find .ensures .lowest))
 
 pub tell-spec : {M : Type 1} → statement M
 tell-spec =

@@ -8,7 +8,7 @@ use Rattle.wide_sets.proofs.members.start.Statement.{statement}
 use Rattle.wide_sets.proofs.members.start.Tie as tie
 use Rattle.wide_sets.proofs.members.start.Reads as reads
 use Rattle.wide_sets.proofs.members.start.Lts as lts
-use Rattle.wide_sets.proofs.members.own.Reads as own-reads
+use Rattle.wide_sets.proofs.members.start_entry.Reads as start-entry-reads
 
 abbrev Inv-loop : tie.InvT-loop
 Inv-loop set0₀ n w₀ set0 w = Started n set0₀ set0 w
@@ -19,8 +19,8 @@ abbrev μ-loop : tie.MeasureT-loop
 loop-holds : tie.Need-loop-holds Inv-loop μ-loop
 loop-holds c = started-none _ _
 
-own-requires : tie.Need-own-requires Inv-loop μ-loop
-own-requires c κs = c .before .before .before .pre
+start-entry-requires : tie.Need-start-entry-requires Inv-loop μ-loop
+start-entry-requires c κs = c .before .before .before .pre
 
 mul-set0 : tie.Need-mul-set0 Inv-loop μ-loop
 mul-set0 c = omega (arith, c .before .before .loop .inv .long)
@@ -35,7 +35,7 @@ loop-less : tie.Need-loop-less Inv-loop μ-loop
 loop-less c = omega (arith, c .before .before .loop .inv .long)
 
 loop-again : tie.Need-loop-again Inv-loop μ-loop
-loop-again c = started-more _ (c .before .before .loop .inv) (omega (arith, c .before .before .loop .inv .long)) (c .own .ensures)
+loop-again c = started-more _ (c .before .before .loop .inv) (omega (arith, c .before .before .loop .inv .long)) (c .start-entry .ensures)
 
 same-length : tie.Need-same-length Inv-loop μ-loop
 same-length c = c .before .loop .inv .long
@@ -51,7 +51,7 @@ start-spec =
     Inv-loop
     μ-loop
     loop-holds
-    own-requires
+    start-entry-requires
     mul-set0
     slice-write-set0
     add-w

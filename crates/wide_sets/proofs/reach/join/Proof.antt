@@ -1,33 +1,44 @@
--- `reach::join`: two sets put together, where they are at most twelve.
-use mathlib.Core.Path.{_≡_, sym, ap₂, subst, _∙_}
-use mathlib.Core.List.{List}
-use Prim.Native.Nat.{ℕ, _<_}
+-- `reach::join`: a set copied, or two put together.
+use mathlib.Core.Path.{sym, subst}
 use lib.Dec.{T}
 use lib.ListN.{length}
-use Rattle.wide.specs.Sets.{merge}
 use Rattle.wide_sets.specs.Packed.{sets, Put}
+use Rattle.wide_sets.specs.Reached.{OneOf}
 use native.Mathlib.Omega.{arith}
 use borrow.Author.Needs.{needs}
 use Rattle.wide_sets.proofs.reach.join.Statement.{statement}
 use Rattle.wide_sets.proofs.reach.join.Tie as tie
-use Rattle.wide_sets.proofs.reach.join.Reads as reads
-use Rattle.wide_sets.proofs.reach.join.Lts as lts
-use Rattle.wide_sets.proofs.members.get.Reads as get-reads
-use Rattle.wide_sets.proofs.members.put.Reads as put-reads
-use Rattle.wide_sets.proofs.unite.both.Reads as both-reads
 
-get-requires : tie.Need-get-requires
-get-requires c κs = search needs
+one-of-requires : tie.Need-one-of-requires
+one-of-requires c κs = search needs
 
-get-requires-2 : tie.Need-get-requires-2
-get-requires-2 c κs = search needs
+enum-known-w : tie.Need-enum-known-w
+enum-known-w c = search needs
 
-both-requires : tie.Need-both-requires
-both-requires c κs = let s = c .before .before .before .before .before .before .before .before .before .before .before .before .before .before in
+copy-requires : tie.Need-copy-requires
+copy-requires c κs = let s = c .before .before .before .before .before .before .before .before .before .before .before .before .before .before .before .before in
+    let a = s .args in
     let z = s .pre .0 in
-    let g = c .before .before .before .before .before .get in
-    let h = c .get2 in
-    (omega (arith, g .ensures .1, z .few (s .args .a)), omega (arith, h .ensures .1, z .few (s .args .b)), g .ensures .2, h .ensures .2)
+    let l = s .pre .3 in
+    let w = c .before .before .before .before .before .w .given in
+    let o = subst (OneOf (sets (a .set0 .now) (a .set1 .now) (a .set2 .now) (a .set3 .now)) (length (a .set0 .now)) (a .a) (a .b)) (w .1) (c .before .before .before .before .before .before .before .one-of .ensures) in
+    let m = o .0 in (
+      m,
+      omega (arith, m, z .long1),
+      omega (arith, m, z .long2),
+      omega (arith, m, z .long3),
+      l,
+      omega (arith, l, z .long1),
+      omega (arith, l, z .long2),
+      omega (arith, l, z .long3),
+      z .few (w .0 .0),
+    )
+
+enum-told : tie.Need-enum-told
+enum-told c = search needs
+
+unite-sets-requires : tie.Need-unite-sets-requires
+unite-sets-requires c κs = search needs
 
 same-length : tie.Need-same-length
 same-length c = search needs
@@ -42,18 +53,13 @@ same-length-4 : tie.Need-same-length-4
 same-length-4 c = search needs
 
 returns : tie.Need-returns
-returns c = let g = c .before .before .before .before .before .before .before .before .get in
-    let h = c .before .before .before .get2 in
+returns c = let a = c .before .before .before .before .before .before .before .before .before .before .before .before .before .before .before .before .before .before .before .before .before .before .before .before .before .args in
+    let o = subst (OneOf (sets (a .set0 .now) (a .set1 .now) (a .set2 .now) (a .set3 .now)) (length (a .set0 .now)) (a .a) (a .b)) (c .before .before .before .before .before .before .before .before .before .before .before .before .before .before .w .given .1)
+    (c .before .before .before .before .before .before .before .before .before .before .before .before .before .before .before .before .one-of .ensures) in
     record {
-      put = λ e. absurd (subst T (sym e) tt);
-      many = λ _. subst (λ (is : List ℕ). 12 < length is) (ap₂ merge (g .ensures .0) (h .ensures .0)) (c .before .before .both .ensures .many (c .if1 .taken));
+      put = λ _. subst (Put _ _ _) (sym (o .1)) (c .before .before .before .before .before .before .before .before .copy .ensures);
+      many = λ e. absurd (subst T e tt);
     }
-
-put-requires : tie.Need-put-requires
-put-requires c κs = let s = c .before .before .before .before .before .before .before .before .before .before .before .before .before .before .before .before .before .before .before .before .before in
-    let z = s .pre .0 in
-    let l = s .pre .3 in
-    (l, omega (arith, l, z .long1), omega (arith, l, z .long2), omega (arith, l, z .long3), c .before .before .before .before .if1 .left, c .before .before .before .before .before .before .both .ensures .items)
 
 same-length-5 : tie.Need-same-length-5
 same-length-5 c = search needs
@@ -68,28 +74,22 @@ same-length-8 : tie.Need-same-length-8
 same-length-8 c = search needs
 
 returns-2 : tie.Need-returns-2
-returns-2 c = let put = c .before .before .before .before .before .before .before .before .put in
-    let both = c .before .before .before .before .before .before .before .before .before .before .before .before .before .before .before .both in
-    let h = c .before .before .before .before .before .before .before .before .before .before .before .before .before .before .before .before .get2 in
-    let g = c .before .before .before .before .before .before .before .before .before .before .before .before .before .before .before .before .before .before .before .before .before .get in
-    record {
-      put = λ _. subst (Put _ _ _) (both .ensures .few (c .before .before .before .before .before .before .before .before .before .before .before .before .before .if1 .left) ∙ ap₂ merge (g .ensures .0) (h .ensures .0)) (put .ensures);
-      many = λ e. absurd (subst T e tt);
-    }
+returns-2 c = search needs
 
 pub join-spec : {M : Type 1} → statement M
 join-spec =
     tie.close
     (tie.spec
-    get-requires
-    get-requires-2
-    both-requires
+    one-of-requires
+    enum-known-w
+    copy-requires
+    enum-told
+    unite-sets-requires
     same-length
     same-length-2
     same-length-3
     same-length-4
     returns
-    put-requires
     same-length-5
     same-length-6
     same-length-7

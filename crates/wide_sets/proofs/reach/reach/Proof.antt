@@ -7,7 +7,7 @@ use lib.ListN.{length}
 use borrow.Author.Tests.{not-true, not-false}
 use Rattle.netlist.specs.Table.{tables, Holds}
 use Rattle.gate_table.specs.Parts.{Within}
-use Rattle.wide_sets.specs.Packed.{sets, ownSet, Sized}
+use Rattle.wide_sets.specs.Packed.{sets, startSet, Sized}
 use Rattle.wide_sets.proofs.Reaching.{Reaching, reaching-none, reaching-all, line-within, line-more, line-full}
 use borrow.Author.Needs.{needs}
 use native.Mathlib.Omega.{arith}
@@ -34,7 +34,7 @@ loop-holds c = let s = c .before .before .before .before .before .before .before
     let b = c .before .before .start in
     reaching-none
     (record { long0 = b .kept .0 ∙ sym (p .1); long1 = refl; long2 = p .2 ∙ sym (p .1); long3 = p .3 ∙ sym (p .1); few = b .ensures .1 })
-    (λ w. b .ensures .0 (s .args .set1 .now) (s .args .set2 .now) (s .args .set3 .now) w ∙ ap (λ (W : ℕ). ownSet (s .args .n) W w) (sym (p .1)))
+    (λ w. b .ensures .0 (s .args .set1 .now) (s .args .set2 .now) (s .args .set3 .now) w ∙ ap (λ (W : ℕ). startSet (s .args .n) W w) (sym (p .1)))
 
 mul-split : tie.Need-mul-split Inv-loop μ-loop
 mul-split c = omega arith

@@ -1,4 +1,4 @@
--- `check_leak::spot::all_level` meets its contract.
+-- `check_leak::difference::all_level` meets its contract.
 use mathlib.Core.Path.{_≡_, refl, sym, subst, _∙_}
 use Prim.Native.Nat.{_-_, _≤_}
 use lib.Dec.{T}
@@ -8,8 +8,8 @@ use Rattle.check_counts.specs.Block.{onesOf, nibblesOf, Agree}
 use Rattle.check_counts.proofs.Nibbles.{same-counts, no-nibble, or-none, or-both, all-same}
 use borrow.Author.Needs.{needs}
 use native.Mathlib.Omega.{arith}
-use Rattle.check_leak.proofs.spot.all_level.Statement.{statement}
-use Rattle.check_leak.proofs.spot.all_level.Tie as tie
+use Rattle.check_leak.proofs.difference.all_level.Statement.{statement}
+use Rattle.check_leak.proofs.difference.all_level.Tie as tie
 
 abbrev Inv-loop : tie.InvT-loop
 Inv-loop words base limit d₀ w₀ d w =

@@ -6,26 +6,26 @@ ghost use mathlib.Core.Bool.{true, false};
 ghost use Prim.Native.Nat.{ℕ, _+_, _*_, _<_, _≤_};
 ghost use lib.ListN.{length};
 ghost use Rattle.check_counts.specs.Block.{onesOf, nibblesOf, Agree};
-ghost use Rattle.check_leak.specs.Spot.{Spotted, from};
+ghost use Rattle.check_leak.specs.Difference.{LowestDifference, from};
 
-// A wire and a setting, with its base's count and its own; or, with the first wire that was not
-// looked at, none.
-pub struct Spot {
+// A wire, a setting in which its count is not its base's, the base's count and the setting's; or,
+// with the first wire that was not looked at, none.
+pub struct Difference {
     pub wire: usize,
-    pub at: u64,
+    pub setting: u64,
     pub base: u8,
-    pub own: u8,
+    pub count: u8,
 }
 
-// No spot on wires below a limit.
-pub fn none(limit: usize) -> Spot
+// No difference on wires below a limit.
+pub fn none(limit: usize) -> Difference
     ensures { λ r. ⌜ r .wire ≡ limit ⌝ }
 {
-    Spot {
+    Difference {
         wire: limit,
-        at: 0,
+        setting: 0,
         base: 0,
-        own: 0,
+        count: 0,
     }
 }
 
@@ -47,20 +47,20 @@ fn all_level(words: &[u64], base: &[u64], limit: usize) -> bool
 
 // The first wire below a limit whose counts are not those of its base, and the first of the block's
 // settings where they are not.
-fn first_difference(words: &[u64], base: &[u64], limit: usize) -> Spot
+fn first_difference(words: &[u64], base: &[u64], limit: usize) -> Difference
     requires { ⌜ (limit ≤ length (now words)) × (limit ≤ length (now base)) ⌝ }
-    ensures { λ r. ⌜ Spotted (nibblesOf (now (base .entry))) (onesOf (now (words .entry))) limit 16 r ⌝ }
+    ensures { λ r. ⌜ LowestDifference (nibblesOf (now (base .entry))) (onesOf (now (words .entry))) limit 16 r ⌝ }
 {
     let mut w = 0;
     while w < limit {
         let d = nibble::differ(base[w], words[w]);
         if d != 0 {
             let s = nibble::first(d);
-            return Spot {
+            return Difference {
                 wire: w,
-                at: s as u64,
+                setting: s as u64,
                 base: nibble::at(base[w], s),
-                own: nibble::count(words[w], s),
+                count: nibble::count(words[w], s),
             };
         }
         w += 1;
@@ -68,10 +68,10 @@ fn first_difference(words: &[u64], base: &[u64], limit: usize) -> Spot
     none(limit)
 }
 
-// The same. Most blocks are quiet, so that all wires are compared first.
-pub fn scan(words: &[u64], base: &[u64], limit: usize) -> Spot
+// The same. Most blocks show no difference, so that all wires are compared first.
+pub fn scan(words: &[u64], base: &[u64], limit: usize) -> Difference
     requires { ⌜ (limit ≤ length (now words)) × (limit ≤ length (now base)) ⌝ }
-    ensures { λ r. ⌜ Spotted (nibblesOf (now (base .entry))) (onesOf (now (words .entry))) limit 16 r ⌝ }
+    ensures { λ r. ⌜ LowestDifference (nibblesOf (now (base .entry))) (onesOf (now (words .entry))) limit 16 r ⌝ }
 {
     if all_level(words, base, limit) {
         none(limit)
@@ -80,18 +80,18 @@ pub fn scan(words: &[u64], base: &[u64], limit: usize) -> Spot
     }
 }
 
-// The better of the best spot so far and a block's spot, which was looked for on lower wires only.
-pub fn better(best: Spot, spot: Spot, block: u64) -> Spot
-    requires { ⌜ (block < 65536) × (spot .wire < best .wire → spot .at < 16) ⌝ }
-    ensures { λ r. ⌜ ((f g : ℕ → ℕ → ℕ) (W : ℕ) → Spotted f g W (block * 16) best
-        → Spotted (from (block * 16) f) (from (block * 16) g) (best .wire) 16 spot → Spotted f g W (block * 16 + 16) r) ⌝ }
+// The lower of the lowest difference so far and a block's, which was looked for on lower wires only.
+pub fn better(best: Difference, found: Difference, block: u64) -> Difference
+    requires { ⌜ (block < 65536) × (found .wire < best .wire → found .setting < 16) ⌝ }
+    ensures { λ r. ⌜ ((f g : ℕ → ℕ → ℕ) (W : ℕ) → LowestDifference f g W (block * 16) best
+        → LowestDifference (from (block * 16) f) (from (block * 16) g) (best .wire) 16 found → LowestDifference f g W (block * 16 + 16) r) ⌝ }
 {
-    if spot.wire < best.wire {
-        Spot {
-            wire: spot.wire,
-            at: block * 16 + spot.at,
-            base: spot.base,
-            own: spot.own,
+    if found.wire < best.wire {
+        Difference {
+            wire: found.wire,
+            setting: block * 16 + found.setting,
+            base: found.base,
+            count: found.count,
         }
     } else {
         best

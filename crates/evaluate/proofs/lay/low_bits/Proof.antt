@@ -1,4 +1,4 @@
--- `evaluate::lay::lows` meets its contract.
+-- `evaluate::lay::low_bits` meets its contract.
 use mathlib.Core.Path.{refl, _∙_}
 use mathlib.Core.List.{map}
 use Prim.Native.Nat.{_-_}
@@ -10,8 +10,8 @@ use Rattle.clear.proofs.Laid.{Laid, laid-none, laid-more}
 use Rattle.evaluate.specs.Lane.{lane, lanes}
 use Rattle.evaluate.proofs.Lanes.{bit-first}
 use Rattle.evaluate.proofs.Fronts.{laid-front, bits-long, bits-at}
-use Rattle.evaluate.proofs.lay.lows.Statement.{statement}
-use Rattle.evaluate.proofs.lay.lows.Tie as tie
+use Rattle.evaluate.proofs.lay.low_bits.Statement.{statement}
+use Rattle.evaluate.proofs.lay.low_bits.Tie as tie
 
 abbrev Inv-loop : tie.InvT-loop
 Inv-loop src dst₀ i₀ dst i = Laid 0 (map bit (lanes 0 src)) dst₀ dst i
@@ -52,8 +52,8 @@ same-length c = c .before .loop .inv .long
 returns : tie.Need-returns Inv-loop μ-loop
 returns c = let e = bits-long (lane 0) (c .before .before .args .src .now) in laid-front (c .before .loop .inv) (omega arith) (omega arith)
 
-pub lows-spec : {M : Type 1} → statement M
-lows-spec =
+pub low-bits-spec : {M : Type 1} → statement M
+low-bits-spec =
     tie.close
     (tie.spec
     Inv-loop

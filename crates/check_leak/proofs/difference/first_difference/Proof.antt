@@ -1,13 +1,13 @@
--- `check_leak::spot::first_difference` meets its contract.
+-- `check_leak::difference::first_difference` meets its contract.
 use Prim.Native.Nat.{_-_, _≤_}
 use borrow.Author.Count.{below-none, below-more}
 use Rattle.check_counts.specs.Block.{onesOf, nibblesOf, Agree}
 use Rattle.check_counts.proofs.Nibbles.{same-counts, other-counts, no-nibble}
-use Rattle.check_leak.proofs.Spots.{spot-none}
+use Rattle.check_leak.proofs.Differences.{difference-none}
 use borrow.Author.Needs.{needs}
 use native.Mathlib.Omega.{arith}
-use Rattle.check_leak.proofs.spot.first_difference.Statement.{statement}
-use Rattle.check_leak.proofs.spot.first_difference.Tie as tie
+use Rattle.check_leak.proofs.difference.first_difference.Statement.{statement}
+use Rattle.check_leak.proofs.difference.first_difference.Tie as tie
 
 abbrev Inv-loop : tie.InvT-loop
 Inv-loop words base limit w₀ w = (w ≤ limit) × Agree (nibblesOf base) (onesOf words) w 16
@@ -70,7 +70,7 @@ returns c =
         smaller = λ s l. same-counts (differ .ensures s (omega (arith, first .ensures .0))) (first .ensures .2 s l);
         other = other-counts (differ .ensures (first .result) (first .ensures .0)) (first .ensures .1);
         base = c .before .before .at .ensures;
-        own = c .count .ensures;
+        count = c .count .ensures;
       };
     }
 
@@ -89,7 +89,7 @@ none-requires : tie.Need-none-requires Inv-loop μ-loop
 none-requires c κs = search needs
 
 returns-2 : tie.Need-returns-2 Inv-loop μ-loop
-returns-2 c = let at = c .before .before .loop in spot-none (c .none .ensures) (λ w l. at .inv .1 w (omega arith))
+returns-2 c = let at = c .before .before .loop in difference-none (c .none .ensures) (λ w l. at .inv .1 w (omega arith))
 
 pub first-difference-spec : {M : Type 1} → statement M
 first-difference-spec =
