@@ -21,14 +21,14 @@ use Rattle.aiger.specs.Made.{wireAt, Built, build, upFrom, withOutputs, netlist
 use Rattle.aiger.proofs.Forms.{formed-length, Formed, file-formed, formed-file}
 use Rattle.aiger.proofs.Making.{length-enter, inputs-located}
 use Rattle.aiger_gates.specs.Places.{Standing}
-use Rattle.read_aiger.specs.StepAnswers.{InputsAt, InputsIs}
-use Rattle.read_aiger.specs.AndAnswers.{AndsAt, AndsIs}
+use Rattle.aiger_ands.specs.StepAnswers.{InputsAt, InputsIs}
+use Rattle.aiger_ands.specs.AndAnswers.{AndsAt, AndsIs}
 use Rattle.read_aiger.specs.OutAnswers.{LiteralsAt, LiteralsIs, OutsAt, OutsIs}
 use Rattle.read_aiger.specs.WholeAnswers.{LinesAt}
-use Rattle.read_aiger.specs.declared.inputs.Step.{Step}
-use Rattle.read_aiger.specs.declared.inputs.Step.the-variants as S
-use Rattle.read_aiger.specs.declared.ands.AndStep.{AndStep}
-use Rattle.read_aiger.specs.declared.ands.AndStep.the-variants as A
+use Rattle.aiger_ands.specs.declared.inputs.Step.{Step}
+use Rattle.aiger_ands.specs.declared.inputs.Step.the-variants as S
+use Rattle.aiger_ands.specs.declared.ands.AndStep.{AndStep}
+use Rattle.aiger_ands.specs.declared.ands.AndStep.the-variants as A
 use Rattle.read_text.specs.declared.cursor.Cursor.{Cursor}
 
 -- the rules, one kind of line after another

@@ -5,7 +5,7 @@ use borrow.Author.Tests.{not-true, not-false}
 use Rattle.netlist.specs.Table.{tables}
 use Rattle.aiger.specs.Lines.{fileLines}
 use Rattle.read_aiger.specs.HeadAnswers.{headSaid}
-use Rattle.read_aiger.proofs.AndLoop.{said-is}
+use Rattle.aiger_ands.proofs.AndLoop.{said-is}
 use Rattle.read_aiger.proofs.WholeLines.{lines-no-inputs, lines-no-outputs, lines-no-ands, lines-no-outs, lines-made, wires-length, standing-first, inputs-is, inputs-not, literals-is, literals-not, ands-is, ands-not, outs-are, outs-not}
 use native.Mathlib.Omega.{arith}
 use borrow.Author.Needs.{needs}
