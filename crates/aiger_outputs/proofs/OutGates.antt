@@ -1,11 +1,12 @@
 -- The gates of outputs, put one after another before the literals that are left.
-use Prim.Native.Nat.{ℕ, suc, _+_, _<_, _≤_}
+use Prim.Native.Nat.{ℕ, suc, _+_, _-_, _<_, _≤_}
 use mathlib.Core.Path.{_≡_, refl, sym, ap, _∙_, subst}
-use mathlib.Core.Bool.{true}
+use mathlib.Core.Bool.{Bool, true}
 use mathlib.Core.List.{List, [], _∷_, _++_, map, append-assoc, append-nil}
 use native.Mathlib.Omega.{arith}
-use lib.ListN.{length, take, drop, getD, length-map, length-append, length-drop}
-use lib.Seq.{getD-take, getD-drop, length-take-le, length-front, take-append-seam, drop-at, drop-drop}
+use lib.ListN.{length, take, drop, getD, length-map, length-append, length-drop, take-append-drop}
+use lib.Seq.{take-all, getD-take, getD-drop, length-take-le, length-front, take-append-seam, drop-at, drop-drop}
+use borrow.Rule.Slice.PartMut.{midOf}
 use Rattle.netlist.specs.declared.Gate.{Gate}
 use Rattle.netlist.specs.Lists.{every}
 use Rattle.netlist.specs.Table.{Tables, tables, gateIn}
@@ -13,7 +14,7 @@ use Rattle.netlist.proofs.Puts.{gates-same}
 use Rattle.aiger.specs.File.{Literal, literal}
 use Rattle.aiger.specs.Rules.{readable}
 use Rattle.aiger.specs.Made.{wireAt, outGate, outGates}
-use Rattle.aiger_gates.specs.Places.{Keeps, Holding, Standing, OutIs}
+use Rattle.aiger_gates.specs.Places.{Places, Keeps, Holding, Standing, OutIs}
 use Rattle.aiger_outputs.specs.OutAnswers.{OutputsPut}
 use Rattle.aiger_outputs.proofs.OutLines.{every-here}
 use Rattle.aiger_outputs.proofs.KeptLines.{literal-more, literal-split, literals-whole}
@@ -118,3 +119,38 @@ putting-all {table} {o₀} {r₀} {room} {n} {before} {o} {r} {i} P e given wire
     let kept = drop room r₀ in
     let w : map literal (take i kept) ≡ map literal kept = literals-whole kept i (omega arith) in
     rw (← e, ← w) (P .all given wires gs S good)
+
+-- ---- all gates
+
+outs-length : (at : ℕ → ℕ) (c : ℕ) (xs : List Literal) → length (outGates at c xs) ≡ length xs
+outs-length at c [] = refl
+outs-length at c (x ∷ xs) = ap suc (outs-length at (c + 1) xs)
+
+pub part-end : (room : ℕ) (r : List ℕ) → midOf room (length r - room) r ≡ drop room r
+part-end room r = let l = length-drop room r in take-all (length r - room) (drop room r) (omega arith)
+
+-- an answer on that part
+pub read-end : (table r : List ℕ) (room : ℕ) (a b : Bool) → a ≡ b
+    → ((given wires : List ℕ) → Places table given wires → a ≡ every (readable given) (map literal (midOf room (length r - room) r)))
+    → (given wires : List ℕ) → Places table given wires → b ≡ every (readable given) (map literal (drop room r))
+read-end table r room a b e h given wires P = sym e ∙ h given wires P ∙ ap (λ (xs : List ℕ). every (readable given) (map literal xs)) (part-end room r)
+
+module _ {table o : List ℕ} (r : List ℕ) (room n count : ℕ) (inside : room ≤ length r) where
+  -- they are more than the table has entries
+  pub outputs-large : {p s : List ℕ} → room < count → length s ≡ length r → (given wires : List ℕ) (gs : List Gate)
+      → Standing table (tables o (take room r)) n count given wires gs
+      → Keeps (tables p s) (n + (count + length (drop room r))) (gs ++ outGates (wireAt wires) (n + count) (map literal (drop room r)))
+  outputs-large h same given wires gs S a b =
+      let x = length-append gs (outGates (wireAt wires) (n + count) (map literal (drop room r))) in
+      let y = outs-length (wireAt wires) (n + count) (map literal (drop room r)) in
+      let z = length-map (drop room r) literal in
+      absurd (omega (arith, x, y, z, length-drop room r, S .size, h, same, inside, b))
+
+  -- they have room
+  pub outputs-put : {u : Tables} → count ≤ room → OutputsPut table (tables o r) u n count (drop room r)
+      → ((given wires : List ℕ) → Places table given wires → true ≡ every (readable given) (map literal (drop room r)))
+      → (given wires : List ℕ) (gs : List Gate) → Standing table (tables o (take room r)) n count given wires gs
+      → Keeps u (n + (count + length (drop room r))) (gs ++ outGates (wireAt wires) (n + count) (map literal (drop room r)))
+  outputs-put h put read given wires gs S =
+      let T = standing-whole (drop room r) (let l = length-take-le room r inside in omega arith) S in
+      put given wires gs (rw (take-append-drop room r) at T) (sym (read given wires (S .places))) .keeps

@@ -1,20 +1,20 @@
 -- What the answers on output lines mean.
 use Prim.Native.Nat.{ℕ, _+_, _/_, _^_, _<_, _≤_}
 use mathlib.Core.Path.{_≡_}
-use mathlib.Core.Bool.{true, cond}
+use mathlib.Core.Bool.{Bool, true, cond}
 use mathlib.Core.List.{List, _++_, map}
 use mathlib.Core.Option.{some}
 use lib.Dec.{ltb}
-use lib.ListN.{length, drop, getD, set}
+use lib.ListN.{length, take, drop, getD, set}
 use Rattle.netlist.specs.declared.Gate.{Gate}
 use Rattle.netlist.specs.Lists.{every, member}
-use Rattle.netlist.specs.Table.{Tables}
+use Rattle.netlist.specs.Table.{Tables, tables}
 use Rattle.aiger.specs.File.{Literal, literal}
 use Rattle.aiger.specs.Lines.{fileLines, outputLine, formed}
 use Rattle.aiger.specs.Rules.{readable}
 use Rattle.aiger.specs.Made.{wireAt, outGates}
 use Rattle.aiger_lines.specs.Stray.{strayAt}
-use Rattle.aiger_gates.specs.Places.{Standing}
+use Rattle.aiger_gates.specs.Places.{Places, Keeps, Standing}
 use Rattle.aiger_ands.specs.declared.inputs.Step.{Step}
 use Rattle.aiger_ands.specs.declared.inputs.Step.the-variants as S
 
@@ -44,6 +44,12 @@ abbrev pub OutputsPut : List ℕ → Tables → Tables → ℕ → ℕ → List 
 OutputsPut table t u n before kept = (given wires : List ℕ) (gs : List Gate) → Standing table t n before given wires gs
     → every (readable given) (map literal kept) ≡ true
     → Standing table u n (before + length kept) given wires (gs ++ outGates (wireAt wires) (n + before) (map literal kept))
+
+-- whether the literals behind a front can be read, and then all gates, if there is room for them
+pub record OutputsIs (table o r : List ℕ) (u : Tables) (room n count : ℕ) (answer : Bool) : Type 0 where
+  pub read : (given wires : List ℕ) → Places table given wires → answer ≡ every (readable given) (map literal (drop room r))
+  pub keeps : answer ≡ true → (given wires : List ℕ) (gs : List Gate) → Standing table (tables o (take room r)) n count given wires gs
+      → Keeps u (n + (count + length (drop room r))) (gs ++ outGates (wireAt wires) (n + count) (map literal (drop room r)))
 
 -- ---- marks on variables
 

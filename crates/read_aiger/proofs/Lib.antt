@@ -1,6 +1,6 @@
 -- Laws of the readers.
 pub mod NumberBound
-pub mod OutLines
 pub mod HeadLaws
 pub mod WholeLines
+pub mod TableEnd
 pub mod WholeFile

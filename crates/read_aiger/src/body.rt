@@ -4,8 +4,7 @@ use aiger_ands::ands::AndStep;
 use aiger_ands::ands::ands;
 use aiger_ands::inputs::Step;
 use aiger_ands::inputs::inputs;
-use aiger_outputs::gates::put_outputs;
-use aiger_outputs::kept::are_readable;
+use aiger_outputs::gates::outputs;
 use aiger_outputs::kept::keep_literals;
 use aiger_outputs::marks::are_given;
 use aiger_outputs::marks::mark_literals;
@@ -59,11 +58,8 @@ fn few(
     ) else {
         return Gates::Not;
     };
-    if !are_readable(table, &results[room..]) {
+    if !outputs(table, operands, results, room, n, count) {
         return Gates::Not;
-    }
-    if count <= room {
-        put_outputs(table, operands, results, room, n, count);
     }
     Gates::Made(count + outs)
 }
@@ -87,9 +83,9 @@ fn many(
     let Step::On(first) = mark_literals(text, at, h.outputs, h.most, operands) else {
         return Gates::Not;
     };
-    let mut none = [0u64; 1];
+    let mut spare = [0u64; 1];
     let AndStep::On(count, end) = ands(
-        text, first, h.ands, h.most, h.inputs, table, &mut none, results,
+        text, first, h.ands, h.most, h.inputs, table, &mut spare, results,
     ) else {
         return Gates::Not;
     };

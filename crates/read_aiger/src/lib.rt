@@ -1,5 +1,4 @@
 // AIGER files (document 02, No. 9) into lent tables.
 pub mod body;
 pub mod head;
-pub mod outputs;
 pub mod read;

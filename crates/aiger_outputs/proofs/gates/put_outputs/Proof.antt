@@ -22,7 +22,7 @@ loop-holds : tie.Need-loop-holds Inv-loop μ-loop
 loop-holds c = (putting-start _ _ _ _ _ _, search needs, omega arith)
 
 add-at : tie.Need-add-at Inv-loop μ-loop
-add-at c = omega (arith, c .before .before .before .before .before .pre .2, c .loop-test .taken)
+add-at c = search needs
 
 mul-x : tie.Need-mul-x Inv-loop μ-loop
 mul-x c = search needs
@@ -36,7 +36,7 @@ cast-x c =
     omega (arith, l, next-literal (c .before .before .loop .inv .0) (omega (arith, c .before .loop-test .taken, c .before .before .before .before .before .before .pre .1)))
 
 add-out-gate : tie.Need-add-out-gate Inv-loop μ-loop
-add-out-gate c = omega (arith, c .before .before .before .before .before .before .before .pre .2, c .before .before .loop-test .taken)
+add-out-gate c = search needs
 
 slice-relend-prefix-out-gate : tie.Need-slice-relend-prefix-out-gate Inv-loop μ-loop
 slice-relend-prefix-out-gate c = let y = c .before .before .before .loop .inv .0 .long in omega (arith, y, c .before .before .loop-test .taken, c .before .before .before .before .before .before .before .pre .1)
@@ -45,11 +45,11 @@ slice-aggregate-out-gate : tie.Need-slice-aggregate-out-gate Inv-loop μ-loop
 slice-aggregate-out-gate c = let y = c .before .before .before .before .loop .inv .0 .long in sym (length-take-le (c .before .before .before .before .before .before .before .before .args .room + c .before .before .before .before .loop .i + 1) (c .before .before .before .before .loop .results) (omega (arith, y, c .before .before .before .loop-test .taken, c .before .before .before .before .before .before .before .before .pre .1)))
 
 add-out-gate-2 : tie.Need-add-out-gate-2 Inv-loop μ-loop
-add-out-gate-2 c = omega (arith, c .before .before .before .before .before .before .before .before .pre .2, c .before .before .before .before .before .before .before .before .pre .0, c .before .before .before .loop-test .taken)
+add-out-gate-2 c = omega (arith, c .before .before .before .before .before .before .before .before .pre .2, c .before .before .before .loop-test .taken, length-drop (c .before .before .before .before .before .before .before .before .args .room) (c .before .before .before .before .before .before .before .before .args .results .now))
 
 out-gate-requires : tie.Need-out-gate-requires Inv-loop μ-loop
 out-gate-requires c κs = (
-  omega (arith, c .before .before .before .before .before .before .before .before .pre .0, c .before .before .before .before .before .before .before .before .pre .2, c .before .before .before .loop-test .taken),
+  omega (arith, c .before .before .before .before .before .before .before .before .pre .2, c .before .before .before .loop-test .taken, length-drop (c .before .before .before .before .before .before .before .before .args .room) (c .before .before .before .before .before .before .before .before .args .results .now)),
   rw (next-literal (c .before .before .before .before .loop .inv .0) (omega (arith, c .before .before .before .loop-test .taken, c .before .before .before .before .before .before .before .before .pre .1)))
       (c .before .before .before .before .before .before .before .before .pre .4 (c .before .before .before .before .loop .i) (omega (arith, c .before .before .before .loop-test .taken, length-drop (c .before .before .before .before .before .before .before .before .args .room) (c .before .before .before .before .before .before .before .before .args .results .now)))),
 )
