@@ -62,9 +62,10 @@ module _ {ls : List (List (List ℕ))} {t kept : List ℕ} {i at : ℕ} (K : Kee
 
   pub keeping-all : length kept ≤ i → LiteralsAt ls t (length kept) (map literal kept) at × Low kept
   keeping-all h =
-      let e : i ≡ length kept = omega (arith, K .inside) in
-      (subst (λ (k : ℕ). LiteralsAt ls t k (map literal kept) at) e (subst (λ (as₁ : List Literal). LiteralsAt ls t i as₁ at) (literals-whole kept i h) (K .lines)),
-      λ j b. K .low j (omega arith))
+      let e : i ≡ length kept = omega (arith, K .inside) in (
+        subst (λ (k : ℕ). LiteralsAt ls t k (map literal kept) at) e (subst (λ (as₁ : List Literal). LiteralsAt ls t i as₁ at) (literals-whole kept i h) (K .lines)),
+        λ j b. K .low j (omega arith),
+      )
 
 -- ---- read from the table: the first i can be read
 pub record Looking (table kept : List ℕ) (i : ℕ) : Type 0 where

@@ -3,4 +3,5 @@ pub mod NumberBound
 pub mod HeadLaws
 pub mod WholeLines
 pub mod TableEnd
+pub mod BodyLines
 pub mod WholeFile

@@ -28,7 +28,7 @@ pub enum Gates {
 
 // The lines behind the input lines, whose outputs are at most as many as the table of results has entries. Its end keeps their
 // literals, and its front gets the gates of the AND lines; the gates of outputs are put where all have room.
-fn few(
+fn by_literals(
     text: &[u8],
     at: Cursor,
     h: HeadNumbers,
@@ -66,7 +66,7 @@ fn few(
 
 // The lines behind the input lines, whose outputs are more than the table of results has entries. No gate is kept, and the table of
 // operands gets the marks.
-fn many(
+fn by_marks(
     text: &[u8],
     at: Cursor,
     h: HeadNumbers,
@@ -85,7 +85,14 @@ fn many(
     };
     let mut spare = [0u64; 1];
     let AndStep::On(count, end) = ands(
-        text, first, h.ands, h.most, h.inputs, table, &mut spare, results,
+        text,
+        first,
+        h.ands,
+        h.most,
+        h.inputs,
+        table,
+        &mut spare,
+        results,
     ) else {
         return Gates::Not;
     };
@@ -113,7 +120,7 @@ pub fn body(
         return Gates::Not;
     };
     if results.len() < h.outputs as usize {
-        return many(text, behind, h, table, operands, results);
+        return by_marks(text, behind, h, table, operands, results);
     }
-    few(text, behind, h, table, operands, results)
+    by_literals(text, behind, h, table, operands, results)
 }

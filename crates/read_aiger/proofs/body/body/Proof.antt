@@ -1,76 +1,102 @@
+-- Inputs, then the other lines.
+use mathlib.Core.Path.{_∙_}
+use lib.ListN.{drop}
+use Rattle.aiger.specs.Lines.{fileLines}
+use Rattle.read_aiger.specs.HeadAnswers.{headSaid}
+use Rattle.read_aiger.proofs.WholeLines.{lines-no-inputs, inputs-is, inputs-not}
 use native.Mathlib.Omega.{arith}
 use borrow.Author.Needs.{needs}
 use Rattle.read_aiger.proofs.body.body.Statement.{statement}
 use Rattle.read_aiger.proofs.body.body.Tie as tie
-use Rattle.read_aiger.proofs.body.body.Reads as reads
-use Rattle.read_aiger.proofs.body.body.Lts as lts
-use Rattle.aiger_ands.proofs.inputs.inputs.Reads as inputs-reads
-use Rattle.read_aiger.proofs.body.few.Reads as few-reads
-use Rattle.read_aiger.proofs.body.many.Reads as many-reads
 
--- src/body.rt:117:28
 inputs-requires : tie.Need-inputs-requires
 inputs-requires c κs = search needs
 
--- src/body.rt:117:18
 enum-known-behind : tie.Need-enum-known-behind
 enum-known-behind c = search needs
 
--- src/body.rt:118:9
 enum-told : tie.Need-enum-told
 enum-told c = search needs
 
--- src/body.rt:118:9
 same-length : tie.Need-same-length
 same-length c = search needs
 
--- src/body.rt:118:9
 returns : tie.Need-returns
-returns c = ?
+returns c =
+    let a = c .before .before .before .before .before .before .before .before .before .before .args in
+    let H = headSaid (a .h) in
+    let t = a .text .now in
+    let ls = fileLines (drop (a .at .at) t) in
+    let i = c .before .before .before .before .inputs in
+    let v = i .last .1 .1 .1 .1 .0 in
+    (lines-no-inputs H ls t (inputs-not ls t (H .inputs) (H .most) v (i .result) (c .enum-told .given .1) (i .ensures)), omega arith)
 
--- src/body.rt:120:24
 cast-if1 : tie.Need-cast-if1
 cast-if1 c = search needs
 
--- src/body.rt:121:9
-many-requires : tie.Need-many-requires
-many-requires c κs = ?
+by-marks-requires : tie.Need-by-marks-requires
+by-marks-requires c κs =
+    let a = c .before .before .before .before .before .before .before .before .before .before .before .before .before .before .before .before .args in
+    let H = headSaid (a .h) in
+    let t = a .text .now in
+    let ls = fileLines (drop (a .at .at) t) in
+    let i = c .before .before .before .before .before .before .before .before .before .before .inputs in
+    let v = i .last .1 .1 .1 .1 .0 in
+    let A = inputs-is ls t (H .inputs) (H .most) v (i .result) _ (c .before .before .before .before .before .before .behind .given .1) (i .ensures) in
+    let p = c .before .before .before .before .before .before .before .before .before .before .before .before .before .before .before .before .pre in
+    (A .within, omega (arith, p .1, i .kept .1 .1 .1 .1 .0), p .3, c .before .before .before .if1 .taken, p .4)
 
--- src/body.rt:121:9
 same-length-2 : tie.Need-same-length-2
 same-length-2 c = search needs
 
--- src/body.rt:121:9
 same-length-3 : tie.Need-same-length-3
 same-length-3 c = search needs
 
--- src/body.rt:121:9
 same-length-4 : tie.Need-same-length-4
 same-length-4 c = search needs
 
--- src/body.rt:121:9
 returns-2 : tie.Need-returns-2
-returns-2 c = ?
+returns-2 c =
+    let a = c .before .before .before .before .before .before .before .before .before .before .before .before .before .before .before .before .before .before .before .before .before .before .before .args in
+    let H = headSaid (a .h) in
+    let t = a .text .now in
+    let ls = fileLines (drop (a .at .at) t) in
+    let i = c .before .before .before .before .before .before .before .before .before .before .before .before .before .before .before .before .before .inputs in
+    let v = i .last .1 .1 .1 .1 .0 in
+    let A = inputs-is ls t (H .inputs) (H .most) v (i .result) _ (c .before .before .before .before .before .before .before .before .before .before .before .before .before .behind .given .1) (i .ensures) in
+    (c .before .before .before .before .before .before .by-marks .ensures .0 ls A, c .before .before .before .before .before .before .by-marks .ensures .1)
 
--- src/body.rt:123:5
-few-requires : tie.Need-few-requires
-few-requires c κs = ?
+by-literals-requires : tie.Need-by-literals-requires
+by-literals-requires c κs =
+    let a = c .before .before .before .before .before .before .before .before .before .before .before .before .before .before .before .before .args in
+    let H = headSaid (a .h) in
+    let t = a .text .now in
+    let ls = fileLines (drop (a .at .at) t) in
+    let i = c .before .before .before .before .before .before .before .before .before .before .inputs in
+    let v = i .last .1 .1 .1 .1 .0 in
+    let A = inputs-is ls t (H .inputs) (H .most) v (i .result) _ (c .before .before .before .before .before .before .behind .given .1) (i .ensures) in
+    let p = c .before .before .before .before .before .before .before .before .before .before .before .before .before .before .before .before .pre in
+    (A .within, omega (arith, p .1, i .kept .1 .1 .1 .1 .0), p .3, c .before .before .before .if1 .left)
 
--- src/body.rt:104:1
 same-length-5 : tie.Need-same-length-5
 same-length-5 c = search needs
 
--- src/body.rt:104:1
 same-length-6 : tie.Need-same-length-6
 same-length-6 c = search needs
 
--- src/body.rt:104:1
 same-length-7 : tie.Need-same-length-7
 same-length-7 c = search needs
 
--- src/body.rt:104:1
 returns-3 : tie.Need-returns-3
-returns-3 c = ?
+returns-3 c =
+    let a = c .before .before .before .before .before .before .before .before .before .before .before .before .before .before .before .before .before .before .before .before .before .before .before .args in
+    let H = headSaid (a .h) in
+    let t = a .text .now in
+    let ls = fileLines (drop (a .at .at) t) in
+    let i = c .before .before .before .before .before .before .before .before .before .before .before .before .before .before .before .before .before .inputs in
+    let v = i .last .1 .1 .1 .1 .0 in
+    let A = inputs-is ls t (H .inputs) (H .most) v (i .result) _ (c .before .before .before .before .before .before .before .before .before .before .before .before .before .behind .given .1) (i .ensures) in
+    (c .before .before .before .before .before .before .by-literals .ensures .0 ls A, c .before .before .before .before .before .before .by-literals .ensures .1)
 
 pub body-spec : {M : Type 1} → statement M
 body-spec =
@@ -82,12 +108,12 @@ body-spec =
     same-length
     returns
     cast-if1
-    many-requires
+    by-marks-requires
     same-length-2
     same-length-3
     same-length-4
     returns-2
-    few-requires
+    by-literals-requires
     same-length-5
     same-length-6
     same-length-7
