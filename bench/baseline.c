@@ -1874,11 +1874,20 @@ static int read_aiger(const struct limits *l, struct aiger *f, struct header *h)
             return 19;
         f->variables[x[0] / 2] = i + 1;
     }
-    size_t outputs = f->at;
+    /* the end of the results keeps the literals; where they are too many, marks on their variables are enough */
+    bool few = head[3] <= l->table;
+    uint64_t *kept = f->results + (few ? l->table - head[3] : 0);
+    if (!few)
+        memset(f->operands, 0, l->table * sizeof *f->operands);
     for (uint32_t i = 0; i < head[3]; i++) {
-        if (!aiger_line(f, x, 1))
+        if (!aiger_line(f, x, 1) || (!few && x[0] / 2 > f->most))
             return 19;
+        if (few)
+            kept[i] = x[0];
+        else if (x[0] > 1)
+            f->operands[x[0] / 2] = 1;
     }
+    f->room = few ? l->table - head[3] : 0;
     f->next = head[1];
     for (uint32_t i = 0; i < head[4]; i++) {
         if (!aiger_line(f, x, 3) || !aiger_can_read(f, x[1]) || !aiger_can_read(f, x[2]) || !aiger_can_give(f, x[0]))
@@ -1886,15 +1895,21 @@ static int read_aiger(const struct limits *l, struct aiger *f, struct header *h)
         uint32_t left = aiger_operand(f, x[1]), right = aiger_operand(f, x[2]);
         f->variables[x[0] / 2] = aiger_keep(f, AND, left, right) + 1;
     }
-    f->at = outputs;
-    for (uint32_t i = 0; i < head[3]; i++) {
-        if (!aiger_line(f, x, 1) || !aiger_can_read(f, x[0]))
+    for (uint32_t i = 0; few && i < head[3]; i++) {
+        if (!aiger_can_read(f, (uint32_t)kept[i]))
             return 19;
-        uint32_t wire = x[0] < 2 ? 0 : f->variables[x[0] / 2] - 1;
-        aiger_keep(f, x[0] < 2 ? EQ0 + x[0] : x[0] % 2 ? INV : EQW, wire, wire);
     }
-    if (f->next > l->wires)
+    for (uint32_t v = 0; !few && v <= f->most; v++) {
+        if (f->operands[v] != 0 && f->variables[v] == 0)
+            return 19;
+    }
+    if (f->next + head[3] > l->wires)
         return 5;
+    f->room = l->table;
+    for (uint32_t i = 0; i < head[3]; i++) {
+        uint32_t y = (uint32_t)kept[i], wire = y < 2 ? 0 : f->variables[y / 2] - 1;
+        aiger_keep(f, y < 2 ? EQ0 + y : y % 2 ? INV : EQW, wire, wire);
+    }
     *h = (struct header){(uint32_t)f->gates, f->next, {1, {head[1]}, head[1]}, {1, {head[3]}, head[3]}};
     return 0;
 }

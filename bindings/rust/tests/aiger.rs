@@ -285,6 +285,30 @@ fn limits() {
     assert_eq!(compare(b"aag 1 1 0 1 0 0\n2\n2\n", 2048, 60_000), Err(19));
 }
 
+/// Outputs as many as the tables have entries, and more: 5, or 19 for one that is never given.
+#[test]
+fn many_outputs() {
+    let file = |most: u32, outs: usize, last: u32| {
+        let mut s = format!("aag {most} 1 0 {} 1\n2\n", outs + 1);
+        s += &"2\n0\n3\n1\n".repeat(outs / 4 + 1)[..2 * outs];
+        (s + &format!("{last}\n4 2 3\n")).into_bytes()
+    };
+    for outs in [0, 1, 2043, 2044, 2045, 2046, 2047, 2048, 2049, 4095, 20_000] {
+        let fits = outs + 1 + 3 <= 2048;
+        for last in [0, 1, 2, 3, 4, 5] {
+            let answer = compare(&file(2, outs, last), 2048, 60_000);
+            assert_eq!(answer.is_ok(), fits);
+            assert!(fits || answer == Err(5));
+        }
+        for last in [6, 7, 4_094, 4_095, 4_096, 999_999] {
+            for most in [2, 3, 2_047] {
+                assert_eq!(compare(&file(most, outs, last), 2048, 60_000), Err(19));
+            }
+        }
+        assert_eq!(compare(&file(2, outs, 1_000_000), 2048, 60_000), Err(19));
+    }
+}
+
 /// Circuits as two tools write them compute what their netlists compute.
 #[test]
 fn circuits() {

@@ -1,10 +1,7 @@
 -- Laws of the readers.
 pub mod NumberBound
-pub mod LineByLine
-pub mod InputLines
-pub mod AndLines
-pub mod AndLoop
-pub mod OutLines
 pub mod HeadLaws
 pub mod WholeLines
+pub mod TableEnd
+pub mod BodyLines
 pub mod WholeFile

@@ -1,7 +1,4 @@
 // AIGER files (document 02, No. 9) into lent tables.
-pub mod ands;
 pub mod body;
 pub mod head;
-pub mod inputs;
-pub mod outputs;
 pub mod read;

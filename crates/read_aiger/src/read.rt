@@ -42,7 +42,7 @@ fn behind_head(
     results: &mut [u64],
 ) -> Reading
     requires { ⌜ (at .at ≤ strayAt (now text)) × (h .most < length (now table))
-        × (now table ≡ replicate (length (now table)) 0) × LowHead h ⌝ }
+        × (now table ≡ replicate (length (now table)) 0) × LowHead h × (h .most < length (now operands)) ⌝ }
     requires { ⌜ (l .wires ≤ length (now operands)) × (l .wires ≤ length (now results)) × (1 ≤ l .inputs) × (1 ≤ l .outputs) ⌝ }
     ensures { λ r. ⌜ NetlistIs (linesRead l (headSaid h) (fileLines (drop (at .at) (now (text .entry)))))
         (tables (now (operands .exit)) (now (results .exit))) r ⌝ }

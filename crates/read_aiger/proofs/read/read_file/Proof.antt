@@ -25,7 +25,7 @@ behind-head-requires c κs =
     let s = c .before .before .before .before .before .before .before .before .before .before .before .before .before .args in
     let p = c .before .before .before .before .before .before .before .before .before .before .before .before .before .pre in
     let A = head-is (s .l) (s .text .now) (c .before .before .before .before .before .before .head .result) _ _ (c .before .before .before .before .h .given .1) (c .before .before .before .before .before .before .head .ensures) in
-    ((A .within, omega (arith, A .most, p .0), p .1, A .low), (p .2, p .3, p .4, p .5))
+    ((A .within, omega (arith, A .most, p .0), p .1, A .low, omega (arith, A .most, p .2)), (p .2, p .3, p .4, p .5))
 
 returns-2 : tie.Need-returns-2
 returns-2 c =

@@ -1,0 +1,3 @@
+-- What the answers on lines that give variables mean.
+pub mod StepAnswers
+pub mod AndAnswers

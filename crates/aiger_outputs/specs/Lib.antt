@@ -1,0 +1,2 @@
+-- What the answers on output lines mean.
+pub mod OutAnswers
