@@ -191,3 +191,7 @@ module _ (z : Sizes) (a b c d : ℕ) (widths outputs : List ℕ) (gates places :
         second = omega (arith, l, table-at (small z) lengths 1 (y .long) (lit< tt));
         few = omega (arith, l, e, small-fits z .1);
       }
+
+  -- few values, so that they can be summed
+  pub head-few : {r : ℕ} → r ≡ 0 → NoIs (headAsked (small z) lengths widths outputs gates places) r → (length widths ≤ 16) × (length outputs ≤ 16)
+  head-few e h = let w = head-yes (small z) lengths widths outputs gates places e h .within in (w .inputs, w .outputs)

@@ -49,11 +49,15 @@ fn within(l: Limits, widths: &[u32], outputs: &[u32], gates: u32) -> bool
     if l.outputs < outputs.len() {
         return false;
     }
-    let wires = total(widths) + gates as u64;
-    if (l.wires as u64) < wires {
+    let most = l.wires as u64;
+    let n = total(widths);
+    if most < n {
         return false;
     }
-    total(outputs) <= wires
+    if most - n < gates as u64 {
+        return false;
+    }
+    total(outputs) <= n + gates as u64
 }
 
 // The first no of questions 1 and 4 to 6, or 0.

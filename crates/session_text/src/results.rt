@@ -4,8 +4,8 @@ use netlist::Answer;
 use read_header::HeaderNumbers;
 ghost use mathlib.Core.Path.{_≡_};
 ghost use Prim.Native.Nat.{_+_, _≤_};
-ghost use lib.ListN.{length};
-ghost use lib.Seq.{sets};
+ghost use mathlib.Core.List.{_++_};
+ghost use lib.ListN.{length, drop};
 ghost use Rattle.netlist.specs.Netlist.{Netlist};
 ghost use Rattle.netlist.specs.Outcome.{Outcome, andThen};
 ghost use Rattle.netlist.specs.Services.{rewriteOutcome, maskOutcome, Answers};
@@ -60,7 +60,7 @@ pub fn text(
 // Widths to the front of a table that can hold them.
 fn copy(from: &[u32], to: &mut [u32])
     requires { ⌜ length (now from) ≤ length (now to) ⌝ }
-    ensures { λ _. ⌜ now (to .exit) ≡ sets (now (to .entry)) 0 (now (from .entry)) ⌝ }
+    ensures { λ _. ⌜ now (to .exit) ≡ now (from .entry) ++ drop (length (now (from .entry))) (now (to .entry)) ⌝ }
 {
     let mut i = 0;
     while i < from.len() {

@@ -1,3 +1,5 @@
+-- `long`: the first table that is too short.
+use Rattle.session_text.proofs.Askings.{short-first, short-second, short-third, all-long}
 use borrow.Author.Needs.{needs}
 use native.Mathlib.Omega.{arith}
 use Rattle.session_text.proofs.asking.long.Statement.{statement}
@@ -5,21 +7,17 @@ use Rattle.session_text.proofs.asking.long.Tie as tie
 use Rattle.session_text.proofs.asking.long.Reads as reads
 use Rattle.session_text.proofs.asking.long.Lts as lts
 
--- src/asking.rt:30:9
 returns : tie.Need-returns
-returns c = ?
+returns c = let a = c .before .args in short-first (a .least) (a .a) (a .b) (a .c) (a .d) (c .if1 .taken)
 
--- src/asking.rt:33:9
 returns-2 : tie.Need-returns-2
-returns-2 c = ?
+returns-2 c = let a = c .before .before .args in short-second (a .least) (a .a) (a .b) (a .c) (a .d) (c .before .if1 .left) (c .if2 .taken)
 
--- src/asking.rt:36:9
 returns-3 : tie.Need-returns-3
-returns-3 c = ?
+returns-3 c = let a = c .before .before .before .args in short-third (a .least) (a .a) (a .b) (a .c) (a .d) (c .before .before .if1 .left) (c .before .if2 .left) (c .if3 .taken)
 
--- src/asking.rt:26:1
 returns-4 : tie.Need-returns-4
-returns-4 c = ?
+returns-4 c = let a = c .before .before .before .args in all-long (a .least) (a .a) (a .b) (a .c) (a .d) (c .before .before .if1 .left) (c .before .if2 .left) (c .if3 .left)
 
 pub long-spec : {M : Type 1} → statement M
 long-spec = tie.close (tie.spec returns returns-2 returns-3 returns-4)

@@ -1,3 +1,8 @@
+-- `within`: the first bound that is passed.
+use mathlib.Core.Path.{sym, ap, ap₂, _∙_}
+use Prim.Native.Nat.{ℕ, _+_}
+use lib.Dec.{leb}
+use Rattle.session_text.proofs.Askings.{many-inputs, many-outputs, many-wires, few-wires}
 use native.Mathlib.Omega.{arith}
 use borrow.Author.Needs.{needs}
 use Rattle.session_text.proofs.asking.within.Statement.{statement}
@@ -6,37 +11,34 @@ use Rattle.session_text.proofs.asking.within.Reads as reads
 use Rattle.session_text.proofs.asking.within.Lts as lts
 use Rattle.session_plan.proofs.opening.total.Reads as total-reads
 
--- src/asking.rt:47:9
 returns : tie.Need-returns
-returns c = ?
+returns c = let a = c .before .before .before .before .args in many-inputs (a .l) (a .widths .now) (a .outputs .now) (a .gates) (c .if1 .taken)
 
--- src/asking.rt:50:9
 returns-2 : tie.Need-returns-2
-returns-2 c = ?
+returns-2 c = let a = c .before .before .before .before .before .before .args in many-outputs (a .l) (a .widths .now) (a .outputs .now) (a .gates) (c .before .before .if1 .left) (c .if2 .taken)
 
--- src/asking.rt:52:17
+cast-most : tie.Need-cast-most
+cast-most c = search needs
+
 total-requires : tie.Need-total-requires
 total-requires c κs = search needs
 
--- src/asking.rt:52:17
-add-wires : tie.Need-add-wires
-add-wires c = ?
-
--- src/asking.rt:53:9
-cast-if3 : tie.Need-cast-if3
-cast-if3 c = search needs
-
--- src/asking.rt:54:9
 returns-3 : tie.Need-returns-3
-returns-3 c = ?
+returns-3 c = let a = c .before .before .before .before .before .before .before .before .before .args in many-wires (a .l) (a .widths .now) (a .outputs .now) (a .gates) (c .before .before .before .before .before .if1 .left) (c .before .before .before .if2 .left) (omega (arith, c .if3 .taken, c .before .total .ensures))
 
--- src/asking.rt:56:5
+returns-4 : tie.Need-returns-4
+returns-4 c = let a = c .before .before .before .before .before .before .before .before .before .before .args in many-wires (a .l) (a .widths .now) (a .outputs .now) (a .gates) (c .before .before .before .before .before .before .if1 .left) (c .before .before .before .before .if2 .left) (omega (arith, c .if4 .taken, c .before .if3 .left, c .before .before .total .ensures))
+
 total-requires-2 : tie.Need-total-requires-2
 total-requires-2 c κs = search needs
 
--- src/asking.rt:42:1
-returns-4 : tie.Need-returns-4
-returns-4 c = ?
+add-result : tie.Need-add-result
+add-result c = search needs
+
+returns-5 : tie.Need-returns-5
+returns-5 c = let a = c .before .before .before .before .before .before .before .before .before .before .before .args in
+    ap₂ (λ (x n : ℕ). leb x (n + a .gates)) (c .total2 .ensures) (c .before .before .before .total .ensures)
+    ∙ few-wires (a .l) (a .widths .now) (a .outputs .now) (a .gates) (c .before .before .before .before .before .before .before .if1 .left) (c .before .before .before .before .before .if2 .left) (omega (arith, c .before .if4 .left, c .before .before .if3 .left, c .before .before .before .total .ensures))
 
 pub within-spec : {M : Type 1} → statement M
 within-spec =
@@ -44,9 +46,10 @@ within-spec =
     (tie.spec
     returns
     returns-2
+    cast-most
     total-requires
-    add-wires
-    cast-if3
     returns-3
+    returns-4
     total-requires-2
-    returns-4)
+    add-result
+    returns-5)

@@ -1,3 +1,5 @@
+-- `entry`: a no before the record, its own, or its entries.
+use Rattle.session_text.proofs.Gates.{record-kept, record-no, record-yes}
 use native.Mathlib.Omega.{arith}
 use borrow.Author.Needs.{needs}
 use Rattle.session_text.proofs.entries.entry.Statement.{statement}
@@ -7,29 +9,23 @@ use Rattle.session_text.proofs.entries.entry.Lts as lts
 use Rattle.gate_table.proofs.entry_of.Reads as entry-of-reads
 use Rattle.session_plan.proofs.adding.gate_no.Reads as gate-no-reads
 
--- src/entries.rt:21:9
 returns : tie.Need-returns
-returns c = ?
+returns c = let a = c .before .args in record-kept (a .r) (a .next) (c .if1 .taken)
 
--- src/entries.rt:33:9
 gate-no-requires : tie.Need-gate-no-requires
 gate-no-requires c κs = search needs
 
--- src/entries.rt:35:9
 returns-2 : tie.Need-returns-2
-returns-2 c = ?
+returns-2 c = let a = c .before .before .before .args in record-no (a .r) (a .next) (c .before .before .if1 .left) (c .if2 .taken) (c .before .gate-no .ensures)
 
--- src/entries.rt:42:15
 cast-t8 : tie.Need-cast-t8
 cast-t8 c = search needs
 
--- src/entries.rt:41:9
 entry-of-requires : tie.Need-entry-of-requires
 entry-of-requires c κs = search needs
 
--- src/entries.rt:17:1
 returns-3 : tie.Need-returns-3
-returns-3 c = ?
+returns-3 c = let a = c .before .before .before .before .before .args in record-yes (a .r) (a .next) (c .before .before .before .before .if1 .left) (c .before .before .if2 .left) (c .before .before .before .gate-no .ensures) (c .entry-of .ensures) (omega arith) (omega arith)
 
 pub entry-spec : {M : Type 1} → statement M
 entry-spec =

@@ -1,3 +1,8 @@
+-- `copy`: the first i widths lie at the front.
+use mathlib.Core.Path.{refl}
+use Prim.Native.Nat.{_-_}
+use lib.ListN.{length}
+use Rattle.clear.proofs.Laid.{Laid, laid-none, laid-more, laid-all}
 use borrow.Author.Needs.{needs}
 use native.Mathlib.Omega.{arith}
 use Rattle.session_text.proofs.results.copy.Statement.{statement}
@@ -6,50 +11,40 @@ use Rattle.session_text.proofs.results.copy.Reads as reads
 use Rattle.session_text.proofs.results.copy.Lts as lts
 
 abbrev Inv-loop : tie.InvT-loop
-Inv-loop from to₀ i₀ to i = ?
+Inv-loop from to₀ i₀ to i = Laid 0 from to₀ to i
 
 abbrev μ-loop : tie.MeasureT-loop
-μ-loop from to₀ i₀ to i = ?
+μ-loop from to₀ i₀ to i = length from - i
 
--- src/results.rt:66:5
 loop-holds : tie.Need-loop-holds Inv-loop μ-loop
-loop-holds c = ?
+loop-holds c = laid-none 0 _ _
 
--- src/results.rt:67:17
 mul-to : tie.Need-mul-to Inv-loop μ-loop
-mul-to c = ?
+mul-to c = omega arith
 
--- src/results.rt:67:17
 shared-slice-read-to : tie.Need-shared-slice-read-to Inv-loop μ-loop
-shared-slice-read-to c = ?
+shared-slice-read-to c = omega arith
 
--- src/results.rt:67:9
 mul-to-2 : tie.Need-mul-to-2 Inv-loop μ-loop
-mul-to-2 c = ?
+mul-to-2 c = omega arith
 
--- src/results.rt:67:9
 slice-write-to : tie.Need-slice-write-to Inv-loop μ-loop
-slice-write-to c = ?
+slice-write-to c = omega (arith, c .before .before .loop .inv .long, c .before .before .before .pre)
 
--- src/results.rt:68:9
 add-i : tie.Need-add-i Inv-loop μ-loop
-add-i c = ?
+add-i c = omega arith
 
--- src/results.rt:66:5
 loop-less : tie.Need-loop-less Inv-loop μ-loop
-loop-less c = ?
+loop-less c = omega arith
 
--- src/results.rt:66:5
 loop-again : tie.Need-loop-again Inv-loop μ-loop
-loop-again c = ?
+loop-again c = laid-more _ (c .before .before .loop .inv) (c .before .loop-test .taken) (omega (arith, c .before .before .loop .inv .long, c .before .before .before .pre)) refl
 
--- src/results.rt:61:1
 same-length : tie.Need-same-length Inv-loop μ-loop
-same-length c = ?
+same-length c = c .before .loop .inv .long
 
--- src/results.rt:61:1
 returns : tie.Need-returns Inv-loop μ-loop
-returns c = ?
+returns c = laid-all (c .before .loop .inv) (c .loop-test .left)
 
 pub copy-spec : {M : Type 1} → statement M
 copy-spec =

@@ -1,3 +1,5 @@
+-- `text`: the answer, and then zero in the tables.
+use Rattle.clear.proofs.Filled.{zeros-same}
 use native.Mathlib.Omega.{arith}
 use borrow.Author.Needs.{needs}
 use Rattle.session_text.proofs.results.text.Statement.{statement}
@@ -7,33 +9,32 @@ use Rattle.session_text.proofs.results.text.Lts as lts
 use Rattle.clear.proofs.words.Reads as words-reads
 use Rattle.session_text.proofs.results.write.Reads as write-reads
 
--- src/results.rt:54:9
 write-requires : tie.Need-write-requires
 write-requires c κs = search needs
 
--- src/results.rt:55:5
 words-requires : tie.Need-words-requires
 words-requires c κs = search needs
 
--- src/results.rt:56:5
 words-requires-2 : tie.Need-words-requires-2
 words-requires-2 c κs = search needs
 
--- src/results.rt:40:1
 same-length : tie.Need-same-length
 same-length c = search needs
 
--- src/results.rt:40:1
 same-length-2 : tie.Need-same-length-2
 same-length-2 c = search needs
 
--- src/results.rt:40:1
 same-length-3 : tie.Need-same-length-3
 same-length-3 c = search needs
 
--- src/results.rt:40:1
 returns : tie.Need-returns
-returns c = ?
+returns c = λ o s.
+    let w = c .before .before .before .before .before .before .before .before .before .before .write in
+    record {
+      answers = w .ensures o s;
+      operands = zeros-same (c .before .before .before .before .before .before .words .ensures) (w .kept .1 .1 .1 .1 .1 .0);
+      results = zeros-same (c .before .before .words2 .ensures) (w .kept .1 .1 .1 .1 .1 .1 .0);
+    }
 
 pub text-spec : {M : Type 1} → statement M
 text-spec =

@@ -1,3 +1,6 @@
+-- `write`: a no, or the text.
+use mathlib.Core.Path.{_∙_}
+use Rattle.session_text.proofs.Calling.{text-written, text-refused}
 use native.Mathlib.Omega.{arith}
 use borrow.Author.Needs.{needs}
 use Rattle.session_text.proofs.results.write.Statement.{statement}
@@ -6,25 +9,20 @@ use Rattle.session_text.proofs.results.write.Reads as reads
 use Rattle.session_text.proofs.results.write.Lts as lts
 use Rattle.write_netlist.proofs.deliver.Reads as deliver-reads
 
--- src/results.rt:32:9
 returns : tie.Need-returns
-returns c = ?
+returns c = λ o s. text-refused _ (c .if1 .taken) s
 
--- src/results.rt:35:17
 add-wires : tie.Need-add-wires
-add-wires c = ?
+add-wires c = omega (arith, c .before .before .before .before .before .before .before .pre .fits (c .before .if1 .left) .few)
 
--- src/results.rt:36:5
 deliver-requires : tie.Need-deliver-requires
-deliver-requires c κs = ?
+deliver-requires c κs = c .before .before .before .before .before .before .before .before .pre .fits (c .before .before .if1 .left) .wired
 
--- src/results.rt:17:1
 same-length : tie.Need-same-length
 same-length c = search needs
 
--- src/results.rt:17:1
 returns-2 : tie.Need-returns-2
-returns-2 c = ?
+returns-2 c = λ o s. text-written (c .before .before .before .before .before .if1 .left) s (c .before .before .deliver .ensures)
 
 pub write-spec : {M : Type 1} → statement M
 write-spec = tie.close (tie.spec returns add-wires deliver-requires same-length returns-2)
