@@ -5,11 +5,13 @@ use mathlib.Core.Bool.{Bool, true, false, _&&_}
 use mathlib.Core.List.{List, [], _∷_, _++_}
 use native.Mathlib.Omega.{arith}
 use lib.Dec.{leb}
-use lib.ListN.{length, take}
+use lib.ListN.{length, take, drop, replicate}
+use lib.Seq.{take-at}
 use Rattle.netlist.specs.declared.Answer.{Answer}
 use Rattle.netlist.specs.declared.Answer.the-variants.{Done, Refused}
 use Rattle.netlist.specs.declared.Limits.{Limits}
 use Rattle.netlist.specs.declared.Sizes.{Sizes}
+use Rattle.netlist.specs.Lists.{sum}
 use Rattle.netlist.specs.Netlist.{Netlist, small}
 use Rattle.netlist.specs.Header.{Header}
 use Rattle.netlist.specs.Outcome.{Outcome, refused, done, ask, andThen}
@@ -25,12 +27,14 @@ use Rattle.gate_records.specs.declared.SourceRecord.{SourceRecord}
 use Rattle.write_gates.specs.Header.{headerText}
 use Rattle.write_gates.proofs.Headers.{header-gates}
 use Rattle.write_netlist.specs.Form.{formText}
+use Rattle.read_header.specs.declared.HeaderNumbers.{HeaderNumbers}
+use Rattle.mask.specs.Fronts.{Fronts, Read}
 use Rattle.mask_text.specs.Whole.{textIn, MaskAnswers}
 use Rattle.mask.proofs.Promised.{mask-as, mask-refused, call-masks}
 use Rattle.session.specs.declared.Session.{Session}
 use Rattle.session_text.specs.declared.asking.Asked.{Asked}
 use Rattle.session_text.specs.Shown.{headAsked, recordGates, netlistShown, textCall, maskedCall}
-use Rattle.session_text.specs.Parts.{NetlistAt, Stands, TextIs, MaskedIs}
+use Rattle.session_text.specs.Parts.{NetlistAt, Stands, Fits, TextIs, MaskedIs}
 use Rattle.session_text.specs.Promise.{Shows, TextPromise, MaskedPromise}
 use Rattle.session_text.proofs.Noes.{no-some}
 use Rattle.session_text.proofs.Showing.{shown-made, shown-formed, shown-within}
@@ -56,6 +60,55 @@ text-written {o} {e = e} {x = x} {r = r} z s d =
 pub text-refused : {o : Outcome Netlist} {widths outputs : List ℕ} {q : Asked} {t : Tables} {no : ℕ} (e : List ℕ) → (no ≡ 0 → ⊥) → Stands o widths outputs q t no
     → Answers (andThen o (rewriteOutcome (length e))) e e (Refused no)
 text-refused {o} e d s = answers-refused e (ap (λ (o : Outcome Netlist). andThen o (rewriteOutcome (length e))) (no-some o d (s .asked) .0))
+
+-- ---- the masked text of such tables
+
+-- the numbers of its header
+abbrev pub headerOf : List ℕ → List ℕ → Asked → HeaderNumbers
+headerOf widths outputs q = record {
+  gates = q .count;
+  wires = q .inputs + q .count;
+  «input_values» = length widths;
+  «input_bits» = q .inputs;
+  «output_values» = length outputs;
+  «output_bits» = q .outputs;
+}
+
+pub masked-fronts : {widths outputs : List ℕ} {q : Asked} {t : Tables} (ws ms : List ℕ) → Fits widths outputs q t → q .inputs + q .count ≤ length ws → q .inputs + q .count ≤ length ms
+    → Fronts (headerOf widths outputs q) t ws ms
+masked-fronts ws ms f w m = record {
+  wired = f .wired;
+  few = f .few;
+  gates = omega arith;
+  ins = omega arith;
+  outs = f .bits;
+  inputs = omega (arith, f .inputs);
+  outputs = f .outputs;
+  wires = w;
+  marks = m;
+}
+
+masked-read : {o : Outcome Netlist} {widths outputs : List ℕ} {q : Asked} {t : Tables} {is os : List ℕ} (a : NetlistAt o widths outputs q t)
+    → is ≡ widths ++ drop (length widths) (replicate 17 0) → os ≡ outputs ++ drop (length outputs) (replicate 16 0) → Read (headerOf widths outputs q) t is os (a .is)
+masked-read {o} {widths} {outputs} {q} {t} a e f = record {
+  holds = record { gates = a .gates; wires = a .wires; ins = ap sum (a .inputs) ∙ a .inputBits; outs = ap sum (a .outputs) ∙ a .outputBits };
+  inputs = ap (take (length widths)) e ∙ take-at widths _ (length widths) refl ∙ sym (a .inputs);
+  outputs = ap (take (length outputs)) f ∙ take-at outputs _ (length outputs) refl ∙ sym (a .outputs);
+  formed = a .formed;
+}
+
+pub masked-written : {o : Outcome Netlist} {widths outputs : List ℕ} {q : Asked} {t : Tables} {no : ℕ} {is os : List ℕ} (codes wanted : List ℕ) {e x f y : List ℕ} {r : Answer} → no ≡ 0 → Stands o widths outputs q t no
+    → is ≡ widths ++ drop (length widths) (replicate 17 0) → os ≡ outputs ++ drop (length outputs) (replicate 16 0)
+    → ((N : Netlist) → Read (headerOf widths outputs q) t is os N → MaskAnswers (maskOutcome codes wanted (length e) (length f) N) e x f y r)
+    → MaskAnswers (andThen o (maskOutcome codes wanted (length e) (length f))) e x f y r
+masked-written codes wanted {e = e} {f = f} z s i j d =
+    let a = s .netlist z in
+    mask-as (sym (ap (λ (o : Outcome Netlist). andThen o (maskOutcome codes wanted (length e) (length f))) (a .outcome))) (d (a .is) (masked-read a i j))
+
+pub masked-refused : {o : Outcome Netlist} {widths outputs : List ℕ} {q : Asked} {t : Tables} {no : ℕ} (codes wanted e f : List ℕ) → (no ≡ 0 → ⊥) → Stands o widths outputs q t no
+    → MaskAnswers (andThen o (maskOutcome codes wanted (length e) (length f))) e e f f (Refused no)
+masked-refused {o} codes wanted e f d s =
+    mask-refused e f (ap (λ (o : Outcome Netlist). andThen o (maskOutcome codes wanted (length e) (length f))) (no-some o d (s .asked) .0))
 
 -- ---- the text's call
 

@@ -135,6 +135,8 @@ module _ {z : Sizes} {a b c d : ℕ} {widths outputs : List ℕ} {gates : ℕ} {
           inputs = refl;
           outputs = refl;
           gates = refl;
+          inputBits = sym (A .inputs e);
+          outputBits = sym (A .outputs e);
           formed = made-formed (small z) lengths widths outputs gates source gs (yes e) (held e y);
         };
   }

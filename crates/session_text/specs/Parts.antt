@@ -55,6 +55,8 @@ pub record NetlistAt (o : Outcome Netlist) (widths outs : List ℕ) (q : Asked) 
   pub inputs : is .inputs ≡ widths
   pub outputs : is .outputs ≡ outs
   pub gates : is .gates ≡ gatesOf t (q .count)
+  pub inputBits : sum widths ≡ q .inputs
+  pub outputBits : sum outs ≡ q .outputs
   pub formed : WellFormed is
 
 -- the first no of an outcome, or 0 where its netlist stands in the tables

@@ -1,3 +1,5 @@
+-- `mask_tables`: a no, or what Mask gives for the tables.
+use Rattle.session_text.proofs.Calling.{masked-fronts, masked-written, masked-refused}
 use native.Mathlib.Omega.{arith}
 use borrow.Author.Needs.{needs}
 use Rattle.session_text.proofs.results.mask_tables.Statement.{statement}
@@ -7,61 +9,47 @@ use Rattle.session_text.proofs.results.mask_tables.Lts as lts
 use Rattle.mask.proofs.ask_lists.Reads as ask-lists-reads
 use Rattle.session_text.proofs.results.copy.Reads as copy-reads
 
--- src/results.rt:95:9
 returns : tie.Need-returns
-returns c = ?
+returns c = let a = c .before .before .before .before .before .before .before .before .before .before .before .args in λ o s. masked-refused (a .codes .now) (a .wanted .now) _ _ (c .if1 .taken) s
 
--- src/results.rt:99:18
 slice-aggregate-copy : tie.Need-slice-aggregate-copy
 slice-aggregate-copy c = search needs
 
--- src/results.rt:99:5
 copy-requires : tie.Need-copy-requires
-copy-requires c κs = ?
+copy-requires c κs = omega (arith, c .before .before .before .before .before .before .before .before .before .before .before .before .pre .0 .fits (c .before .if1 .left) .inputs)
 
--- src/results.rt:100:19
 slice-aggregate-copy-2 : tie.Need-slice-aggregate-copy-2
 slice-aggregate-copy-2 c = search needs
 
--- src/results.rt:100:5
 copy-requires-2 : tie.Need-copy-requires-2
-copy-requires-2 c κs = ?
+copy-requires-2 c κs = c .before .before .before .before .before .before .before .before .before .before .before .before .before .before .before .pre .0 .fits (c .before .before .before .before .if1 .left) .outputs
 
--- src/results.rt:102:16
 cast-t22 : tie.Need-cast-t22
-cast-t22 c = ?
+cast-t22 c = omega (arith, c .before .before .before .before .before .before .before .before .before .before .before .before .before .before .before .before .before .before .pre .0 .fits (c .before .before .before .before .before .before .before .if1 .left) .few)
 
--- src/results.rt:103:17
 add-t23 : tie.Need-add-t23
-add-t23 c = ?
+add-t23 c = omega (arith, c .before .before .before .before .before .before .before .before .before .before .before .before .before .before .before .before .before .before .before .pre .0 .fits (c .before .before .before .before .before .before .before .before .if1 .left) .few)
 
--- src/results.rt:103:16
 cast-t24 : tie.Need-cast-t24
-cast-t24 c = ?
+cast-t24 c = omega (arith, c .before .before .before .before .before .before .before .before .before .before .before .before .before .before .before .before .before .before .before .pre .0 .fits (c .before .before .before .before .before .before .before .before .if1 .left) .few)
 
--- src/results.rt:109:5
 ask-lists-requires : tie.Need-ask-lists-requires
-ask-lists-requires c κs = ?
+ask-lists-requires c κs = let p = c .before .before .before .before .before .before .before .before .before .before .before .before .before .before .before .before .before .before .before .before .before .before .before .pre in let z = c .before .before .before .before .before .before .before .before .before .before .before .before .if1 .left in masked-fronts _ _ (p .0 .fits z) (p .1 z .0) (p .1 z .1)
 
--- src/results.rt:73:1
 same-length : tie.Need-same-length
 same-length c = search needs
 
--- src/results.rt:73:1
 same-length-2 : tie.Need-same-length-2
 same-length-2 c = search needs
 
--- src/results.rt:73:1
 same-length-3 : tie.Need-same-length-3
 same-length-3 c = search needs
 
--- src/results.rt:73:1
 same-length-4 : tie.Need-same-length-4
 same-length-4 c = search needs
 
--- src/results.rt:73:1
 returns-2 : tie.Need-returns-2
-returns-2 c = ?
+returns-2 c = let a = c .before .before .before .before .before .before .before .before .before .before .before .before .before .before .before .before .before .before .before .before .before .before .before .before .before .before .before .before .before .before .before .before .args in λ o s. masked-written (a .codes .now) (a .wanted .now) (c .before .before .before .before .before .before .before .before .before .before .before .before .before .before .before .before .before .before .before .before .before .if1 .left) s (c .before .before .before .before .before .before .before .before .before .before .before .before .before .before .before .before .before .before .before .copy .ensures) (c .before .before .before .before .before .before .before .before .before .before .before .before .before .before .before .before .copy2 .ensures) (c .before .before .before .before .before .before .before .before .ask-lists .ensures)
 
 pub mask-tables-spec : {M : Type 1} → statement M
 mask-tables-spec =

@@ -1,5 +1,4 @@
 -- `text`: the answer, and then zero in the tables.
-use Rattle.clear.proofs.Filled.{zeros-same}
 use native.Mathlib.Omega.{arith}
 use borrow.Author.Needs.{needs}
 use Rattle.session_text.proofs.results.text.Statement.{statement}
@@ -28,13 +27,7 @@ same-length-3 : tie.Need-same-length-3
 same-length-3 c = search needs
 
 returns : tie.Need-returns
-returns c = λ o s.
-    let w = c .before .before .before .before .before .before .before .before .before .before .write in
-    record {
-      answers = w .ensures o s;
-      operands = zeros-same (c .before .before .before .before .before .before .words .ensures) (w .kept .1 .1 .1 .1 .1 .0);
-      results = zeros-same (c .before .before .words2 .ensures) (w .kept .1 .1 .1 .1 .1 .1 .0);
-    }
+returns c = λ o s. record { answers = c .before .before .before .before .before .before .before .before .before .before .write .ensures o s; operands = c .before .before .before .before .before .before .words .ensures; results = c .before .before .words2 .ensures }
 
 pub text-spec : {M : Type 1} → statement M
 text-spec =
