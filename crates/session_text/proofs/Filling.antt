@@ -1,5 +1,5 @@
 -- The records' gates in the tables, record by record.
-use Prim.Native.Nat.{ℕ, suc, _+_, _≤_, _<_}
+use Prim.Native.Nat.{ℕ, suc, _+_, _*_, _^_, _≤_, _<_}
 use mathlib.Core.Path.{_≡_, refl, sym, ap, _∙_, subst}
 use mathlib.Core.Bool.{Bool}
 use mathlib.Core.List.{List, [], _∷_, _++_}
@@ -91,3 +91,10 @@ filled-all {source} {q} {k} {t} {no} f l =
       gates = λ z y. subst (λ (j : ℕ). recordGates (q .inputs) source j ≡ done (gatesOf t j)) e (f .gates z y);
       wired = λ z y. subst (λ (j : ℕ). Wired t (q .inputs + q .count) j) e (f .wired z y);
     }
+
+-- the byte offsets of a record and of a word that are there fit
+pub source-fits : (n i : ℕ) → i < n → n * 28 < 2 ^ 63 → i * 28 < 2 ^ 64
+source-fits n i l r = omega arith
+
+pub word-fits : (n i : ℕ) → i < n → n * 8 < 2 ^ 63 → i * 8 < 2 ^ 64
+word-fits n i l r = omega arith
