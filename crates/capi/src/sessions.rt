@@ -55,7 +55,11 @@ pub extern "C" fn fidrovelj_session_take_off(s: Session, source: &[SourceRecord]
 
 // Gate k, counted from 0: its record, which is blank where there is none.
 #[no_mangle]
-pub extern "C" fn fidrovelj_session_gate(s: Session, k: u32, source: &[SourceRecord]) -> SourceRecord
+pub extern "C" fn fidrovelj_session_gate(
+    s: Session,
+    k: u32,
+    source: &[SourceRecord],
+) -> SourceRecord
     ensures { λ r. ⌜ r ≡ gateShown s k (now (source .entry)) ⌝ }
 {
     let at = place(s, k, source.len());
@@ -111,7 +115,17 @@ pub extern "C" fn fidrovelj_session_masked(
 {
     let a = operands.len();
     let b = results.len();
-    let q = asked(s, widths, outputs, source.len(), a, b, marks.len(), wires.len(), whole);
+    let q = asked(
+        s,
+        widths,
+        outputs,
+        source.len(),
+        a,
+        b,
+        marks.len(),
+        wires.len(),
+        whole,
+    );
     let no = fill(source, q, operands, results);
     masked(
         no,

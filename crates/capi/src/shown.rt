@@ -5,11 +5,14 @@ use gate_records::SourceRecord;
 use session::Session;
 use session_text::asking::Asked;
 ghost use mathlib.Core.Path.{_≡_};
+ghost use mathlib.Core.Bool.{cond};
 ghost use Prim.Native.Nat.{_+_, _≤_};
+ghost use lib.Dec.{ltb};
 ghost use lib.ListN.{length};
 ghost use Rattle.netlist.specs.Netlist.{Netlist};
 ghost use Rattle.netlist.specs.Outcome.{Outcome};
 ghost use Rattle.netlist.specs.Table.{tables};
+ghost use Rattle.gate_records.specs.Records.{blankSource};
 ghost use Rattle.session_text.specs.Parts.{AskedIs, Stands, Ready, TextIs, MaskedIs};
 ghost use Rattle.capi_answers.specs.Number.{sizesOf, Told};
 
@@ -89,7 +92,7 @@ pub fn masked(
 
 // The place of gate k in a list of so many places, or behind its end where there is no such gate.
 pub fn place(s: Session, k: u32, places: usize) -> usize
-    ensures { λ r. ⌜ PlaceIs s k places r ⌝ }
+    ensures { λ r. ⌜ r ≡ cond (ltb k (s .gates)) k places ⌝ }
 {
     if s.gates <= k {
         return places;
