@@ -4,7 +4,6 @@ mod certified;
 mod fewest;
 mod pairs;
 mod sessions;
-mod shown;
 mod wide;
 
 use capi_answers::number;

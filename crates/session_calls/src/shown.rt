@@ -66,8 +66,8 @@ pub fn masked(
     wires: &mut [u32],
     marks: &mut [u8],
 ) -> i64
-    requires { ⌜ Ready (now widths) (now outputs) q (tables (now operands) (now results)) no ⌝ }
-    requires { ⌜ (no ≡ 0 → (q .inputs + q .count ≤ length (now wires)) × (q .inputs + q .count ≤ length (now marks))) ⌝ }
+    requires { ⌜ Ready (now widths) (now outputs) q (tables (now operands) (now results)) no
+        × (no ≡ 0 → (q .inputs + q .count ≤ length (now wires)) × (q .inputs + q .count ≤ length (now marks))) ⌝ }
     ensures { λ r. ⌜ ((o : Outcome Netlist)
         → Stands o (now (widths .entry)) (now (outputs .entry)) q (tables (now (operands .entry)) (now (results .entry))) no
         → Told (MaskedIs o (now (codes .entry)) (now (wanted .entry)) (now (out .entry)) (now (out .exit)) (now («out_codes» .entry))

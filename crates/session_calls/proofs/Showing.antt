@@ -1,15 +1,18 @@
 -- From the parts of a call that shows a session to what it promises.
 use Prim.Native.Nat.{ℕ, _+_, _^_, _≤_, _<_}
-use mathlib.Core.Path.{_≡_, refl, sym, ap, _∙_}
+use mathlib.Core.Path.{_≡_, refl, sym, ap, subst, _∙_}
 use mathlib.Core.Bool.{Bool, true, false, cond}
 use mathlib.Core.List.{List, [], _∷_}
 use native.Mathlib.Omega.{arith}
 use lib.Dec.{ltb}
 use lib.IntN.{ℤ}
-use lib.ListN.{length, getD, replicate, List·getD-eq-default}
+use lib.ListN.{length, getD, take, replicate, length-take, List·getD-eq-default}
+use lib.Seq.{length-sets}
+use Rattle.netlist.specs.declared.Answer.{Answer}
 use Rattle.netlist.specs.declared.Sizes.{Sizes}
 use Rattle.netlist.specs.Netlist.{Netlist, small}
-use Rattle.netlist.specs.Outcome.{Outcome}
+use Rattle.netlist.specs.Outcome.{Outcome, refused, done}
+use Rattle.netlist.specs.Services.{answerOf, Answers}
 use Rattle.netlist.specs.Table.{Tables, tables}
 use Rattle.netlist.proofs.Tests.{onBool}
 use Rattle.gate_records.specs.declared.SourceRecord.{SourceRecord}
@@ -21,23 +24,23 @@ use Rattle.session_text.specs.Parts.{AskedIs, FilledIs, Stands, Ready, TextIs, 
 use Rattle.session_text.specs.Promise.{gateShown, TextPromise, MaskedPromise}
 use Rattle.session_text.proofs.Showing.{stands, fits, third-long, fourth-long}
 use Rattle.session_text.proofs.Calling.{text-promised, masked-promised}
-use Rattle.capi_answers.specs.Number.{Told}
+use Rattle.capi_answers.specs.Number.{Countable, Told}
 
-module _ {z : Sizes} {a b c d : ℕ} {widths outputs : List ℕ} {gates : ℕ} {source : List SourceRecord} {q : Asked} (A : AskedIs z a b c d widths outputs gates (length source) q) where
-  pub count-fits : q .inputs + q .count < 2 ^ 32
-  count-fits = omega (arith, A .few)
+pub count-fits : {z : Sizes} {a b c d : ℕ} {widths outputs : List ℕ} {gates places : ℕ} {q : Asked} → AskedIs z a b c d widths outputs gates places q → q .inputs + q .count < 2 ^ 32
+count-fits A = omega (arith, A .few)
 
-  module _ {t : Tables} {n : ℕ} (F : FilledIs source q t n) where
-    pub ready : Ready widths outputs q t n
-    ready = record { outcome = netlistShown (small z) (a ∷ b ∷ c ∷ d ∷ []) widths outputs gates source; stands = stands A F; fits = fits A F }
+module _ {z : Sizes} {a b c d : ℕ} {widths outputs : List ℕ} {gates : ℕ} {source : List SourceRecord} {q : Asked} {t : Tables} {n : ℕ}
+    (A : AskedIs z a b c d widths outputs gates (length source) q) (F : FilledIs source q t n) where
+  pub ready : Ready widths outputs q t n
+  ready = record { outcome = netlistShown (small z) (a ∷ b ∷ c ∷ d ∷ []) widths outputs gates source; stands = stands A F; fits = fits A F }
 
-    -- the other two tables are long enough: the marks and the wires
-    pub long : n ≡ 0 → (q .inputs + q .count ≤ d) × (q .inputs + q .count ≤ c)
-    long e = (fourth-long A F e, third-long A F e)
+  -- the other two tables are long enough: the wires and the marks
+  pub long : n ≡ 0 → (q .inputs + q .count ≤ d) × (q .inputs + q .count ≤ c)
+  long e = (fourth-long A F e, third-long A F e)
 
 -- a table as long as it was before it was filled
-cleared : {l l₀ l′ : List ℕ} → l′ ≡ replicate (length l) 0 → length l ≡ length l₀ → l′ ≡ replicate (length l₀) 0
-cleared e k = e ∙ ap (λ (n : ℕ). replicate n 0) k
+cleared : (l l₀ : List ℕ) {l′ : List ℕ} → l′ ≡ replicate (length l) 0 → length l ≡ length l₀ → l′ ≡ replicate (length l₀) 0
+cleared l l₀ e k = e ∙ ap (λ (n : ℕ). replicate n 0) k
 
 module _ (s : Session) (source : List SourceRecord) {z : Sizes} {widths outputs : List ℕ} {q : Asked} {n : ℕ} {ops₀ ops res₀ res : List ℕ} where
   pub text-told : {out out′ ops′ res′ : List ℕ} {r : ℤ}
@@ -51,7 +54,7 @@ module _ (s : Session) (source : List SourceRecord) {z : Sizes} {widths outputs 
       let p = B .promise in
       record {
         answer = B .answer;
-        promise = text-promised z widths outputs s source (record { answers = p .answers; operands = cleared (p .operands) lo; results = cleared (p .results) lr });
+        promise = text-promised z widths outputs s source (record { answers = p .answers; operands = cleared ops ops₀ (p .operands) lo; results = cleared res res₀ (p .results) lr });
         told = B .told;
       }
 
@@ -61,7 +64,7 @@ module _ (s : Session) (source : List SourceRecord) {z : Sizes} {widths outputs 
       → ((o : Outcome Netlist) → Stands o widths outputs q (tables ops res) n
       → Told (MaskedIs o codes wanted out out′ oc oc′ ops ops′ res res′ wir wir′ mar mar′) r)
       → Told (MaskedPromise z widths outputs s source codes wanted out out′ oc oc′ ops₀ ops′ res₀ res′ wir wir′ mar mar′) r
-  masked-told {mar = mar} {wir = wir} A F lo lr f =
+  masked-told {wir = wir} {mar = mar} A F lo lr f =
       let lengths = length ops₀ ∷ length res₀ ∷ length mar ∷ length wir ∷ [] in
       let B = f (netlistShown (small z) lengths widths outputs (s .gates) source) (stands A F) in
       let p = B .promise in
@@ -69,13 +72,26 @@ module _ (s : Session) (source : List SourceRecord) {z : Sizes} {widths outputs 
         answer = B .answer;
         promise = masked-promised z widths outputs s source (record {
           answers = p .answers;
-          operands = cleared (p .operands) lo;
-          results = cleared (p .results) lr;
+          operands = cleared ops ops₀ (p .operands) lo;
+          results = cleared res res₀ (p .results) lr;
           wires = p .wires;
           marks = p .marks;
         });
         told = B .told;
       }
+
+-- ---- the number of an answer
+
+-- how many entries a result has is below 2^63, since its buffer has as many
+pub countable : {call : Outcome (List ℕ)} {e x : List ℕ} {a : Answer} → Answers call e x a → length e < 2 ^ 63 → Countable a
+countable {call} {e} {x} {a} h few = subst Countable (sym (h .answer)) (of call h)
+  where
+    of : (o : Outcome (List ℕ)) → Answers o e x a → Countable (answerOf o)
+    of (refused q) k = tt
+    of (done bs) k =
+        let t : done (take (length bs) x) ≡ done bs = rw (k .answer) at (k .outcome) in
+        let b : take (length bs) x ≡ bs = cc in
+        omega (arith, ap length b, length-take (length bs) x, ap length (k .buffer), length-sets e 0 bs)
 
 -- ---- one gate
 
