@@ -34,7 +34,7 @@ same-length-6 : tie.Need-same-length-6
 same-length-6 c = search needs
 
 returns : tie.Need-returns
-returns c = let m = c .before .before .before .before .before .before .before .before .before .before .before .before .before .masked in λ o s. record { answer = m .result; promise = m .ensures o s; told = c .number .ensures }
+returns c = let m = c .before .before .before .before .before .before .before .before .before .before .before .before .before .masked in λ o s. record { answer = m .result; promise = m .ensures o s; told = search needs }
 
 pub masked-spec : {M : Type 1} → statement M
 masked-spec =

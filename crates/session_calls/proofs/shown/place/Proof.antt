@@ -9,10 +9,10 @@ use Rattle.session_calls.proofs.shown.place.Reads as reads
 use Rattle.session_calls.proofs.shown.place.Lts as lts
 
 returns : tie.Need-returns
-returns c = let a = c .before .args in rw (le-ltb (a .k) (a .s .gates) (c .if1 .taken)) refl
+returns c = let a = c .before .before .args in rw (le-ltb (a .k) (a .s .gates) (c .if1 .taken)) refl
 
 returns-2 : tie.Need-returns-2
-returns-2 c = let a = c .before .args in rw (lt-ltb (a .k) (a .s .gates) (omega (arith, c .if1 .left))) refl
+returns-2 c = let a = c .before .before .args in rw (lt-ltb (a .k) (a .s .gates) (omega (arith, c .if1 .left))) refl
 
 pub place-spec : {M : Type 1} → statement M
 place-spec = tie.close (tie.spec returns returns-2)

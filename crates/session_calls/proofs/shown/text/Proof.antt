@@ -25,7 +25,7 @@ same-length-3 : tie.Need-same-length-3
 same-length-3 c = search needs
 
 returns : tie.Need-returns
-returns c = let t = c .before .before .before .before .before .before .before .text in λ o s. record { answer = t .result; promise = t .ensures o s; told = c .number .ensures }
+returns c = let t = c .before .before .before .before .before .before .before .text in λ o s. record { answer = t .result; promise = t .ensures o s; told = search needs }
 
 pub text-spec : {M : Type 1} → statement M
 text-spec =
