@@ -3,10 +3,10 @@ use borrow.Author.Tests.{lt-ltb, le-ltb}
 use mathlib.Core.Path.{refl}
 use borrow.Author.Needs.{needs}
 use native.Mathlib.Omega.{arith}
-use Rattle.session_calls.proofs.shown.place.Statement.{statement}
-use Rattle.session_calls.proofs.shown.place.Tie as tie
-use Rattle.session_calls.proofs.shown.place.Reads as reads
-use Rattle.session_calls.proofs.shown.place.Lts as lts
+use Rattle.capi.proofs.shown.place.Statement.{statement}
+use Rattle.capi.proofs.shown.place.Tie as tie
+use Rattle.capi.proofs.shown.place.Reads as reads
+use Rattle.capi.proofs.shown.place.Lts as lts
 
 returns : tie.Need-returns
 returns c = let a = c .before .before .args in rw (le-ltb (a .k) (a .s .gates) (c .if1 .taken)) refl

@@ -1,10 +1,10 @@
 -- `asked`: with the sizes that the last number chooses.
 use native.Mathlib.Omega.{arith}
 use borrow.Author.Needs.{needs}
-use Rattle.session_calls.proofs.shown.asked.Statement.{statement}
-use Rattle.session_calls.proofs.shown.asked.Tie as tie
-use Rattle.session_calls.proofs.shown.asked.Reads as reads
-use Rattle.session_calls.proofs.shown.asked.Lts as lts
+use Rattle.capi.proofs.shown.asked.Statement.{statement}
+use Rattle.capi.proofs.shown.asked.Tie as tie
+use Rattle.capi.proofs.shown.asked.Reads as reads
+use Rattle.capi.proofs.shown.asked.Lts as lts
 use Rattle.capi_answers.proofs.sizes.Reads as sizes-reads
 use Rattle.session_text.proofs.asking.ask.Reads as ask-reads
 

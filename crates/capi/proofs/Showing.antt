@@ -1,18 +1,15 @@
 -- From the parts of a call that shows a session to what it promises.
 use Prim.Native.Nat.{ℕ, _+_, _^_, _≤_, _<_}
-use mathlib.Core.Path.{_≡_, refl, sym, ap, subst, _∙_}
+use mathlib.Core.Path.{_≡_, refl, sym, ap, _∙_}
 use mathlib.Core.Bool.{Bool, true, false, cond}
 use mathlib.Core.List.{List, [], _∷_}
 use native.Mathlib.Omega.{arith}
 use lib.Dec.{ltb}
 use lib.IntN.{ℤ}
-use lib.ListN.{length, getD, take, replicate, length-take, List·getD-eq-default}
-use lib.Seq.{length-sets}
-use Rattle.netlist.specs.declared.Answer.{Answer}
+use lib.ListN.{length, getD, replicate, List·getD-eq-default}
 use Rattle.netlist.specs.declared.Sizes.{Sizes}
 use Rattle.netlist.specs.Netlist.{Netlist, small}
-use Rattle.netlist.specs.Outcome.{Outcome, refused, done}
-use Rattle.netlist.specs.Services.{answerOf, Answers}
+use Rattle.netlist.specs.Outcome.{Outcome}
 use Rattle.netlist.specs.Table.{Tables, tables}
 use Rattle.netlist.proofs.Tests.{onBool}
 use Rattle.gate_records.specs.declared.SourceRecord.{SourceRecord}
@@ -24,7 +21,7 @@ use Rattle.session_text.specs.Parts.{AskedIs, FilledIs, Stands, Ready, TextIs, 
 use Rattle.session_text.specs.Promise.{gateShown, TextPromise, MaskedPromise}
 use Rattle.session_text.proofs.Showing.{stands, fits, third-long, fourth-long}
 use Rattle.session_text.proofs.Calling.{text-promised, masked-promised}
-use Rattle.capi_answers.specs.Number.{Countable, Told}
+use Rattle.capi_answers.specs.Number.{Told}
 
 pub count-fits : {z : Sizes} {a b c d : ℕ} {widths outputs : List ℕ} {gates places : ℕ} {q : Asked} → AskedIs z a b c d widths outputs gates places q → q .inputs + q .count < 2 ^ 32
 count-fits A = omega (arith, A .few)
@@ -79,19 +76,6 @@ module _ (s : Session) (source : List SourceRecord) {z : Sizes} {widths outputs 
         });
         told = B .told;
       }
-
--- ---- the number of an answer
-
--- how many entries a result has is below 2^63, since its buffer has as many
-pub countable : {call : Outcome (List ℕ)} {e x : List ℕ} {a : Answer} → Answers call e x a → length e < 2 ^ 63 → Countable a
-countable {call} {e} {x} {a} h few = subst Countable (sym (h .answer)) (of call h)
-  where
-    of : (o : Outcome (List ℕ)) → Answers o e x a → Countable (answerOf o)
-    of (refused q) k = tt
-    of (done bs) k =
-        let t : done (take (length bs) x) ≡ done bs = rw (k .answer) at (k .outcome) in
-        let b : take (length bs) x ≡ bs = cc in
-        omega (arith, ap length b, length-take (length bs) x, ap length (k .buffer), length-sets e 0 bs)
 
 -- ---- one gate
 

@@ -56,20 +56,20 @@ use Rattle.session.proofs.Session.Laws as S′
 use Rattle.session_steps.proofs.Writes.{source-fits}
 use Rattle.session_steps.proofs.Answers.{nltb→le}
 use Rattle.session_text.specs.Promise.{gateShown}
-use Rattle.session_calls.proofs.Showing.{gate-there, gate-none}
-use Rattle.session_calls.proofs.shown.place as place
-use Rattle.session_calls.proofs.shown.place.Symbol as place-def
-use Rattle.session_calls.proofs.shown.place.Symbol.{name as #session-calls·shown·place}
-use Rattle.session_calls.proofs.shown.place.Met as place-thm
-use Rattle.session_calls.proofs.shown.blank as blank
-use Rattle.session_calls.proofs.shown.blank.Symbol as blank-def
-use Rattle.session_calls.proofs.shown.blank.Symbol.{name as #session-calls·shown·blank}
-use Rattle.session_calls.proofs.shown.blank.Met as blank-thm
-use Rattle.session_calls.proofs.fidrovelj_session_gate.Key.{name as #session-calls·fidrovelj-session-gate}
-use Rattle.session_calls.proofs.fidrovelj_session_gate as self
-use Rattle.session_calls.proofs.fidrovelj_session_gate.Statement as stated
-use Rattle.session_calls.proofs.fidrovelj_session_gate.Code as code
-use Rattle.session_calls.proofs.fidrovelj_session_gate.Code.Mir as mir-of
+use Rattle.capi.proofs.Showing.{gate-there, gate-none}
+use Rattle.capi.proofs.shown.place as place
+use Rattle.capi.proofs.shown.place.Symbol as place-def
+use Rattle.capi.proofs.shown.place.Symbol.{name as #capi·shown·place}
+use Rattle.capi.proofs.shown.place.Met as place-thm
+use Rattle.capi.proofs.shown.blank as blank
+use Rattle.capi.proofs.shown.blank.Symbol as blank-def
+use Rattle.capi.proofs.shown.blank.Symbol.{name as #capi·shown·blank}
+use Rattle.capi.proofs.shown.blank.Met as blank-thm
+use Rattle.capi.proofs.sessions.fidrovelj_session_gate.Key.{name as #capi·sessions·fidrovelj-session-gate}
+use Rattle.capi.proofs.sessions.fidrovelj_session_gate as self
+use Rattle.capi.proofs.sessions.fidrovelj_session_gate.Statement as stated
+use Rattle.capi.proofs.sessions.fidrovelj_session_gate.Code as code
+use Rattle.capi.proofs.sessions.fidrovelj_session_gate.Code.Mir as mir-of
 
 abbrev stayed : Stays (self.ended .signature .params) (self.ended .kept)
 stayed = (stay-none (λ _. S.the-row) yes, (stay-none (λ _. u32) yes, (stay-none-slice (0 ∷ []) tt (plain (λ _. Q.the-row)) yes, tt)))
@@ -153,7 +153,7 @@ module _ {M : Type 1} (𝓤 : URA M) (H : Heap 𝓤) (A : Atoms 𝓤) (W : Given
   typed : (r : SourceRecord) (u : Val) → Is Q.the-row r (u ∷ []) → Holds (hasTy Q′.mir u) × WT u
   typed r u ir = LL.lawful Q.the-type Q′.the-laws 𝓤 H A W .typed r (u ∷ []) ir .0
 
-  module _ (𝓣 : Tables 𝓤 H) (known-place : Triple 𝓤 (𝓣 .C #session-calls·shown·place) (Place 𝓤 H A mem run)) (known-blank : Triple 𝓤 (𝓣 .C #session-calls·shown·blank) (Blank 𝓤 H A mem run)) where
+  module _ (𝓣 : Tables 𝓤 H) (known-place : Triple 𝓤 (𝓣 .C #capi·shown·place) (Place 𝓤 H A mem run)) (known-blank : Triple 𝓤 (𝓣 .C #capi·shown·blank) (Blank 𝓤 H A mem run)) where
     abbrev C : Calls 𝓤 H
     C = 𝓣 .C
 
@@ -230,7 +230,7 @@ module _ {M : Type 1} (𝓤 : URA M) (H : Heap 𝓤) (A : Atoms 𝓤) (W : Given
         keep ! (20 ∷ 21 ∷ 0 ∷ 1 ∷ 2 ∷ 3 ∷ 4 ∷ 5 ∷ 6 ∷ 7 ∷ 8 ∷ 9 ∷ 10 ∷ 11 ∷ 12 ∷ 13 ∷ 14 ∷ 15 ∷ 16 ∷ 17 ∷ 18 ∷ 19 ∷ []) $
         behind l₀ l₁ l₂ l₃ l₄ l₅ l₆ l₇ l₈ l₉ i ei))))))))))))))
 
-module _ {M : Type 1} (𝓤 : URA M) (H : Heap 𝓤) (A : Atoms 𝓤) (W : Given 𝓤 H A) (mem : Memory → SProp 𝓤) (run : Routine → Fun 𝓤) (𝓣 : Tables 𝓤 H) (known-place : Triple 𝓤 (𝓣 .C #session-calls·shown·place) (Place 𝓤 H A mem run)) (known-blank : Triple 𝓤 (𝓣 .C #session-calls·shown·blank) (Blank 𝓤 H A mem run)) where
+module _ {M : Type 1} (𝓤 : URA M) (H : Heap 𝓤) (A : Atoms 𝓤) (W : Given 𝓤 H A) (mem : Memory → SProp 𝓤) (run : Routine → Fun 𝓤) (𝓣 : Tables 𝓤 H) (known-place : Triple 𝓤 (𝓣 .C #capi·shown·place) (Place 𝓤 H A mem run)) (known-blank : Triple 𝓤 (𝓣 .C #capi·shown·blank) (Blank 𝓤 H A mem run)) where
   self-walks : Walks 𝓤 H A self.ended stayed (WpFn 𝓤 H (𝓣 .C) (𝓣 .Λ) code.function) (self.clauses 𝓤 H A mem run)
   self-walks = walked 𝓤 H A self.ended stayed (self.clauses 𝓤 H A mem run) (WpFn 𝓤 H (𝓣 .C) (𝓣 .Λ) code.function)
       (λ κs. (LL.vals S.the-type S′.the-laws, (uint-vals w32, (slice-vals, tt)))) (λ κs. (LL.tells S.the-type S′.the-laws, (uint-tells w32, (shr-slice-tells (named 0) (κs .0) Q.the-row, tt))))
@@ -245,7 +245,7 @@ pub fidrovelj-session-gate-spec : {M : Type 1} → stated.statement M
 unfolding code.routine tablesOf
 fidrovelj-session-gate-spec 𝓤 H 𝓜 𝓖 𝓡 =
     entered 𝓤 H (tripleOf 𝓤 H (𝓖 .A) self.signature (self.spec 𝓤 H (𝓖 .A) (𝓜 .mem) (𝓡 .run)))
-    (tables 𝓤 H 𝓜 𝓡 code.env .C) (tables 𝓤 H 𝓜 𝓡 code.env .Λ) #session-calls·fidrovelj-session-gate code.function (code.unfolded 𝓤 H 𝓜 𝓡)
+    (tables 𝓤 H 𝓜 𝓡 code.env .C) (tables 𝓤 H 𝓜 𝓡 code.env .Λ) #capi·sessions·fidrovelj-session-gate code.function (code.unfolded 𝓤 H 𝓜 𝓡)
     (self-meets 𝓤 H (𝓖 .A) (givenOf 𝓤 H 𝓜 𝓖) (𝓜 .mem) (𝓡 .run) (tablesOf 𝓤 H 𝓜 (tables 𝓤 H 𝓜 𝓡 code.env))
-    (cited 𝓤 H (Place 𝓤 H (𝓖 .A) (𝓜 .mem) (𝓡 .run)) 𝓜 𝓡 code.env #session-calls·shown·place place-def.routine code.calls-session-calls·shown·place (place-thm.met 𝓤 H 𝓜 𝓖 𝓡))
-    (cited 𝓤 H (Blank 𝓤 H (𝓖 .A) (𝓜 .mem) (𝓡 .run)) 𝓜 𝓡 code.env #session-calls·shown·blank blank-def.routine code.calls-session-calls·shown·blank (blank-thm.met 𝓤 H 𝓜 𝓖 𝓡)))
+    (cited 𝓤 H (Place 𝓤 H (𝓖 .A) (𝓜 .mem) (𝓡 .run)) 𝓜 𝓡 code.env #capi·shown·place place-def.routine code.calls-capi·shown·place (place-thm.met 𝓤 H 𝓜 𝓖 𝓡))
+    (cited 𝓤 H (Blank 𝓤 H (𝓖 .A) (𝓜 .mem) (𝓡 .run)) 𝓜 𝓡 code.env #capi·shown·blank blank-def.routine code.calls-capi·shown·blank (blank-thm.met 𝓤 H 𝓜 𝓖 𝓡)))
