@@ -2056,6 +2056,88 @@ fidrovelj_step baseline_session_take_off(fidrovelj_session session, const fidrov
     return (fidrovelj_step){{gates, gates < source_len ? source[gates].from : 0}, 0};
 }
 
+fidrovelj_source_gate baseline_session_gate(fidrovelj_session session, uint32_t gate, const fidrovelj_source_gate *source,
+                                            size_t source_len)
+{
+    return gate < session.gates && gate < source_len ? source[gate] : (fidrovelj_source_gate){0};
+}
+
+/* Questions 4 to 9 of a session's records, which go into the tables: 0, or the number of the first with a no. */
+static int read_records(const struct limits *l, fidrovelj_session session, const uint32_t *inputs, size_t inputs_len,
+                        const uint32_t *outputs, size_t outputs_len, const fidrovelj_source_gate *source, size_t source_len,
+                        struct header *h, uint64_t *operands, uint64_t *results)
+{
+    if (read_widths(inputs, inputs_len, &h->in) != 0 || read_widths(outputs, outputs_len, &h->out) != 0)
+        return 4;
+    if (inputs_len > l->inputs || outputs_len > l->outputs || h->in.bits + session.gates > l->wires
+        || h->out.bits > h->in.bits + session.gates)
+        return 5;
+    if (session.gates > source_len)
+        return 6;
+    h->gates = session.gates;
+    h->wires = (uint32_t)h->in.bits + session.gates;
+    for (uint32_t i = 0; i < h->gates; i++) {
+        fidrovelj_gate g = {source[i].kind, source[i].first, source[i].second, source[i].result};
+        int no = ask_record(g, (uint32_t)h->in.bits + i);
+        if (no != 0)
+            return no;
+        uint32_t kind = table_kind(g), a = kind < EQ0 ? g.first : 0, b = kind < INV ? g.second : a;
+        operands[i] = pair(a, b);
+        results[i] = pair(g.result, kind);
+    }
+    return 0;
+}
+
+int64_t baseline_session_text(fidrovelj_session session,
+                              const uint32_t *inputs, size_t inputs_len,
+                              const uint32_t *outputs, size_t outputs_len,
+                              const fidrovelj_source_gate *source, size_t source_len,
+                              uint8_t *out, size_t out_len,
+                              uint64_t *operands, size_t operands_len,
+                              uint64_t *results, size_t results_len,
+                              uint8_t sizes)
+{
+    const struct limits *l = &small_limits[sizes != 0];
+    struct header h;
+    int64_t answer = -1;
+    if (operands_len >= l->table && results_len >= l->table)
+        answer = -read_records(l, session, inputs, inputs_len, outputs, outputs_len, source, source_len, &h, operands, results);
+    if (answer == 0)
+        answer = rewrite(&h, operands, results, out, out_len);
+    memset(operands, 0, operands_len * sizeof *operands);
+    memset(results, 0, results_len * sizeof *results);
+    return answer;
+}
+
+int64_t baseline_session_masked(fidrovelj_session session,
+                                const uint32_t *inputs, size_t inputs_len,
+                                const uint32_t *outputs, size_t outputs_len,
+                                const fidrovelj_source_gate *source, size_t source_len,
+                                const uint8_t *codes, size_t codes_len,
+                                const uint8_t *wanted, size_t wanted_len,
+                                uint8_t *out, size_t out_len,
+                                uint8_t *out_codes, size_t out_codes_len,
+                                uint64_t *operands, size_t operands_len,
+                                uint64_t *results, size_t results_len,
+                                uint32_t *wires, size_t wires_len,
+                                uint8_t *marks, size_t marks_len,
+                                uint8_t sizes)
+{
+    const struct limits *l = &small_limits[sizes != 0];
+    struct header h;
+    int64_t answer = -1;
+    if (operands_len >= l->table && results_len >= l->table && wires_len >= l->table && marks_len >= l->table)
+        answer = -read_records(l, session, inputs, inputs_len, outputs, outputs_len, source, source_len, &h, operands, results);
+    if (answer == 0)
+        answer = mask(&h, operands, results, wires, marks, codes, codes_len, wanted, wanted_len, out, out_len,
+                      out_codes, out_codes_len);
+    memset(operands, 0, operands_len * sizeof *operands);
+    memset(results, 0, results_len * sizeof *results);
+    memset(wires, 0, wires_len * sizeof *wires);
+    memset(marks, 0, marks_len);
+    return answer;
+}
+
 /* ---- Join */
 
 /* Question 25. */

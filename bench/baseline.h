@@ -83,6 +83,32 @@ fidrovelj_step baseline_session_add(fidrovelj_session session, fidrovelj_gate ga
 
 fidrovelj_step baseline_session_take_off(fidrovelj_session session, const fidrovelj_source_gate *source, size_t source_len);
 
+fidrovelj_source_gate baseline_session_gate(fidrovelj_session session, uint32_t gate, const fidrovelj_source_gate *source,
+                                            size_t source_len);
+
+int64_t baseline_session_text(fidrovelj_session session,
+                              const uint32_t *inputs, size_t inputs_len,
+                              const uint32_t *outputs, size_t outputs_len,
+                              const fidrovelj_source_gate *source, size_t source_len,
+                              uint8_t *out, size_t out_len,
+                              uint64_t *operands, size_t operands_len,
+                              uint64_t *results, size_t results_len,
+                              uint8_t sizes);
+
+int64_t baseline_session_masked(fidrovelj_session session,
+                                const uint32_t *inputs, size_t inputs_len,
+                                const uint32_t *outputs, size_t outputs_len,
+                                const fidrovelj_source_gate *source, size_t source_len,
+                                const uint8_t *codes, size_t codes_len,
+                                const uint8_t *wanted, size_t wanted_len,
+                                uint8_t *out, size_t out_len,
+                                uint8_t *out_codes, size_t out_codes_len,
+                                uint64_t *operands, size_t operands_len,
+                                uint64_t *results, size_t results_len,
+                                uint32_t *wires, size_t wires_len,
+                                uint8_t *marks, size_t marks_len,
+                                uint8_t sizes);
+
 int64_t baseline_check(const uint8_t *text, size_t text_len,
                        const uint8_t *codes, size_t codes_len,
                        uint64_t *leak, size_t leak_len,

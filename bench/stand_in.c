@@ -113,6 +113,44 @@ fidrovelj_step fidrovelj_session_take_off(fidrovelj_session session, const fidro
     return baseline_session_take_off(session, source, source_len);
 }
 
+fidrovelj_source_gate fidrovelj_session_gate(fidrovelj_session session, uint32_t gate, const fidrovelj_source_gate *source,
+                                             size_t source_len)
+{
+    return baseline_session_gate(session, gate, source, source_len);
+}
+
+int64_t fidrovelj_session_text(fidrovelj_session session,
+                               const uint32_t *inputs, size_t inputs_len,
+                               const uint32_t *outputs, size_t outputs_len,
+                               const fidrovelj_source_gate *source, size_t source_len,
+                               uint8_t *out, size_t out_len,
+                               uint64_t *operands, size_t operands_len,
+                               uint64_t *results, size_t results_len,
+                               uint8_t sizes)
+{
+    return baseline_session_text(session, inputs, inputs_len, outputs, outputs_len, source, source_len, out, out_len,
+                                 operands, operands_len, results, results_len, sizes);
+}
+
+int64_t fidrovelj_session_masked(fidrovelj_session session,
+                                 const uint32_t *inputs, size_t inputs_len,
+                                 const uint32_t *outputs, size_t outputs_len,
+                                 const fidrovelj_source_gate *source, size_t source_len,
+                                 const uint8_t *codes, size_t codes_len,
+                                 const uint8_t *wanted, size_t wanted_len,
+                                 uint8_t *out, size_t out_len,
+                                 uint8_t *out_codes, size_t out_codes_len,
+                                 uint64_t *operands, size_t operands_len,
+                                 uint64_t *results, size_t results_len,
+                                 uint32_t *wires, size_t wires_len,
+                                 uint8_t *marks, size_t marks_len,
+                                 uint8_t sizes)
+{
+    return baseline_session_masked(session, inputs, inputs_len, outputs, outputs_len, source, source_len, codes,
+                                   codes_len, wanted, wanted_len, out, out_len, out_codes, out_codes_len, operands,
+                                   operands_len, results, results_len, wires, wires_len, marks, marks_len, sizes);
+}
+
 int64_t fidrovelj_check(const uint8_t *text, size_t text_len,
                         const uint8_t *codes, size_t codes_len,
                         uint64_t *leak, size_t leak_len,

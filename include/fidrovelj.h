@@ -424,6 +424,38 @@ fidrovelj_step fidrovelj_session_add(fidrovelj_session session, fidrovelj_gate g
 fidrovelj_step fidrovelj_session_take_off(fidrovelj_session session,
                                           const fidrovelj_source_gate *source, size_t source_len);
 
+/* Gate number gate, counted from 0: its record. Where there is no such gate, all of it is 0; no gate has kind 0. */
+fidrovelj_source_gate fidrovelj_session_gate(fidrovelj_session session, uint32_t gate,
+                                             const fidrovelj_source_gate *source, size_t source_len);
+
+/* The session's netlist in the written form, at the front of out: how many bytes it has. inputs are the widths of the input values,
+ * outputs those of the output values, whose bits are the last wires. Questions 1, 4 and 5 with Mask's limits, 6 (are there as many records
+ * as gates?), 7 to 9 of each record, as adding puts them, and 14. The records that an opening and steps made get a yes to 6 to 9. */
+int64_t fidrovelj_session_text(fidrovelj_session session,
+                               const uint32_t *inputs, size_t inputs_len,
+                               const uint32_t *outputs, size_t outputs_len,
+                               const fidrovelj_source_gate *source, size_t source_len,
+                               uint8_t *out, size_t out_len,
+                               uint64_t *operands, size_t operands_len,
+                               uint64_t *results, size_t results_len,
+                               uint8_t sizes);
+
+/* What fidrovelj_mask gives for that text: how many bytes the masked text has, and the code of each output bit at the front of
+ * out_codes. codes has a code for each input bit, wanted one for each output bit. The same questions, with 11 and 13 before 14. */
+int64_t fidrovelj_session_masked(fidrovelj_session session,
+                                 const uint32_t *inputs, size_t inputs_len,
+                                 const uint32_t *outputs, size_t outputs_len,
+                                 const fidrovelj_source_gate *source, size_t source_len,
+                                 const uint8_t *codes, size_t codes_len,
+                                 const uint8_t *wanted, size_t wanted_len,
+                                 uint8_t *out, size_t out_len,
+                                 uint8_t *out_codes, size_t out_codes_len,
+                                 uint64_t *operands, size_t operands_len,
+                                 uint64_t *results, size_t results_len,
+                                 uint32_t *wires, size_t wires_len,
+                                 uint8_t *marks, size_t marks_len,
+                                 uint8_t sizes);
+
 #ifdef __cplusplus
 }
 #endif

@@ -511,6 +511,79 @@ static int taken_off(fidrovelj_session *session)
     return settled(session, fidrovelj_session_take_off(*session, source_list, PLACES));
 }
 
+/* The session's text, once the tables are seen to be zero and the records as they were. */
+static int64_t shown(fidrovelj_session session, const uint32_t *inputs, size_t values, const uint32_t *outputs, size_t out_values,
+                     size_t places, size_t room)
+{
+    fill();
+    int64_t answer = fidrovelj_session_text(session, inputs, values, outputs, out_values, source_list, places, out, room, operands,
+                                            LARGE, results, LARGE, FIDROVELJ_OLD);
+    expect(all(operands, sizeof operands, 0) && all(results, sizeof results, 0), "a session's tables are zero");
+    expect_untouched(answer > 0 ? (size_t)answer : 0, 0, "a session's text touches its result alone");
+    return answer;
+}
+
+static int64_t shown_masked(fidrovelj_session session, const uint32_t *inputs, size_t values, const uint32_t *outputs,
+                            size_t out_values, const char *codes, const char *wanted, size_t room, size_t code_room)
+{
+    uint8_t wanted_codes[64];
+    fill();
+    memcpy(wanted_codes, entries(wanted), strlen(wanted));
+    int64_t answer = fidrovelj_session_masked(session, inputs, values, outputs, out_values, source_list, PLACES, entries(codes),
+                                              strlen(codes), wanted_codes, strlen(wanted), out, room, list_out, code_room, operands,
+                                              LARGE, results, LARGE, wires, LARGE, given, LARGE, FIDROVELJ_OLD);
+    expect(all(operands, sizeof operands, 0) && all(results, sizeof results, 0) && all(given, sizeof given, 0)
+               && all(wires, sizeof wires, 0),
+           "a session's tables are zero");
+    expect_untouched(answer > 0 ? (size_t)answer : 0, answer > 0 ? strlen(wanted) : 0, "a masked text touches its results alone");
+    return answer;
+}
+
+/* What a session with an AND and an inverter shows. */
+static void session_texts(fidrovelj_session s)
+{
+    static const uint32_t bits[] = {1, 1}, one[] = {1}, none[] = {0}, many[17] = {0}, all_wires[] = {1, 3}, more[] = {5}, huge[] = {UINT32_MAX, 1};
+    static const char text[] = "2 4\n2 1 1\n1 1\n\n2 1 0 1 2 AND\n1 1 2 3 INV\n";
+    fidrovelj_source_gate last = fidrovelj_session_gate(s, 1, source_list, PLACES), blank = fidrovelj_session_gate(s, 2, source_list, PLACES);
+    expect(last.kind == FIDROVELJ_INV && last.first == 2 && last.second == 0 && last.result == 3 && last.wire == 14 && last.from == 10
+               && last.code == 1,
+           "the record of gate 1");
+    expect(blank.kind == 0 && blank.result == 0 && blank.wire == 0 && blank.code == 0, "no gate 2: a blank record");
+    expect(fidrovelj_session_gate(s, 1, source_list, 1).kind == 0, "nor one behind the list's end");
+
+    expect(text_is(shown(s, bits, 2, one, 1, PLACES, ROOM), text), "the session's text");
+    expect(shown(s, bits, 2, one, 1, PLACES, sizeof text - 1) == sizeof text - 1, "an exact fit");
+    expect(shown(s, bits, 2, one, 1, PLACES, sizeof text - 2) == -14, "a buffer a byte short: 14");
+    expect(shown(s, bits, 2, all_wires, 2, PLACES, ROOM) > 0, "all wires put out");
+    expect(shown(s, bits, 0, one, 1, PLACES, ROOM) == -4 && shown(s, bits, 2, none, 1, PLACES, ROOM) == -4, "no values, a width of 0: 4");
+    expect(shown(s, bits, 2, more, 1, PLACES, ROOM) == -5 && shown(s, huge, 2, one, 1, PLACES, ROOM) == -5, "too many bits: 5");
+    expect(shown(s, bits, 2, many, 17, PLACES, ROOM) == -4, "4 before 5");
+    expect(shown(s, bits, 2, one, 1, 1, ROOM) == -6, "fewer records than gates: 6");
+    expect(shown(s, one, 1, one, 1, PLACES, ROOM) == -8, "an operand that is no wire yet under other widths: 8");
+    expect(shown(s, all_wires, 2, one, 1, PLACES, ROOM) == -9, "a result that is not the next wire: 9");
+    expect(fidrovelj_session_text(s, bits, 2, one, 1, source_list, PLACES, out, ROOM, operands, FIDROVELJ_SMALL_TABLE, results,
+                                  FIDROVELJ_SMALL_TABLE - 1, FIDROVELJ_OLD) == -1,
+           "a session's text, question 1");
+
+    int64_t size = shown_masked(s, bits, 2, one, 1, "12", "0", ROOM, LARGE);
+    static uint8_t kept[ROOM];
+    memcpy(kept, out, sizeof kept);
+    expect(size > 0 && list_out[0] == 1 && mask(text, "12", "0", ROOM, LARGE) == size && memcmp(kept, out, (size_t)size) == 0,
+           "what Mask gives for the text");
+    expect(shown_masked(s, bits, 2, one, 1, "12", "0", (size_t)size - 1, LARGE) == -14, "a masked text a byte short: 14");
+    expect(shown_masked(s, bits, 2, one, 1, "12", "0", ROOM, 0) == -14, "no room for the output codes: 14");
+    expect(shown_masked(s, bits, 2, one, 1, "14", "0", ROOM, LARGE) == -11 && shown_masked(s, bits, 2, one, 1, "1", "9", ROOM, LARGE) == -11,
+           "a code of 4, 11 before 13");
+    expect(shown_masked(s, bits, 2, one, 1, "12", "4", ROOM, LARGE) == -13 && shown_masked(s, bits, 2, one, 1, "12", "", ROOM, 0) == -13,
+           "a wanted code of 4, 13 before 14");
+    expect(shown_masked(s, bits, 2, none, 1, "1", "", ROOM, 0) == -4, "4 before 11");
+
+    /* A record that no step made: question 7. */
+    source_list[1].kind = 6;
+    expect(shown(s, bits, 2, one, 1, PLACES, ROOM) == -7, "an unknown kind: 7");
+    source_list[1].kind = FIDROVELJ_INV;
+}
+
 static void sessions(void)
 {
     static const uint32_t bits[] = {1, 1}, none[] = {1, 0}, wide[] = {2048, 1};
@@ -540,7 +613,9 @@ static void sessions(void)
     expect(source_list[0].wire == 13 && source_list[0].code == 1 && source_list[0].from == 3, "its twin");
     expect(added(&s, and, "12", PLACES, 20) == 9, "the same gate again: 9");
 
-    expect(added(&s, inverter, "12", PLACES, 20) == 0 && added(&s, xor, "12", PLACES, 20) == 0, "two gates more");
+    expect(added(&s, inverter, "12", PLACES, 20) == 0, "an inverter");
+    session_texts(s);
+    expect(added(&s, xor, "12", PLACES, 20) == 0, "an XOR");
     expect(s.gates == 3 && s.masked == 13, "the XOR of one code changes a mask");
     expect(taken_off(&s) == 0 && s.gates == 2 && s.masked == 11, "the XOR taken off with its mask change");
     expect(taken_off(&s) == 0 && taken_off(&s) == 0 && s.gates == 0 && s.masked == 3, "all taken off");

@@ -60,8 +60,8 @@ pub use join::{join, join_lent};
 pub use old::{from_old, from_old_lent, to_old, to_old_lent};
 pub use pairs::{check_pairs, check_pairs_lent, Pairs};
 pub use session::{
-    session_add_lent, session_open_lent, session_take_off_lent, Gate, GateRecord, Session, SessionState,
-    SourceGate,
+    session_add_lent, session_gate_lent, session_masked_lent, session_open_lent, session_take_off_lent,
+    session_text_lent, Gate, GateRecord, Session, SessionState, SourceGate,
 };
 pub use tables::{Sizes, Tables};
 pub use twins::{twins, twins_lent, Twin};

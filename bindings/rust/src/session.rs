@@ -1,6 +1,7 @@
 //! Sessions: gates added and taken off.
 
-use crate::{mask, rewrite, Masked, Refused, Sizes, Tables};
+use crate::lent::answer;
+use crate::{Masked, Refused, Sizes, Tables};
 
 /// A gate of a session, as the library's lists hold it: a kind, the operands and the result wire.
 #[repr(C)]
@@ -81,6 +82,57 @@ extern "C" {
         source: *const SourceGate,
         source_len: usize,
     ) -> Step;
+
+    fn fidrovelj_session_gate(
+        session: SessionState,
+        gate: u32,
+        source: *const SourceGate,
+        source_len: usize,
+    ) -> SourceGate;
+
+    fn fidrovelj_session_text(
+        session: SessionState,
+        inputs: *const u32,
+        inputs_len: usize,
+        outputs: *const u32,
+        outputs_len: usize,
+        source: *const SourceGate,
+        source_len: usize,
+        out: *mut u8,
+        out_len: usize,
+        operands: *mut u64,
+        operands_len: usize,
+        results: *mut u64,
+        results_len: usize,
+        sizes: u8,
+    ) -> i64;
+
+    fn fidrovelj_session_masked(
+        session: SessionState,
+        inputs: *const u32,
+        inputs_len: usize,
+        outputs: *const u32,
+        outputs_len: usize,
+        source: *const SourceGate,
+        source_len: usize,
+        codes: *const u8,
+        codes_len: usize,
+        wanted: *const u8,
+        wanted_len: usize,
+        out: *mut u8,
+        out_len: usize,
+        out_codes: *mut u8,
+        out_codes_len: usize,
+        operands: *mut u64,
+        operands_len: usize,
+        results: *mut u64,
+        results_len: usize,
+        wires: *mut u32,
+        wires_len: usize,
+        marks: *mut u8,
+        marks_len: usize,
+        sizes: u8,
+    ) -> i64;
 }
 
 /// A step's answer: the session behind it, or the question and the session that the call gave with it.
@@ -146,6 +198,97 @@ pub fn session_take_off_lent(
 ) -> Result<SessionState, (Refused, SessionState)> {
     // SAFETY: as in `session_open_lent`.
     step(unsafe { fidrovelj_session_take_off(session, source.as_ptr(), source.len()) })
+}
+
+/// Gate number `gate`, counted from 0, or nothing where there is no such gate.
+pub fn session_gate_lent(session: SessionState, gate: u32, source: &[SourceGate]) -> Option<SourceGate> {
+    // SAFETY: as in `session_open_lent`.
+    let record = unsafe { fidrovelj_session_gate(session, gate, source.as_ptr(), source.len()) };
+    // What stands nowhere has kind 0, and no gate has.
+    (record.kind != 0).then_some(record)
+}
+
+/// Writes the session's netlist to `out` in the written form, with input and output values of these widths: its length.
+/// Question 1 asks [`Sizes::small`] entries of each table.
+#[allow(clippy::too_many_arguments)]
+pub fn session_text_lent(
+    session: SessionState,
+    inputs: &[u32],
+    outputs: &[u32],
+    source: &[SourceGate],
+    out: &mut [u8],
+    operands: &mut [u64],
+    results: &mut [u64],
+    sizes: Sizes,
+) -> Result<usize, Refused> {
+    // SAFETY: as in `session_open_lent`.
+    answer(unsafe {
+        fidrovelj_session_text(
+            session,
+            inputs.as_ptr(),
+            inputs.len(),
+            outputs.as_ptr(),
+            outputs.len(),
+            source.as_ptr(),
+            source.len(),
+            out.as_mut_ptr(),
+            out.len(),
+            operands.as_mut_ptr(),
+            operands.len(),
+            results.as_mut_ptr(),
+            results.len(),
+            sizes as u8,
+        )
+    })
+}
+
+/// Writes what [`mask`](crate::mask) gives for that text to `out`, and the code of each output bit to `out_codes`: the masked
+/// text's length.
+#[allow(clippy::too_many_arguments)]
+pub fn session_masked_lent(
+    session: SessionState,
+    inputs: &[u32],
+    outputs: &[u32],
+    source: &[SourceGate],
+    codes: &[u8],
+    wanted: &[u8],
+    out: &mut [u8],
+    out_codes: &mut [u8],
+    operands: &mut [u64],
+    results: &mut [u64],
+    wires: &mut [u32],
+    marks: &mut [u8],
+    sizes: Sizes,
+) -> Result<usize, Refused> {
+    // SAFETY: as in `session_open_lent`.
+    answer(unsafe {
+        fidrovelj_session_masked(
+            session,
+            inputs.as_ptr(),
+            inputs.len(),
+            outputs.as_ptr(),
+            outputs.len(),
+            source.as_ptr(),
+            source.len(),
+            codes.as_ptr(),
+            codes.len(),
+            wanted.as_ptr(),
+            wanted.len(),
+            out.as_mut_ptr(),
+            out.len(),
+            out_codes.as_mut_ptr(),
+            out_codes.len(),
+            operands.as_mut_ptr(),
+            operands.len(),
+            results.as_mut_ptr(),
+            results.len(),
+            wires.as_mut_ptr(),
+            wires.len(),
+            marks.as_mut_ptr(),
+            marks.len(),
+            sizes as u8,
+        )
+    })
 }
 
 /// A gate for a [`Session`]: its operands. Its result is the next wire.
@@ -276,36 +419,54 @@ impl Session {
         &self.masked[..self.state.masked as usize]
     }
 
-    /// The netlist, in the written form, with output values of these widths: their bits are the last wires. It is what
-    /// [`rewrite`](crate::rewrite) gives for it, under the limits of `tables`: widths that are none or 0 are refused by 4,
-    /// too many values or bits by 5.
+    /// Gate number `gate`, counted from 0, or nothing where there is no such gate.
+    pub fn gate(&self, gate: u32) -> Option<SourceGate> {
+        session_gate_lent(self.state, gate, &self.source)
+    }
+
+    /// The netlist, in the written form, with output values of these widths: their bits are the last wires. Widths that are
+    /// none or 0 are refused by 4, too many values or bits by 5. The tables are to be of the session's sizes, or larger: else 1.
     pub fn text(&self, outputs: &[u32], tables: &mut Tables) -> Result<Vec<u8>, Refused> {
-        rewrite(self.lines(outputs).as_bytes(), tables)
+        let t = tables;
+        let small = self.small(t);
+        let length = session_text_lent(
+            self.state,
+            &self.widths,
+            outputs,
+            &self.source,
+            &mut t.text,
+            &mut t.operands[..small],
+            &mut t.results[..small],
+            self.sizes,
+        )?;
+        Ok(t.text[..length].to_vec())
     }
 
-    /// What [`mask`](crate::mask) gives for that netlist, with a wanted code, 0 to 3, for each output bit.
+    /// What [`mask`](crate::mask) gives for that netlist, with a wanted code, 0 to 3, for each output bit: other lists are
+    /// refused by 13.
     pub fn masked(&self, outputs: &[u32], wanted: &[u8], tables: &mut Tables) -> Result<Masked, Refused> {
-        mask(self.lines(outputs).as_bytes(), &self.codes, wanted, tables)
+        let t = tables;
+        let small = self.small(t);
+        let length = session_masked_lent(
+            self.state,
+            &self.widths,
+            outputs,
+            &self.source,
+            &self.codes,
+            wanted,
+            &mut t.text,
+            &mut t.bits,
+            &mut t.operands[..small],
+            &mut t.results[..small],
+            &mut t.wires[..small],
+            &mut t.marks[..small],
+            self.sizes,
+        )?;
+        Ok(Masked { text: t.text[..length].to_vec(), codes: t.bits[..wanted.len()].to_vec() })
     }
 
-    /// The netlist's lines.
-    fn lines(&self, outputs: &[u32]) -> String {
-        let values = |widths: &[u32]| {
-            let each: String = widths.iter().map(|width| format!(" {width}")).collect();
-            format!("{}{each}", widths.len())
-        };
-        let mut text = format!("{} {}\n", self.state.gates, self.wires());
-        text += &format!("{}\n{}\n\n", values(&self.widths), values(outputs));
-        for gate in self.gates() {
-            let SourceGate { first, second, result, .. } = *gate;
-            text += &match Gate::of(gate) {
-                Gate::Xor(..) => format!("2 1 {first} {second} {result} XOR\n"),
-                Gate::And(..) => format!("2 1 {first} {second} {result} AND\n"),
-                Gate::Inv(_) => format!("1 1 {first} {result} INV\n"),
-                Gate::Eqw(_) => format!("1 1 {first} {result} EQW\n"),
-                Gate::Eq(_) => format!("1 1 {first} {result} EQ\n"),
-            };
-        }
-        text
+    /// How many entries of each table a call gets: as many as the session's sizes ask, or all where there are fewer.
+    fn small(&self, tables: &Tables) -> usize {
+        self.sizes.small().min(tables.wires.len())
     }
 }

@@ -12,8 +12,8 @@ use calls::netlists::widths;
 use calls::random::Random;
 use calls::{circuits, netlists};
 use fidrovelj::{
-    check, mask, session_add_lent, session_open_lent, session_take_off_lent, twins, GateRecord, Refused,
-    Session, SessionState, SourceGate, Tables,
+    check, mask, rewrite, session_add_lent, session_gate_lent, session_masked_lent, session_open_lent,
+    session_take_off_lent, session_text_lent, twins, GateRecord, Masked, Refused, Session, SessionState, SourceGate, Tables,
 };
 use reference::ask;
 use reference::netlist::{read, Gate, Netlist, Sizes, LARGE, SMALL};
@@ -305,8 +305,69 @@ fn numbers(widths: &[usize]) -> Vec<u32> {
 
 // ---- looking at a session
 
-/// The masked gates are those that Mask writes for the present netlist, before the copies of its output bits.
-fn look(random: &mut Random, name: &str, lent: &Lent, model: &Model, tables: &mut Tables) {
+/// The tables and buffers of a look, with lengths that are asked for, or one less; full of rubbish.
+struct Look {
+    operands: Vec<u64>,
+    results: Vec<u64>,
+    wires: Vec<u32>,
+    marks: Vec<u8>,
+    text: Vec<u8>,
+    codes: Vec<u8>,
+}
+
+impl Look {
+    fn new(random: &mut Random, text: usize, codes: usize) -> Look {
+        let mut length = || SMALL.wires - usize::from(random.percent(1));
+        Look {
+            operands: vec![u64::MAX; length()],
+            results: vec![7; length()],
+            wires: vec![9; length()],
+            marks: vec![5; length()],
+            text: vec![0xA5; text],
+            codes: vec![0xA5; codes],
+        }
+    }
+
+    fn assert_zero(&self, name: &str) {
+        let words = self.operands.iter().chain(&self.results).all(|&entry| entry == 0);
+        let others = self.wires.iter().all(|&entry| entry == 0) && self.marks.iter().all(|&entry| entry == 0);
+        assert!(words && others, "{name}: the tables are zero");
+    }
+
+    /// A buffer holds the result alone, and is as it was behind it.
+    fn assert_front(name: &str, buffer: &[u8], result: &[u8]) {
+        assert!(buffer.starts_with(result), "{name}: the result");
+        assert!(buffer[result.len()..].iter().all(|&byte| byte == 0xA5), "{name}: behind the result");
+    }
+}
+
+/// The first no of a session's text, by the definition: 1, 4, 5, 6, and 7 to 9 record by record.
+fn records_read(
+    tables: &[usize],
+    widths: &[u32],
+    outputs: &[u32],
+    state: SessionState,
+    source: &[SourceGate],
+) -> Result<Netlist, u8> {
+    ask(1, tables.iter().all(|&length| length >= SMALL.wires))?;
+    ask(4, [widths, outputs].iter().all(|values| !values.is_empty() && values.iter().all(|&width| width >= 1)))?;
+    let sum = |values: &[u32]| values.iter().map(|&width| width as usize).sum::<usize>();
+    let (n, gates) = (sum(widths), state.gates as usize);
+    ask(5, n + gates <= SMALL.wires && widths.len() <= 16 && outputs.len() <= 16 && sum(outputs) <= n + gates)?;
+    ask(6, gates <= source.len())?;
+    let lengths = |values: &[u32]| values.iter().map(|&width| width as usize).collect::<Vec<_>>();
+    let mut model = Model { sizes: Sizes::Old, widths: lengths(widths), codes: vec![1; n], gates: Vec::new() };
+    for &SourceGate { kind, first, second, result, .. } in &source[..gates] {
+        let gate = model.asked(&GateRecord { kind, first, second, result })?;
+        model.gates.push(gate);
+    }
+    Ok(model.netlist(&lengths(outputs)))
+}
+
+/// What a session shows: its text is what Rewrite gives for the present netlist, its masked text what Mask gives, its masked
+/// gates those of the masked text before the copies of the output bits. Now and then records, widths or lists are damaged:
+/// then the answer is the defined one.
+fn look(random: &mut Random, name: &str, lent: &Lent, model: &Model, tables: &mut Tables) -> u8 {
     let bits = random.between(1, model.wires().min(9));
     let outputs = widths(random, bits, 16);
     let (text, wanted) = (model.netlist(&outputs).write(), random.list(bits, 0, 3));
@@ -314,6 +375,74 @@ fn look(random: &mut Random, name: &str, lent: &Lent, model: &Model, tables: &mu
     let gates = read(&LARGE, &afresh.text).expect("a masked text is good").gates;
     let gates: Vec<GateRecord> = gates[..gates.len() - bits].iter().map(record_of).collect();
     assert_eq!(lent.masked[..lent.state.masked as usize], gates, "{name}: by Mask");
+    assert_eq!(rewrite(&text, tables).as_ref(), Ok(&text), "{name}: by Rewrite");
+
+    let (mut inputs, mut outputs) = (numbers(&model.widths), numbers(&outputs));
+    let (mut state, mut source) = (lent.state, lent.source[..lent.places].to_vec());
+    let (mut codes, mut wanted) = (model.codes.clone(), wanted);
+    for _ in 0..random.pick(&[0, 0, 0, 1, 1, 2]) {
+        let near = random.pick(&[0, 1, 5, 6, u32::MAX, model.wires() as u32]);
+        let place = random.below(state.gates.clamp(1, 60) as usize);
+        match random.below(11) {
+            0 => inputs.push(near),
+            1 => inputs[0] = near,
+            2 => outputs.push(near),
+            3 => outputs[0] = near,
+            4 => state.gates = near,
+            5 => state.gates = state.gates.wrapping_add(1),
+            6 => codes[0] = random.pick(&[0, 1, 4]),
+            7 => wanted[0] = random.pick(&[0, 3, 4]),
+            8 => wanted.push(1),
+            _ if place < source.len() => match random.below(4) {
+                0 => source[place].kind = near,
+                1 => source[place].first = near,
+                2 => source[place].second = near,
+                _ => source[place].result = near,
+            },
+            _ => (),
+        }
+    }
+    for place in [0, 1, state.gates.saturating_sub(1), state.gates, u32::MAX] {
+        let there = place < state.gates && (place as usize) < source.len() && source[place as usize].kind != 0;
+        let record = there.then(|| source[place as usize]);
+        assert_eq!(session_gate_lent(state, place, &source), record, "{name}: gate {place}");
+    }
+
+    let short = usize::from(random.percent(10));
+    let mut shown = Look::new(random, text.len() + 9 - 10 * short, 0);
+    let lengths = [shown.operands.len(), shown.results.len()];
+    let expected = records_read(&lengths, &inputs, &outputs, state, &source).and_then(|netlist| {
+        let text = netlist.write();
+        ask(14, text.len() <= shown.text.len()).map(|()| text)
+    });
+    (shown.wires, shown.marks) = (vec![0; 1], vec![0; 1]);
+    let Look { operands, results, text: buffer, .. } = &mut shown;
+    let answer = session_text_lent(state, &inputs, &outputs, &source, buffer, operands, results, lent.sizes);
+    assert_eq!(answer, expected.as_ref().map(Vec::len).map_err(|&question| Refused(question)), "{name}: the text");
+    shown.assert_zero(name);
+    Look::assert_front(name, &shown.text, expected.as_deref().unwrap_or(&[]));
+
+    let codes_short = usize::from(random.percent(10));
+    let mut shown = Look::new(random, afresh.text.len() + 99 - 100 * short, bits + 3 - 4 * codes_short);
+    let lengths = [shown.operands.len(), shown.results.len(), shown.wires.len(), shown.marks.len()];
+    let expected = records_read(&lengths, &inputs, &outputs, state, &source).and_then(|netlist| {
+        let good = |list: &[u8], bits: usize| list.len() == bits && list.iter().all(|&code| code <= 3);
+        ask(11, good(&codes, netlist.inputs.iter().sum()))?;
+        ask(13, good(&wanted, netlist.outputs.iter().sum()))?;
+        let Masked { text, codes } = mask(&netlist.write(), &codes, &wanted, tables).expect("it can be masked");
+        ask(14, text.len() <= shown.text.len() && codes.len() <= shown.codes.len()).map(|()| (text, codes))
+    });
+    let Look { operands, results, wires, marks, text: buffer, codes: out_codes } = &mut shown;
+    let answer = session_masked_lent(
+        state, &inputs, &outputs, &source, &codes, &wanted, buffer, out_codes, operands, results, wires, marks, lent.sizes,
+    );
+    let lengths = expected.as_ref().map(|(text, _)| text.len()).map_err(|&question| Refused(question));
+    assert_eq!(answer, lengths, "{name}: the masked text");
+    shown.assert_zero(name);
+    let (text, codes) = expected.as_ref().map_or((&[][..], &[][..]), |(text, codes)| (text, codes));
+    Look::assert_front(name, &shown.text, text);
+    Look::assert_front(name, &shown.codes, codes);
+    expected.err().unwrap_or(0)
 }
 
 /// The texts of a session: refusals by the output widths and the wanted codes.
@@ -334,12 +463,19 @@ fn texts() {
     let text = b"5 8\n2 2 1\n2 1 2\n\n2 1 0 2 3 AND\n2 1 3 1 4 XOR\n1 1 4 5 INV\n1 1 5 6 EQW\n1 1 1 7 EQ\n";
     assert_eq!(session.text(&[1, 2], tables).as_deref(), Ok(text.as_slice()));
     assert_eq!(session.masked(&[1, 2], &[0, 1, 2], tables), mask(text, &[1, 2, 0], &[0, 1, 2], tables));
-    for (outputs, question) in [([].as_slice(), 4), (&[0], 4), (&[9], 5), (&[1; 17], 5), (&[u32::MAX], 4)] {
+    for (outputs, question) in [([].as_slice(), 4), (&[0], 4), (&[9], 5), (&[1; 17], 5), (&[u32::MAX], 5)] {
         assert_eq!(session.text(outputs, tables), Err(Refused(question)), "{outputs:?}");
         assert_eq!(session.masked(outputs, &[], tables), Err(Refused(question)), "{outputs:?}");
     }
     assert_eq!(session.masked(&[1], &[4], tables), Err(Refused(13)));
     assert_eq!(session.masked(&[1], &[], tables), Err(Refused(13)));
+    assert_eq!(session.gate(1).map(|gate| (gate.kind, gate.first, gate.result)), Some((1, 3, 4)));
+    assert_eq!(session.gate(5), None);
+
+    // A session for whole ciphers asks for larger tables.
+    let whole = Session::open(&[1], &[1], fidrovelj::Sizes::Whole).expect("it opens");
+    assert_eq!(whole.text(&[1], tables), Err(Refused(1)));
+    assert_eq!(whole.masked(&[1], &[0], tables), Err(Refused(1)));
 }
 
 // ---- rows of steps
@@ -349,7 +485,7 @@ fn texts() {
 fn random_rows() {
     let (first, rows) = (setting("FIDROVELJ_SEED", 1), setting("FIDROVELJ_CALLS", 200_000) / 100);
     let tables = &mut Tables::new();
-    let (mut openings, mut steps, mut looks) = ([0_u64; 26], [0_u64; 26], 0);
+    let (mut openings, mut steps, mut looks) = ([0_u64; 26], [0_u64; 26], [0_u64; 26]);
     for seed in first..first + rows {
         let random = &mut Random::new(seed ^ 0x7365_7373);
         let name = format!("row {seed}");
@@ -391,19 +527,22 @@ fn random_rows() {
             };
             steps[usize::from(assert_step(&name, &mut lent, &mut model, step))] += 1;
             if random.percent(2) {
-                look(random, &name, &lent, &model, tables);
-                looks += 1;
+                looks[usize::from(look(random, &name, &lent, &model, tables))] += 1;
             }
         }
-        look(random, &name, &lent, &model, tables);
+        looks[usize::from(look(random, &name, &lent, &model, tables))] += 1;
     }
     let seen = |ends: &[u64]| -> Vec<(usize, u64)> {
         ends.iter().copied().enumerate().filter(|&(_, count)| count > 0).collect()
     };
     println!("{rows} sessions by questions: opened {:?}", seen(&openings));
-    println!("steps {:?}, {looks} times masked afresh by Mask", seen(&steps));
-    for (ends, questions) in [(&openings, [0, 4, 5, 11, 14].as_slice()), (&steps, &[0, 7, 8, 9, 14, 23, 24])]
-    {
+    println!("steps {:?}", seen(&steps));
+    println!("looks {:?}", seen(&looks));
+    for (ends, questions) in [
+        (&openings, [0, 4, 5, 11, 14].as_slice()),
+        (&steps, &[0, 7, 8, 9, 14, 23, 24]),
+        (&looks, &[0, 1, 4, 5, 6, 7, 8, 9, 11, 13, 14]),
+    ] {
         for &question in questions {
             assert!(ends[question] > 0 || rows < 200, "question {question} (0: none)");
         }

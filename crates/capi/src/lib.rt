@@ -4,6 +4,7 @@ mod certified;
 mod fewest;
 mod pairs;
 mod sessions;
+mod shown;
 mod wide;
 
 use capi_answers::number;
