@@ -15,7 +15,7 @@ ghost use Rattle.netlist.specs.Leak.{EqualCounts};
 ghost use Rattle.gate_table.specs.Parts.{Within};
 ghost use Rattle.certify_wires.specs.Known.{Known, Open};
 ghost use Rattle.certify_wires.specs.Store.{Recorded, Marked};
-ghost use Rattle.certify_pass.specs.Pass.{Holding, KnownIf, GateMakes, GateStep};
+ghost use Rattle.certify_pass.specs.Pass.{Holding, KnownIf, GateStep, PairStep};
 
 // A wire is marked clean, or public and so clean.
 pub fn mark(marks: &mut [u8], w: usize, value: u8)
@@ -28,45 +28,62 @@ pub fn mark(marks: &mut [u8], w: usize, value: u8)
     marks[w] = value;
 }
 
-// The record that a pair of the operands' records gives: the n-th of twenty-five. Of a wire that is both operands, a record is
-// paired with itself only.
-fn paired(records: &[u64], gate: Parts, n: usize) -> Joined
-    requires { ⌜ Within (length (now records) / 15) gate × (n < 25) ⌝ }
-    ensures { λ r. ⌜ ((N : Netlist) (codes : List ℕ) → GateMakes N codes gate → Recorded N codes (now (records .entry))
-        → KnownIf N codes (gate .result) r) ⌝ }
+// A record of wire w is kept, and may show that it is clean.
+fn add(records: &mut [u64], marks: &mut [u8], w: usize, r: Record)
+    requires { ⌜ (15 * w + 15 ≤ length (now records)) × (w < length (now marks)) ⌝ }
+    ensures { λ _. ⌜ ((N : Netlist) (codes : List ℕ) → Known N codes w r → Holding N codes (now (records .entry)) (now (marks .entry))
+        → Holding N codes (now (records .exit)) (now (marks .exit))) ⌝ }
 {
-    let i = n / 5;
-    let j = n % 5;
-    if gate.left == gate.right {
-        if i != j {
-            return Joined::None;
-        }
+    keep::keep(records, w, r);
+    if marks[w] & 1 == 1 {
+        return;
     }
-    let x = store::get(records, 5 * gate.left + i);
-    if !store::present(x) {
-        return Joined::None;
+    if marks::clean(marks, r) {
+        mark(marks, w, 1);
     }
-    let y = store::get(records, 5 * gate.right + j);
-    if !store::present(y) {
-        return Joined::None;
-    }
-    certify_records::combine(gate.kind, x, y)
 }
 
-// The n-th pair of the operands' records: what it gives is kept, and may show that the result is clean.
-fn pair(records: &mut [u64], marks: &mut [u8], gate: Parts, n: usize)
-    requires { ⌜ Within (length (now records) / 15) gate × (n < 25) × (gate .result < length (now marks)) ⌝ }
+// What a record of the left operand gives with the j-th of the right one: it is kept, and may show that the result is clean.
+fn pair(records: &mut [u64], marks: &mut [u8], gate: Parts, x: Record, j: usize)
+    requires { ⌜ Within (length (now records) / 15) gate × (j < 5) × (gate .result < length (now marks)) ⌝ }
+    ensures { λ _. ⌜ PairStep gate x (now (records .entry)) (now (marks .entry)) (now (records .exit)) (now (marks .exit)) ⌝ }
+{
+    let y = store::get(records, 5 * gate.right + j);
+    if !store::present(y) {
+        return;
+    }
+    match certify_records::combine(gate.kind, x, y) {
+        Joined::None => {}
+        Joined::One(r) => add(records, marks, gate.result, r),
+    }
+}
+
+// All of the right operand's records with one of the left.
+fn row(records: &mut [u64], marks: &mut [u8], gate: Parts, x: Record)
+    requires { ⌜ Within (length (now records) / 15) gate × (gate .result < length (now marks)) ⌝ }
+    ensures { λ _. ⌜ PairStep gate x (now (records .entry)) (now (marks .entry)) (now (records .exit)) (now (marks .exit)) ⌝ }
+{
+    let mut j = 0;
+    while j < 5 {
+        pair(records, marks, gate, x, j);
+        j += 1;
+    }
+}
+
+// The i-th record of the left operand, with those of the right one; of a wire that is both operands, with itself only.
+fn pairs_of(records: &mut [u64], marks: &mut [u8], gate: Parts, i: usize)
+    requires { ⌜ Within (length (now records) / 15) gate × (i < 5) × (gate .result < length (now marks)) ⌝ }
     ensures { λ _. ⌜ GateStep gate (now (records .entry)) (now (marks .entry)) (now (records .exit)) (now (marks .exit)) ⌝ }
 {
-    match paired(records, gate, n) {
-        Joined::None => {}
-        Joined::One(r) => {
-            keep::keep(records, gate.result, r);
-            if marks::clean(marks, r) {
-                mark(marks, gate.result, 1);
-            }
-        }
+    let x = store::get(records, 5 * gate.left + i);
+    if !store::present(x) {
+        return;
     }
+    if gate.left == gate.right {
+        pair(records, marks, gate, x, i);
+        return;
+    }
+    row(records, marks, gate, x);
 }
 
 // All pairs of the operands' records.
@@ -74,10 +91,10 @@ fn pairs(records: &mut [u64], marks: &mut [u8], gate: Parts)
     requires { ⌜ Within (length (now records) / 15) gate × (gate .result < length (now marks)) ⌝ }
     ensures { λ _. ⌜ GateStep gate (now (records .entry)) (now (marks .entry)) (now (records .exit)) (now (marks .exit)) ⌝ }
 {
-    let mut n = 0;
-    while n < 25 {
-        pair(records, marks, gate, n);
-        n += 1;
+    let mut i = 0;
+    while i < 5 {
+        pairs_of(records, marks, gate, i);
+        i += 1;
     }
 }
 
