@@ -116,6 +116,7 @@ fn verdict(
         count,
         &mut records[..entries],
         &mut marks[..wires],
+        &mut words[..wires],
     );
     if wires <= sure {
         return Certified::Clean;

@@ -2,6 +2,7 @@
 use certify_records::Joined;
 use certify_records::Record;
 use certify_records::leaf;
+use certify_wires::hints;
 use certify_wires::keep;
 use certify_wires::marks;
 use certify_wires::store;
@@ -98,18 +99,22 @@ fn pairs(records: &mut [u64], marks: &mut [u8], gate: Parts)
     }
 }
 
-// A record of at most one atom that a record of wire w gives.
-fn leaf_of(r: Record, w: usize) -> Joined
-    ensures { λ s. ⌜ ((N : Netlist) (codes : List ℕ) → Known N codes w r → KnownIf N codes w s) ⌝ }
+// A record of at most one atom that the k-th record of wire w gives.
+fn leaf_of(records: &[u64], hints: &mut [u64], w: usize, k: usize, r: Record) -> Joined
+    requires { ⌜ (15 * w + 15 ≤ length (now records)) × (k < 5) ⌝ }
+    ensures { λ s. ⌜ ((N : Netlist) (codes : List ℕ) → Recorded N codes (now (records .entry)) → Known N codes w r → KnownIf N codes w s) ⌝ }
 {
     if keep::atoms(r) <= 1 {
         return Joined::One(r);
     }
-    leaf::leaf(r, w)
+    match leaf::leaf(r, w) {
+        Joined::None => Joined::None,
+        Joined::One(s) => Joined::One(hints::hinted(records, hints, w, k, r, s)),
+    }
 }
 
 // A leaf from the k-th kept record of wire w, if it gives one; the wire may be public.
-fn settle(records: &mut [u64], marks: &mut [u8], w: usize, k: usize) -> bool
+fn settle(records: &mut [u64], marks: &mut [u8], hints: &mut [u64], w: usize, k: usize) -> bool
     requires { ⌜ (15 * w + 15 ≤ length (now records)) × (w < length (now marks)) × (k < 5) ⌝ }
     ensures { λ _. ⌜ ((N : Netlist) (codes : List ℕ) → Holding N codes (now (records .entry)) (now (marks .entry))
         → Holding N codes (now (records .exit)) (now (marks .exit))) ⌝ }
@@ -118,7 +123,7 @@ fn settle(records: &mut [u64], marks: &mut [u8], w: usize, k: usize) -> bool
     if !store::present(r) {
         return true;
     }
-    match leaf_of(r, w) {
+    match leaf_of(records, hints, w, k, r) {
         Joined::None => false,
         Joined::One(s) => {
             store::put(records, 5 * w, s);
@@ -131,14 +136,14 @@ fn settle(records: &mut [u64], marks: &mut [u8], w: usize, k: usize) -> bool
 }
 
 // The leaf of wire w, from the first of its records that gives one.
-fn leaves(records: &mut [u64], marks: &mut [u8], w: usize)
+fn leaves(records: &mut [u64], marks: &mut [u8], hints: &mut [u64], w: usize)
     requires { ⌜ (15 * w + 15 ≤ length (now records)) × (w < length (now marks)) ⌝ }
     ensures { λ _. ⌜ ((N : Netlist) (codes : List ℕ) → Holding N codes (now (records .entry)) (now (marks .entry))
         → Holding N codes (now (records .exit)) (now (marks .exit))) ⌝ }
 {
     let mut k = 1;
     while k < 5 {
-        if settle(records, marks, w, k) {
+        if settle(records, marks, hints, w, k) {
             return;
         }
         k += 1;
@@ -146,10 +151,10 @@ fn leaves(records: &mut [u64], marks: &mut [u8], w: usize)
 }
 
 // One gate.
-pub fn step(records: &mut [u64], marks: &mut [u8], gate: Parts)
+pub fn step(records: &mut [u64], marks: &mut [u8], hints: &mut [u64], gate: Parts)
     requires { ⌜ Within (length (now records) / 15) gate × (gate .result < length (now marks)) ⌝ }
     ensures { λ _. ⌜ GateStep gate (now (records .entry)) (now (marks .entry)) (now (records .exit)) (now (marks .exit)) ⌝ }
 {
     pairs(records, marks, gate);
-    leaves(records, marks, gate.result);
+    leaves(records, marks, hints, gate.result);
 }
