@@ -154,19 +154,25 @@ Beside g x N codes = GateMakes N codes g × Known N codes (g .left) x
 abbrev pub Stays : List ℕ → List ℕ → List ℕ → List ℕ → Type 0
 Stays r m r′ m′ = (N : Netlist) (codes : List ℕ) → Holding N codes r m → Holding N codes r′ m′
 
-pub record Settling (r m r′ m′ : List ℕ) (k : ℕ) : Type 0 where
+pub record Settling (r m h r′ m′ h′ : List ℕ) (k : ℕ) : Type 0 where
   pub passed : k ≤ 5
   pub records : length r′ ≡ length r
   pub marks : length m′ ≡ length m
+  pub hints : length h′ ≡ length h
   pub stays : Stays r m r′ m′
 
-pub settling-none : (r m : List ℕ) → Settling r m r m 1
-settling-none r m = record { passed = omega arith; records = refl; marks = refl; stays = λ N codes H. H }
+pub settling-none : (r m h : List ℕ) → Settling r m h r m h 1
+settling-none r m h = record { passed = omega arith; records = refl; marks = refl; hints = refl; stays = λ N codes H. H }
 
-pub settling-more : {r m r′ m′ : List ℕ} (r″ m″ : List ℕ) {k : ℕ} → Settling r m r′ m′ k → k < 5 → length r″ ≡ length r′ → length m″ ≡ length m′ → Stays r′ m′ r″ m″
-    → Settling r m r″ m″ (k + 1)
-settling-more r″ m″ P h lr lm s =
-    record { passed = omega arith; records = lr ∙ P .records; marks = lm ∙ P .marks; stays = λ N codes H. s N codes (P .stays N codes H) }
+pub settling-more : {r m h r′ m′ h′ : List ℕ} (r″ m″ h″ : List ℕ) {k : ℕ} → Settling r m h r′ m′ h′ k → k < 5 → length r″ ≡ length r′ → length m″ ≡ length m′
+    → length h″ ≡ length h′ → Stays r′ m′ r″ m″ → Settling r m h r″ m″ h″ (k + 1)
+settling-more r″ m″ h″ P q lr lm lh s = record {
+  passed = omega arith;
+  records = lr ∙ P .records;
+  marks = lm ∙ P .marks;
+  hints = lh ∙ P .hints;
+  stays = λ N codes H. s N codes (P .stays N codes H);
+}
 
 pub within-as : {W U : ℕ} {g : Parts} → U ≡ W → Within W g → Within U g
 within-as {g = g} e h = subst (λ (n : ℕ). Within n g) (sym e) h
