@@ -29,7 +29,12 @@ fn gates(
 {
     let mut i = 0;
     while i < count {
-        gate::step(records, marks, hints, gate_table::split(operands[i], results[i]));
+        gate::step(
+            records,
+            marks,
+            hints,
+            gate_table::split(operands[i], results[i]),
+        );
         i += 1;
     }
 }

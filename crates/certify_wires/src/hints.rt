@@ -68,7 +68,14 @@ fn tried(records: &[u64], hint: u64, w: usize, r: Record, leaf: Record) -> Recor
 }
 
 // The leaf of wire w that its k-th record gives, over the atom of the hint for it if that will do; if not, the leaf's own atom is the hint.
-pub fn hinted(records: &[u64], hints: &mut [u64], w: usize, k: usize, r: Record, leaf: Record) -> Record
+pub fn hinted(
+    records: &[u64],
+    hints: &mut [u64],
+    w: usize,
+    k: usize,
+    r: Record,
+    leaf: Record,
+) -> Record
     requires { ⌜ (15 * w + 15 ≤ length (now records)) × (k < 5) ⌝ }
     ensures { λ s. ⌜ ((N : Netlist) (codes : List ℕ) → Recorded N codes (now (records .entry)) → Known N codes w r → Known N codes w leaf
         → Known N codes w s) ⌝ }
