@@ -2228,9 +2228,13 @@ struct record {
  * whether it is clean and whether its atom is public. */
 enum { CLEAN = 1, PUBLIC = 2 };
 
+/* A hint is an atom and, in its upper half, the number of a record of the atom's wire: atoms that are the same function of the same
+ * atoms are one. */
 struct certifier {
     struct record (*records)[SLOTS];
     uint8_t *marks;
+    uint64_t *hints;
+    uint32_t places;
 };
 
 /* The places in a table whose s has bit j. */
@@ -2332,6 +2336,29 @@ ALWAYS void keep(struct record *records, struct record r)
     }
 }
 
+static inline uint64_t drawn(uint64_t number);
+
+/* What an atom of a wire is for each setting of a record's atoms. */
+ALWAYS uint64_t selector(uint64_t table, uint32_t atom)
+{
+    return (table >> (atom / 2 & 3) ^ (atom & 1 ? ONES : 0)) & 0x1111111111111111U;
+}
+
+/* The atom that a leaf's own atom is, by the hint for it; or its own, which then is the hint. */
+ALWAYS uint32_t hinted(const struct certifier *c, const struct record *r, uint32_t number, uint32_t own)
+{
+    uint64_t chosen = selector(r->table, own);
+    uint64_t *hint = &c->hints[drawn(drawn(chosen ^ pair(r->atom[0], r->atom[1])) ^ pair(r->atom[2], r->atom[3])) % c->places];
+    uint32_t atom = low(*hint), other = high(*hint);
+    if (atom / 8 == other / SLOTS) {
+        const struct record *s = &c->records[0][other];
+        if (!absent(s) && memcmp(s->atom, r->atom, sizeof r->atom) == 0 && selector(s->table, atom) == chosen)
+            return atom;
+    }
+    *hint = pair(own, number);
+    return own;
+}
+
 /* The leaf: the first record of at most one atom, or that shows two values of the four mask settings' bits, which the wire's own atom
  * then tells apart. */
 static void keep_leaf(struct certifier *c, uint32_t wire)
@@ -2348,7 +2375,7 @@ static void keep_leaf(struct certifier *c, uint32_t wire)
         uint64_t difference = change >> place / 4 * 4 & 15, chosen = (change >> m & 0x1111111111111111U) * 15;
         if (change != (chosen & difference * 0x1111111111111111U))
             continue;
-        uint32_t atom = 8 * wire + 2 * m + (uint32_t)(first >> m & 1);
+        uint32_t atom = hinted(c, r, SLOTS * wire + slot, 8 * wire + 2 * m + (uint32_t)(first >> m & 1));
         records[LEAF] = (struct record){first * 0x1111111111111111U ^ (variable[0] & difference * 0x1111111111111111U),
                                         {atom, NO_ATOM, NO_ATOM, NO_ATOM}};
         bool public = true;
@@ -2401,6 +2428,8 @@ static uint32_t certify_wires(struct certifier *c, const struct header *h, const
                               const uint64_t *results, const uint8_t *codes, uint32_t bits)
 {
     static const uint64_t masks[4] = {0, M0, M1, M0 ^ M1};
+    c->places = h->wires;
+    memset(c->hints, 0, h->wires * sizeof *c->hints);
     for (uint32_t i = 0; i < bits; i++)
         certify_input(c, i, masks[codes[i]] ^ variable[0], 8 * i, codes[i] == 0);
     certify_input(c, bits, M0, NO_ATOM, false);
@@ -2512,7 +2541,7 @@ int64_t baseline_certify(const uint8_t *text, size_t text_len,
 {
     const struct limits *l = &large_limits[sizes != 0];
     struct header h;
-    struct certifier c = {(struct record(*)[SLOTS])records, marks};
+    struct certifier c = {(struct record(*)[SLOTS])records, marks, words, 0};
     int64_t answer;
     if (operands_len < l->table || results_len < l->table || marks_len < l->table || words_len < l->table
         || base_len < l->table || records_len / (3 * SLOTS) < l->table)

@@ -122,6 +122,7 @@ fn verdict(
         count,
         &mut records[..entries],
         &mut marks[..wires],
+        &mut words[..wires],
     );
     if wires <= sure {
         return Certified::Clean;

@@ -48,22 +48,25 @@ gate-makes {t} {m} {N = N} {codes = codes} i H M h = record {
 }
 
 -- the first i gates are done
-pub record Passed (t : Tables) (m W : ℕ) (r₀ m₀ r m′ : List ℕ) (i : ℕ) : Type 0 where
+pub record Passed (t : Tables) (m W : ℕ) (r₀ m₀ h₀ r m′ h : List ℕ) (i : ℕ) : Type 0 where
   pub passed : i ≤ m
   pub records : length r ≡ length r₀
   pub marks : length m′ ≡ length m₀
+  pub hints : length h ≡ length h₀
   pub holds : (n o : ℕ) (N : Netlist) (codes : List ℕ) → Holds t m W n o N → Masked N codes → Holding N codes r₀ m₀ → Holding N codes r m′
 
-pub passed-none : (t : Tables) (m W : ℕ) (r₀ m₀ : List ℕ) → Passed t m W r₀ m₀ r₀ m₀ 0
-passed-none t m W r₀ m₀ = record { passed = omega arith; records = refl; marks = refl; holds = λ n o N codes H M S. S }
+pub passed-none : (t : Tables) (m W : ℕ) (r₀ m₀ h₀ : List ℕ) → Passed t m W r₀ m₀ h₀ r₀ m₀ h₀ 0
+passed-none t m W r₀ m₀ h₀ = record { passed = omega arith; records = refl; marks = refl; hints = refl; holds = λ n o N codes H M S. S }
 
-pub passed-more : {t : Tables} {m W : ℕ} {r₀ m₀ r m′ r″ m″ : List ℕ} {i : ℕ} {g : Parts} → Passed t m W r₀ m₀ r m′ i → i < m → length r″ ≡ length r
-    → length m″ ≡ length m′ → g ≡ partsOf (getD (t .operands) i 0) (getD (t .results) i 0) → GateStep g r m′ r″ m″ → Passed t m W r₀ m₀ r″ m″ (i + 1)
-passed-more {i = i} P h lr lm e s = record {
+pub passed-more : {t : Tables} {m W : ℕ} {r₀ m₀ h₀ r m′ h r″ m″ h″ : List ℕ} {i : ℕ} {g : Parts} → Passed t m W r₀ m₀ h₀ r m′ h i → i < m → length r″ ≡ length r
+    → length m″ ≡ length m′ → length h″ ≡ length h → g ≡ partsOf (getD (t .operands) i 0) (getD (t .results) i 0) → GateStep g r m′ r″ m″
+    → Passed t m W r₀ m₀ h₀ r″ m″ h″ (i + 1)
+passed-more {i = i} P q lr lm lh e s = record {
   passed = omega arith;
   records = lr ∙ P .records;
   marks = lm ∙ P .marks;
-  holds = λ n o N codes H M S. s .holds N codes (subst (GateMakes N codes) (sym e) (gate-makes i H M h)) (P .holds n o N codes H M S);
+  hints = lh ∙ P .hints;
+  holds = λ n o N codes H M S. s .holds N codes (subst (GateMakes N codes) (sym e) (gate-makes i H M q)) (P .holds n o N codes H M S);
 }
 
 -- a gate's wires

@@ -126,40 +126,53 @@ pub leaf-known : {N : Netlist} {codes : List ℕ} (w : ℕ) {r : Record} (s : Jo
 leaf-known {N} {codes} w (One s) L K = record { right = λ x. L (atomBit N codes x) (bitOf N codes x w) (own-atoms N codes x w) (K .right x) }
 leaf-known w None L K = tt
 
--- pairs of records, one after another
-pub record Pairing (g : Parts) (r m r′ m′ : List ℕ) (n : ℕ) : Type 0 where
-  pub passed : n ≤ 25
+-- pairs of records, one after another, where P holds
+pub record Pairing (P : Netlist → List ℕ → Type 0) (r m r′ m′ : List ℕ) (n : ℕ) : Type 0 where
+  pub passed : n ≤ 5
   pub records : length r′ ≡ length r
   pub marks : length m′ ≡ length m
-  pub step : GateStep g r m r′ m′
+  pub holds : (N : Netlist) (codes : List ℕ) → P N codes → Holding N codes r m → Holding N codes r′ m′
 
-pub pairing-none : (g : Parts) (r m : List ℕ) → Pairing g r m r m 0
-pairing-none g r m = record { passed = omega arith; records = refl; marks = refl; step = record { holds = λ N codes M H. H } }
+pub pairing-none : {P : Netlist → List ℕ → Type 0} (r m : List ℕ) → Pairing P r m r m 0
+pairing-none r m = record { passed = omega arith; records = refl; marks = refl; holds = λ N codes p H. H }
 
-pub step-then : {g : Parts} {r m r′ m′ r″ m″ : List ℕ} → GateStep g r m r′ m′ → GateStep g r′ m′ r″ m″ → GateStep g r m r″ m″
-step-then f h = record { holds = λ N codes M H. h .holds N codes M (f .holds N codes M H) }
+pub pairing-more : {P : Netlist → List ℕ → Type 0} {r m r′ m′ r″ m″ : List ℕ} {n : ℕ} → Pairing P r m r′ m′ n → n < 5 → length r″ ≡ length r′
+    → length m″ ≡ length m′ → ((N : Netlist) (codes : List ℕ) → P N codes → Holding N codes r′ m′ → Holding N codes r″ m″)
+    → Pairing P r m r″ m″ (n + 1)
+pairing-more A h lr lm f = record {
+  passed = omega arith;
+  records = lr ∙ A .records;
+  marks = lm ∙ A .marks;
+  holds = λ N codes p H. f N codes p (A .holds N codes p H);
+}
 
-pub pairing-more : {g : Parts} {r m r′ m′ r″ m″ : List ℕ} {n : ℕ} → Pairing g r m r′ m′ n → n < 25 → length r″ ≡ length r′ → length m″ ≡ length m′
-    → GateStep g r′ m′ r″ m″ → Pairing g r m r″ m″ (n + 1)
-pairing-more P h lr lm s = record { passed = omega arith; records = lr ∙ P .records; marks = lm ∙ P .marks; step = step-then (P .step) s }
+-- a gate, and what is known of a record of its left operand
+abbrev pub Beside : Parts → Record → Netlist → List ℕ → Type 0
+Beside g x N codes = GateMakes N codes g × Known N codes (g .left) x
 
 -- kept records tried for a leaf, one after another
 abbrev pub Stays : List ℕ → List ℕ → List ℕ → List ℕ → Type 0
 Stays r m r′ m′ = (N : Netlist) (codes : List ℕ) → Holding N codes r m → Holding N codes r′ m′
 
-pub record Settling (r m r′ m′ : List ℕ) (k : ℕ) : Type 0 where
+pub record Settling (r m h r′ m′ h′ : List ℕ) (k : ℕ) : Type 0 where
   pub passed : k ≤ 5
   pub records : length r′ ≡ length r
   pub marks : length m′ ≡ length m
+  pub hints : length h′ ≡ length h
   pub stays : Stays r m r′ m′
 
-pub settling-none : (r m : List ℕ) → Settling r m r m 1
-settling-none r m = record { passed = omega arith; records = refl; marks = refl; stays = λ N codes H. H }
+pub settling-none : (r m h : List ℕ) → Settling r m h r m h 1
+settling-none r m h = record { passed = omega arith; records = refl; marks = refl; hints = refl; stays = λ N codes H. H }
 
-pub settling-more : {r m r′ m′ : List ℕ} (r″ m″ : List ℕ) {k : ℕ} → Settling r m r′ m′ k → k < 5 → length r″ ≡ length r′ → length m″ ≡ length m′ → Stays r′ m′ r″ m″
-    → Settling r m r″ m″ (k + 1)
-settling-more r″ m″ P h lr lm s =
-    record { passed = omega arith; records = lr ∙ P .records; marks = lm ∙ P .marks; stays = λ N codes H. s N codes (P .stays N codes H) }
+pub settling-more : {r m h r′ m′ h′ : List ℕ} (r″ m″ h″ : List ℕ) {k : ℕ} → Settling r m h r′ m′ h′ k → k < 5 → length r″ ≡ length r′ → length m″ ≡ length m′
+    → length h″ ≡ length h′ → Stays r′ m′ r″ m″ → Settling r m h r″ m″ h″ (k + 1)
+settling-more r″ m″ h″ P q lr lm lh s = record {
+  passed = omega arith;
+  records = lr ∙ P .records;
+  marks = lm ∙ P .marks;
+  hints = lh ∙ P .hints;
+  stays = λ N codes H. s N codes (P .stays N codes H);
+}
 
 pub within-as : {W U : ℕ} {g : Parts} → U ≡ W → Within W g → Within U g
 within-as {g = g} e h = subst (λ (n : ℕ). Within n g) (sym e) h

@@ -6,6 +6,7 @@ use lib.ListN.{length, getD}
 use Rattle.netlist.specs.Netlist.{Netlist, inputBits}
 use Rattle.netlist.specs.Read.{WellFormed}
 use Rattle.gate_table.specs.declared.Parts.{Parts}
+use Rattle.certify_records.specs.declared.Record.{Record}
 use Rattle.certify_records.specs.declared.Joined.{Joined}
 use Rattle.certify_records.specs.declared.Joined.the-variants.{One, None}
 use Rattle.certify_wires.specs.Known.{Known, Makes}
@@ -28,6 +29,10 @@ GateMakes N codes g = Makes N codes (g .kind) (g .left) (g .right) (g .result)
 -- what is true of a netlist stays so, after a step on its gate g
 pub record GateStep (g : Parts) (r m r′ m′ : List ℕ) : Type 0 where
   pub holds : (N : Netlist) (codes : List ℕ) → GateMakes N codes g → Holding N codes r m → Holding N codes r′ m′
+
+-- the same, after a step on it with record x of its left operand
+pub record PairStep (g : Parts) (x : Record) (r m r′ m′ : List ℕ) : Type 0 where
+  pub holds : (N : Netlist) (codes : List ℕ) → GateMakes N codes g → Known N codes (g .left) x → Holding N codes r m → Holding N codes r′ m′
 
 -- a well-formed netlist whose last two input bits are the mask pair, with a code for each other
 pub record Masked (N : Netlist) (codes : List ℕ) : Type 0 where

@@ -2,6 +2,7 @@
 use certify_records::Joined;
 use certify_records::Record;
 use certify_records::leaf;
+use certify_wires::hints;
 use certify_wires::keep;
 use certify_wires::marks;
 use certify_wires::store;
@@ -15,7 +16,7 @@ ghost use Rattle.netlist.specs.Leak.{EqualCounts};
 ghost use Rattle.gate_table.specs.Parts.{Within};
 ghost use Rattle.certify_wires.specs.Known.{Known, Open};
 ghost use Rattle.certify_wires.specs.Store.{Recorded, Marked};
-ghost use Rattle.certify_pass.specs.Pass.{Holding, KnownIf, GateMakes, GateStep};
+ghost use Rattle.certify_pass.specs.Pass.{Holding, KnownIf, GateStep, PairStep};
 
 // A wire is marked clean, or public and so clean.
 pub fn mark(marks: &mut [u8], w: usize, value: u8)
@@ -28,45 +29,62 @@ pub fn mark(marks: &mut [u8], w: usize, value: u8)
     marks[w] = value;
 }
 
-// The record that a pair of the operands' records gives: the n-th of twenty-five. Of a wire that is both operands, a record is
-// paired with itself only.
-fn paired(records: &[u64], gate: Parts, n: usize) -> Joined
-    requires { ⌜ Within (length (now records) / 15) gate × (n < 25) ⌝ }
-    ensures { λ r. ⌜ ((N : Netlist) (codes : List ℕ) → GateMakes N codes gate → Recorded N codes (now (records .entry))
-        → KnownIf N codes (gate .result) r) ⌝ }
+// A record of wire w is kept, and may show that it is clean.
+fn add(records: &mut [u64], marks: &mut [u8], w: usize, r: Record)
+    requires { ⌜ (15 * w + 15 ≤ length (now records)) × (w < length (now marks)) ⌝ }
+    ensures { λ _. ⌜ ((N : Netlist) (codes : List ℕ) → Known N codes w r → Holding N codes (now (records .entry)) (now (marks .entry))
+        → Holding N codes (now (records .exit)) (now (marks .exit))) ⌝ }
 {
-    let i = n / 5;
-    let j = n % 5;
-    if gate.left == gate.right {
-        if i != j {
-            return Joined::None;
-        }
+    keep::keep(records, w, r);
+    if marks[w] & 1 == 1 {
+        return;
     }
-    let x = store::get(records, 5 * gate.left + i);
-    if !store::present(x) {
-        return Joined::None;
+    if marks::clean(marks, r) {
+        mark(marks, w, 1);
     }
-    let y = store::get(records, 5 * gate.right + j);
-    if !store::present(y) {
-        return Joined::None;
-    }
-    certify_records::combine(gate.kind, x, y)
 }
 
-// The n-th pair of the operands' records: what it gives is kept, and may show that the result is clean.
-fn pair(records: &mut [u64], marks: &mut [u8], gate: Parts, n: usize)
-    requires { ⌜ Within (length (now records) / 15) gate × (n < 25) × (gate .result < length (now marks)) ⌝ }
+// What a record of the left operand gives with the j-th of the right one: it is kept, and may show that the result is clean.
+fn pair(records: &mut [u64], marks: &mut [u8], gate: Parts, x: Record, j: usize)
+    requires { ⌜ Within (length (now records) / 15) gate × (j < 5) × (gate .result < length (now marks)) ⌝ }
+    ensures { λ _. ⌜ PairStep gate x (now (records .entry)) (now (marks .entry)) (now (records .exit)) (now (marks .exit)) ⌝ }
+{
+    let y = store::get(records, 5 * gate.right + j);
+    if !store::present(y) {
+        return;
+    }
+    match certify_records::combine(gate.kind, x, y) {
+        Joined::None => {}
+        Joined::One(r) => add(records, marks, gate.result, r),
+    }
+}
+
+// All of the right operand's records with one of the left.
+fn row(records: &mut [u64], marks: &mut [u8], gate: Parts, x: Record)
+    requires { ⌜ Within (length (now records) / 15) gate × (gate .result < length (now marks)) ⌝ }
+    ensures { λ _. ⌜ PairStep gate x (now (records .entry)) (now (marks .entry)) (now (records .exit)) (now (marks .exit)) ⌝ }
+{
+    let mut j = 0;
+    while j < 5 {
+        pair(records, marks, gate, x, j);
+        j += 1;
+    }
+}
+
+// The i-th record of the left operand, with those of the right one; of a wire that is both operands, with itself only.
+fn pairs_of(records: &mut [u64], marks: &mut [u8], gate: Parts, i: usize)
+    requires { ⌜ Within (length (now records) / 15) gate × (i < 5) × (gate .result < length (now marks)) ⌝ }
     ensures { λ _. ⌜ GateStep gate (now (records .entry)) (now (marks .entry)) (now (records .exit)) (now (marks .exit)) ⌝ }
 {
-    match paired(records, gate, n) {
-        Joined::None => {}
-        Joined::One(r) => {
-            keep::keep(records, gate.result, r);
-            if marks::clean(marks, r) {
-                mark(marks, gate.result, 1);
-            }
-        }
+    let x = store::get(records, 5 * gate.left + i);
+    if !store::present(x) {
+        return;
     }
+    if gate.left == gate.right {
+        pair(records, marks, gate, x, i);
+        return;
+    }
+    row(records, marks, gate, x);
 }
 
 // All pairs of the operands' records.
@@ -74,25 +92,29 @@ fn pairs(records: &mut [u64], marks: &mut [u8], gate: Parts)
     requires { ⌜ Within (length (now records) / 15) gate × (gate .result < length (now marks)) ⌝ }
     ensures { λ _. ⌜ GateStep gate (now (records .entry)) (now (marks .entry)) (now (records .exit)) (now (marks .exit)) ⌝ }
 {
-    let mut n = 0;
-    while n < 25 {
-        pair(records, marks, gate, n);
-        n += 1;
+    let mut i = 0;
+    while i < 5 {
+        pairs_of(records, marks, gate, i);
+        i += 1;
     }
 }
 
-// A record of at most one atom that a record of wire w gives.
-fn leaf_of(r: Record, w: usize) -> Joined
-    ensures { λ s. ⌜ ((N : Netlist) (codes : List ℕ) → Known N codes w r → KnownIf N codes w s) ⌝ }
+// A record of at most one atom that the k-th record of wire w gives.
+fn leaf_of(records: &[u64], hints: &mut [u64], w: usize, k: usize, r: Record) -> Joined
+    requires { ⌜ (15 * w + 15 ≤ length (now records)) × (k < 5) ⌝ }
+    ensures { λ s. ⌜ ((N : Netlist) (codes : List ℕ) → Recorded N codes (now (records .entry)) → Known N codes w r → KnownIf N codes w s) ⌝ }
 {
     if keep::atoms(r) <= 1 {
         return Joined::One(r);
     }
-    leaf::leaf(r, w)
+    match leaf::leaf(r, w) {
+        Joined::None => Joined::None,
+        Joined::One(s) => Joined::One(hints::hinted(records, hints, w, k, r, s)),
+    }
 }
 
 // A leaf from the k-th kept record of wire w, if it gives one; the wire may be public.
-fn settle(records: &mut [u64], marks: &mut [u8], w: usize, k: usize) -> bool
+fn settle(records: &mut [u64], marks: &mut [u8], hints: &mut [u64], w: usize, k: usize) -> bool
     requires { ⌜ (15 * w + 15 ≤ length (now records)) × (w < length (now marks)) × (k < 5) ⌝ }
     ensures { λ _. ⌜ ((N : Netlist) (codes : List ℕ) → Holding N codes (now (records .entry)) (now (marks .entry))
         → Holding N codes (now (records .exit)) (now (marks .exit))) ⌝ }
@@ -101,7 +123,7 @@ fn settle(records: &mut [u64], marks: &mut [u8], w: usize, k: usize) -> bool
     if !store::present(r) {
         return true;
     }
-    match leaf_of(r, w) {
+    match leaf_of(records, hints, w, k, r) {
         Joined::None => false,
         Joined::One(s) => {
             store::put(records, 5 * w, s);
@@ -114,14 +136,14 @@ fn settle(records: &mut [u64], marks: &mut [u8], w: usize, k: usize) -> bool
 }
 
 // The leaf of wire w, from the first of its records that gives one.
-fn leaves(records: &mut [u64], marks: &mut [u8], w: usize)
+fn leaves(records: &mut [u64], marks: &mut [u8], hints: &mut [u64], w: usize)
     requires { ⌜ (15 * w + 15 ≤ length (now records)) × (w < length (now marks)) ⌝ }
     ensures { λ _. ⌜ ((N : Netlist) (codes : List ℕ) → Holding N codes (now (records .entry)) (now (marks .entry))
         → Holding N codes (now (records .exit)) (now (marks .exit))) ⌝ }
 {
     let mut k = 1;
     while k < 5 {
-        if settle(records, marks, w, k) {
+        if settle(records, marks, hints, w, k) {
             return;
         }
         k += 1;
@@ -129,10 +151,10 @@ fn leaves(records: &mut [u64], marks: &mut [u8], w: usize)
 }
 
 // One gate.
-pub fn step(records: &mut [u64], marks: &mut [u8], gate: Parts)
+pub fn step(records: &mut [u64], marks: &mut [u8], hints: &mut [u64], gate: Parts)
     requires { ⌜ Within (length (now records) / 15) gate × (gate .result < length (now marks)) ⌝ }
     ensures { λ _. ⌜ GateStep gate (now (records .entry)) (now (marks .entry)) (now (records .exit)) (now (marks .exit)) ⌝ }
 {
     pairs(records, marks, gate);
-    leaves(records, marks, gate.result);
+    leaves(records, marks, hints, gate.result);
 }

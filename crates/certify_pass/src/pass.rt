@@ -20,6 +20,7 @@ fn gates(
     wires: usize,
     records: &mut [u64],
     marks: &mut [u8],
+    hints: &mut [u64],
 )
     requires { ⌜ Wired (tables (now operands) (now results)) wires count × (15 * wires ≤ length (now records)) × (wires ≤ length (now marks)) ⌝ }
     ensures { λ _. ⌜ ((n o : ℕ) (N : Netlist) (codes : List ℕ) → Holds (tables (now (operands .entry)) (now (results .entry))) count wires n o N
@@ -28,7 +29,12 @@ fn gates(
 {
     let mut i = 0;
     while i < count {
-        gate::step(records, marks, gate_table::split(operands[i], results[i]));
+        gate::step(
+            records,
+            marks,
+            hints,
+            gate_table::split(operands[i], results[i]),
+        );
         i += 1;
     }
 }
@@ -48,7 +54,7 @@ fn lowest(marks: &[u8]) -> usize
 }
 
 // The lowest wire that is not known to be clean, or how many wires there are. The records, fifteen entries for each wire, and the
-// marks, one for each, are working store.
+// marks, one for each, are working store, and so are the hints, of which any number will do.
 pub fn certified(
     codes: &[u8],
     operands: &[u64],
@@ -56,6 +62,7 @@ pub fn certified(
     count: usize,
     records: &mut [u64],
     marks: &mut [u8],
+    hints: &mut [u64],
 ) -> usize
     requires { ⌜ Wired (tables (now operands) (now results)) (length (now marks)) count × (length (now records) ≡ 15 * length (now marks))
         × (length (now codes) + 2 ≤ length (now marks)) ⌝ }
@@ -64,8 +71,9 @@ pub fn certified(
 {
     clear::words(records);
     clear::bytes(marks);
+    clear::words(hints);
     inputs::inputs(codes, records, marks);
     let wires = marks.len();
-    gates(operands, results, count, wires, records, marks);
+    gates(operands, results, count, wires, records, marks, hints);
     lowest(marks)
 }

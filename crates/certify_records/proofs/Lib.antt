@@ -4,3 +4,4 @@ pub mod Records
 pub mod Places
 pub mod Evens
 pub mod Leaves
+pub mod Selectors

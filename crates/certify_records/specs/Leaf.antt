@@ -30,3 +30,11 @@ TwoIs t More = Unit
 abbrev pub LeafIs : ℕ → Record → Joined → Type 0
 LeafIs w r (One s) = (bits : ℕ → Bool) (wire : Bool → Bool → Bool) → Own bits wire w → Right bits wire r → Right bits wire s
 LeafIs w r None = Unit
+
+-- atom a is a bit of a wire: at mask setting m where it is 8 w + 2 m + p, XOR p
+abbrev pub AtomOf : (ℕ → Bool) → (Bool → Bool → Bool) → ℕ → Type 0
+AtomOf bits wire a = bits a ≡ differs (wire (lane 1 a) (lane 2 a)) (lane 0 a)
+
+-- an atom of a wire is an atom of another, where two records are right for them
+pub record OneAtom (r : Record) (a : ℕ) (s : Record) (b : ℕ) : Type 0 where
+  pub equal : {bits : ℕ → Bool} {u v : Bool → Bool → Bool} → Right bits u r → Right bits v s → AtomOf bits u a → AtomOf bits v b → bits a ≡ bits b

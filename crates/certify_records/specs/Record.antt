@@ -26,6 +26,13 @@ pub record At (bits : ℕ → Bool) (r : Record) (l : ℕ) : Type 0 where
   pub third : Has bits (r .third) (lane 4 l)
   pub fourth : Has bits (r .fourth) (lane 5 l)
 
+-- two records have the same atoms
+pub record Fellows (r s : Record) : Type 0 where
+  pub first : r .first ≡ s .first
+  pub second : r .second ≡ s .second
+  pub third : r .third ≡ s .third
+  pub fourth : r .fourth ≡ s .fourth
+
 -- the atom of a place of two records
 abbrev pub eitherOf : ℕ → ℕ → ℕ
 eitherOf a b = cond (eqb a noAtom) b a

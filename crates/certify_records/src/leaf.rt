@@ -3,11 +3,14 @@ use crate::Joined;
 use crate::NO_ATOM;
 use crate::Record;
 use check_counts::nibble;
+use evaluate::gate;
 ghost use mathlib.Core.Path.{_≡_};
-ghost use Prim.Native.Nat.{_+_, _*_, _<_};
+ghost use mathlib.Core.Bool.{true};
+ghost use Prim.Native.Nat.{ℕ, _+_, _*_, _/_, _%_, _<_};
+ghost use Rattle.netlist.specs.Eval.{differs};
 ghost use Rattle.netlist.specs.Leak.{bit};
 ghost use Rattle.evaluate.specs.Lane.{lane};
-ghost use Rattle.certify_records.specs.Leaf.{TwoIs, LeafIs};
+ghost use Rattle.certify_records.specs.Leaf.{TwoIs, LeafIs, OneAtom};
 
 // A mask setting that decides, and the table over its atom; or there are more than two nibbles, or one.
 pub enum Two {
@@ -60,4 +63,21 @@ pub fn leaf(r: Record, wire: usize) -> Joined
             fourth: NO_ATOM,
         }),
     }
+}
+
+// What an atom of a wire is where a record's atoms have setting s, in bit 4 s.
+pub fn selector(t: u64, atom: u32) -> u64
+    ensures { λ r. ⌜ ((s : ℕ) → s < 16 → lane (4 * s) r ≡ differs (lane (atom / 2 % 4 + 4 * s) t) (lane 0 atom)) ⌝ }
+{
+    ((t >> (atom / 2 % 4)) ^ gate::spread(atom as u64, 0)) & 0x1111_1111_1111_1111
+}
+
+// Whether records of two wires show that an atom of one is an atom of the other: by the same function of the same atoms.
+pub fn one_atom(r: Record, a: u32, s: Record, b: u32) -> bool
+    ensures { λ e. ⌜ (e ≡ true → OneAtom r a s b) ⌝ }
+{
+    if !crate::fellows(r, s) {
+        return false;
+    }
+    selector(r.table, a) == selector(s.table, b)
 }

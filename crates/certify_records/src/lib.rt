@@ -5,8 +5,10 @@ pub mod leaf;
 mod reduce;
 mod table;
 
+ghost use mathlib.Core.Path.{_≡_};
+ghost use mathlib.Core.Bool.{true};
 ghost use Prim.Native.Nat.{_<_};
-ghost use Rattle.certify_records.specs.Record.{JoinIs};
+ghost use Rattle.certify_records.specs.Record.{JoinIs, Fellows};
 
 // No atom.
 pub const NO_ATOM: u32 = 0xffff_ffff;
@@ -24,6 +26,22 @@ pub struct Record {
 pub enum Joined {
     One(Record),
     None,
+}
+
+// Whether two records have the same atoms.
+pub fn fellows(r: Record, s: Record) -> bool
+    ensures { λ e. ⌜ (e ≡ true → Fellows r s) ⌝ }
+{
+    if r.first != s.first {
+        return false;
+    }
+    if r.second != s.second {
+        return false;
+    }
+    if r.third != s.third {
+        return false;
+    }
+    r.fourth == s.fourth
 }
 
 // The record of what a kind of gate makes of two wires, from a record of each; none where it has more than four atoms. Atoms on

@@ -9,6 +9,9 @@ ghost use Rattle.certify_records.specs.Record.{Says};
 fn without_fourth(r: Record) -> Record
     ensures { λ s. ⌜ Says r s ⌝ }
 {
+    if r.fourth == NO_ATOM {
+        return r;
+    }
     if table::alike(r.table, 32, 0x0000_0000_ffff_ffff) {
         return Record {
             table: r.table,
@@ -25,6 +28,9 @@ fn without_fourth(r: Record) -> Record
 fn without_third(r: Record) -> Record
     ensures { λ s. ⌜ Says r s ⌝ }
 {
+    if r.third == NO_ATOM {
+        return r;
+    }
     if table::alike(r.table, 16, 0x0000_ffff_0000_ffff) {
         return align::high(Record {
             table: r.table,
@@ -41,6 +47,9 @@ fn without_third(r: Record) -> Record
 fn without_second(r: Record) -> Record
     ensures { λ s. ⌜ Says r s ⌝ }
 {
+    if r.second == NO_ATOM {
+        return r;
+    }
     if table::alike(r.table, 8, 0x00ff_00ff_00ff_00ff) {
         return align::high(align::middle(Record {
             table: r.table,
@@ -57,6 +66,9 @@ fn without_second(r: Record) -> Record
 fn without_first(r: Record) -> Record
     ensures { λ s. ⌜ Says r s ⌝ }
 {
+    if r.first == NO_ATOM {
+        return r;
+    }
     if table::alike(r.table, 4, 0x0f0f_0f0f_0f0f_0f0f) {
         return align::high(align::middle(align::low(Record {
             table: r.table,

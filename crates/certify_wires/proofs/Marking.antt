@@ -20,15 +20,15 @@ use Rattle.certify_records.specs.Record.{Has, At, Right, noAtom}
 use Rattle.certify_records.specs.Even.{Even, atomSetting}
 use Rattle.certify_records.proofs.Evens.{settingOf, shown}
 use Rattle.certify_wires.specs.Known.{bitOf, atomBit, Known, Open}
-use Rattle.certify_wires.specs.Store.{Marked}
+use Rattle.certify_wires.specs.Store.{Marked, plainAtom}
 
 -- a bit by a shift and a mask
-pub bit-one : (j n : ℕ) → eqb (bitAnd (n / 2 ^ j) 1) 1 ≡ true → lane j n ≡ true
-bit-one j n e = go (lane j n) (ap (λ (k : ℕ). eqb k 1) (sym (bit-low j n)) ∙ e)
+pub bit-one : (j n : ℕ) → eqb (bitAnd (n / 2 ^ j) 1) 1 ≡ lane j n
+bit-one j n = ap (λ (k : ℕ). eqb k 1) (bit-low j n) ∙ go (lane j n)
   where
-    go : (b : Bool) → eqb (bit b) 1 ≡ true → b ≡ true
-    go true e = refl
-    go false e = e
+    go : (b : Bool) → eqb (bit b) 1 ≡ b
+    go true = refl
+    go false = refl
 
 -- bits of atoms, zero where there is none
 abbrev cut : (ℕ → Bool) → ℕ → Bool
@@ -50,6 +50,9 @@ right-cut R = record {
 -- an atom is one of a public wire, or none
 abbrev pub Plain : List ℕ → ℕ → Type 0
 Plain marks a = a ≢ noAtom → lane 1 (getD marks (a / 8) 0) ≡ true
+
+pub plain-atom : (marks : List ℕ) (a : ℕ) {b : Bool} → b ≡ plainAtom marks a → b ≡ true → Plain marks a
+plain-atom marks a e t n = let f : plainAtom marks a ≡ lane 1 (getD marks (a / 8) 0) = rw (ne-eqb a noAtom n) in sym f ∙ sym e ∙ t
 
 module _ {N : Netlist} {codes marks : List ℕ} (M : Marked N codes marks) where
   module _ (x y : List Bool) (P : SamePublic codes x y) where

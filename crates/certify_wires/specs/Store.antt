@@ -1,15 +1,17 @@
 -- Records and marks in lent tables: five records a wire, of three entries each, and a mark: bit 0 for clean, bit 1 for public.
 use Prim.Native.Nat.{ℕ, _+_, _*_, _/_, _%_, _≤_, _<_}
-use mathlib.Core.Bool.{Bool, true}
+use mathlib.Core.Bool.{Bool, true, cond}
 use mathlib.Core.List.{List}
 use mathlib.Core.Path.{_≡_}
 use mathlib.Core.Logic.{_≢_}
+use lib.Dec.{eqb}
 use lib.ListN.{length, getD}
 use Rattle.netlist.specs.Netlist.{Netlist}
 use Rattle.netlist.specs.Table.{half}
 use Rattle.netlist.specs.Leak.{EqualCounts}
 use Rattle.evaluate.specs.Lane.{lane}
 use Rattle.certify_records.specs.declared.Record.{Record}
+use Rattle.certify_records.specs.Record.{noAtom}
 use Rattle.certify_wires.specs.Known.{Known, Open}
 use Rattle.certify_wires.specs.declared.keep.Kept.{Kept}
 use Rattle.certify_wires.specs.declared.keep.Kept.the-variants.{Stored, Carried}
@@ -45,6 +47,10 @@ pub record Recorded (N : Netlist) (codes : List ℕ) (t : List ℕ) : Type 0 whe
 pub record Marked (N : Netlist) (codes : List ℕ) (marks : List ℕ) : Type 0 where
   pub clean : (w : ℕ) → lane 0 (getD marks w 0) ≡ true → EqualCounts N codes w
   pub public : (w : ℕ) → lane 1 (getD marks w 0) ≡ true → Open N codes w
+
+-- an atom is one of a wire that is marked public, or none
+abbrev pub plainAtom : List ℕ → ℕ → Bool
+plainAtom marks a = cond (eqb a noAtom) true (lane 1 (getD marks (a / 8) 0))
 
 -- a record that is still to be put is right for its wire
 abbrev pub Carries : Netlist → List ℕ → ℕ → Kept → Type 0

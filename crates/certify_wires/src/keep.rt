@@ -29,11 +29,6 @@ pub fn atoms(r: Record) -> u8 {
     (r.first != NO_ATOM) as u8
 }
 
-// Whether two records have the same atoms.
-fn fellows(r: Record, s: Record) -> bool {
-    r.first == s.first && r.second == s.second && r.third == s.third && r.fourth == s.fourth
-}
-
 // A record comes to place q: it is put there if the place is free, or if its atoms are fewer than those of the record there, which
 // then goes on.
 fn step(records: &mut [u64], q: usize, r: Record) -> Kept
@@ -46,7 +41,7 @@ fn step(records: &mut [u64], q: usize, r: Record) -> Kept
         store::put(records, q, r);
         return Kept::Stored;
     }
-    if fellows(there, r) {
+    if certify_records::fellows(there, r) {
         return Kept::Stored;
     }
     if atoms(r) < atoms(there) {

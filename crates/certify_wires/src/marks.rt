@@ -4,20 +4,16 @@ use certify_records::Record;
 use certify_records::even;
 ghost use mathlib.Core.Path.{_≡_};
 ghost use mathlib.Core.Bool.{true};
-ghost use mathlib.Core.Logic.{_≢_};
 ghost use mathlib.Core.List.{List};
-ghost use Prim.Native.Nat.{ℕ, _/_};
-ghost use lib.ListN.{getD};
+ghost use Prim.Native.Nat.{ℕ};
 ghost use Rattle.netlist.specs.Netlist.{Netlist};
 ghost use Rattle.netlist.specs.Leak.{EqualCounts};
-ghost use Rattle.evaluate.specs.Lane.{lane};
-ghost use Rattle.certify_records.specs.Record.{noAtom};
 ghost use Rattle.certify_wires.specs.Known.{Known, Open};
-ghost use Rattle.certify_wires.specs.Store.{Marked};
+ghost use Rattle.certify_wires.specs.Store.{Marked, plainAtom};
 
 // Whether an atom is one of a public wire, or none.
 fn plain(marks: &[u8], atom: u32) -> bool
-    ensures { λ r. ⌜ (r ≡ true → atom ≢ noAtom → lane 1 (getD (now (marks .entry)) (atom / 8) 0) ≡ true) ⌝ }
+    ensures { λ r. ⌜ r ≡ plainAtom (now (marks .entry)) atom ⌝ }
 {
     if atom == NO_ATOM {
         return true;

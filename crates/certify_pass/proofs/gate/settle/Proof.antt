@@ -57,24 +57,14 @@ mark-requires c κs = search needs
 same-length-2 : tie.Need-same-length-2
 same-length-2 c = search needs
 
-returns-2 : tie.Need-returns-2
-returns-2 c = search needs
-
 same-length-3 : tie.Need-same-length-3
 same-length-3 c = search needs
 
+returns-2 : tie.Need-returns-2
+returns-2 c = search needs
+
 same-length-4 : tie.Need-same-length-4
 same-length-4 c = search needs
-
-returns-3 : tie.Need-returns-3
-returns-3 c = λ N codes H.
-    let s = c .before .before .before .before .before .before .before .before .before .before .before .before .before .before .before .before .before .before .before .before .before .args in
-    let K = read-known (s .w) (s .k) (c .before .before .before .before .before .before .before .before .before .before .before .before .before .before .before .before .before .before .before .before .before .pre .2) (H .known) (c .before .before .before .before .before .before .before .before .before .before .before .before .before .before .before .before .before .get .ensures) (c .before .before .before .before .before .before .before .before .before .before .before .before .before .before .before .before .present .ensures (not-false _ (c .before .before .before .before .before .before .before .before .before .before .before .before .before .before .before .if1 .left))) in
-    let L = known-if (c .before .before .before .before .before .before .before .before .before .before .before .before .before .before .leaf-of .result) (c .before .before .before .before .before .before .before .before .before .before .before .before .s .given .1) (c .before .before .before .before .before .before .before .before .before .before .before .before .before .before .leaf-of .ensures N codes K) in
-    record {
-      known = put-leaf (c .before .before .before .before .before .before .before .before .before .put .ensures) (H .known) L;
-      marked = c .before .before .mark .ensures .1 refl N codes (c .before .before .before .before .before .public .ensures N codes _ (H .marked) K (c .before .before .before .before .if2 .taken)) (H .marked);
-    }
 
 same-length-5 : tie.Need-same-length-5
 same-length-5 c = search needs
@@ -82,11 +72,28 @@ same-length-5 c = search needs
 same-length-6 : tie.Need-same-length-6
 same-length-6 c = search needs
 
+returns-3 : tie.Need-returns-3
+returns-3 c = λ N codes H.
+    let K = read-known (c .before .before .before .before .before .before .before .before .before .before .before .before .before .before .before .before .before .before .before .before .before .before .before .before .before .before .args .w) (c .before .before .before .before .before .before .before .before .before .before .before .before .before .before .before .before .before .before .before .before .before .before .before .before .before .before .args .k) (c .before .before .before .before .before .before .before .before .before .before .before .before .before .before .before .before .before .before .before .before .before .before .before .before .before .before .pre .2) (H .known) (c .before .before .before .before .before .before .before .before .before .before .before .before .before .before .before .before .before .before .before .before .before .get .ensures) (c .before .before .before .before .before .before .before .before .before .before .before .before .before .before .before .before .before .before .before .before .present .ensures (not-false _ (c .before .before .before .before .before .before .before .before .before .before .before .before .before .before .before .before .before .before .before .if1 .left))) in
+    let L = known-if (c .before .before .before .before .before .before .before .before .before .before .before .before .before .before .before .before .leaf-of .result) (c .before .before .before .before .before .before .before .before .before .before .before .before .s .given .1) (c .before .before .before .before .before .before .before .before .before .before .before .before .before .before .before .before .leaf-of .ensures N codes (H .known) K) in
+    record {
+      known = put-leaf (c .before .before .before .before .before .before .before .before .before .put .ensures) (H .known) L;
+      marked = c .before .before .mark .ensures .1 refl N codes (c .before .before .before .before .before .public .ensures N codes _ (H .marked) K (c .before .before .before .before .if2 .taken)) (H .marked);
+    }
+
+same-length-7 : tie.Need-same-length-7
+same-length-7 c = search needs
+
+same-length-8 : tie.Need-same-length-8
+same-length-8 c = search needs
+
+same-length-9 : tie.Need-same-length-9
+same-length-9 c = search needs
+
 returns-4 : tie.Need-returns-4
 returns-4 c = λ N codes H.
-    let s = c .before .before .before .before .before .before .before .before .before .before .before .before .before .before .before .before .before .args in
-    let K = read-known (s .w) (s .k) (c .before .before .before .before .before .before .before .before .before .before .before .before .before .before .before .before .before .pre .2) (H .known) (c .before .before .before .before .before .before .before .before .before .before .before .before .before .get .ensures) (c .before .before .before .before .before .before .before .before .before .before .before .before .present .ensures (not-false _ (c .before .before .before .before .before .before .before .before .before .before .before .if1 .left))) in
-    let L = known-if (c .before .before .before .before .before .before .before .before .before .before .leaf-of .result) (c .before .before .before .before .before .before .before .before .s .given .1) (c .before .before .before .before .before .before .before .before .before .before .leaf-of .ensures N codes K) in
+    let K = read-known (c .before .before .before .before .before .before .before .before .before .before .before .before .before .before .before .before .before .before .before .before .before .before .args .w) (c .before .before .before .before .before .before .before .before .before .before .before .before .before .before .before .before .before .before .before .before .before .before .args .k) (c .before .before .before .before .before .before .before .before .before .before .before .before .before .before .before .before .before .before .before .before .before .before .pre .2) (H .known) (c .before .before .before .before .before .before .before .before .before .before .before .before .before .before .before .before .before .get .ensures) (c .before .before .before .before .before .before .before .before .before .before .before .before .before .before .before .before .present .ensures (not-false _ (c .before .before .before .before .before .before .before .before .before .before .before .before .before .before .before .if1 .left))) in
+    let L = known-if (c .before .before .before .before .before .before .before .before .before .before .before .before .leaf-of .result) (c .before .before .before .before .before .before .before .before .s .given .1) (c .before .before .before .before .before .before .before .before .before .before .before .before .leaf-of .ensures N codes (H .known) K) in
     record { known = put-leaf (c .before .before .before .before .before .put .ensures) (H .known) L; marked = H .marked }
 
 pub settle-spec : {M : Type 1} → statement M
@@ -107,10 +114,13 @@ settle-spec =
     public-requires
     mark-requires
     same-length-2
-    returns-2
     same-length-3
+    returns-2
     same-length-4
-    returns-3
     same-length-5
     same-length-6
+    returns-3
+    same-length-7
+    same-length-8
+    same-length-9
     returns-4)

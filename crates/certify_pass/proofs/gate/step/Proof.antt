@@ -1,5 +1,4 @@
 -- `certify_pass::gate::step` meets its contract.
-use Rattle.certify_pass.proofs.Steps.{step-then}
 use native.Mathlib.Omega.{arith}
 use borrow.Author.Needs.{needs}
 use Rattle.certify_pass.proofs.gate.step.Statement.{statement}
@@ -21,8 +20,13 @@ same-length c = search needs
 same-length-2 : tie.Need-same-length-2
 same-length-2 c = search needs
 
+same-length-3 : tie.Need-same-length-3
+same-length-3 c = search needs
+
 returns : tie.Need-returns
-returns c = step-then (c .before .before .before .before .before .before .before .before .before .before .before .pairs .ensures) (record { holds = λ N codes M H. c .before .before .before .before .leaves .ensures N codes H })
+returns c = record { holds = λ N codes M H. c .before .before .before .before .before .before .leaves .ensures N codes (c .before .before .before .before .before .before .before .before .before .before .before .before .before .before .pairs .ensures .holds N codes M H) }
 
 pub step-spec : {M : Type 1} → statement M
-step-spec = tie.close (tie.spec pairs-requires leaves-requires same-length same-length-2 returns)
+step-spec =
+    tie.close
+    (tie.spec pairs-requires leaves-requires same-length same-length-2 same-length-3 returns)

@@ -11,6 +11,9 @@ use Rattle.certify_records.proofs.align.low.Reads as low-reads
 use Rattle.certify_records.proofs.align.middle.Reads as middle-reads
 use Rattle.certify_records.proofs.table.alike.Reads as alike-reads
 
+returns : tie.Need-returns
+returns c = search needs
+
 alike-requires : tie.Need-alike-requires
 alike-requires c κs = search needs
 
@@ -23,13 +26,13 @@ middle-requires c κs = search needs
 high-requires : tie.Need-high-requires
 high-requires c κs = search needs
 
-returns : tie.Need-returns
-returns c = let r = c .before .before .before .before .before .args .r in says-then (without-first (r .table) (r .first) (r .second) (r .third) (r .fourth) (c .before .before .before .before .alike .ensures (c .before .before .before .if1 .taken) 0 tt)) (says-then (c .before .before .low .ensures) (says-then (c .before .middle .ensures) (c .high .ensures)))
-
 returns-2 : tie.Need-returns-2
-returns-2 c = search needs
+returns-2 c = let r = c .before .before .before .before .before .before .before .args .r in says-then (without-first (r .table) (r .first) (r .second) (r .third) (r .fourth) (c .before .before .before .before .alike .ensures (c .before .before .before .if2 .taken) 0 tt)) (says-then (c .before .before .low .ensures) (says-then (c .before .middle .ensures) (c .high .ensures)))
+
+returns-3 : tie.Need-returns-3
+returns-3 c = search needs
 
 pub without-first-spec : {M : Type 1} → statement M
 without-first-spec =
     tie.close
-    (tie.spec alike-requires low-requires middle-requires high-requires returns returns-2)
+    (tie.spec returns alike-requires low-requires middle-requires high-requires returns-2 returns-3)

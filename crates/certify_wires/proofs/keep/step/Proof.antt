@@ -9,7 +9,7 @@ use Rattle.certify_wires.proofs.keep.step.Tie as tie
 use Rattle.certify_wires.proofs.keep.step.Reads as reads
 use Rattle.certify_wires.proofs.keep.step.Lts as lts
 use Rattle.certify_wires.proofs.keep.atoms.Reads as atoms-reads
-use Rattle.certify_wires.proofs.keep.fellows.Reads as fellows-reads
+use Rattle.certify_records.proofs.fellows.Reads as fellows-reads
 use Rattle.certify_wires.proofs.store.get.Reads as get-reads
 use Rattle.certify_wires.proofs.store.present.Reads as present-reads
 use Rattle.certify_wires.proofs.store.put.Reads as put-reads

@@ -1,5 +1,5 @@
 -- `certify_wires::marks::clean` meets its contract.
-use Rattle.certify_wires.proofs.Marking.{clean-law}
+use Rattle.certify_wires.proofs.Marking.{clean-law, plain-atom}
 use native.Mathlib.Omega.{arith}
 use borrow.Author.Needs.{needs}
 use Rattle.certify_wires.proofs.marks.clean.Statement.{statement}
@@ -25,7 +25,7 @@ even-requires : tie.Need-even-requires
 even-requires c κs = search needs
 
 returns : tie.Need-returns
-returns c = λ N codes w M K e. clean-law M (c .even .ensures e) (c .before .before .before .before .plain .ensures) (c .before .before .before .plain2 .ensures) (c .before .before .plain3 .ensures) (c .before .plain4 .ensures) K
+returns c = λ N codes w M K e. let m = c .before .before .before .before .before .before .args .marks .now in let r = c .before .before .before .before .before .before .args .r in clean-law M (c .even .ensures e) (plain-atom m (r .first) (c .before .before .before .before .plain .ensures)) (plain-atom m (r .second) (c .before .before .before .plain2 .ensures)) (plain-atom m (r .third) (c .before .before .plain3 .ensures)) (plain-atom m (r .fourth) (c .before .plain4 .ensures)) K
 
 pub clean-spec : {M : Type 1} → statement M
 clean-spec =
