@@ -79,9 +79,11 @@ pub building-start : (t : List ℕ) (at M n : ℕ) (table : List ℕ) (tabs : Ta
 building-start t at M n table tabs h given wires l S =
     record { are = []; form = refl; good = refl; wire = omega arith; standing = S; left = refl; within = h }
 
-module _ {ls : List (List (List ℕ))} {t : List ℕ} {M n : ℕ} {table₀ table : List ℕ} {tabs₀ tabs : Tables} {at count i : ℕ} (B : Building ls t M n table₀ tabs₀ table tabs at count i) where
+module _ {ls : List (List (List ℕ))} {t : List ℕ} {M n : ℕ} {table₀ table : List ℕ} {tabs₀ tabs : Tables} {at count i : ℕ}
+    (B : Building ls t M n table₀ tabs₀ table tabs at count i) where
   pub building-more : {after : List ℕ} {u : Tables} {next to : ℕ}
-      → ((given wires : List ℕ) (gs : List Gate) → length wires ≡ M + 1 → Standing table tabs n count given wires gs → AndLineAt (fileLines (drop at t)) t M n count given wires gs after u next to)
+      → ((given wires : List ℕ) (gs : List Gate) → length wires ≡ M + 1 → Standing table tabs n count given wires gs → AndLineAt (fileLines (drop at t)) t M n
+      count given wires gs after u next to)
       → Building ls t M n table₀ tabs₀ after u to next (i + 1)
   building-more {after} {u} {next} {to} line given wires l S =
       let A = B given wires l S in
@@ -102,8 +104,10 @@ module _ {ls : List (List (List ℕ))} {t : List ℕ} {M n : ℕ} {table₀ tabl
       }
 
   pub building-no : (lines : ℕ) → i < lines
-      → ((given wires : List ℕ) (gs : List Gate) → length wires ≡ M + 1 → Standing table tabs n count given wires gs → (a : AndLine) → atFront andForm (fileLines (drop at t)) ≡ some a → andGood M given a ≡ true → ⊥)
-      → (given wires : List ℕ) → length wires ≡ M + 1 → Standing table₀ tabs₀ n 0 given wires [] → (xs : List AndLine) → formed andForm lines ls ≡ some xs → andsGood M given xs ≡ true → ⊥
+      → ((given wires : List ℕ) (gs : List Gate) → length wires ≡ M + 1 → Standing table tabs n count given wires gs → (a : AndLine) → atFront andForm
+      (fileLines (drop at t)) ≡ some a → andGood M given a ≡ true → ⊥)
+      → (given wires : List ℕ) → length wires ≡ M + 1 → Standing table₀ tabs₀ n 0 given wires [] → (xs : List AndLine) → formed andForm lines ls ≡ some xs →
+      andsGood M given xs ≡ true → ⊥
   building-no lines h bad given wires l S xs e f =
       let A = B given wires l S in
       let C = build wires n (A .are) in

@@ -153,7 +153,8 @@ module _ {ls : List (List (List ℕ))} {t : List ℕ} {M size : ℕ} {table : Li
       let S : Split inputLine i ls vs = formed-split inputLine i count ls vs h e in
       let s : S .front ≡ E .are = some-same (S .front) (E .are) (sym (S .seen) ∙ E .lines) in
       let a : freshAll M [] (S .front ++ (S .here ∷ S .rest)) ≡ true = ap (freshAll M []) (S .all) ∙ f in
-      bad (S .here) (ap (atFront inputLine) (E .left) ∙ S .line) (ap (λ (us : List ℕ). fresh M (giving [] us) (S .here)) (sym s) ∙ fresh-at M [] (S .front) (S .here) (S .rest) a)
+      bad (S .here) (ap (atFront inputLine) (E .left) ∙ S .line) (ap (λ (us : List ℕ). fresh M (giving [] us) (S .here)) (sym s) ∙ fresh-at M [] (S .front)
+      (S .here) (S .rest) a)
 
   -- all of them
   pub entering-all : (count : ℕ) → i ≡ count → InputsAt ls t count M table at

@@ -18,7 +18,8 @@ use Rattle.aiger_ands.specs.declared.ands.AndStep.{AndStep}
 use Rattle.aiger_ands.specs.declared.ands.AndStep.the-variants as S
 
 -- the first of some lines is an AND line that the rules admit; its gates stand behind the others, and its variable is given
-pub record AndLineAt (ls : List (List (List ℕ))) (t : List ℕ) (M n count : ℕ) (given wires : List ℕ) (gs : List Gate) (table : List ℕ) (tabs : Tables) (next to : ℕ) : Type 0 where
+pub record AndLineAt (ls : List (List (List ℕ))) (t : List ℕ) (M n count : ℕ) (given wires : List ℕ) (gs : List Gate) (table : List ℕ) (tabs : Tables)
+    (next to : ℕ) : Type 0 where
   pub is : AndLine
   pub line : atFront andForm ls ≡ some is
   pub good : andGood M given is ≡ true

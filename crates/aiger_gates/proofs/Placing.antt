@@ -109,5 +109,6 @@ kept-on {c} {o} {r} {at} {g} {t} {u} gs e room h p k a b =
     }
 
 -- no room
-pub kept-out : {c at : ℕ} {t : Tables} (gs : List Gate) (g : Gate) → at ≡ length gs → (at < length (t .operands) → at < length (t .results) → ⊥) → Keeps t c (gs ++ (g ∷ []))
+pub kept-out : {c at : ℕ} {t : Tables} (gs : List Gate) (g : Gate) → at ≡ length gs → (at < length (t .operands) → at < length (t .results) → ⊥) → Keeps t c
+    (gs ++ (g ∷ []))
 kept-out gs g e n a b = let z = snoc-length gs g in absurd (n (omega arith) (omega arith))

@@ -1,3 +1,3 @@
 -- Laws of lines.
-pub mod StrayLaws
+pub mod Strays
 pub mod NumberLines

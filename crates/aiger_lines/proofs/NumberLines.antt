@@ -19,14 +19,14 @@ use Rattle.read_text.specs.Answers.{wordFrom, behindWord, WholeAt, WholeIs, Num
 use Rattle.read_text.specs.declared.cursor.Cursor.{Cursor}
 use Rattle.read_text.specs.declared.number.Number.{Number}
 use Rattle.read_text.specs.declared.number.Number.the-variants as N
-use Rattle.read_text.proofs.AnswerLaws.{number-line, number-word, no-number}
-use Rattle.read_text.proofs.ReadingLaws.{whole-next}
-use Rattle.read_text.proofs.ScanLaws.{dropped-head}
-use Rattle.read_text.proofs.SplitLaws.{addLine, addWord, words-step, skip-words, skip-after}
+use Rattle.read_text.proofs.Answering.{number-line, number-word, no-number}
+use Rattle.read_text.proofs.DigitByDigit.{whole-next}
+use Rattle.read_text.proofs.Scans.{dropped-head}
+use Rattle.read_text.proofs.Splitting.{addLine, addWord, words-step, skip-words, skip-after}
 use Rattle.aiger.specs.Lines.{fileLine, fileLines}
 use Rattle.aiger_lines.specs.Stray.{isStray, strayAt, isPlain, ToWord}
 use Rattle.aiger_lines.specs.LineAnswers.{NotSoMany, FileLineAt, FileLineIs, firstNumbers, LineAt, LineNot, LineIs, OneAt}
-use Rattle.aiger_lines.proofs.StrayLaws.{Clean, stray-within, stray-drop, stray-here, clean-line, numbers-clean, number-no-cr, file-step, word-first}
+use Rattle.aiger_lines.proofs.Strays.{Clean, stray-within, stray-drop, stray-here, clean-line, numbers-clean, number-no-cr, file-step, word-first}
 use Rattle.aiger_lines.specs.declared.numbers.Line.{Line}
 use Rattle.aiger_lines.specs.declared.numbers.Line.the-variants as L
 

@@ -94,4 +94,8 @@ module _ {table kept : List ℕ} {i : ℕ} (K : Looking table kept i) (h : i < l
 
 pub looking-all : {table kept : List ℕ} {i : ℕ} → Looking table kept i → length kept ≤ i
     → ((given wires : List ℕ) → Places table given wires → true ≡ every (readable given) (map literal kept)) × HaveWires table kept
-looking-all {table} {kept} {i} K h = (λ given wires P. sym (sym (ap (every (readable given)) (literals-whole kept i h)) ∙ K .good given wires P), λ j b. K .wired j (omega arith))
+looking-all {table} {kept} {i} K h = (
+  λ given wires P. sym (sym (ap (every (readable given)) (literals-whole kept i h)) ∙ K .good given wires P),
+  λ j b.
+      K .wired j (omega arith),
+)

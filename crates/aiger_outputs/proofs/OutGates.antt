@@ -99,13 +99,15 @@ module _ {table o₀ r₀ : List ℕ} {room n before : ℕ} {o r : List ℕ} {i 
         all = λ given wires gs S good.
             let G = gs ++ outGates (wireAt wires) (n + before) (map literal (take i kept)) in
             let T = standing-front (room + i + 1) (let y = P .long in omega arith) (omega arith) (P .all given wires gs S good) in
-            let read : readable given (literal x) ≡ true = rw q (every-here (readable given) (map literal (take i kept)) (literal (getD kept i 0)) (map literal (drop (suc i) kept))
+            let read : readable given (literal x) ≡ true = rw q (every-here (readable given) (map literal (take i kept)) (literal (getD kept i 0))
+            (map literal (drop (suc i) kept))
             (ap (every (readable given)) (sym (literal-split kept i m)) ∙ good)) in
             let U = standing-whole (drop (room + i + 1) r) (omega arith) (out given wires G T read) in
             let z : before + (i + 1) ≡ before + i + 1 = omega arith in
             let c : n + (before + i) ≡ n + before + length (map literal (take i kept)) = omega arith in
             let g : gs ++ outGates (wireAt wires) (n + before) (map literal (take (i + 1) kept)) ≡ G ++ (outGate (wireAt wires) (literal x) (n + (before + i)) ∷ []) =
-            rw (literal-more kept i m, c, q) (ap (λ (os : List Gate). gs ++ os) (out-snoc (wireAt wires) (n + before) (map literal (take i kept)) (literal (getD kept i 0))) ∙ sym (append-assoc gs _ _)) in
+            rw (literal-more kept i m, c, q) (ap (λ (os : List Gate). gs ++ os) (out-snoc (wireAt wires) (n + before) (map literal (take i kept))
+            (literal (getD kept i 0))) ∙ sym (append-assoc gs _ _)) in
             rw (z, g) U;
         left =
             let z : room + (i + 1) ≡ room + i + 1 = omega arith in

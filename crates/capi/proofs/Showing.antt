@@ -23,7 +23,8 @@ use Rattle.session_text.proofs.Showing.{stands, fits, third-long, fourth-long}
 use Rattle.session_text.proofs.Calling.{text-promised, masked-promised}
 use Rattle.capi_answers.specs.Number.{Told}
 
-pub count-fits : {z : Sizes} {a b c d : ℕ} {widths outputs : List ℕ} {gates places : ℕ} {q : Asked} → AskedIs z a b c d widths outputs gates places q → q .inputs + q .count < 2 ^ 32
+pub count-fits : {z : Sizes} {a b c d : ℕ} {widths outputs : List ℕ} {gates places : ℕ} {q : Asked} → AskedIs z a b c d widths outputs gates places q →
+    q .inputs + q .count < 2 ^ 32
 count-fits A = omega (arith, A .few)
 
 module _ {z : Sizes} {a b c d : ℕ} {widths outputs : List ℕ} {gates : ℕ} {source : List SourceRecord} {q : Asked} {t : Tables} {n : ℕ}
@@ -51,7 +52,12 @@ module _ (s : Session) (source : List SourceRecord) {z : Sizes} {widths outputs 
       let p = B .promise in
       record {
         answer = B .answer;
-        promise = text-promised z widths outputs s source (record { answers = p .answers; operands = cleared ops ops₀ (p .operands) lo; results = cleared res res₀ (p .results) lr });
+        promise = text-promised z widths outputs s source (record {
+          answers = p .answers;
+          operands = cleared ops ops₀ (p .operands) lo;
+          results = cleared res
+              res₀ (p .results) lr;
+        });
         told = B .told;
       }
 

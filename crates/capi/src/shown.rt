@@ -46,7 +46,8 @@ pub fn text(
     requires { ⌜ Ready (now widths) (now outputs) q (tables (now operands) (now results)) no ⌝ }
     ensures { λ r. ⌜ ((o : Outcome Netlist)
         → Stands o (now (widths .entry)) (now (outputs .entry)) q (tables (now (operands .entry)) (now (results .entry))) no
-        → Told (TextIs o (now (out .entry)) (now (out .exit)) (now (operands .entry)) (now (operands .exit)) (now (results .entry)) (now (results .exit))) r) ⌝ }
+        → Told (TextIs o (now (out .entry)) (now (out .exit)) (now (operands .entry)) (now (operands .exit))
+        (now (results .entry)) (now (results .exit))) r) ⌝ }
 {
     number(session_text::results::text(no, q, widths, outputs, out, operands, results))
 }

@@ -22,7 +22,8 @@ use lib.Seq.{sets, take-suc, length-take-le}
 
 sets-more : (l : List ℕ) (k : ℕ) (vs : List ℕ) (v : ℕ) → sets l k (vs ++ (v ∷ [])) ≡ set (sets l k vs) (k + length vs) v
 sets-more l k [] v = let e : k ≡ k + 0 = omega arith in ap (λ (j : ℕ). set l j v) e
-sets-more l k (a ∷ vs) v = let e : suc k + length vs ≡ k + suc (length vs) = omega arith in sets-more (set l k a) (suc k) vs v ∙ ap (λ (j : ℕ). set (sets (set l k a) (suc k) vs) j v) e
+sets-more l k (a ∷ vs) v = let e : suc k + length vs ≡ k + suc (length vs) = omega arith in
+    sets-more (set l k a) (suc k) vs v ∙ ap (λ (j : ℕ). set (sets (set l k a) (suc k) vs) j v) e
 
 -- one more
 pub laid-one : (l is : List ℕ) (i : ℕ) → i < length is → set (sets l 0 (take i is)) i (getD is i 0) ≡ sets l 0 (take (i + 1) is)

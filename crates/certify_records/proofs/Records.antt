@@ -101,7 +101,13 @@ module _ (t a b c d : ℕ) where
         each = λ l h at.
             either _ _ 0 (omega arith) tables R l h (a)
             (λ e. record { first = record { bit = λ n. e }; second = at .second; third = at .third; fourth = at .fourth })
-            (λ e. record { first = record { bit = λ n. e }; second = has-as (turned-bit 0 3 l (omega arith) (omega arith) h) (at .second); third = has-as (turned-bit 0 4 l (omega arith) (omega arith) h) (at .third); fourth = has-as (turned-bit 0 5 l (omega arith) (omega arith) h) (at .fourth) });
+            (λ e. record {
+              first = record { bit = λ n. e };
+              second = has-as (turned-bit 0 3 l (omega arith) (omega arith) h) (at .second);
+              third = has-as
+                  (turned-bit 0 4 l (omega arith) (omega arith) h) (at .third);
+              fourth = has-as (turned-bit 0 5 l (omega arith) (omega arith) h) (at .fourth);
+            });
       };
     }
 
@@ -112,7 +118,13 @@ module _ (t a b c d : ℕ) where
         each = λ l h at.
             either _ _ 1 (omega arith) tables R l h (b)
             (λ e. record { first = at .first; second = record { bit = λ n. e }; third = at .third; fourth = at .fourth })
-            (λ e. record { first = has-as (turned-bit 1 2 l (omega arith) (omega arith) h) (at .first); second = record { bit = λ n. e }; third = has-as (turned-bit 1 4 l (omega arith) (omega arith) h) (at .third); fourth = has-as (turned-bit 1 5 l (omega arith) (omega arith) h) (at .fourth) });
+            (λ e. record {
+              first = has-as (turned-bit 1 2 l (omega arith) (omega arith) h) (at .first);
+              second = record { bit = λ n. e };
+              third = has-as
+                  (turned-bit 1 4 l (omega arith) (omega arith) h) (at .third);
+              fourth = has-as (turned-bit 1 5 l (omega arith) (omega arith) h) (at .fourth);
+            });
       };
     }
 
@@ -123,7 +135,14 @@ module _ (t a b c d : ℕ) where
         each = λ l h at.
             either _ _ 2 (omega arith) tables R l h (c)
             (λ e. record { first = at .first; second = at .second; third = record { bit = λ n. e }; fourth = at .fourth })
-            (λ e. record { first = has-as (turned-bit 2 2 l (omega arith) (omega arith) h) (at .first); second = has-as (turned-bit 2 3 l (omega arith) (omega arith) h) (at .second); third = record { bit = λ n. e }; fourth = has-as (turned-bit 2 5 l (omega arith) (omega arith) h) (at .fourth) });
+            (λ e. record {
+              first = has-as (turned-bit 2 2 l (omega arith) (omega arith) h) (at .first);
+              second = has-as
+                  (turned-bit 2 3 l (omega arith) (omega arith) h) (at .second);
+              third = record { bit = λ n. e };
+              fourth = has-as
+                  (turned-bit 2 5 l (omega arith) (omega arith) h) (at .fourth);
+            });
       };
     }
 
@@ -134,7 +153,13 @@ module _ (t a b c d : ℕ) where
         each = λ l h at.
             either _ _ 3 (omega arith) tables R l h (d)
             (λ e. record { first = at .first; second = at .second; third = at .third; fourth = record { bit = λ n. e } })
-            (λ e. record { first = has-as (turned-bit 3 2 l (omega arith) (omega arith) h) (at .first); second = has-as (turned-bit 3 3 l (omega arith) (omega arith) h) (at .second); third = has-as (turned-bit 3 4 l (omega arith) (omega arith) h) (at .third); fourth = record { bit = λ n. e } });
+            (λ e. record {
+              first = has-as (turned-bit 3 2 l (omega arith) (omega arith) h) (at .first);
+              second = has-as
+                  (turned-bit 3 3 l (omega arith) (omega arith) h) (at .second);
+              third = has-as (turned-bit 3 4 l (omega arith) (omega arith) h) (at .third);
+              fourth = record { bit = λ n. e };
+            });
       };
     }
 

@@ -58,7 +58,8 @@ module _ {f g : ℕ → ℕ → ℕ} {W S T : ℕ} {best found : Difference}
       split s (λ h. past .lower w (omega arith) s h) (λ h. shifted w s h (next .lower w l (s - S) (omega arith)))
 
   -- a lower wire
-  pub difference-lower : found .wire < best .wire → LowestDifference f g W (S + T) (record { wire = found .wire; setting = S + found .setting; base = found .base; count = found .count })
+  pub difference-lower : found .wire < best .wire → LowestDifference f g W (S + T)
+      (record { wire = found .wire; setting = S + found .setting; base = found .base; count = found .count })
   difference-lower h =
       let i = past .within in
       let d = next .differs h in

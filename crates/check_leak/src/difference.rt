@@ -68,7 +68,7 @@ fn first_difference(words: &[u64], base: &[u64], limit: usize) -> Difference
     none(limit)
 }
 
-// The same. Most blocks show no difference, so that all wires are compared first.
+// The lowest wire whose count differs. Most blocks show no difference, so all wires are compared at once before one is looked for.
 pub fn scan(words: &[u64], base: &[u64], limit: usize) -> Difference
     requires { ⌜ (limit ≤ length (now words)) × (limit ≤ length (now base)) ⌝ }
     ensures { λ r. ⌜ LowestDifference (nibblesOf (now (base .entry))) (onesOf (now (words .entry))) limit 16 r ⌝ }

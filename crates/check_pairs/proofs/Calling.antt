@@ -65,7 +65,8 @@ module _ (s : Sizes) (text codes ws o r g w b z : List ℕ) where
 
     pub call-read : {ins outs : List ℕ} {tabs : Tables} {h : HeaderNumbers} {a : Outcome (BothAnswers Found)}
         → (tablesLong (large s) (length o ∷ length r ∷ length g ∷ n ∷ []) ≡ true) × ReadAt (large s) text ins outs tabs h
-        → ((N : Netlist) → Holds tabs (h .gates) (h .wires) (h .«input_bits») (h .«output_bits») N → take (h .«input_values») ins ≡ N .inputs → a ≡ pairsOutcome codes ws N)
+        → ((N : Netlist) → Holds tabs (h .gates) (h .wires) (h .«input_bits») (h .«output_bits») N → take (h .«input_values») ins ≡ N .inputs → a ≡ pairsOutcome
+        codes ws N)
         → a ≡ call s text codes ws o r g w b z
     unfolding pairsCall
     call-read k f =

@@ -109,7 +109,8 @@ module _ (s : Sizes) (text codes ws o r g w b z s0 s1 s2 s3 p : List ℕ) where
 
   wires-judged : (v : WideVerdict) (is : List ℕ) (N : Netlist) → toldOf v is ≡ listed (length codes) (leak N codes) → WiresJudged N codes v
   wires-judged Clean is N e = none-clean N codes (no-leak (length codes) (leak N codes) e)
-  wires-judged (Leak l j y k) is N e = λ clean. some-leak (length codes) (leak N codes) e (λ x h. let f = found-lowest N codes x h in f .breaks (clean (x .wire) (f .wire)))
+  wires-judged (Leak l j y k) is N e = λ clean. some-leak (length codes) (leak N codes) e (λ x h. let f = found-lowest N codes x h in
+      f .breaks (clean (x .wire) (f .wire)))
 
   -- both answers follow the rules
   pub call-judged : (a : CheckedWide) (is : List ℕ) → outcomeIn a is ≡ call s text codes ws o r g w b z s0 s1 s2 s3 p → (N : Netlist)

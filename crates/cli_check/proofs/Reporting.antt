@@ -18,7 +18,7 @@ use Rattle.netlist.specs.Services.{tablesLong, checkOutcome, checkCall}
 use Rattle.netlist.specs.Programs.{readable, listFile, printCheck, checkProgram, fileLimit}
 use Rattle.netlist.proofs.Tests.{onBool}
 use Rattle.write_buffer.specs.Wrote.{Wrote}
-use Rattle.write_buffer.proofs.Wrote.{wrote-front, front-within}
+use Rattle.write_buffer.proofs.Writing.{wrote-front, front-within}
 use Rattle.check_netlist.specs.declared.Checked.{Checked}
 use Rattle.check_netlist.specs.Judge.{outcomeOf}
 use Rattle.checker.specs.Promise.{call}

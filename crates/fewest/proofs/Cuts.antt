@@ -35,7 +35,8 @@ lowered-other d p q h = rw (ne-eqb q p h) refl
 lowered-takes : (bs : List ℕ) (d : Choice) (p : ℕ) → Takes bs d → Takes bs (lowered d p)
 lowered-takes bs d p t q h =
     let b = t q h in
-    onBool (eqb q p) (λ e. let z = eqb-true q p e in rw (z, lowered-at d p) (let y : d q ≡ d p = ap d z in let x : getD bs q 0 ≡ getD bs p 0 = ap (λ (k : ℕ). getD bs k 0) z in omega arith))
+    onBool (eqb q p) (λ e. let z = eqb-true q p e in rw (z, lowered-at d p) (let y : d q ≡ d p = ap d z in
+    let x : getD bs q 0 ≡ getD bs p 0 = ap (λ (k : ℕ). getD bs k 0) z in omega arith))
     (λ e. rw (lowered-other d p q (eqb-false q p e)) b)
 
 -- the choice itself is the one moved from there

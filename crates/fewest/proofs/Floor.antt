@@ -51,7 +51,8 @@ frees (e ∷ es) = bit (isFree e) + frees es
 gate-product : (gs : List Gate) → product (map gateWays gs) ≡ 2 ^ andGates gs
 gate-product [] = refl
 gate-product (Xor a b c ∷ gs) = one-mul (product (map gateWays gs)) ∙ gate-product gs ∙ ap (λ (k : ℕ). 2 ^ k) (sym (zero-add (andGates gs)))
-gate-product (And a b c ∷ gs) = let h = gate-product gs in let e : 2 ^ (1 + andGates gs) ≡ 2 ^ andGates gs * 2 = ap (λ (k : ℕ). 2 ^ k) (omega arith) ∙ pow-suc 2 (andGates gs) in omega arith
+gate-product (And a b c ∷ gs) = let h = gate-product gs in let e : 2 ^ (1 + andGates gs) ≡ 2 ^ andGates gs * 2 = ap (λ (k : ℕ). 2 ^ k) (omega arith) ∙ pow-suc 2
+    (andGates gs) in omega arith
 gate-product (Inv a c ∷ gs) = one-mul (product (map gateWays gs)) ∙ gate-product gs ∙ ap (λ (k : ℕ). 2 ^ k) (sym (zero-add (andGates gs)))
 gate-product (Eqw a c ∷ gs) = one-mul (product (map gateWays gs)) ∙ gate-product gs ∙ ap (λ (k : ℕ). 2 ^ k) (sym (zero-add (andGates gs)))
 gate-product (Eq v c ∷ gs) = one-mul (product (map gateWays gs)) ∙ gate-product gs ∙ ap (λ (k : ℕ). 2 ^ k) (sym (zero-add (andGates gs)))
@@ -86,7 +87,8 @@ module _ (N : Netlist) (codes wanted : List ℕ) (l : length codes ≡ inputBits
     some-tried : 1 ≤ min budget (choices N codes)
     some-tried = onBool (leb budget (choices N codes))
         (λ e. rw (min-eq-left (leb-true budget (choices N codes) e)) b)
-        (λ e. let h : choices N codes ≤ budget = let g = leb-false budget (choices N codes) e in omega arith in rw (min-eq-right h) (product-positive (ways codes (N .gates)) (ways-positive codes (N .gates))))
+        (λ e. let h : choices N codes ≤ budget = let g = leb-false budget (choices N codes) e in omega arith in
+        rw (min-eq-right h) (product-positive (ways codes (N .gates)) (ways-positive codes (N .gates))))
 
     -- it is the first of the fewest of those tried
     pub given-first : FirstLeast (changesAt N codes wanted) (min budget (choices N codes)) (given N codes wanted budget)

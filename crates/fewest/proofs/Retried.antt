@@ -204,7 +204,8 @@ module _ {N : Netlist} (F : WellFormed N) (codes : List ℕ) (l : length codes �
   codes-next d i z b = ap (codedAll (firstCodes N (chosenInputs codes d))) (before-next d i z b) ∙ coded-append _ (before d i) _
 
   pub changes-next : (d : Choice) (i : ℕ) (z : Gate) → i < length (N .gates)
-      → changesBefore N codes d (suc i) ≡ changesBefore N codes d i + (gateChange (codeAt (codesBefore N codes d i)) (chosenGate (d (inputBits N + i)) (getD (N .gates) i z)) + 0)
+      → changesBefore N codes d (suc i) ≡ changesBefore N codes d i + (gateChange (codeAt (codesBefore N codes d i))
+      (chosenGate (d (inputBits N + i)) (getD (N .gates) i z)) + 0)
   changes-next d i z b = ap (codeChanges (firstCodes N (chosenInputs codes d))) (before-next d i z b) ∙ changes-append _ (before d i) _
 
   -- gate i is good behind the results of those before, and its result is given with them

@@ -332,7 +332,8 @@ module _ {t : Tables} {m : ℕ} {codes wanted : List ℕ} {W : ℕ} {N : Netlist
           let nl = l in
           let R = ready-walked F codes l t m (Q .holds .gates) way from (E .table) start-ready in (
             (let r = R (stop - from) (omega arith) .0 in
-                let c : codesTo t (inputBits N) way from (E .table) (stop - from) ≡ code′ = ap (λ (b : ℕ). codesTo t b way from (E .table) (stop - from)) (sym l) ∙ sym (W .done .codes) in
+                let c : codesTo t (inputBits N) way from (E .table) (stop - from) ≡ code′ = ap (λ (b : ℕ). codesTo t b way from (E .table) (stop - from))
+                (sym l) ∙ sym (W .done .codes) in
                 rw (z, c) at r),
             λ j h. onBool (ltb j from)
                 (λ e. let b = ltb-true j from e in W .done .kept j (omega arith) ∙ A .upTo j (omega arith))
@@ -382,7 +383,8 @@ module _ {t : Tables} {m : ℕ} {codes wanted : List ℕ} {W : ℕ} {N : Netlist
           ap (λ (x : ℕ). x + twices (drop stop (N .gates)))
           (before-same F codes l (choiceOf way) (choice N codes k) stop (omega arith) (λ q a. A .same q (omega arith)) .1) in
           let bh = behind-stop in
-          let r = cut F codes l wanted (B .first) (A .below) (P - 1) (omega arith) (λ q a v. rest-at A q (omega arith) v) stop (omega arith) (omega arith) (omega arith) in
+          let r = cut F codes l wanted (B .first) (A .below) (P - 1) (omega arith) (λ q a v. rest-at A q (omega arith) v) stop (omega arith) (omega arith)
+          (omega arith) in
           record { number = B .number; first = rw y at r; early = B .early; kept = B .kept; count = B .count }
 
       -- all its gates are done

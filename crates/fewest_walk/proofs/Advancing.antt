@@ -110,7 +110,8 @@ module _ {w : ℕ → ℕ} {P : ℕ} {way₀ way : List ℕ} where
         further = λ o e. let z : o ≡ p - 1 = omega arith in rw z (omega arith);
         moves = λ o e q r. let z : o ≡ p - 1 = omega arith in rw z
             (onBool (eqb q (p - 1))
-            (λ t. let f = eqb-true q (p - 1) t in rw f (getD-set-same way (p - 1) (choiceOf way (p - 1) + 1) 0 (omega arith) ∙ (let m = moved-at (choiceOf way₀) (p - 1) in omega arith)))
+            (λ t. let f = eqb-true q (p - 1) t in rw f (getD-set-same way (p - 1) (choiceOf way (p - 1) + 1) 0 (omega arith) ∙
+            (let m = moved-at (choiceOf way₀) (p - 1) in omega arith)))
             (λ t. let n : q ≡ p - 1 → ⊥ = eqb-false q (p - 1) t in
             getD-set-other way (p - 1) q (choiceOf way (p - 1) + 1) 0 n ∙
             onBool (ltb q p)

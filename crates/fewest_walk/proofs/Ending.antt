@@ -54,7 +54,8 @@ ending-more {code} {from} {wanted} {i} {sum} {r} I h l e =
     let o = I .most in
     let a = drop-cons code (from + i) 0 (omega arith) in
     let b = drop-cons wanted i 0 h in
-    let s : sum + (outputChange (getD code (from + i) 0) (getD wanted i 0) + endChanges (drop (suc (from + i)) code) (drop (suc i) wanted)) ≡ endChanges (drop from code) wanted =
+    let s : sum + (outputChange (getD code (from + i) 0) (getD wanted i 0) + endChanges (drop (suc (from + i)) code) (drop (suc i) wanted)) ≡ endChanges
+    (drop from code) wanted =
     rw (a, b) at (I .so) in
     let z : from + (i + 1) ≡ suc (from + i) = omega arith in
     let y : i + 1 ≡ suc i = omega arith in

@@ -70,7 +70,8 @@ module _ (s : Sizes) (text out o r v : List ℕ) where
   unfolding aigerCall
   asked = go (tablesLong (small s) lengths)
     where
-      go : (b : Bool) → andThen (ask 1 b (readAiger (small s) text)) (rewriteOutcome (length out)) ≡ ask 1 b (andThen (readAiger (small s) text) (rewriteOutcome (length out)))
+      go : (b : Bool) → andThen (ask 1 b (readAiger (small s) text)) (rewriteOutcome (length out)) ≡ ask 1 b
+          (andThen (readAiger (small s) text) (rewriteOutcome (length out)))
       go true = refl
       go false = refl
 

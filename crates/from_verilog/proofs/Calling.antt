@@ -17,7 +17,7 @@ use Rattle.netlist.specs.Table.{half, Tables}
 use Rattle.netlist.proofs.Answering.{answers-one, answers-rest, tables-long}
 use Rattle.verilog.specs.Call.{readEquations, equationsCall}
 use Rattle.verilog.specs.Delivered.{Delivered}
-use Rattle.verilog.proofs.Reading.{equations-delivered}
+use Rattle.verilog.proofs.Accepted.{equations-delivered}
 use Rattle.read_aiger.specs.WholeAnswers.{NetlistAt, NetlistIs}
 use Rattle.read_aiger.specs.declared.read.NetlistNumbers.{NetlistNumbers}
 use Rattle.read_aiger.specs.declared.read.Reading.{Reading}
@@ -63,7 +63,8 @@ pub record Long (s : Sizes) (a b c d e f g : ℕ) : Type 0 where
   pub states : 8 * small s .table ≤ f
   pub wires : 8 * small s .table ≤ g
 
-pub long : (s : Sizes) (a b c d e f g : ℕ) → tablesLong (small s) (a ∷ b ∷ entriesOf c ∷ entriesOf d ∷ entriesOf e ∷ entriesOf f ∷ entriesOf g ∷ []) ≡ true → Long s a b c d e f g
+pub long : (s : Sizes) (a b c d e f g : ℕ) → tablesLong (small s) (a ∷ b ∷ entriesOf c ∷ entriesOf d ∷ entriesOf e ∷ entriesOf f ∷ entriesOf g ∷ []) ≡ true →
+    Long s a b c d e f g
 long s a b c d e f g h =
     let L = small s in
     let p = tables-long L a (b ∷ entriesOf c ∷ entriesOf d ∷ entriesOf e ∷ entriesOf f ∷ entriesOf g ∷ []) h in
@@ -87,18 +88,23 @@ long s a b c d e f g h =
 
 -- question 1
 module _ (s : Sizes) (text out o r h w l st ws : List ℕ) where
-  pub call-one : tablesLong (small s) (length o ∷ length r ∷ entriesOf (length h) ∷ entriesOf (length w) ∷ entriesOf (length l) ∷ entriesOf (length st) ∷ entriesOf (length ws) ∷ []) ≡ false
+  pub call-one : tablesLong (small s) (length o ∷ length r ∷ entriesOf (length h) ∷ entriesOf (length w) ∷ entriesOf (length l) ∷ entriesOf (length st) ∷
+      entriesOf (length ws) ∷ []) ≡ false
       → Answers (call s text out o r h w l st ws) out out (Refused 1)
   unfolding equationsCall
-  call-one p = answers-one (tablesLong (small s) (length o ∷ length r ∷ entriesOf (length h) ∷ entriesOf (length w) ∷ entriesOf (length l) ∷ entriesOf (length st) ∷ entriesOf (length ws) ∷ [])) _ out p
+  call-one p = answers-one (tablesLong (small s) (length o ∷ length r ∷ entriesOf (length h) ∷ entriesOf (length w) ∷ entriesOf (length l) ∷ entriesOf
+      (length st) ∷ entriesOf (length ws) ∷ [])) _ out p
 
   pub call-rest : {x : List ℕ} {a : Answer}
-      → tablesLong (small s) (length o ∷ length r ∷ entriesOf (length h) ∷ entriesOf (length w) ∷ entriesOf (length l) ∷ entriesOf (length st) ∷ entriesOf (length ws) ∷ []) ≡ true
+      → tablesLong (small s) (length o ∷ length r ∷ entriesOf (length h) ∷ entriesOf (length w) ∷ entriesOf (length l) ∷ entriesOf (length st) ∷ entriesOf
+      (length ws) ∷ []) ≡ true
       → Answers (andThen (readEquations (small s) text) (rewriteOutcome (length out))) out x a → Answers (call s text out o r h w l st ws) out x a
   unfolding equationsCall
-  call-rest p k = answers-rest (tablesLong (small s) (length o ∷ length r ∷ entriesOf (length h) ∷ entriesOf (length w) ∷ entriesOf (length l) ∷ entriesOf (length st) ∷ entriesOf (length ws) ∷ [])) p k
+  call-rest p k = answers-rest (tablesLong (small s) (length o ∷ length r ∷ entriesOf (length h) ∷ entriesOf (length w) ∷ entriesOf (length l) ∷ entriesOf
+      (length st) ∷ entriesOf (length ws) ∷ [])) p k
 
   -- the result
   pub call-delivered : {x : List ℕ} {a : Answer} → Answers (call s text out o r h w l st ws) out x a → (n : ℕ) → a ≡ Done n → Delivered s text (take n x)
   call-delivered {x} {a} k n p =
-      equations-delivered s (length o ∷ length r ∷ entriesOf (length h) ∷ entriesOf (length w) ∷ entriesOf (length l) ∷ entriesOf (length st) ∷ entriesOf (length ws) ∷ []) text (length out) (take n x) (sym (k .outcome) ∙ ap (outcomeOf x) p)
+      equations-delivered s (length o ∷ length r ∷ entriesOf (length h) ∷ entriesOf (length w) ∷ entriesOf (length l) ∷ entriesOf (length st) ∷ entriesOf
+      (length ws) ∷ []) text (length out) (take n x) (sym (k .outcome) ∙ ap (outcomeOf x) p)

@@ -158,7 +158,8 @@ module _ (L : Limits) (tables first firstCodes firstOutCodes second secondCodes 
       let B = J .B in
       let n : 2 ≤ inputBits B = has-pair B (J .two .masks) in
       let e : length firstOutCodes ≡ outputBits A = J .seam .count in
-      let s : length firstOutCodes ≡ length secondCodes = ap length (same-equal firstOutCodes secondCodes (isTrue (sameBytes firstOutCodes secondCodes) (J .seam .same))) in
+      let s : length firstOutCodes ≡ length secondCodes = ap length (same-equal firstOutCodes secondCodes
+      (isTrue (sameBytes firstOutCodes secondCodes) (J .seam .same))) in
       let l : length secondCodes ≡ inputBits B - 2
       = eqb→eq _ _ (both (eqb (length secondCodes) (inputBits B - 2)) (every isInputCode secondCodes) (J .two .list) .0) in
       record {

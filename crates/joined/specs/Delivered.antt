@@ -45,7 +45,8 @@ pub record Delivered (s : Sizes) (tables first codes outCodes second inner : Lis
       → BlockText s (λ x. g (f x)) codes text outCodes′
   -- three blocks: where the first text is itself one and two joined, the call that joins two with this call's second text is accepted, and
   -- the call that joins one with what comes of it delivers the very same text
-  pub laterSeam : (f g : List Bool → List Bool) (one oneOutCodes two twoCodes : List ℕ) (p : ℕ) → BlockText s f codes one oneOutCodes → BlockText s g twoCodes two outCodes
+  pub laterSeam : (f g : List Bool → List Bool) (one oneOutCodes two twoCodes : List ℕ) (p : ℕ) → BlockText s f codes one oneOutCodes → BlockText s g twoCodes
+      two outCodes
       → joinCall (large s) tables one codes oneOutCodes two twoCodes p ≡ done first
       → (x : List ℕ) × (joinCall (large s) tables two twoCodes outCodes second inner (largeText s) ≡ done x)
       × (joinCall (large s) tables one codes oneOutCodes x twoCodes room ≡ done text)

@@ -16,7 +16,7 @@ use Rattle.netlist.proofs.Tests.{both}
 use Rattle.gate_records.specs.Records.{record4, blank, recordOf}
 use Rattle.write_buffer.specs.Wrote.{top}
 use Rattle.write_gates.specs.Gates.{WroteGates}
-use Rattle.write_gates.proofs.Gates.{gates-none, gates-then, gates-as}
+use Rattle.write_gates.proofs.GateLines.{gates-none, gates-then, gates-as}
 use Rattle.mask_and.specs.Row.{rowOf}
 
 -- entry j of row i

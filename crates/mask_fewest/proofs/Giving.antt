@@ -117,7 +117,8 @@ room-is false b c d p q = refl
 
 module _ (N : Netlist) (codes wanted : List ℕ) (r : Tally) (is ts : List ℕ) {e x f y : List ℕ} {w : Answer} (hi : length codes ≤ length is) (ht : 2 ≤ length ts)
     (A : MaskAnswers (deliverOutcome (length e) (length f) (maskedText (maskNetlist N codes wanted))) e x f y w) where
-  same-room : roomFor (room e is f ts) (given N codes wanted r) ≡ (holds (length e) (writeNetlist (maskNetlist N codes wanted .netlist)) && holds (length f) (maskNetlist N codes wanted .codes))
+  same-room : roomFor (room e is f ts) (given N codes wanted r) ≡ (holds (length e) (writeNetlist (maskNetlist N codes wanted .netlist)) && holds (length f)
+      (maskNetlist N codes wanted .codes))
   same-room =
       room-is (holds (length e) (writeNetlist (maskNetlist N codes wanted .netlist))) _ (holds (length f) (maskNetlist N codes wanted .codes)) _
       (le-leb (length codes) (length is) hi) (le-leb 2 (length ts) ht)

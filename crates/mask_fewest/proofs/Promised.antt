@@ -177,7 +177,8 @@ module _ {h : HeaderNumbers} {t : Tables} {is os : List ℕ} {N : Netlist} (a : 
           chosen-masked = masked-formed read-chosen (take (length codes) ys) wanted good-codes q
 
           pub fewest-14 : {out′ ins′ ends′ tal′ : List ℕ} {x : Answer}
-              → FewestAnswers (deliver (room out ins ends tal) (given (chosenSource N (choice N codes (givenNumber N codes wanted budget))) (take (length codes) ys) wanted r))
+              → FewestAnswers (deliver (room out ins ends tal) (given (chosenSource N (choice N codes (givenNumber N codes wanted budget)))
+              (take (length codes) ys) wanted r))
               out out′ ins ins′ ends ends′ tal tal′ x
               → FewestAnswers (fewestOutcome codes wanted budget (room out ins ends tal) N) out out′ ins ins′ ends ends′ tal tal′ x
           fewest-14 A =
@@ -216,7 +217,8 @@ module _ (s : Sizes) (text codes wanted : List ℕ) (budget : ℕ) (out ins ends
   rooms = room out ins ends tal
 
   module _ {i j n : ℕ} (p : i ≡ min (length w) (length y)) (q : j ≡ min (length b) (length z)) (e : n ≡ min i j) where
-    pub all-long : tablesLong (small s) (length o ∷ length r ∷ length m ∷ n ∷ []) ≡ tablesLong (small s) (length o ∷ length r ∷ length m ∷ length w ∷ length y ∷ length b ∷ length z ∷ [])
+    pub all-long : tablesLong (small s) (length o ∷ length r ∷ length m ∷ n ∷ []) ≡ tablesLong (small s)
+        (length o ∷ length r ∷ length m ∷ length w ∷ length y ∷ length b ∷ length z ∷ [])
     all-long = long-four (small s) (length o) (length r) (length m) (length w) (length y) (length b) (length z) p q e
 
     pub call-not : {k : ℕ} → ask 1 (tablesLong (small s) (length o ∷ length r ∷ length m ∷ n ∷ [])) (readNetlist (small s) text) ≡ refused k
@@ -255,7 +257,8 @@ module _ (s : Sizes) (text codes wanted : List ℕ) (budget : ℕ) (out ins ends
       let b₂ = both (h₁ && h₂) h₃ (b₁ .0) in
       let b₃ = both h₁ h₂ (b₂ .0) in
       let fill : (f : Result → List ℕ) (e e′ : List ℕ) → e′ ≡ sets e 0 (written (part f c)) → T (holds (length e) (f R)) → take (length (f R)) e′ ≡ f R =
-      (λ f e e′ g t. ap (take (length (f R))) (g ∙ ap (λ (u : Outcome Result). sets e 0 (written (part f u))) (d .1)) ∙ take-sets (f R) e (leb→le (length (f R)) (length e) t)) in
+      (λ f e e′ g t. ap (take (length (f R))) (g ∙ ap (λ (u : Outcome Result). sets e 0 (written (part f u))) (d .1)) ∙ take-sets (f R) e
+      (leb→le (length (f R)) (length e) t)) in
       record {
         result = R;
         is-outcome = d .1;

@@ -30,7 +30,8 @@ pub record Gives (s : Sizes) (text codes wanted : List ℕ) (budget : ℕ) (outc
   pub worth : Worth s text codes wanted budget result
 
 -- the sizes, the text, the two lists and the budget, then each result buffer and each table before and after the call
-pub record Promise (s : Sizes) (text codes wanted : List ℕ) (budget : ℕ) (out out′ is is′ es es′ ts ts′ o o′ r r′ w w′ m m′ y y′ b b′ z z′ : List ℕ) (a : Answer) : Type 0 where
+pub record Promise (s : Sizes) (text codes wanted : List ℕ) (budget : ℕ) (out out′ is is′ es es′ ts ts′ o o′ r r′ w w′ m m′ y y′ b b′ z z′ : List ℕ)
+    (a : Answer) : Type 0 where
   pub answers : FewestAnswers (call s text codes wanted budget (room out is es ts) o r w m y b z) out out′ is is′ es es′ ts ts′ a
   pub gives : (n : ℕ) → a ≡ Done n
       → Gives s text codes wanted budget (call s text codes wanted budget (room out is es ts) o r w m y b z) (take n out′) is′ es′ ts′

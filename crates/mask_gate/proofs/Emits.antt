@@ -10,7 +10,7 @@ use Rattle.netlist.specs.declared.Twin.{Twin}
 use Rattle.netlist.specs.Mask.{after, maskWire, changed, past, changeGates, rows, rowGates, xorGates, xorTwin, andGates, andTwin}
 use Rattle.write_buffer.specs.Wrote.{top}
 use Rattle.write_gates.specs.Gates.{WroteGates}
-use Rattle.write_gates.proofs.Gates.{gates-none, gates-then, gates-as}
+use Rattle.write_gates.proofs.GateLines.{gates-none, gates-then, gates-as}
 use Rattle.mask_rule.specs.Rule.{stepsOf, twinOf}
 use Rattle.mask_rule.proofs.Twins.{twin-small}
 use Rattle.mask_gate.specs.declared.Emitted.{Emitted}

@@ -14,8 +14,8 @@ use Rattle.netlist.specs.declared.Twin.{Twin}
 use Rattle.netlist.specs.Mask.{third, maskWire, outGate, outGates, outCode, outCodes, noTwin}
 use Rattle.write_buffer.specs.Wrote.{Wrote, top}
 use Rattle.write_gates.specs.Gates.{WroteGates}
-use Rattle.write_buffer.proofs.Wrote.{wrote-none, wrote-then, wrote-as}
-use Rattle.write_gates.proofs.Gates.{gates-none, gates-then, gates-as}
+use Rattle.write_buffer.proofs.Writing.{wrote-none, wrote-then, wrote-as}
+use Rattle.write_gates.proofs.GateLines.{gates-none, gates-then, gates-as}
 use Rattle.mask_twins.specs.State.{twinsOf}
 use Rattle.mask_twins.proofs.States.{twins-length}
 use Rattle.mask_pass.specs.State.{codesOf}
@@ -48,7 +48,8 @@ outed-none e at n c ws es from vs h k =
       left = ap (λ (j : ℕ). outGates n c (drop j (twinsOf ws es)) vs) z;
     }
 
-pub outed-more : {e ws es vs m x : List ℕ} {at n c from r w i s : ℕ} {t : Twin} → Outed e at n c ws es from vs m r w i → i < length vs → from + length vs ≡ length ws → length es ≡ length ws
+pub outed-more : {e ws es vs m x : List ℕ} {at n c from r w i s : ℕ} {t : Twin} → Outed e at n c ws es from vs m r w i → i < length vs → from + length vs ≡
+    length ws → length es ≡ length ws
     → t ≡ getD (twinsOf ws es) (from + i) noTwin → WroteGates m r (outGate n w t (getD vs i 0) ∷ []) x s → Outed e at n c ws es from vs x s (w + 1) (i + 1)
 outed-more {ws = ws} {es = es} {vs = vs} {n = n} {from = from} {w = w} {i = i} {t = t} h l f k p a =
     let T : List Twin = twinsOf ws es in
@@ -70,7 +71,8 @@ outed-more {ws = ws} {es = es} {vs = vs} {n = n} {from = from} {w = w} {i = i} {
           ∙ sym (append-assoc (h .done) (g ∷ []) (outGates n (w + 1) (drop (from + (i + 1)) T) (drop (i + 1) vs)));
     }
 
-pub outed-all : {e ws es vs x : List ℕ} {at n c from r w i : ℕ} → Outed e at n c ws es from vs x r w i → length vs ≤ i → WroteGates e at (outGates n c (drop from (twinsOf ws es)) vs) x r
+pub outed-all : {e ws es vs x : List ℕ} {at n c from r w i : ℕ} → Outed e at n c ws es from vs x r w i → length vs ≤ i → WroteGates e at
+    (outGates n c (drop from (twinsOf ws es)) vs) x r
 outed-all {ws = ws} {es = es} {vs = vs} {n = n} {from = from} {w = w} {i = i} h l =
     let T : List Twin = twinsOf ws es in
     let none : outGates n w (drop (from + i) T) (drop i vs) ≡ [] = rw (drop-of-length-le vs {i = i} l) (out-end n w (drop (from + i) T)) in

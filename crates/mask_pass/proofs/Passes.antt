@@ -12,7 +12,7 @@ use Rattle.netlist.specs.Mask.{State, maskNetlist, maskGates, publicGates, past
 use Rattle.netlist.proofs.GateCount.{next-emitAll}
 use Rattle.netlist.proofs.OutputGates.{length-outGates, length-outCodes}
 use Rattle.write_gates.specs.Gates.{WroteGates}
-use Rattle.write_gates.proofs.Gates.{gates-then, gates-as}
+use Rattle.write_gates.proofs.GateLines.{gates-then, gates-as}
 use Rattle.mask_pass.specs.declared.gates.Next.{Next}
 use Rattle.mask_twins.specs.State.{twinsOf, stateOf, Started}
 use Rattle.mask_twins.proofs.States.{twins-length}
@@ -86,7 +86,8 @@ module _ (t : Tables) (count W c₁ : ℕ) (cs vs ws₁ es₁ ws₂ es₂ : List
       record {
         wrote = gates-as same (gates-then (gates-then (gates-then masks publics) (g .wrote)) outs);
         wires = wires;
-        count = ap (λ (l : List Gate). length l + (length cs + 2)) (sym same) ∙ counted cs vs S (gatesOf t count) (R .next) ws₂ es₂ (h .next) next long (omega arith) ∙ wires;
+        count = ap (λ (l : List Gate). length l + (length cs + 2)) (sym same) ∙ counted cs vs S (gatesOf t count) (R .next) ws₂ es₂ (h .next) next long
+            (omega arith) ∙ wires;
         codes =
             ap (λ (k : ℕ). codesOf (drop (k - length vs) es₂) vs) long ∙ out-codes ws₂ es₂ vs (length ws₂ - length vs) long
             ∙ codes;

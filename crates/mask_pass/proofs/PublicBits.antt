@@ -12,7 +12,7 @@ use Rattle.netlist.specs.Mask.{isPublic, publicGate, publicGates, pastPublic, p
 use Rattle.netlist.proofs.Tests.{onBool}
 use Rattle.write_buffer.specs.Wrote.{top}
 use Rattle.write_gates.specs.Gates.{WroteGates}
-use Rattle.write_gates.proofs.Gates.{gates-none, gates-then, gates-as}
+use Rattle.write_gates.proofs.GateLines.{gates-none, gates-then, gates-as}
 use Rattle.mask_twins.proofs.PublicWires.{Passed, passed-none, passed-more}
 
 publics-more : (n c k : ℕ) (es : List ℕ) (i : ℕ) → i < length es

@@ -12,7 +12,7 @@ use Rattle.netlist.specs.Table.{Tables, half, gateOf, gateIn, gateAt, gatesOf}
 use Rattle.netlist.specs.Mask.{State, twin, emit, resultTwin, advance, emitAll, advanceAll}
 use Rattle.netlist.proofs.Puts.{gates-more}
 use Rattle.write_buffer.specs.Wrote.{top}
-use Rattle.write_gates.proofs.Gates.{gates-none, gates-then, gates-as}
+use Rattle.write_gates.proofs.GateLines.{gates-none, gates-then, gates-as}
 use Rattle.mask_gate.specs.declared.Emitted.{Emitted}
 use Rattle.mask_rule.specs.Rule.{operands}
 use Rattle.mask_gate.specs.Emitted.{WroteKind}
@@ -24,7 +24,8 @@ use Rattle.mask_twins.proofs.States.{twins-set, stateWith, advanceAll-more}
 use Rattle.mask_pass.specs.State.{WroteStep, WroteAll}
 
 -- one step: with the operands' twins the gates are written, and the result's twin is stored
-step-made : {e x : List ℕ} {at n c : ℕ} {R : Emitted} {A B : Twin} (ws es : List ℕ) (o r : ℕ) → A ≡ twin (stateOf c ws es) (o % half) → B ≡ twin (stateOf c ws es) (o / half)
+step-made : {e x : List ℕ} {at n c : ℕ} {R : Emitted} {A B : Twin} (ws es : List ℕ) (o r : ℕ) → A ≡ twin (stateOf c ws es) (o % half) → B ≡ twin
+    (stateOf c ws es) (o / half)
     → WroteKind e at n c (r / half) A B x R
     → WroteStep e at n (stateOf c ws es) (gateIn o r) x (record { at = R .at; next = R .twin .wire + 1 })
     (stateOf (R .twin .wire + 1) (set ws (r % half) (R .twin .wire)) (set es (r % half) (R .twin .code)))
@@ -64,7 +65,13 @@ pub record Emitting (e : List ℕ) (at n : ℕ) (t : Tables) (m : ℕ) (S₀ : S
 
 pub emitting-none : (e : List ℕ) (at n : ℕ) (t : Tables) (m c : ℕ) (ws es : List ℕ) → length es ≡ length ws → length e ≤ top → at ≤ top
     → Emitting e at n t m (stateOf c ws es) e at c (length ws) ws es 0
-emitting-none e at n t m c ws es l h k = record { passed = omega arith; wires = refl; codes = l; made = record { wrote = gates-none e at h k; state = refl; grown = omega arith } }
+emitting-none e at n t m c ws es l h k = record {
+  passed = omega arith;
+  wires = refl;
+  codes = l;
+  made =
+      record { wrote = gates-none e at h k; state = refl; grown = omega arith };
+}
 
 pub emitting-more : {e x y : List ℕ} {at n m r c W i : ℕ} {t : Tables} {S₀ : State} {ws es ws′ es′ : List ℕ} {R : Next} → Emitting e at n t m S₀ x r c W ws es i → i < m
     → length ws′ ≡ length ws → length es′ ≡ length es

@@ -11,7 +11,8 @@ use Rattle.netlist.specs.Mask.{State, twin, emit, resultTwin}
 use Rattle.mask_rule.specs.Rule.{operands}
 
 -- what holds of the six kinds holds of every number of a kind
-by-kind : (P : (ℕ → ℕ → ℕ → Gate) → Type 0) → P Xor → P And → P (λ a b c. Inv a c) → P (λ a b c. Eqw a c) → P (λ a b c. Eq 0 c) → P (λ a b c. Eq 1 c) → (k : ℕ) → P (gateOf k)
+by-kind : (P : (ℕ → ℕ → ℕ → Gate) → Type 0) → P Xor → P And → P (λ a b c. Inv a c) → P (λ a b c. Eqw a c) → P (λ a b c. Eq 0 c) → P (λ a b c. Eq 1 c) → (k : ℕ)
+    → P (gateOf k)
 by-kind P xor and inv eqw zero one k = go (eqb k 1) (eqb k 2) (eqb k 3) (eqb k 4) (eqb k 5)
   where
     go : (t₁ t₂ t₃ t₄ t₅ : Bool) → P (λ a b c. cond t₁ (Xor a b c) (cond t₂ (And a b c) (cond t₃ (Inv a c) (cond t₄ (Eqw a c) (cond t₅ (Eq 0 c) (Eq 1 c))))))

@@ -71,10 +71,12 @@ pub at-only : {s : GateRecord} {k : ℕ} {r : GateRecord} → r ≡ s → At (s 
 at-only {s} {k} {r} e l = let z : k ≡ 0 = omega (arith, l) in rw z e
 
 -- the seven steps behind the mask change
-pub and-at : (n c : ℕ) (A B S : Twin) {f next p q k : ℕ} {r : GateRecord} → f ≡ bit (changes A B) → S ≡ changed c A B → next ≡ past c A B → p ≡ maskWire n (A .code) → q ≡ maskWire n (S .code) → f ≤ k
+pub and-at : (n c : ℕ) (A B S : Twin) {f next p q k : ℕ} {r : GateRecord} → f ≡ bit (changes A B) → S ≡ changed c A B → next ≡ past c A B → p ≡ maskWire n
+    (A .code) → q ≡ maskWire n (S .code) → f ≤ k
     → At (map recordOf (rowGates rows (A .wire ∷ S .wire ∷ p ∷ q ∷ (n + 4) ∷ []) next)) (k - f) r → At (map recordOf (andGates n c A B)) k r
 and-at n c A B S {f} {next} {p} {q} {k} {r} a b d e g l h =
-    at-others n c A B (rowGates rows (A .wire ∷ changed c A B .wire ∷ maskWire n (A .code) ∷ maskWire n (changed c A B .code) ∷ (n + 4) ∷ []) (past c A B)) k r (omega (arith, a, l))
+    at-others n c A B (rowGates rows (A .wire ∷ changed c A B .wire ∷ maskWire n (A .code) ∷ maskWire n (changed c A B .code) ∷ (n + 4) ∷ []) (past c A B)) k r
+    (omega (arith, a, l))
     (rw (a, d, e, g, b) at h)
 
 -- a record by the kind that it is

@@ -23,7 +23,7 @@ use Rattle.netlist.proofs.Size.{formed-lines}
 use Rattle.netlist.proofs.Tests.{onBool}
 use Rattle.write_buffer.specs.Wrote.{Wrote, top}
 use Rattle.write_header.specs.Header.{headerText}
-use Rattle.write_buffer.proofs.Wrote.{wrote-then, wrote-as}
+use Rattle.write_buffer.proofs.Writing.{wrote-then, wrote-as}
 use Rattle.write_gates.specs.Room.{longestLine}
 use Rattle.write_gates.proofs.Delivering.{ample-holds}
 use Rattle.write_header.proofs.Headers.{header-gates}
@@ -51,7 +51,8 @@ module _ {t : Tables} {count W n m : ℕ} {ins outs : List ℕ} {N : Netlist} (h
   masked-text g w a b =
       text-made (maskNetlist N cs vs .netlist) g w ins outs a b (h .inputs ∙ masked-inputs N cs vs) (h .outputs ∙ masked-outputs N cs vs)
 
-  pub write-made : {e y x es : List ℕ} {g w a : ℕ} {R : Next} → Numbers (maskNetlist N cs vs) (length vs) g w → Wrote e 0 (headerText g w ins outs) y a → WrotePass y a (maskNetlist N cs vs) n vs x R es → WroteText e (maskNetlist N cs vs) vs x es (R .at)
+  pub write-made : {e y x es : List ℕ} {g w a : ℕ} {R : Next} → Numbers (maskNetlist N cs vs) (length vs) g w → Wrote e 0 (headerText g w ins outs) y a →
+      WrotePass y a (maskNetlist N cs vs) n vs x R es → WroteText e (maskNetlist N cs vs) vs x es (R .at)
   write-made {g = g} {w = w} z a b =
       record { wrote = wrote-as (masked-text g w (z .gates) (z .wires)) (wrote-then a (b .wrote .wrote)); codes = b .codes }
 

@@ -40,7 +40,8 @@ use Rattle.pairs_search.proofs.Uneven.{uneven-none, uneven-as, uneven-m
 pub look-law : (words bases base ws : List ℕ) (block : ℕ) {best : Best} {found next : Difference} {k : ℕ}
     → LowestDifference (nibblesOf base) (onesOf words) (best .difference .wire) 16 found
     → FirstUneven (LevelAt (heldBase bases base) (heldIn words) ws) (best .pair) 16 k
-    → ((f g : ℕ → ℕ → ℕ) (W : ℕ) → LowestDifference f g W (block * 16) (best .difference) → LowestDifference (from (block * 16) f) (from (block * 16) g) (best .difference .wire) 16 found
+    → ((f g : ℕ → ℕ → ℕ) (W : ℕ) → LowestDifference f g W (block * 16) (best .difference) → LowestDifference (from (block * 16) f) (from (block * 16) g)
+    (best .difference .wire) 16 found
     → LowestDifference f g W (block * 16 + 16) next)
     → (based counts : Counts) (W n : ℕ) → Alike (heldBase bases base) (onFrom (block * 16) based) → Alike (heldIn words) (onFrom (block * 16) counts)
     → Found based counts ws W n (block * 16) best → Found based counts ws W n (block * 16 + 16) (record { difference = next; pair = k })
@@ -148,7 +149,8 @@ module _ {t : Tables} {m W n o : ℕ} {N : Netlist} (h : Holds t m W n o N) (cod
 
   module _ (u v : ℕ) where
     -- level settings, and those whose three counts are their base's
-    level-three : (s : ℕ) → Level (baseCounts t m W (paintEach 0 codes)) (settingCounts t m W (paintEach 0 codes)) u v s → ThreeAsBase N codes u v (setting (length codes) s)
+    level-three : (s : ℕ) → Level (baseCounts t m W (paintEach 0 codes)) (settingCounts t m W (paintEach 0 codes)) u v s → ThreeAsBase N codes u v
+        (setting (length codes) s)
     level-three s l =
         record {
           left = sym (one-each false u s) ∙ l .first ∙ one-each true u s;
@@ -156,7 +158,8 @@ module _ {t : Tables} {m W n o : ℕ} {N : Netlist} (h : Holds t m W n o N) (cod
           both = sym (both-each false u v s) ∙ l .both ∙ both-each true u v s;
         }
 
-    three-level : (s : ℕ) → ThreeAsBase N codes u v (setting (length codes) s) → Level (baseCounts t m W (paintEach 0 codes)) (settingCounts t m W (paintEach 0 codes)) u v s
+    three-level : (s : ℕ) → ThreeAsBase N codes u v (setting (length codes) s) → Level (baseCounts t m W (paintEach 0 codes))
+        (settingCounts t m W (paintEach 0 codes)) u v s
     three-level s l =
         record {
           first = one-each false u s ∙ l .left ∙ sym (one-each true u s);
@@ -165,7 +168,8 @@ module _ {t : Tables} {m W n o : ℕ} {N : Netlist} (h : Holds t m W n o N) (cod
         }
 
     -- level in all numbered settings, which go round after the last
-    level-clean : (S : ℕ) → 2 ^ length codes ≤ S → ((s : ℕ) → s < S → Level (baseCounts t m W (paintEach 0 codes)) (settingCounts t m W (paintEach 0 codes)) u v s) → T (cleanPair N codes u v)
+    level-clean : (S : ℕ) → 2 ^ length codes ≤ S → ((s : ℕ) → s < S → Level (baseCounts t m W (paintEach 0 codes)) (settingCounts t m W (paintEach 0 codes)) u v
+        s) → T (cleanPair N codes u v)
     level-clean S room all = three-passes N codes u v (λ s l. level-three s (all s (omega arith)))
 
     clean-level : T (cleanPair N codes u v) → (s : ℕ) → Level (baseCounts t m W (paintEach 0 codes)) (settingCounts t m W (paintEach 0 codes)) u v s

@@ -10,7 +10,7 @@ use Rattle.netlist.specs.Number.{decimal}
 use Rattle.netlist.specs.Programs.{printList}
 use Rattle.write_buffer.specs.Wrote.{top, Wrote, WroteFew}
 use Rattle.write_buffer.proofs.Decimals.{digits-most}
-use Rattle.write_buffer.proofs.Wrote.{wrote-none, wrote-then, wrote-as}
+use Rattle.write_buffer.proofs.Writing.{wrote-none, wrote-then, wrote-as}
 
 printList-append : (xs ys : List ℕ) → printList (xs ++ ys) ≡ printList xs ++ printList ys
 printList-append [] ys = refl

@@ -15,7 +15,7 @@ use Rattle.netlist.specs.Programs.{readable, printRefused, fileLimit}
 use Rattle.netlist.proofs.Tests.{clash, onBool}
 use Rattle.netlist.proofs.Questions.{done-same}
 use Rattle.write_buffer.specs.Wrote.{Wrote, WroteFew}
-use Rattle.write_buffer.proofs.Wrote.{wrote-front, front-within}
+use Rattle.write_buffer.proofs.Writing.{wrote-front, front-within}
 use Rattle.program_text.specs.Front.{Front, Answered}
 
 -- ---- question 2, put to a netlist file

@@ -64,7 +64,8 @@ module _ (H : Head) (t r kept : List ℕ) (at : ℕ) (fits : H .outputs ≤ leng
 
     module _ (ls : List (List (List ℕ))) {table : List ℕ} {to : ℕ} {after o : List ℕ} {k e : ℕ} {u : Tables} (A : InputsAt ls t (H .inputs) (H .most) table at)
         (B : LiteralsAt (fileLines (drop at t)) t (H .outputs) (map literal kept) to)
-        (D : AndsAt (fileLines (drop to t)) t (H .ands) (H .most) (H .inputs) (giving [] (A .are)) (inputWires (H .most) (H .inputs) (A .are)) after (tables o front) k e) where
+        (D : AndsAt (fileLines (drop to t)) t (H .ands) (H .most) (H .inputs) (giving [] (A .are)) (inputWires (H .most) (H .inputs) (A .are)) after
+        (tables o front) k e) where
       pub whole-no-outs : OutputsIs after o whole u room (H .inputs) k false → (F : File) → file H ls ≡ some F → rulesKept F ≡ true → ⊥
       whole-no-outs O = lines-no-outs H ls t A B D (rw behind at (O .read _ _ (D .standing .places)))
 
@@ -84,6 +85,7 @@ module _ (H : Head) (t : List ℕ) (ls : List (List (List ℕ))) {table : List �
       → (F : File) → file H ls ≡ some F → rulesKept F ≡ true → ⊥
   marks-no-outs h = lines-no-outs H ls t A (B .literals) D (h _ _ (B .are) (D .standing .places) (B .out))
 
-  pub marks-made : {u : Tables} → ((given wires : List ℕ) (are : List Literal) → Places after given wires → PutOut (H .most) marks are → true ≡ every (readable given) are)
+  pub marks-made : {u : Tables} → ((given wires : List ℕ) (are : List Literal) → Places after given wires → PutOut (H .most) marks are → true ≡ every
+      (readable given) are)
       → length (u .results) < H .outputs → LinesAt H ls u (k + H .outputs)
   marks-made h l = lines-large H ls t A (B .literals) D (h _ _ (B .are) (D .standing .places) (B .out)) (omega arith)

@@ -1,6 +1,6 @@
 -- Laws of the readers.
 pub mod NumberBound
-pub mod HeadLaws
+pub mod Heads
 pub mod WholeLines
 pub mod TableEnd
 pub mod BodyLines

@@ -96,7 +96,8 @@ module _ (H : Head) (ls : List (List (List ℕ))) (t : List ℕ) where
         let z : 0 + H .inputs ≡ H .inputs + 0 = omega arith in
         record {
           places = A .places;
-          located = rw (many, z) at (inputs-located (H .most) (A .are) [] (replicate (H .most + 1) 0) 0 (length-replicate (H .most + 1) 0) (λ v h. absurd h) (true-T _ (A .new)));
+          located = rw (many, z) at (inputs-located (H .most) (A .are) [] (replicate (H .most + 1) 0) 0 (length-replicate (H .most + 1) 0) (λ v h. absurd h)
+              (true-T _ (A .new)));
           size = refl;
           keeps = λ a b. record { gates = refl; wired = record { operands = a; results = b; each = λ i h. absurd (omega arith) } };
         }

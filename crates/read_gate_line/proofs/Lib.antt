@@ -1,4 +1,4 @@
 -- The laws of gate lines.
-pub mod GateFormLaws
-pub mod GateLaws
-pub mod OperandLaws
+pub mod GateForms
+pub mod GateWords
+pub mod OperandCounts

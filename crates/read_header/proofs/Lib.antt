@@ -1,5 +1,5 @@
 -- The laws of the header.
-pub mod HeaderLaws
-pub mod HeadLaws
-pub mod WidthLaws
-pub mod OldHeaderLaws
+pub mod Headers
+pub mod Heads
+pub mod WidthLines
+pub mod OldHeaders

@@ -19,7 +19,8 @@ use Rattle.read_header.specs.declared.head.Head.the-variants as H
 -- question 5 of a header's numbers
 unfoldable pub withinNumbers : Limits → HeaderNumbers → Bool
 withinNumbers L h =
-    leb (h .wires) (L .wires) && leb (h .«input_values») (L .inputs) && leb (h .«output_values») (L .outputs) && leb (h .«input_bits») (h .wires) && leb (h .«output_bits») (h .wires)
+    leb (h .wires) (L .wires) && leb (h .«input_values») (L .inputs) && leb (h .«output_values») (L .outputs) && leb (h .«input_bits») (h .wires) && leb
+    (h .«output_bits») (h .wires)
 
 -- the first half of question 6: the gate count is W less n
 unfoldable pub gatesCounted : HeaderNumbers → Bool

@@ -127,7 +127,8 @@ inputs-more {table₀} {table} {u} {n} {W} {i} s h l e = subst (λ (v : List ℕ
   long = length-set table i 1 ∙ s .long;
   marks = record {
     each =
-        λ x. marked-set table i x (omega (arith, s .marks .room)) ∙ ap (λ (b : Bool). eqb x i || b) (s .marks .each x ∙ or-false (ltb x i)) ∙ less-suc x i ∙ sym (or-false (ltb x (i + 1)));
+        λ x. marked-set table i x (omega (arith, s .marks .room)) ∙ ap (λ (b : Bool). eqb x i || b) (s .marks .each x ∙ or-false (ltb x i)) ∙ less-suc x i ∙ sym
+        (or-false (ltb x (i + 1)));
     inputs = omega arith;
     below = empty;
     room = rw length-set (s .marks .room);

@@ -21,7 +21,7 @@ use Rattle.old_form.specs.declared.Dialect.{Dialect}
 use Rattle.old_form.specs.Dialects.{lineIn, linesIn, hasGate}
 use Rattle.old_form.proofs.GateNames.{line-none, line-refused, line-same, lines-first, lines-none}
 use Rattle.read_text.specs.Line.{lineWords, afterLine, LineTaken, isBlank, Scanned}
-use Rattle.read_text.proofs.LineLaws.{at-word, word-line, no-line, blanks-lines}
+use Rattle.read_text.proofs.Lines.{at-word, word-line, no-line, blanks-lines}
 use Rattle.read_netlist.specs.Marks.{marked, Marks}
 use Rattle.read_netlist.specs.Gates.{Admitted, RefusedAt, GateStepIs, GatesRead, GatesNot, GatesIs}
 use Rattle.gate_table.specs.Entry.{Stored}

@@ -25,8 +25,8 @@ use Rattle.old_form.specs.OldRead.{readOld}
 use Rattle.old_form.specs.Dialects.{headerIn, headerLines, linesIn, openingIn, readIn}
 use Rattle.old_form.proofs.OldAccepted.{old-header-good}
 use Rattle.read_header.specs.HeadAnswers.{Inside, HeadOf, NoHead}
-use Rattle.read_header.proofs.HeaderLaws.{header-left}
-use Rattle.read_header.proofs.HeadLaws.{inputs-front, outputs-front}
+use Rattle.read_header.proofs.Headers.{header-left}
+use Rattle.read_header.proofs.Heads.{inputs-front, outputs-front}
 use Rattle.read_header.specs.declared.HeaderNumbers.{HeaderNumbers}
 use Rattle.read_netlist.specs.declared.gates.Gates.{Gates}
 use Rattle.read_netlist.specs.declared.gates.Gates.the-variants as G

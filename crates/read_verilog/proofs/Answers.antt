@@ -103,7 +103,8 @@ module _ {L : Limits} {t : List ℕ} {r : Scan} (R : Tree L t r) where
     said = A .gives (R .is) (R .stands)
 
     pub rules-broken : k .good ≡ false → readEquations L t ≡ refused 17
-    rules-broken g = R .outcome ∙ ap (λ (b : Bool). ask 17 b (ask 18 (shallow (R .is)) (ask 5 (withinLimits L (headerOf (netlistMade (R .is)))) (done (netlistMade (R .is)))))) (sym (said .said) ∙ g)
+    rules-broken g = R .outcome ∙ ap (λ (b : Bool). ask 17 b (ask 18 (shallow (R .is))
+        (ask 5 (withinLimits L (headerOf (netlistMade (R .is)))) (done (netlistMade (R .is)))))) (sym (said .said) ∙ g)
 
     module _ (g : k .good ≡ true) where
       rules-true : rulesKept (R .is) ≡ true
@@ -115,7 +116,8 @@ module _ {L : Limits} {t : List ℕ} {r : Scan} (R : Tree L t r) where
       -- ---- question 18
 
       behind-17 : readEquations L t ≡ ask 18 (shallow (R .is)) (ask 5 (withinLimits L (headerOf (netlistMade (R .is)))) (done (netlistMade (R .is))))
-      behind-17 = R .outcome ∙ ap (λ (b : Bool). ask 17 b (ask 18 (shallow (R .is)) (ask 5 (withinLimits L (headerOf (netlistMade (R .is)))) (done (netlistMade (R .is)))))) rules-true
+      behind-17 = R .outcome ∙ ap (λ (b : Bool). ask 17 b (ask 18 (shallow (R .is))
+          (ask 5 (withinLimits L (headerOf (netlistMade (R .is)))) (done (netlistMade (R .is)))))) rules-true
 
       deep : maxDepth < r .deepest → shallow (R .is) ≡ false
       unfolding shallow
@@ -147,8 +149,10 @@ module _ {L : Limits} {t : List ℕ} {r : Scan} (R : Tree L t r) where
 
         pub too-many : L .wires < k .inputs + (r .operators + k .outputs) → readEquations L t ≡ refused 5
         too-many h =
-            let n : withinLimits L (headerOf (netlistMade (R .is))) ≡ false = ap (λ (b : Bool). b && leb (length (netlistMade (R .is) .inputs)) (L .inputs) && leb (length (netlistMade (R .is) .outputs)) (L .outputs)
-            && leb (inputBits (netlistMade (R .is))) (netlistMade (R .is) .wires) && leb (outputBits (netlistMade (R .is))) (netlistMade (R .is) .wires)) (lt-leb (netlistMade (R .is) .wires) (L .wires) (omega (arith, h, wires-are))) in
+            let n : withinLimits L (headerOf (netlistMade (R .is))) ≡ false = ap
+            (λ (b : Bool). b && leb (length (netlistMade (R .is) .inputs)) (L .inputs) && leb (length (netlistMade (R .is) .outputs)) (L .outputs)
+            && leb (inputBits (netlistMade (R .is))) (netlistMade (R .is) .wires) && leb (outputBits (netlistMade (R .is))) (netlistMade (R .is) .wires))
+            (lt-leb (netlistMade (R .is) .wires) (L .wires) (omega (arith, h, wires-are))) in
             behind-18 ∙ ap (λ (b : Bool). ask 5 b (done (netlistMade (R .is)))) n
 
         module _ (few : k .inputs + (r .operators + k .outputs) ≤ L .wires) (one : 1 ≤ L .inputs) (two : 1 ≤ L .outputs) where
@@ -167,8 +171,15 @@ module _ {L : Limits} {t : List ℕ} {r : Scan} (R : Tree L t r) where
           unfolding netlistMade
           next-is = let w = wires-counted (R .is) in let i = at .inputs in let p = R .operators in omega (arith, w, i, p)
 
-          pub netlist-read : {before after : Tables} → L .wires ≤ length (before .operands) → L .wires ≤ length (before .results) → L .wires ≤ half → GatesPut t size heads words links st ws k (k .inputs + r .operators) before after
-              → NetlistAt (readEquations L t) after (record { gates = r .operators + k .outputs; wires = k .inputs + (r .operators + k .outputs); inputs = k .inputs; outputs = k .outputs })
+          pub netlist-read : {before after : Tables} → L .wires ≤ length (before .operands) → L .wires ≤ length (before .results) → L .wires ≤ half → GatesPut t
+              size heads words links st ws k (k .inputs + r .operators) before after
+              → NetlistAt (readEquations L t) after (record {
+                gates = r .operators + k .outputs;
+                wires = k .inputs + (r .operators + k .outputs);
+                inputs =
+                    k .inputs;
+                outputs = k .outputs;
+              })
           netlist-read {before} {after} lo lr s G =
               let m = R .is in
               let N = netlistMade m in
@@ -180,7 +191,8 @@ module _ {L : Limits} {t : List ℕ} {r : Scan} (R : Tree L t r) where
               let gs = N .gates in
               let P : after ≡ putGates (k .inputs) before gs = G .gives m (R .stands) rk at next-is in
               let Q : putGates (k .inputs) before gs ≡ putGates (length (inputPorts m)) before gs = ap (λ (n : ℕ). putGates n before gs) i in
-              let H : Holding (putGates (length (inputPorts m)) before gs) W gs = held (length (inputPorts m)) W gs before O (omega (arith, wires-are, few, s)) (omega (arith, wires-are, few, lo)) (omega (arith, wires-are, few, lr)) in
+              let H : Holding (putGates (length (inputPorts m)) before gs) W gs = held (length (inputPorts m)) W gs before O (omega (arith, wires-are, few, s))
+              (omega (arith, wires-are, few, lo)) (omega (arith, wires-are, few, lr)) in
               let H′ : Holding after W gs = subst (λ (X : Tables). Holding X W gs) (sym (P ∙ Q)) H in
               let l = ordered-length O in
               let c : length gs ≡ r .operators + k .outputs = omega (arith, l, i, wires-are) in

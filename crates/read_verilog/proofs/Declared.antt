@@ -72,7 +72,8 @@ end-declared : (κ : ℕ) (ts : List Token) → declaredFrom κ (mark (ascii ";"
 unfolding declaredFrom
 end-declared κ ts = refl
 
-names-declared : (κ : ℕ) (ns : Names) (ts : List Token) → declaredFrom κ ((namesTokens ns ++ mark (ascii ";") ∷ []) ++ ts) ≡ entriesFor κ (allNames ns) ++ declaredFrom κ ts
+names-declared : (κ : ℕ) (ns : Names) (ts : List Token) → declaredFrom κ ((namesTokens ns ++ mark (ascii ";") ∷ []) ++ ts) ≡ entriesFor κ (allNames ns) ++
+    declaredFrom κ ts
 unfolding declaredFrom
 names-declared κ ns ts = ap (λ (es : List (Entry ℕ)). entry (ns .first) κ ∷ es)
     (ap (declaredFrom κ) (regroup (commaTokens (ns .more)) (mark (ascii ";") ∷ []) ts) ∙ commas-declared κ (ns .more) (mark (ascii ";") ∷ ts)
@@ -95,7 +96,8 @@ one-behind input ns ts = names-behind ns ts
 one-behind output ns ts = names-behind ns ts
 one-behind wire ns ts = names-behind ns ts
 
-all-declared : (κ : ℕ) (ds : List Declaration) (ts : List Token) → ((κ′ : ℕ) → declaredFrom κ′ ts ≡ []) → declaredFrom κ (eachTokens declarationTokens ds ++ ts) ≡ entriesOf ds
+all-declared : (κ : ℕ) (ds : List Declaration) (ts : List Token) → ((κ′ : ℕ) → declaredFrom κ′ ts ≡ []) → declaredFrom κ (eachTokens declarationTokens ds ++ ts)
+    ≡ entriesOf ds
 all-declared κ [] ts h = h κ
 all-declared κ (d ∷ ds) ts h =
     ap (declaredFrom κ) (regroup (declarationTokens d) (eachTokens declarationTokens ds) ts)
@@ -184,7 +186,8 @@ kinds-low c w (d ∷ ds) e =
     let s = sym (valued-append c w (entriesFor (kindNumber (d .kind)) ns) (entriesOf ds)) ∙ e in
     onBool (eqb (kindNumber (d .kind)) c)
     (λ h. let q = eqb-true (kindNumber (d .kind)) c h in let l = low (d .kind) in omega (arith, q, l))
-    (λ h. let f : valued c w (entriesFor (kindNumber (d .kind)) ns) ≡ false = valued-for c (kindNumber (d .kind)) w ns ∙ ap (λ (x : Bool). elem w ns && x) h ∙ and-false (elem w ns) in
+    (λ h. let f : valued c w (entriesFor (kindNumber (d .kind)) ns) ≡ false = valued-for c (kindNumber (d .kind)) w ns ∙ ap (λ (x : Bool). elem w ns && x) h ∙
+    and-false (elem w ns) in
     kinds-low c w ds (sym (ap (λ (x : Bool). x || valued c w (entriesOf ds)) f) ∙ s))
   where
     low : (k : Kind) → kindNumber k ≤ 3
@@ -244,18 +247,21 @@ keys-for : (κ : ℕ) (ws : List (List ℕ)) → keys (entriesFor κ ws) ≡ ws
 keys-for κ [] = refl
 keys-for κ (w ∷ ws) = ap (λ (xs : List (List ℕ)). w ∷ xs) (keys-for κ ws)
 
-pub times-declared : (w : List ℕ) (ds : List Declaration) → times w (keys (entriesOf ds)) ≡ times w (declaredAs input ds) + times w (declaredAs output ds) + times w (declaredAs wire ds)
+pub times-declared : (w : List ℕ) (ds : List Declaration) → times w (keys (entriesOf ds)) ≡ times w (declaredAs input ds) + times w (declaredAs output ds) +
+    times w (declaredAs wire ds)
 times-declared w [] = refl
 times-declared w (d ∷ ds) =
     let h = times-declared w ds in
     let ns = allNames (d .names) in
     let a : times w (keys (entriesOf (d ∷ ds))) ≡ times w ns + times w (keys (entriesOf ds)) =
-    ap (times w) (keys-append (entriesFor (kindNumber (d .kind)) ns) (entriesOf ds) ∙ ap (λ (xs : List (List ℕ)). xs ++ keys (entriesOf ds)) (keys-for (kindNumber (d .kind)) ns)) ∙ times-append w ns (keys (entriesOf ds)) in
+    ap (times w) (keys-append (entriesFor (kindNumber (d .kind)) ns) (entriesOf ds) ∙ ap (λ (xs : List (List ℕ)). xs ++ keys (entriesOf ds))
+    (keys-for (kindNumber (d .kind)) ns)) ∙ times-append w ns (keys (entriesOf ds)) in
     go (d .kind) (d .names) h a
   where
     go : (k : Kind) (ns : Names) → times w (keys (entriesOf ds)) ≡ times w (declaredAs input ds) + times w (declaredAs output ds) + times w (declaredAs wire ds)
         → times w (keys (entriesOf (d ∷ ds))) ≡ times w (allNames ns) + times w (keys (entriesOf ds))
-        → times w (keys (entriesOf (d ∷ ds))) ≡ times w (declaredAs input (record { kind = k; names = ns } ∷ ds)) + times w (declaredAs output (record { kind = k; names = ns } ∷ ds)) + times w (declaredAs wire (record { kind = k; names = ns } ∷ ds))
+        → times w (keys (entriesOf (d ∷ ds))) ≡ times w (declaredAs input (record { kind = k; names = ns } ∷ ds)) + times w
+        (declaredAs output (record { kind = k; names = ns } ∷ ds)) + times w (declaredAs wire (record { kind = k; names = ns } ∷ ds))
     go input ns h a = let b = times-append w (allNames ns) (declaredAs input ds) in omega (arith, h, a, b)
     go output ns h a = let b = times-append w (allNames ns) (declaredAs output ds) in omega (arith, h, a, b)
     go wire ns h a = let b = times-append w (allNames ns) (declaredAs wire ds) in omega (arith, h, a, b)

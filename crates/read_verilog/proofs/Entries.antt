@@ -71,7 +71,8 @@ valued c w (e ∷ es) = (sameBytes w (e .key) && eqb (e .value) c) || valued c w
 
 pub valued-append : (c : ℕ) (w : List ℕ) (xs ys : List (Entry ℕ)) → valued c w (xs ++ ys) ≡ (valued c w xs || valued c w ys)
 valued-append c w [] ys = refl
-valued-append c w (x ∷ xs) ys = ap (λ (b : Bool). (sameBytes w (x .key) && eqb (x .value) c) || b) (valued-append c w xs ys) ∙ assoc (sameBytes w (x .key) && eqb (x .value) c) (valued c w xs) (valued c w ys)
+valued-append c w (x ∷ xs) ys = ap (λ (b : Bool). (sameBytes w (x .key) && eqb (x .value) c) || b) (valued-append c w xs ys) ∙ assoc
+    (sameBytes w (x .key) && eqb (x .value) c) (valued c w xs) (valued c w ys)
   where
     assoc : (a b c : Bool) → (a || (b || c)) ≡ ((a || b) || c)
     assoc true b c = refl
@@ -166,7 +167,8 @@ module _ (t words : List ℕ) where
 
   keys-in : (st : List ℕ) (n : ℕ) → keys (entriesIn st n) ≡ namesOf t words n
   keys-in st zero = refl
-  keys-in st (suc n) = keys-append (entriesIn st n) (entry (nameAt t words n) (getD st n 0) ∷ []) ∙ ap (λ (xs : List (List ℕ)). xs ++ nameAt t words n ∷ []) (keys-in st n)
+  keys-in st (suc n) = keys-append (entriesIn st n) (entry (nameAt t words n) (getD st n 0) ∷ []) ∙ ap (λ (xs : List (List ℕ)). xs ++ nameAt t words n ∷ [])
+      (keys-in st n)
 
   kinds-in : (st : List ℕ) (n : ℕ) → n ≤ length st → kinds (entriesIn st n) ≡ take n st
   kinds-in st zero h = refl
@@ -190,7 +192,8 @@ module _ (t words : List ℕ) where
       let q = once-less n o in
       let a = valued-append c w (entriesIn st n) (entry x (getD st n 0) ∷ []) in
       onBool (sameBytes x w)
-      (λ e. let no : elem w (keys (entriesIn st n)) ≡ false = ap (elem w) (keys-in st n) ∙ ap (λ (v : List ℕ). elem v (namesOf t words n)) (sym (same-equal x w e)) ∙ q .1 in
+      (λ e. let no : elem w (keys (entriesIn st n)) ≡ false = ap (elem w) (keys-in st n) ∙ ap (λ (v : List ℕ). elem v (namesOf t words n))
+      (sym (same-equal x w e)) ∙ q .1 in
       ap (λ (y : ℕ). eqb y c) (wire-more st n w ∙ ap (λ (b : Bool). cond b (getD st n 0) (wireOf t words st n w)) e)
       ∙ sym (a ∙ or-none (valued c w (entriesIn st n)) ((sameBytes w x && eqb (getD st n 0) c) || false) (valued-none c w (entriesIn st n) no)
       ∙ or-false (sameBytes w x && eqb (getD st n 0) c) ∙ ap (λ (b : Bool). b && eqb (getD st n 0) c) (same-turn w x ∙ e)))
@@ -209,7 +212,8 @@ module _ (t words : List ℕ) where
       let same : every (λ w. leb least (wireOf t words st n w)) (namesOf t words n) ≡ every (λ w. leb least (wireOf t words st (suc n) w)) (namesOf t words n)
       = every-same (λ w. leb least (wireOf t words st n w)) (λ w. leb least (wireOf t words st (suc n) w)) (namesOf t words n)
       (λ w e. ap (leb least) (sym (wire-more st n w ∙ ap (λ (b : Bool). cond b (getD st n 0) (wireOf t words st n w)) (other n w e (q .1))))) in
-      let here : leb least (getD st n 0) ≡ leb least (wireOf t words st (suc n) x) = ap (leb least) (sym (wire-more st n x ∙ ap (λ (b : Bool). cond b (getD st n 0) (wireOf t words st n x)) (same-self x))) in
+      let here : leb least (getD st n 0) ≡ leb least (wireOf t words st (suc n) x) = ap (leb least)
+      (sym (wire-more st n x ∙ ap (λ (b : Bool). cond b (getD st n 0) (wireOf t words st n x)) (same-self x))) in
       ap (λ (k : ℕ). allFrom st k least) z ∙ every-take (λ y. leb least y) st n (omega arith)
       ∙ ap₂ _&&_ (all-named st least n (omega arith) (q .0) ∙ same) here
       ∙ sym (every-snoc (λ w. leb least (wireOf t words st (suc n) w)) (namesOf t words n) x)
@@ -229,14 +233,17 @@ module _ (t words : List ℕ) where
         let b = found-within t words w n in
         onBool (sameBytes v w)
         (λ e. let q : v ≡ w = same-equal v w e in
-        ap (wireOf t words st′ n) q ∙ state-some t words st′ w n some ∙ getD-set-same st i x 0 (omega (arith, b, some, l)) ∙ sym (ap (λ (c : Bool). cond c x (wireOf t words st n v)) e))
+        ap (wireOf t words st′ n) q ∙ state-some t words st′ w n some ∙ getD-set-same st i x 0 (omega (arith, b, some, l)) ∙ sym
+        (ap (λ (c : Bool). cond c x (wireOf t words st n v)) e))
         (λ e. onBool (eqb (found t words v n) 0)
         (λ z. let f = eqb-true (found t words v n) 0 z in
         state-none t words st′ v n f ∙ sym (state-none t words st v n f) ∙ sym (ap (λ (c : Bool). cond c x (wireOf t words st n v)) e))
         (λ z. let f = eqb-false (found t words v n) 0 z in
         let p : 0 < found t words v n = omega (arith, f) in
-        let d : found t words v n - 1 ≡ i → ⊥ = λ y. never (sym (ap (λ (u : List ℕ). sameBytes u w) (sym (found-name t words v n p) ∙ ap (nameAt t words) y ∙ found-name t words w n some) ∙ same-self w) ∙ e) in
-        state-some t words st′ v n p ∙ getD-set-other st i (found t words v n - 1) x 0 d ∙ sym (state-some t words st v n p) ∙ sym (ap (λ (c : Bool). cond c x (wireOf t words st n v)) e)))
+        let d : found t words v n - 1 ≡ i → ⊥ = λ y. never (sym (ap (λ (u : List ℕ). sameBytes u w)
+        (sym (found-name t words v n p) ∙ ap (nameAt t words) y ∙ found-name t words w n some) ∙ same-self w) ∙ e) in
+        state-some t words st′ v n p ∙ getD-set-other st i (found t words v n - 1) x 0 d ∙ sym (state-some t words st v n p) ∙ sym
+        (ap (λ (c : Bool). cond c x (wireOf t words st n v)) e)))
 
     pub wire-given : (st : List ℕ) → n ≤ length st → (v : List ℕ) → wireOf t words (given t words st n w x) n v ≡ cond (sameBytes v w) x (wireOf t words st n v)
     unfolding given

@@ -31,7 +31,8 @@ module _ (W c n : ℕ) (below : c < W) (short : W ≤ half) (tabs : Tables) wher
     operands = a + b * half;
     results = c + k * half;
     put = p;
-    gate = (λ i. gateOf (entry-high c k (omega (arith, below, short)) i) (entry-low a b (omega (arith, la, short)) i) (entry-high a b (omega (arith, la, short)) i) (entry-low c k (omega (arith, below, short)) i)) ∙ e;
+    gate = (λ i. gateOf (entry-high c k (omega (arith, below, short)) i) (entry-low a b (omega (arith, la, short)) i)
+        (entry-high a b (omega (arith, la, short)) i) (entry-low c k (omega (arith, below, short)) i)) ∙ e;
     named = record {
       kind = rw (entry-high c k (omega (arith, below, short))) h;
       left = rw (entry-low a b (omega (arith, la, short))) la;
@@ -73,7 +74,8 @@ pub record Holding (T : Tables) (W : ℕ) (gs : List Gate) : Type 0 where
   pub gates : gatesOf T (length gs) ≡ gs
   pub wired : Wired T W (length gs)
 
-holding-more : (n W c d : ℕ) (hs gs : List Gate) (tabs : Tables) → n + length hs ≡ c → Ordered c gs d → d ≤ W → W ≤ half → d ≤ n + length (tabs .operands) → d ≤ n + length (tabs .results)
+holding-more : (n W c d : ℕ) (hs gs : List Gate) (tabs : Tables) → n + length hs ≡ c → Ordered c gs d → d ≤ W → W ≤ half → d ≤ n + length (tabs .operands) → d ≤
+    n + length (tabs .results)
     → Holding tabs W hs → Holding (putGates n tabs gs) W (hs ++ gs)
 holding-more n W c d hs [] tabs e O l s lo lr H =
     subst (λ (X : Tables). Holding X W (hs ++ [])) (sym (puts-none n tabs)) (subst (Holding tabs W) (sym (append-nil hs)) H)
@@ -86,7 +88,8 @@ holding-more n W c d hs (g ∷ gs) tabs e (step r o O) l s lo lr H =
     let room : Room tabs (length hs) = record { operands = omega (arith, e, b, lo); results = omega (arith, e, b, lr) } in
     let q : length (hs ++ g ∷ []) ≡ length hs + 1 = snoc hs in
     let H′ : Holding tabs′ W (hs ++ g ∷ []) = record {
-      gates = ap (gatesOf tabs′) q ∙ gates-put tabs (length hs) (E .operands) (E .results) room ∙ ap₂ (λ (xs : List Gate) (x : Gate). xs ++ (x ∷ [])) (H .gates) (E .gate);
+      gates = ap (gatesOf tabs′) q ∙ gates-put tabs (length hs) (E .operands) (E .results) room ∙ ap₂ (λ (xs : List Gate) (x : Gate). xs ++ (x ∷ [])) (H .gates)
+          (E .gate);
       wired = subst (Wired tabs′ W) (sym q) (wired-put tabs (length hs) (E .operands) (E .results) room W (H .wired) (E .named));
     } in
     let a = length-set (tabs .operands) (length hs) (E .operands) in
@@ -104,5 +107,6 @@ holding-more n W c d hs (g ∷ gs) tabs e (step r o O) l s lo lr H =
     snoc (h ∷ hs) = let q = snoc hs in omega (arith, q)
 
 -- all gates of a netlist, from its first wire behind the inputs on
-pub held : (n W : ℕ) (gs : List Gate) (tabs : Tables) → Ordered n gs W → W ≤ half → W ≤ n + length (tabs .operands) → W ≤ n + length (tabs .results) → Holding (putGates n tabs gs) W gs
+pub held : (n W : ℕ) (gs : List Gate) (tabs : Tables) → Ordered n gs W → W ≤ half → W ≤ n + length (tabs .operands) → W ≤ n + length (tabs .results) → Holding
+    (putGates n tabs gs) W gs
 held n W gs tabs O s lo lr = holding-more n W n W [] gs tabs (omega arith) O (omega arith) s lo lr (record { gates = refl; wired = wired-none tabs W })

@@ -37,7 +37,8 @@ unfolding walk
 walk-declaration k ns ts = go k
   where
     rest : walk ((commaTokens (ns .more) ++ mark (ascii ";") ∷ []) ++ ts) (flat behindName) ≡ walk ts (flat onItem)
-    rest = ap (λ (us : List Token). walk us (flat behindName)) (append-assoc (commaTokens (ns .more)) (mark (ascii ";") ∷ []) ts) ∙ walk-names (ns .more) (mark (ascii ";") ∷ ts)
+    rest = ap (λ (us : List Token). walk us (flat behindName)) (append-assoc (commaTokens (ns .more)) (mark (ascii ";") ∷ []) ts) ∙ walk-names (ns .more)
+        (mark (ascii ";") ∷ ts)
 
     go : (k : Kind) → walk (declarationTokens (record { kind = k; names = ns }) ++ ts) (flat onItem) ≡ walk ts (flat onItem)
     go input = rest
@@ -56,7 +57,8 @@ unfolding walk
 walk-items [] = refl
 walk-items (a ∷ xs) = refl
 
-walk-head : (w v : List ℕ) (ws : List (List ℕ)) (ts : List Token) → walk (mark (ascii "module") ∷ name w ∷ mark (ascii "(") ∷ portsLeft (v ∷ ws) ts) (flat onModule) ≡ walk ts (flat onItem)
+walk-head : (w v : List ℕ) (ws : List (List ℕ)) (ts : List Token) → walk (mark (ascii "module") ∷ name w ∷ mark (ascii "(") ∷ portsLeft (v ∷ ws) ts)
+    (flat onModule) ≡ walk ts (flat onItem)
 unfolding walk
 walk-head w v ws ts = walk-ports ws (mark (ascii ")") ∷ mark (ascii ";") ∷ ts)
 
@@ -72,7 +74,8 @@ pub assigns-accepted : (t : List ℕ) (m : Module) → Stands m t → Accepts (a
 unfolding accepted
 assigns-accepted t m S =
     let a : wellEnded (ifSome (tokens t) (λ ts. walk ts (flat onModule))) ≡ true = recognised t ∙ ap isTree (parse-complete t m S) in
-    let b : wellEnded (walk (moduleTokens m) (flat onModule)) ≡ true = sym (ap (λ (o : Option (List Token)). wellEnded (ifSome o (λ ts. walk ts (flat onModule)))) (S .written)) ∙ a in
+    let b : wellEnded (walk (moduleTokens m) (flat onModule)) ≡ true = sym (ap (λ (o : Option (List Token)). wellEnded
+    (ifSome o (λ ts. walk ts (flat onModule)))) (S .written)) ∙ a in
     true-T (wellEnded (walk (assignsLeft (m .assigns) []) (flat onAssign))) (sym (ap wellEnded (walk-module m)) ∙ b)
 
 -- where no assignment follows, the module ends
@@ -96,6 +99,7 @@ pub assigns-same : (t : List ℕ) (m : Module) → Stands m t → (xs : List Ass
 assigns-same t m S xs e =
     let m′ : Module = record { title = m .title; ports = m .ports; declarations = m .declarations; assigns = xs } in
     let w : moduleTokens m ≡ moduleTokens m′ = module-parts m
-    ∙ ap (λ (ts : List Token). mark (ascii "module") ∷ name (m .title) ∷ mark (ascii "(") ∷ portsLeft (allNames (m .ports)) (eachTokens declarationTokens (m .declarations) ++ ts)) (sym e)
+    ∙ ap (λ (ts : List Token). mark (ascii "module") ∷ name (m .title) ∷ mark (ascii "(") ∷ portsLeft (allNames (m .ports))
+    (eachTokens declarationTokens (m .declarations) ++ ts)) (sym e)
     ∙ sym (module-parts m′) in
     ap (λ (n : Module). n .assigns) (unambiguous t m′ m (record { written = S .written ∙ ap some w }) S)

@@ -26,7 +26,8 @@ module _ (t words : List ℕ) (n : ℕ) (targets : List (List ℕ)) (declared : 
     pub wired : n ≤ length (B .wires)
     pub wires : (v : List ℕ) → wireOf t words (B .wires) n v ≡ look 0 (M .names) v
 
-  pub lay-build : (xs : List Assign) (gates : List Gate) (ws : List ℕ) (c : ℕ) (es : List (Entry ℕ)) → n ≤ length ws → ((v : List ℕ) → wireOf t words ws n v ≡ look 0 es v)
+  pub lay-build : (xs : List Assign) (gates : List Gate) (ws : List ℕ) (c : ℕ) (es : List (Entry ℕ)) → n ≤ length ws →
+      ((v : List ℕ) → wireOf t words ws n v ≡ look 0 es v)
       → T (targetsAmong targets xs) → Laid′ (layAll t words n (record { gates = gates; wires = ws; next = c }) xs) gates (build es c xs)
   lay-build [] gates ws c es l h d = record { made = sym (append-nil gates); next = refl; wired = l; wires = h }
   lay-build (a ∷ xs) gates ws c es l h d =
@@ -39,7 +40,8 @@ module _ (t words : List ℕ) (n : ℕ) (targets : List (List ℕ)) (declared : 
       let ws′ = given t words ws n w (M .wire) in
       let R = lay-build xs (gates ++ M .gates) ws′ (M .next) (entry w (M .wire) ∷ es) (omega (arith, l, length-given t words ws n w (M .wire)))
       (λ v. wire-given t words n w (declared w (b .0)) (M .wire) ws l v ∙ ap (λ (x : ℕ). cond (sameBytes v w) (M .wire) x) (h v)) (b .1) in
-      let s : build (entry w (M .wire) ∷ es) (M .next) xs ≡ build (entry w (N .wire) ∷ es) (N .next) xs = ap (λ (X : Made). build (entry w (X .wire) ∷ es) (X .next) xs) q in
+      let s : build (entry w (M .wire) ∷ es) (M .next) xs ≡ build (entry w (N .wire) ∷ es) (N .next) xs = ap
+      (λ (X : Made). build (entry w (X .wire) ∷ es) (X .next) xs) q in
       record {
         made = R .made ∙ append-assoc gates (M .gates) (build (entry w (M .wire) ∷ es) (M .next) xs .gates)
             ∙ ap (λ (gs : List Gate). gates ++ gs) (ap (λ (X : Made). X .gates ++ build (entry w (X .wire) ∷ es) (X .next) xs .gates) q);

@@ -88,7 +88,8 @@ getD-zeros (suc k) (suc i) = getD-zeros k i
 pub wire-zero : (t words ws : List ℕ) (n k : ℕ) → ws ≡ replicate k 0 → (v : List ℕ) → wireOf t words ws n v ≡ 0
 wire-zero t words ws n k e v = onBool (eqb (found t words v n) 0)
     (λ z. state-none t words ws v n (eqb-true (found t words v n) 0 z))
-    (λ z. let f = eqb-false (found t words v n) 0 z in state-some t words ws v n (omega (arith, f)) ∙ ap (λ (xs : List ℕ). getD xs (found t words v n - 1) 0) e ∙ getD-zeros k (found t words v n - 1))
+    (λ z. let f = eqb-false (found t words v n) 0 z in state-some t words ws v n (omega (arith, f)) ∙ ap (λ (xs : List ℕ). getD xs (found t words v n - 1) 0) e
+    ∙ getD-zeros k (found t words v n - 1))
 
 -- ---- the declared names
 
@@ -158,7 +159,8 @@ module _ (m : Module) {t words st : List ℕ} {n place : ℕ} (L : Loaded t word
       (λ e. e)
 
   known-or-target : (w : List ℕ) → T (elem w (namesOf t words n)) → (elem w (inputs m) || elem w (outputs m ++ wires m)) ≡ true
-  known-or-target w h = ap₂ _||_ (sym (is-input w)) (sym (is-target w)) ∙ low-cases (λ k. eqb k 0 ≡ false → (eqb k 1 || (eqb k 2 || eqb k 3)) ≡ true) (λ e. absurd (never e)) (λ e. refl) (λ e. refl) (λ e. refl) (f w) (low w) (named-some w h)
+  known-or-target w h = ap₂ _||_ (sym (is-input w)) (sym (is-target w)) ∙ low-cases (λ k. eqb k 0 ≡ false → (eqb k 1 || (eqb k 2 || eqb k 3)) ≡ true)
+      (λ e. absurd (never e)) (λ e. refl) (λ e. refl) (λ e. refl) (f w) (low w) (named-some w h)
 
   -- ---- the ports
 
@@ -208,7 +210,8 @@ module _ (m : Module) {t words st : List ℕ} {n place : ℕ} (L : Loaded t word
 
       all-seated : allFrom (seats .states) n 3 ≡ true
       all-seated = all-named t words (seats .states) 3 n (S .stated) (loaded-once m L room)
-          ∙ isTrue (every (λ w. leb 3 (wireOf t words (seats .states) n w)) (namesOf t words n)) (all-every (λ w. leb 3 (wireOf t words (seats .states) n w)) (namesOf t words n)
+          ∙ isTrue (every (λ w. leb 3 (wireOf t words (seats .states) n w)) (namesOf t words n))
+          (all-every (λ w. leb 3 (wireOf t words (seats .states) n w)) (namesOf t words n)
           (λ w h. true-T (leb 3 (wireOf t words (seats .states) n w)) (ap (leb 3) (final w) ∙ moved-high (f w) (low w) (named-some w h))))
 
       pub ported-good : portsDone n seats .good ≡ true
@@ -256,14 +259,16 @@ module _ (m : Module) {t words st : List ℕ} {n place : ℕ} (L : Loaded t word
 
       every-settled : (D : Done t words n targets (outputs m) (inputs m) settles) → allFrom (settles .states) n 5 ≡ true
       every-settled D = all-named t words (settles .states) 5 n (D .states .stated) (loaded-once m L room)
-          ∙ isTrue (every (λ w. leb 5 (wireOf t words (settles .states) n w)) (namesOf t words n)) (all-every (λ w. leb 5 (wireOf t words (settles .states) n w)) (namesOf t words n)
+          ∙ isTrue (every (λ w. leb 5 (wireOf t words (settles .states) n w)) (namesOf t words n))
+          (all-every (λ w. leb 5 (wireOf t words (settles .states) n w)) (namesOf t words n)
           (λ w h. true-T (leb 5 (wireOf t words (settles .states) n w)) (D .states .reads w ∙ onBool (elem w (inputs m))
           (λ e. isTrue (elem w (D .known)) (D .more w (true-T (elem w (inputs m)) e)))
           (λ e. isTrue (elem w (D .known)) (every-elem (λ v. elem v (D .known)) targets (D .all) w
           (true-T (elem w targets) (sym (ap (λ (b : Bool). b || elem w targets) e) ∙ known-or-target w h)))))))
 
       pub kept-settled : Kept m → assignsDone n settles .good ≡ true
-      kept-settled K = let D = settle-good t words n targets (outputs m) (m .assigns) (inputs m) (seats .states) known (K .assigns) in ap₂ _&&_ (D .good) (every-settled D)
+      kept-settled K = let D = settle-good t words n targets (outputs m) (m .assigns) (inputs m) (seats .states) known (K .assigns) in
+          ap₂ _&&_ (D .good) (every-settled D)
 
       module _ (g : assignsDone n settles .good ≡ true) where
         parts : (settles .good ≡ true) × (allFrom (settles .states) n 5 ≡ true)
@@ -272,13 +277,15 @@ module _ (m : Module) {t words st : List ℕ} {n place : ℕ} (L : Loaded t word
         assigns-good : n ≤ length (settles .states) → T (assignsGood (inputs m) targets (m .assigns))
         assigns-good l = good-settle t words n targets (outputs m) (m .assigns) (inputs m) (seats .states) known (parts .0)
             (λ w h. isTrue (leb 5 (wireOf t words (settles .states) n w)) (every-elem (λ v. leb 5 (wireOf t words (settles .states) n v)) (namesOf t words n)
-            (true-T (every (λ v. leb 5 (wireOf t words (settles .states) n v)) (namesOf t words n)) (sym (all-named t words (settles .states) 5 n l (loaded-once m L room)) ∙ parts .1)) w (target-named w h)))
+            (true-T (every (λ v. leb 5 (wireOf t words (settles .states) n v)) (namesOf t words n))
+            (sym (all-named t words (settles .states) 5 n l (loaded-once m L room)) ∙ parts .1)) w (target-named w h)))
 
         pub settled-kept : n ≤ length (settles .states) → T (distinct (inputs m ++ outputs m ++ wires m)) → Kept m
         settled-kept l d = record {
           declaredOnce = d;
           portsOnce = ports-distinct t words n f ports [] (R .ok);
-          portsDeclared = true-T (every (λ w. elem w (inputs m ++ outputs m)) ports) (sym (every-same (λ w. isPort (f w)) (λ w. elem w (inputs m ++ outputs m)) ports (λ w h. is-port w))
+          portsDeclared = true-T (every (λ w. elem w (inputs m ++ outputs m)) ports)
+              (sym (every-same (λ w. isPort (f w)) (λ w. elem w (inputs m ++ outputs m)) ports (λ w h. is-port w))
               ∙ isTrue (every (λ w. isPort (f w)) ports) (ports-every t words n f ports [] (R .ok)));
           portsAll = R .all;
           someInput = let c = chosen-some (isInput t words n f) ports (R .someInput) in elem-length (c .0) (inputs m) (sym (is-input (c .0)) ∙ c .1);
@@ -297,7 +304,8 @@ module _ (m : Module) {t words st : List ℕ} {n place : ℕ} (L : Loaded t word
             let q : elem v (namesOf t words n) ≡ true = onBool (elem v (namesOf t words n)) (λ x. x)
             (λ x. let y = eqb-true (found t words v n) 0 (found-elem t words v n ∙ ap not x) in absurd (omega (arith, y, p))) in
             let h = isTrue (leb 5 σ) (every-elem (λ v. leb 5 (wireOf t words (settles .states) n v)) (namesOf t words n)
-            (true-T (every (λ v. leb 5 (wireOf t words (settles .states) n v)) (namesOf t words n)) (sym (all-named t words (settles .states) 5 n l (loaded-once m L room)) ∙ parts .1)) v (true-T (elem v (namesOf t words n)) q)) in
+            (true-T (every (λ v. leb 5 (wireOf t words (settles .states) n v)) (namesOf t words n))
+            (sym (all-named t words (settles .states) 5 n l (loaded-once m L room)) ∙ parts .1)) v (true-T (elem v (namesOf t words n)) q)) in
             absurd (never (sym h ∙ ap (leb 5) s)))
             (λ e. e) in
             sym (ap (λ (b : Bool). b || eqb σ 6) four) ∙ D .states .isOutput v
@@ -315,7 +323,8 @@ module _ (m : Module) {t words st : List ℕ} {n place : ℕ} (L : Loaded t word
           all = λ w h. onBool (elem w ports) (true-T (elem w ports))
               (λ e. let s : wireOf t words (seats .states) n w ≡ f w = S .states w ∙ ap (λ (b : Bool). cond (b || false) (moved (f w)) (f w)) e in
               let k = isTrue (leb 3 (wireOf t words (seats .states) n w)) (every-elem (λ v. leb 3 (wireOf t words (seats .states) n v)) (namesOf t words n)
-              (true-T (every (λ v. leb 3 (wireOf t words (seats .states) n v)) (namesOf t words n)) (sym (all-named t words (seats .states) 3 n (S .stated) (loaded-once m L room)) ∙ c .1)) w (port-named w h)) in
+              (true-T (every (λ v. leb 3 (wireOf t words (seats .states) n v)) (namesOf t words n))
+              (sym (all-named t words (seats .states) 3 n (S .stated) (loaded-once m L room)) ∙ c .1)) w (port-named w h)) in
               absurd (never (sym k ∙ ap (leb 3) s ∙ port-low (f w) (low w) (is-port w ∙ isTrue (elem w (inputs m ++ outputs m)) h))));
           someInput = let i = leb-true 1 (seats .inputs) (b .1) in omega (arith, S .inputs, i);
           someOutput = let o = leb-true 1 (seats .outputs) (a .1) in omega (arith, S .outputs, o);

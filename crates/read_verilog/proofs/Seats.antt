@@ -80,9 +80,11 @@ module _ (t words : List ℕ) (n : ℕ) (f : List ℕ → ℕ) where
 
   pub ports-every : (ps seen : List (List ℕ)) → T (portsOk seen ps) → T (every (λ w. isPort (f w)) ps)
   ports-every [] seen h = tt
-  ports-every (w ∷ ps) seen h = let A = apart seen w ps h in pair (isPort (f w)) (every (λ w. isPort (f w)) ps) (true-T (isPort (f w)) (A .port)) (ports-every ps (w ∷ seen) (A .rest))
+  ports-every (w ∷ ps) seen h = let A = apart seen w ps h in pair (isPort (f w)) (every (λ w. isPort (f w)) ps) (true-T (isPort (f w)) (A .port))
+      (ports-every ps (w ∷ seen) (A .rest))
 
-  pub ports-from : (ps seen : List (List ℕ)) → T (distinct ps) → T (every (λ w. isPort (f w)) ps) → ((v : List ℕ) → T (elem v ps) → elem v seen ≡ false) → T (portsOk seen ps)
+  pub ports-from : (ps seen : List (List ℕ)) → T (distinct ps) → T (every (λ w. isPort (f w)) ps) → ((v : List ℕ) → T (elem v ps) → elem v seen ≡ false) → T
+      (portsOk seen ps)
   ports-from [] seen d e g = tt
   ports-from (w ∷ ps) seen d e g =
       let a = both (not (elem w ps)) (distinct ps) d in
@@ -123,7 +125,8 @@ module _ (t words : List ℕ) (n : ℕ) (f : List ℕ → ℕ) where
       ∙ sym (ap (λ (b : Bool). cond (b || elem v seen) (moved (f v)) (f v)) q))
       (λ q. g v ∙ ap (λ (b : Bool). cond b new (wireOf t words st n v)) q ∙ H v ∙ sym (ap (λ (b : Bool). cond (b || elem v seen) (moved (f v)) (f v)) q))
 
-  step : (seen : List (List ℕ)) (w : List ℕ) (st ws : List ℕ) (i o : ℕ) → n ≤ length st → n ≤ length ws → Seen seen st → elem w seen ≡ false → isPort (f w) ≡ true → Step seen w st ws i o
+  step : (seen : List (List ℕ)) (w : List ℕ) (st ws : List ℕ) (i o : ℕ) → n ≤ length st → n ≤ length ws → Seen seen st → elem w seen ≡ false → isPort (f w) ≡
+      true → Step seen w st ws i o
   step seen w st ws i o ls lw H new port =
       let σ = wireOf t words st n w in
       let s : σ ≡ f w = H w ∙ ap (λ (b : Bool). cond b (moved (f w)) (f w)) new in
@@ -187,9 +190,11 @@ module _ (t words : List ℕ) (n : ℕ) (f : List ℕ → ℕ) where
       let A = apart seen w ps h in
       let S = step seen w st ws i o ls lw H (A .new) (A .port) in
       let R = seat-good ps (w ∷ seen) (S .st′) (S .ws′) (S .i′) (S .o′) (omega (arith, ls, S .stated)) (omega (arith, lw, S .wired)) (S .states) (A .rest) in
-      let e : seatAll t words n (seat t words n (seated st ws i o) w) ps ≡ seatAll t words n (seated (S .st′) (S .ws′) (S .i′) (S .o′)) ps = ap (λ (P : Seated). seatAll t words n P ps) (S .is) in
+      let e : seatAll t words n (seat t words n (seated st ws i o) w) ps ≡ seatAll t words n (seated (S .st′) (S .ws′) (S .i′) (S .o′)) ps = ap
+      (λ (P : Seated). seatAll t words n P ps) (S .is) in
       let gone : elem w (chosen isInput ps) ≡ false = onBool (elem w (chosen isInput ps))
-      (λ q. absurd (never (sym (isTrue (elem w ps) (elem-chosen isInput ps w (true-T (elem w (chosen isInput ps)) q))) ∙ ports-unseen ps (w ∷ seen) w (A .rest) (elem-here w seen))))
+      (λ q. absurd (never (sym (isTrue (elem w ps) (elem-chosen isInput ps w (true-T (elem w (chosen isInput ps)) q))) ∙ ports-unseen ps (w ∷ seen) w (A .rest)
+      (elem-here w seen))))
       (λ q. q) in
       let oneOf : isInput w ≡ true → isOutput w ≡ false = λ q. ap (λ (k : ℕ). eqb k 2) (eqb-true (f w) 1 q) in
       let otherOf : isInput w ≡ false → isOutput w ≡ true = λ q. sym (ap (λ (b : Bool). b || eqb (f w) 2) q) ∙ A .port in
@@ -220,14 +225,16 @@ module _ (t words : List ℕ) (n : ℕ) (f : List ℕ → ℕ) where
           go true = refl
           go false = refl
 
-      wired-more : (w : List ℕ) (ps : List (List ℕ)) (ws ws′ : List ℕ) (i i′ : ℕ) (v : List ℕ) → wireOf t words ws′ n v ≡ cond (isInput w && sameBytes v w) i (wireOf t words ws n v)
+      wired-more : (w : List ℕ) (ps : List (List ℕ)) (ws ws′ : List ℕ) (i i′ : ℕ) (v : List ℕ) → wireOf t words ws′ n v ≡ cond (isInput w && sameBytes v w) i
+          (wireOf t words ws n v)
           → i′ ≡ cond (isInput w) (i + 1) i → elem w (chosen isInput ps) ≡ false
           → cond (elem v (chosen isInput ps)) (look 0 (numbered i′ (chosen isInput ps)) v) (wireOf t words ws′ n v)
           ≡ cond (elem v (chosen isInput (w ∷ ps))) (look 0 (numbered i (chosen isInput (w ∷ ps))) v) (wireOf t words ws n v)
       wired-more w ps ws ws′ i i′ v g k gone = onBool (isInput w)
           (λ q. let i₁ : i′ ≡ i + 1 = k ∙ ap (λ (b : Bool). cond b (i + 1) i) q in
           let us = chosen isInput ps in
-          let g₁ : wireOf t words ws′ n v ≡ cond (sameBytes v w) i (wireOf t words ws n v) = g ∙ ap (λ (b : Bool). cond (b && sameBytes v w) i (wireOf t words ws n v)) q in
+          let g₁ : wireOf t words ws′ n v ≡ cond (sameBytes v w) i (wireOf t words ws n v) = g ∙ ap
+          (λ (b : Bool). cond (b && sameBytes v w) i (wireOf t words ws n v)) q in
           let R : cond (elem v (chosen isInput (w ∷ ps))) (look 0 (numbered i (chosen isInput (w ∷ ps))) v) (wireOf t words ws n v)
           ≡ cond (sameBytes v w || elem v us) (cond (sameBytes v w) i (look 0 (numbered (i + 1) us) v)) (wireOf t words ws n v)
           = ap (λ (b : Bool). cond (elem v (cond b (w ∷ us) us)) (look 0 (numbered i (cond b (w ∷ us) us)) v) (wireOf t words ws n v)) q in
@@ -243,7 +250,8 @@ module _ (t words : List ℕ) (n : ℕ) (f : List ℕ → ℕ) where
           ∙ sym (ap (λ (b : Bool). cond (elem v (cond b (w ∷ us) us)) (look 0 (numbered i (cond b (w ∷ us) us)) v) (wireOf t words ws n v)) q))
 
   -- what the fold admits are such ports
-  pub good-seat : (ps seen : List (List ℕ)) (st ws : List ℕ) (i o : ℕ) → n ≤ length st → n ≤ length ws → Seen seen st → seatAll t words n (seated st ws i o) ps .good ≡ true → T (portsOk seen ps)
+  pub good-seat : (ps seen : List (List ℕ)) (st ws : List ℕ) (i o : ℕ) → n ≤ length st → n ≤ length ws → Seen seen st → seatAll t words n (seated st ws i o)
+      ps .good ≡ true → T (portsOk seen ps)
   good-seat [] seen st ws i o ls lw H h = tt
   good-seat (w ∷ ps) seen st ws i o ls lw H h =
       let σ = wireOf t words st n w in

@@ -47,8 +47,10 @@ module _ (t words : List ℕ) (n : ℕ) (targets outs : List (List ℕ)) where
           (λ q. ap (leb 5) (g v ∙ ap (λ (x : Bool). cond x new (wireOf t words st n v)) q) ∙ a ∙ sym (ap (λ (x : Bool). x || elem v known) q))
           (λ q. ap (leb 5) (g v ∙ ap (λ (x : Bool). cond x new (wireOf t words st n v)) q) ∙ K .reads v ∙ sym (ap (λ (x : Bool). x || elem v known) q));
       opens = λ v. onBool (sameBytes v w)
-          (λ q. ap isOpen (g v ∙ ap (λ (x : Bool). cond x new (wireOf t words st n v)) q) ∙ b ∙ sym (ap (λ (x : Bool). elem v targets && not (x || elem v known)) q ∙ and-false (elem v targets)))
-          (λ q. ap isOpen (g v ∙ ap (λ (x : Bool). cond x new (wireOf t words st n v)) q) ∙ K .opens v ∙ sym (ap (λ (x : Bool). elem v targets && not (x || elem v known)) q));
+          (λ q. ap isOpen (g v ∙ ap (λ (x : Bool). cond x new (wireOf t words st n v)) q) ∙ b ∙ sym
+          (ap (λ (x : Bool). elem v targets && not (x || elem v known)) q ∙ and-false (elem v targets)))
+          (λ q. ap isOpen (g v ∙ ap (λ (x : Bool). cond x new (wireOf t words st n v)) q) ∙ K .opens v ∙ sym
+          (ap (λ (x : Bool). elem v targets && not (x || elem v known)) q));
       isOutput = λ v. onBool (sameBytes v w)
           (λ q. ap isOut (g v ∙ ap (λ (x : Bool). cond x new (wireOf t words st n v)) q) ∙ c ∙ K .isOutput w ∙ ap (λ (x : List ℕ). elem x outs) (sym (same-equal v w q)))
           (λ q. ap isOut (g v ∙ ap (λ (x : Bool). cond x new (wireOf t words st n v)) q) ∙ K .isOutput v);
@@ -63,10 +65,12 @@ module _ (t words : List ℕ) (n : ℕ) (targets outs : List (List ℕ)) where
     known-on h = onBool (eqb (wireOf t words st n w) 3)
         (λ e. let q = eqb-true (wireOf t words st n w) 3 e in
         subst (Known (w ∷ known)) (sym (ap (λ (b : Bool). cond b (becomes t words st n w 3 5) (becomes t words st n w 4 6)) e))
-        (known-more (becomes t words st n w 3 5) 5 (length-becomes t words st n w 3 5) (wire-moved t words st n w 3 5 (K .stated) (omega arith) q) refl refl (sym (ap isOut q))))
+        (known-more (becomes t words st n w 3 5) 5 (length-becomes t words st n w 3 5) (wire-moved t words st n w 3 5 (K .stated) (omega arith) q) refl refl
+        (sym (ap isOut q))))
         (λ e. let q = eqb-true (wireOf t words st n w) 4 (sym (ap (λ (b : Bool). b || eqb (wireOf t words st n w) 4) e) ∙ h) in
         subst (Known (w ∷ known)) (sym (ap (λ (b : Bool). cond b (becomes t words st n w 3 5) (becomes t words st n w 4 6)) e))
-        (known-more (becomes t words st n w 4 6) 6 (length-becomes t words st n w 4 6) (wire-moved t words st n w 4 6 (K .stated) (omega arith) q) refl refl (sym (ap isOut q))))
+        (known-more (becomes t words st n w 4 6) 6 (length-becomes t words st n w 4 6) (wire-moved t words st n w 4 6 (K .stated) (omega arith) q) refl refl
+        (sym (ap isOut q))))
 
     reads-known : (ws : List (List ℕ)) → every (readable t words st n) ws ≡ every (λ v. elem v known) ws
     reads-known ws = every-same (readable t words st n) (λ v. elem v known) ws (λ v h. readable-is t words st n v ∙ K .reads v)
@@ -84,12 +88,14 @@ module _ (t words : List ℕ) (n : ℕ) (targets outs : List (List ℕ)) where
       → settle t words n (unsettled st) a ≡ unsettled (settled t words st n (a .target))
   settled-is st a r o = λ i. record { good = ap₂ _&&_ r o i; states = settled t words st n (a .target) }
 
-  pub settle-good : (xs : List Assign) (known : List (List ℕ)) (st : List ℕ) → Known known st → T (assignsGood known targets xs) → Done known (settleAll t words n (unsettled st) xs)
+  pub settle-good : (xs : List Assign) (known : List (List ℕ)) (st : List ℕ) → Known known st → T (assignsGood known targets xs) → Done known
+      (settleAll t words n (unsettled st) xs)
   settle-good [] known st K h = record { good = refl; known = known; more = λ w t. t; states = K; all = h }
   settle-good (a ∷ xs) known st K h =
       let G : GoodAssign known targets a xs = goodAssign known targets a xs h in
       let w = a .target in
-      let r : every (readable t words st n) (exprReads (a .value)) ≡ true = reads-known K w (exprReads (a .value)) ∙ isTrue (every (λ v. elem v known) (exprReads (a .value))) (G .readsKnown) in
+      let r : every (readable t words st n) (exprReads (a .value)) ≡ true = reads-known K w (exprReads (a .value)) ∙ isTrue
+      (every (λ v. elem v known) (exprReads (a .value))) (G .readsKnown) in
       let o : isOpen (wireOf t words st n w) ≡ true = K .opens w ∙ ap₂ _&&_ (isTrue (elem w targets) (G .target)) (isTrue (not (elem w known)) (G .new)) in
       let D = settle-good xs (w ∷ known) (settled t words st n w) (known-on K w o) (G .after) in
       subst (Done known) (sym (ap (λ (S : Settled). settleAll t words n S xs) (settled-is st a r o)))
@@ -100,7 +106,8 @@ module _ (t words : List ℕ) (n : ℕ) (targets outs : List (List ℕ)) where
   good-settle [] known st K h f = all-every (λ w. elem w known) targets (λ w q. true-T (elem w known) (sym (K .reads w) ∙ f w q))
   good-settle (a ∷ xs) known st K h f =
       let w = a .target in
-      let g : settle t words n (unsettled st) a .good ≡ true = onBool (settle t words n (unsettled st) a .good) (λ e. e) (λ e. absurd (never (sym h ∙ spoilt t words n xs (settle t words n (unsettled st) a) e))) in
+      let g : settle t words n (unsettled st) a .good ≡ true = onBool (settle t words n (unsettled st) a .good) (λ e. e)
+      (λ e. absurd (never (sym h ∙ spoilt t words n xs (settle t words n (unsettled st) a) e))) in
       let b = both-true (every (readable t words st n) (exprReads (a .value))) (isOpen (wireOf t words st n w)) g in
       let k = both-true (elem w targets) (not (elem w known)) (sym (K .opens w) ∙ b .1) in
       let e = settled-is st a (b .0) (b .1) in

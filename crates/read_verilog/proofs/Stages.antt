@@ -39,7 +39,8 @@ use Rattle.read_verilog.proofs.Ruling.{getD-zeros, wire-zero, target-fo
 pub place-is : {t : List ℕ} {c₁ f₁ t₁ c₂ f₂ t₂ c₃ f₃ t₃ : ℕ} → TokenAt t 0 c₁ f₁ t₁ → TokenAt t t₁ c₂ f₂ t₂ → TokenAt t t₂ c₃ f₃ t₃ → PlaceIs t t₃
 place-is A B C = record {
   within = C .within;
-  gives = λ w ts e. known C (mark (ascii "(")) ts (known B (name w) (mark (ascii "(") ∷ ts) (known A (mark (ascii "module")) (name w ∷ mark (ascii "(") ∷ ts) e .1) .1) .1;
+  gives = λ w ts e. known C (mark (ascii "(")) ts (known B (name w) (mark (ascii "(") ∷ ts)
+      (known A (mark (ascii "module")) (name w ∷ mark (ascii "(") ∷ ts) e .1) .1) .1;
 }
 
 commas-pass : (ws : List (List ℕ)) (ts : List Token) → namesPass any (commaTokens ws ++ ts) ≡ namesPass any ts
@@ -65,7 +66,8 @@ module _ {t : List ℕ} {at items : ℕ} (A : PlaceIs t at) (B : PastIs t at ite
   ports-at = A .gives (m .title) (portsLeft (allNames (m .ports)) (itemsLeft m)) (S .written ∙ ap some (module-parts m))
 
   items-at : tokens (drop items t) ≡ some (itemsLeft m)
-  items-at = B .gives (portsLeft (allNames (m .ports)) (itemsLeft m)) ports-at (ports-pass (m .ports .first) (m .ports .more) (itemsLeft m)) ∙ ap some (ports-end (m .ports .first) (m .ports .more) (itemsLeft m))
+  items-at = B .gives (portsLeft (allNames (m .ports)) (itemsLeft m)) ports-at (ports-pass (m .ports .first) (m .ports .more) (itemsLeft m)) ∙ ap some
+      (ports-end (m .ports .first) (m .ports .more) (itemsLeft m))
 
 -- ---- the answers of the parts
 
@@ -74,7 +76,8 @@ and-false true = refl
 and-false false = refl
 
 module _ {t words : List ℕ} {n at : ℕ} {st st′ ws ws′ : List ℕ} {p : Ports} (P : PortsIs t words n at st st′ ws ws′ p) where
-  ports-no : {r : Ports} {st″ ws″ : List ℕ} → r .good ≡ false → (p .good ≡ true → (allFrom st′ n 3 && leb 1 (p .inputs) && leb 1 (p .outputs)) ≡ false) → PortsKept t words n at st st″ ws ws″ r
+  ports-no : {r : Ports} {st″ ws″ : List ℕ} → r .good ≡ false → (p .good ≡ true → (allFrom st′ n 3 && leb 1 (p .inputs) && leb 1 (p .outputs)) ≡ false) →
+      PortsKept t words n at st st″ ws ws″ r
   ports-no {r} g h = record {
     gives = λ ps rest e.
         let Q = P .gives ps rest e in
@@ -99,7 +102,8 @@ module _ {t words : List ℕ} {n at : ℕ} {st st′ ws ws′ : List ℕ} {p : P
   ports-missing g h = ports-no g (λ q. ap (λ (x : Bool). x && leb 1 (p .inputs) && leb 1 (p .outputs)) h)
 
   pub ports-inputless : {r : Ports} {st″ ws″ : List ℕ} → r .good ≡ false → p .inputs ≡ 0 → PortsKept t words n at st st″ ws ws″ r
-  ports-inputless g h = ports-no g (λ q. ap (λ (x : Bool). allFrom st′ n 3 && x && leb 1 (p .outputs)) (ap (leb 1) h) ∙ ap (λ (x : Bool). x && leb 1 (p .outputs)) (and-false (allFrom st′ n 3)))
+  ports-inputless g h = ports-no g (λ q. ap (λ (x : Bool). allFrom st′ n 3 && x && leb 1 (p .outputs)) (ap (leb 1) h) ∙ ap
+      (λ (x : Bool). x && leb 1 (p .outputs)) (and-false (allFrom st′ n 3)))
 
   pub ports-outputless : {r : Ports} {st″ ws″ : List ℕ} → r .good ≡ false → p .outputs ≡ 0 → PortsKept t words n at st st″ ws ws″ r
   ports-outputless g h = ports-no g (λ q. ap (λ (x : Bool). allFrom st′ n 3 && leb 1 (p .inputs) && x) (ap (leb 1) h) ∙ and-false (allFrom st′ n 3 && leb 1 (p .inputs)))
@@ -110,7 +114,8 @@ module _ {t words : List ℕ} {n at : ℕ} {st st′ ws ws′ : List ℕ} {p : P
         let Q = P .gives ps rest e in
         let X = seatAll t words n (unseated st ws) ps in
         let yes : portsDone n X .good ≡ true =
-        ap₂ _&&_ (ap₂ _&&_ (ap₂ _&&_ (sym (Q .said) ∙ g) (ap (λ (xs : List ℕ). allFrom xs n 3) (sym (Q .states g)) ∙ a)) (ap (leb 1) (sym (Q .inputs g)) ∙ le-leb 1 (p .inputs) (omega (arith, i))))
+        ap₂ _&&_ (ap₂ _&&_ (ap₂ _&&_ (sym (Q .said) ∙ g) (ap (λ (xs : List ℕ). allFrom xs n 3) (sym (Q .states g)) ∙ a))
+        (ap (leb 1) (sym (Q .inputs g)) ∙ le-leb 1 (p .inputs) (omega (arith, i))))
         (ap (leb 1) (sym (Q .outputs g)) ∙ le-leb 1 (p .outputs) (omega (arith, o))) in
         record { said = g ∙ sym yes; states = Q .states; wires = Q .wires; inputs = Q .inputs; outputs = Q .outputs };
   }
@@ -134,7 +139,8 @@ module _ {t words : List ℕ} {n at : ℕ} {st st′ : List ℕ} {r : Bool} (A :
 
 -- ---- the tables at the start
 
-pub chained-start : (t heads words links : List ℕ) (size : ℕ) → 0 < size → size ≤ length heads → heads ≡ replicate (length heads) 0 → length t < half → Chained t heads words links size 0
+pub chained-start : (t heads words links : List ℕ) (size : ℕ) → 0 < size → size ≤ length heads → heads ≡ replicate (length heads) 0 → length t < half → Chained
+    t heads words links size 0
 unfolding newest
 chained-start t heads words links size s l z h = record {
   headed = λ k q. ap (λ (xs : List ℕ). getD xs k 0) z ∙ getD-zeros (length heads) k;
@@ -160,11 +166,13 @@ refused : (m : Module) → (Kept m → ⊥) → rulesKept m ≡ false
 refused m f = onBool (rulesKept m) (λ e. absurd (f (kept m (true-T (rulesKept m) e)))) (λ e. e)
 
 module _ {t : List ℕ} {at items : ℕ} (A : PlaceIs t at) (B : PastIs t at items) where
-  pub rules-undeclared : {size most : ℕ} {heads words links st ws : List ℕ} {r : Answer} → NotDeclared t items most → length t ≤ 4 * most → r .good ≡ false → RulesAre t size heads words links st ws r
+  pub rules-undeclared : {size most : ℕ} {heads words links st ws : List ℕ} {r : Answer} → NotDeclared t items most → length t ≤ 4 * most → r .good ≡ false →
+      RulesAre t size heads words links st ws r
   rules-undeclared {most = most} N l g = record {
     gives = λ m S.
         let no = refused m (λ K.
-        let F : fresh [] (keys (declaredFrom 0 (itemsLeft m))) ≡ true = ap (λ (es : List (Entry ℕ)). fresh [] (keys es)) (items-declared m) ∙ fresh-once m ∙ isTrue (distinct (inputs m ++ outputs m ++ wires m)) (K .declaredOnce) in
+        let F : fresh [] (keys (declaredFrom 0 (itemsLeft m))) ≡ true = ap (λ (es : List (Entry ℕ)). fresh [] (keys es)) (items-declared m) ∙ fresh-once m ∙
+        isTrue (distinct (inputs m ++ outputs m ++ wires m)) (K .declaredOnce) in
         let c = ap length (items-declared m) in
         let d = count-declared (m .declarations) in
         let q = names-quarter K t S in
@@ -173,7 +181,8 @@ module _ {t : List ℕ} {at items : ℕ} (A : PlaceIs t at) (B : PastIs t at ite
         record { said = g ∙ sym no; kept = λ z. absurd (never (sym z ∙ g)) };
   }
 
-  module _ {size most count place : ℕ} {heads words links st₁ ws₁ st₂ ws₂ : List ℕ} {p : Ports} (D : AllDeclared t items size most heads words links st₁ count place) (ls : count ≤ length st₁) (lw : count ≤ length ws₁)
+  module _ {size most count place : ℕ} {heads words links st₁ ws₁ st₂ ws₂ : List ℕ} {p : Ports}
+      (D : AllDeclared t items size most heads words links st₁ count place) (ls : count ≤ length st₁) (lw : count ≤ length ws₁)
       (P : PortsKept t words count at st₁ st₂ ws₁ ws₂ p) where
     loaded : (m : Module) → Stands m t → Loaded t words st₁ count place (itemsLeft m)
     loaded m S = D .gives (itemsLeft m) (items-at A B m S)
@@ -189,17 +198,28 @@ module _ {t : List ℕ} {at items : ℕ} (A : PlaceIs t at) (B : PastIs t at ite
           record { said = g ∙ sym no; kept = λ z. absurd (never (sym z ∙ g)) };
     }
 
-    module _ {st₃ : List ℕ} {b : Bool} (e : p .good ≡ true) (Q : AssignsKept t words count place st₂ st₃ b) (zero : ws₁ ≡ replicate (length ws₁) 0) (l₃ : count ≤ length st₃) (l₂ : count ≤ length ws₂) where
+    module _ {st₃ : List ℕ} {b : Bool} (e : p .good ≡ true) (Q : AssignsKept t words count place st₂ st₃ b) (zero : ws₁ ≡ replicate (length ws₁) 0)
+        (l₃ : count ≤ length st₃) (l₂ : count ≤ length ws₂) where
       assigns-at : (m : Module) → Stands m t → tokens (drop place t) ≡ some (assignsLeft (m .assigns) [])
       assigns-at m S = loaded m S .left ∙ ap some (items-behind m)
 
-      settled-at : (m : Module) (S : Stands m t) → AssignsSay (assignsDone count (settleAll t words count (unsettled (seatAll t words count (unseated st₁ ws₁) (allNames (m .ports)) .states)) (m .assigns))) st₃ b
-      settled-at m S = subst (λ (xs : List ℕ). AssignsSay (assignsDone count (settleAll t words count (unsettled xs) (m .assigns))) st₃ b) (said m S .states e) (Q .gives (m .assigns) [] (assigns-at m S))
+      settled-at : (m : Module) (S : Stands m t) → AssignsSay (assignsDone count
+          (settleAll t words count (unsettled (seatAll t words count (unseated st₁ ws₁) (allNames (m .ports)) .states)) (m .assigns))) st₃ b
+      settled-at m S = subst (λ (xs : List ℕ). AssignsSay (assignsDone count (settleAll t words count (unsettled xs) (m .assigns))) st₃ b) (said m S .states e)
+          (Q .gives (m .assigns) [] (assigns-at m S))
 
       once : (m : Module) → Stands m t → T (distinct (inputs m ++ outputs m ++ wires m))
-      once m S = true-T (distinct (inputs m ++ outputs m ++ wires m)) (sym (fresh-once m) ∙ sym (ap (λ (es : List (Entry ℕ)). fresh [] (keys es)) (items-declared m)) ∙ loaded m S .once)
+      once m S = true-T (distinct (inputs m ++ outputs m ++ wires m)) (sym (fresh-once m) ∙ sym
+          (ap (λ (es : List (Entry ℕ)). fresh [] (keys es)) (items-declared m)) ∙ loaded m S .once)
 
-      pub rules-settled : RulesAre t size heads words links st₃ ws₂ (record { good = b; count = count; inputs = p .inputs; outputs = p .outputs; ports = at; assigns = place })
+      pub rules-settled : RulesAre t size heads words links st₃ ws₂ (record {
+        good = b;
+        count = count;
+        inputs = p .inputs;
+        outputs = p .outputs;
+        ports = at;
+        assigns = place;
+      })
       rules-settled = record {
         gives = λ m S.
             let L = loaded m S in
@@ -221,7 +241,8 @@ module _ {t : List ℕ} {at items : ℕ} (A : PlaceIs t at) (B : PastIs t at ite
                     names = D .names;
                     stated = l₃;
                     wired = l₂;
-                    inputWires = λ v. ap (λ (xs : List ℕ). wireOf t words xs count v) (Z .wires e) ∙ ported-wires m L ls ws₁ lw R (wire-zero t words ws₁ count (length ws₁) zero) v;
+                    inputWires = λ v. ap (λ (xs : List ℕ). wireOf t words xs count v) (Z .wires e) ∙ ported-wires m L ls ws₁ lw R
+                        (wire-zero t words ws₁ count (length ws₁) zero) v;
                     outputNames = λ v. ap (λ (xs : List ℕ). eqb (wireOf t words xs count v) 6) (W .states q) ∙ settled-outputs m L ls ws₁ lw R g n v;
                     targets = λ v h. target-found m L ls v (true-T (elem v (outputs m ++ wires m)) h);
                     inputs = Z .inputs e ∙ ported-inputs m L ls ws₁ lw R;

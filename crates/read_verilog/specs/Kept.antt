@@ -36,14 +36,16 @@ portsDone n P = record {
 }
 
 pub record PortsKept (t words : List ℕ) (n at : ℕ) (st st′ ws ws′ : List ℕ) (r : Ports) : Type 0 where
-  pub gives : (ps : List (List ℕ)) (rest : List Token) → tokens (drop at t) ≡ some (portsLeft ps rest) → PortsSay (portsDone n (seatAll t words n (unseated st ws) ps)) st′ ws′ r
+  pub gives : (ps : List (List ℕ)) (rest : List Token) → tokens (drop at t) ≡ some (portsLeft ps rest) → PortsSay
+      (portsDone n (seatAll t words n (unseated st ws) ps)) st′ ws′ r
 
 -- the assignments settled, with every name assigned
 abbrev pub assignsDone : ℕ → Settled → Settled
 assignsDone n S = record { good = S .good && allFrom (S .states) n 5; states = S .states }
 
 pub record AssignsKept (t words : List ℕ) (n at : ℕ) (st st′ : List ℕ) (r : Bool) : Type 0 where
-  pub gives : (xs : List Assign) (rest : List Token) → tokens (drop at t) ≡ some (assignsLeft xs rest) → AssignsSay (assignsDone n (settleAll t words n (unsettled st) xs)) st′ r
+  pub gives : (xs : List Assign) (rest : List Token) → tokens (drop at t) ≡ some (assignsLeft xs rest) → AssignsSay
+      (assignsDone n (settleAll t words n (unsettled st) xs)) st′ r
 
 -- the tables hold the declared names; the inputs have their wires, the outputs are in state 6
 pub record KeptAt (m : Module) (t : List ℕ) (size : ℕ) (heads words links st ws : List ℕ) (r : Kept) : Type 0 where

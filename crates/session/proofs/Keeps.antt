@@ -137,7 +137,8 @@ module _ {z : Sizes} {codes : List ℕ} {gs : List Gate} {L : Lists} (h : Holds 
           ∙ ap (λ (x : List Twin). x ++ (t ∷ [])) (h .twins)
           ∙ sym more-behind
 
-      more-froms : (i : ℕ) → i < length (gs ++ (g ∷ [])) → getD (set (L .source) (L .session .gates) r) i blankSource .from ≡ length (afresh codes (take i (gs ++ (g ∷ []))))
+      more-froms : (i : ℕ) → i < length (gs ++ (g ∷ [])) → getD (set (L .source) (L .session .gates) r) i blankSource .from ≡ length
+          (afresh codes (take i (gs ++ (g ∷ []))))
       more-froms i l = go (eqb i (length gs)) refl
         where
           go : (b : Bool) → eqb i (length gs) ≡ b → getD (set (L .source) (L .session .gates) r) i blankSource .from ≡ length (afresh codes (take i (gs ++ (g ∷ []))))
@@ -176,7 +177,8 @@ module _ {z : Sizes} {codes : List ℕ} {gs : List Gate} {L : Lists} (h : Holds 
         let k = longer-is g t in
         let m = few z n (length gs) (length (afresh codes (gs ++ (g ∷ [])))) l (omega (arith, afresh-most codes (gs ++ (g ∷ [])), length-more gs g)) in
         ap (λ (x : ℕ). leb x (length (L .masked)) && leb x mostMasked) k
-        ∙ ap (λ (b : Bool). fresh g && b) (isTrue (leb (length (afresh codes (gs ++ (g ∷ [])))) mostMasked) (le→leb (length (afresh codes (gs ++ (g ∷ [])))) mostMasked m))
+        ∙ ap (λ (b : Bool). fresh g && b) (isTrue (leb (length (afresh codes (gs ++ (g ∷ [])))) mostMasked)
+        (le→leb (length (afresh codes (gs ++ (g ∷ [])))) mostMasked m))
         ∙ and-true (fresh g)
       where
         and-true : (b : Bool) → (b && true) ≡ b
@@ -184,8 +186,10 @@ module _ {z : Sizes} {codes : List ℕ} {gs : List Gate} {L : Lists} (h : Holds 
         and-true false = refl
 
     asked-gate : n + length gs < small z .wires → (o : Option Gate)
-        → (andThen (andThen (given 7 o) λ g. ask 8 (operandsGiven (λ w. ltb w (n + length gs)) g) (ask 9 (eqb (result g) (n + length gs)) (done g))) λ g. ask 14 (roomFor codes L g) (done g))
-        ≡ (andThen (andThen (given 7 o) λ g. ask 8 (operandsGiven (λ w. ltb w (n + length gs)) g) (ask 9 (eqb (result g) (n + length gs)) (done g))) λ g. ask 14 (fresh g) (done g))
+        → (andThen (andThen (given 7 o) λ g. ask 8 (operandsGiven (λ w. ltb w (n + length gs)) g) (ask 9 (eqb (result g) (n + length gs)) (done g))) λ g. ask 14
+        (roomFor codes L g) (done g))
+        ≡ (andThen (andThen (given 7 o) λ g. ask 8 (operandsGiven (λ w. ltb w (n + length gs)) g) (ask 9 (eqb (result g) (n + length gs)) (done g))) λ g. ask 14
+        (fresh g) (done g))
     asked-gate l none = refl
     asked-gate l (some g) = go (operandsGiven (λ w. ltb w (n + length gs)) g) (eqb (result g) (n + length gs)) (room-is g l)
       where
@@ -236,7 +240,8 @@ module _ {z : Sizes} {codes : List ℕ} {gs : List Gate} {L : Lists} (h : Holds 
         let q7 = andThen-done (given 7 (gateOf r)) asks8 (q9 .0) (q9 .1) in
         go (q9 .0) (q7 .0) (both (ltb (L .session .gates) (length (L .source))) (ltb W (small z .wires)) (q24 .0)) (q7 .2) (q9 .2)
       where
-        go : (k h : Gate) → T (ltb (L .session .gates) (length (L .source))) × T (ltb W (small z .wires)) → asks8 h ≡ done k → asks14 k ≡ done g → Holds z codes (gs ++ (g ∷ [])) (added codes L g)
+        go : (k h : Gate) → T (ltb (L .session .gates) (length (L .source))) × T (ltb W (small z .wires)) → asks8 h ≡ done k → asks14 k ≡ done g → Holds z codes
+            (gs ++ (g ∷ [])) (added codes L g)
         go k h′ b e e14 =
             let q8 = ask-done 8 (operandsGiven (λ w. ltb w W) h′) (asks9 h′) k e in
             let q9 = ask-done 9 (eqb (result h′) W) (done h′) k (q8 .1) in

@@ -23,7 +23,8 @@ emitAll-more n S [] g = append-nil (emit n S g)
     append-nil : (l : List Gate) → l ++ [] ≡ l
     append-nil [] = refl
     append-nil (x ∷ xs) = ap (λ (r : List Gate). x ∷ r) (append-nil xs)
-emitAll-more n S (h ∷ gs) g = ap (λ (r : List Gate). emit n S h ++ r) (emitAll-more n (advance S h) gs g) ∙ sym (append-assoc (emit n S h) (emitAll n (advance S h) gs) (emit n (advanceAll (advance S h) gs) g))
+emitAll-more n S (h ∷ gs) g = ap (λ (r : List Gate). emit n S h ++ r) (emitAll-more n (advance S h) gs g) ∙ sym
+    (append-assoc (emit n S h) (emitAll n (advance S h) gs) (emit n (advanceAll (advance S h) gs) g))
 
 advanceAll-more : (S : State) (gs : List Gate) (g : Gate) → advanceAll S (gs ++ (g ∷ [])) ≡ advance (advanceAll S gs) g
 advanceAll-more S [] g = refl
@@ -34,7 +35,8 @@ module _ (codes : List ℕ) where
   n = length codes
 
   pub length-opened : (m : ℕ) → length (opened codes m .twins) ≡ n + m
-  length-opened m = length-append (inputTwins (n + 5) 0 codes) (replicate m noTwin) ∙ ap₂ (λ (x y : ℕ). x + y) (length-inputTwins (n + 5) 0 codes) (length-replicate m noTwin)
+  length-opened m = length-append (inputTwins (n + 5) 0 codes) (replicate m noTwin) ∙ ap₂ (λ (x y : ℕ). x + y) (length-inputTwins (n + 5) 0 codes)
+      (length-replicate m noTwin)
 
   -- an entry for each wire
   pub length-behind : (gs : List Gate) → length (behind codes gs .twins) ≡ n + length gs
@@ -67,11 +69,16 @@ module _ (codes : List ℕ) where
         ∙ sym (append-assoc (openGates codes) (emitAll n (opened codes (length gs)) gs) (emit n (behind codes gs) g))
 
     pub behind-more : result g ≡ n + length gs
-        → behind codes (gs ++ (g ∷ [])) ≡ record { next = resultTwin (behind codes gs) g .wire + 1; twins = behind codes gs .twins ++ (resultTwin (behind codes gs) g ∷ []) }
+        → behind codes (gs ++ (g ∷ [])) ≡ record {
+          next = resultTwin (behind codes gs) g .wire + 1;
+          twins = behind codes gs .twins ++
+              (resultTwin (behind codes gs) g ∷ []);
+        }
     behind-more e =
         advanceAll-more (opened codes (length (gs ++ (g ∷ [])))) gs g
         ∙ ap (λ (S : State). advance S g) at-gate
-        ∙ ap (λ (t : Twin). record { next = t .wire + 1; twins = set (behind codes gs .twins ++ (noTwin ∷ [])) (result g) t }) (twin-alike (pad 1 (behind codes gs)) (behind codes gs) refl g (pad-alike 1 (behind codes gs) g))
+        ∙ ap (λ (t : Twin). record { next = t .wire + 1; twins = set (behind codes gs .twins ++ (noTwin ∷ [])) (result g) t })
+        (twin-alike (pad 1 (behind codes gs)) (behind codes gs) refl g (pad-alike 1 (behind codes gs) g))
         ∙ ap (λ (ts : List Twin). record { next = resultTwin (behind codes gs) g .wire + 1; twins = ts })
         (set-at (behind codes gs .twins) noTwin [] (resultTwin (behind codes gs) g) (result g) (length-behind gs ∙ sym e))
 

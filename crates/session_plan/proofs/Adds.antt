@@ -49,7 +49,8 @@ kinds r a b c d e f =
     is j t = eqb→eq (r .kind) j (true-T (eqb (r .kind) j) t)
 
 single-named : (b : ℕ) (g h : Gate) → single b g ≡ some h → (g ≡ h) × (b ≡ 0)
-single-named b g h k = onBool (eqb b 0) (λ t. let j : some g ≡ some h = rw t at k in (cc, eqb→eq b 0 (true-T (eqb b 0) t))) (λ t. let j : none ≡ some h = rw t at k in clash (cc))
+single-named b g h k = onBool (eqb b 0) (λ t. let j : some g ≡ some h = rw t at k in
+    (cc, eqb→eq b 0 (true-T (eqb b 0) t))) (λ t. let j : none ≡ some h = rw t at k in clash (cc))
 
 tableKind-other : (r : GateRecord) → (r .kind ≡ 5 → ⊥) → tableKind r ≡ r .kind
 tableKind-other r n = rw (ne-eqb (r .kind) 5 n)
@@ -75,7 +76,12 @@ module _ (z : Sizes) (n gates places : ℕ) (g : GateRecord) where
   never-first P e = absurd (omega (arith, e))
 
   pub no-place : places ≤ gates → AskedIs z n gates places g (record { no = 24; first = 0; second = 0 })
-  no-place l = record { no = rw (le-ltb gates places l) (refl, omega arith); first = never-first (PlaceIs (g .first) n gates 0); second = never-first (PlaceIs (g .second) n gates 0) }
+  no-place l = record {
+    no = rw (le-ltb gates places l) (refl, omega arith);
+    first = never-first (PlaceIs (g .first) n gates 0);
+    second = never-first
+        (PlaceIs (g .second) n gates 0);
+  }
 
   pub no-wire : small z .wires ≤ n + gates → AskedIs z n gates places g (record { no = 24; first = 0; second = 0 })
   no-wire l = record {
@@ -175,13 +181,15 @@ module _ (codes : List ℕ) (L : Lists) where
 
     pub by : By
     by = kinds r
-        (λ e. let s : _≡_ {A = Option Gate} (some (Xor (r .first) (r .second) (r .result))) (some g) = sym (gate-one r e) ∙ is-gate .0 in let i : Xor (r .first) (r .second) (r .result) ≡ g = cc in
+        (λ e. let s : _≡_ {A = Option Gate} (some (Xor (r .first) (r .second) (r .result))) (some g) = sym (gate-one r e) ∙ is-gate .0 in
+        let i : Xor (r .first) (r .second) (r .result) ≡ g = cc in
         let u = both (ltb (r .first) next) (ltb (r .second) next) (rw (← i) at (is-gate .1)) in
         let x = first-is (ltb→lt (r .first) next (u .0)) in
         let y = second-is (ltb→lt (r .second) next (u .1)) in
         let z = tableKind-other r (λ f. absurd (omega arith)) ∙ e in
         record { same = rw (← i) (record-is r (sym e) refl); kind = omega (arith, z); steps = rw (← i, z, x, y) refl; twin = rw (← i, z, x, y) refl })
-        (λ e. let s : _≡_ {A = Option Gate} (some (And (r .first) (r .second) (r .result))) (some g) = sym (gate-two r e) ∙ is-gate .0 in let i : And (r .first) (r .second) (r .result) ≡ g = cc in
+        (λ e. let s : _≡_ {A = Option Gate} (some (And (r .first) (r .second) (r .result))) (some g) = sym (gate-two r e) ∙ is-gate .0 in
+        let i : And (r .first) (r .second) (r .result) ≡ g = cc in
         let u = both (ltb (r .first) next) (ltb (r .second) next) (rw (← i) at (is-gate .1)) in
         let x = first-is (ltb→lt (r .first) next (u .0)) in
         let y = second-is (ltb→lt (r .second) next (u .1)) in
@@ -271,7 +279,14 @@ module _ (s : Session) (codes : List ℕ) (a b : SourceRecord) (r : GateRecord) 
       gates-are : batchGates codes X ≡ map recordOf (steps codes L g)
       gates-are = rw some-kind (ap (map recordOf) (sym steps-is))
 
-      pub admits : PlanIs codes L g (record { no = 0; keep = sourceRecord r t (s .masked); steps = X; count = many; session = sessionOf (s .gates + 1) (s .masked + many) })
+      pub admits : PlanIs codes L g (record {
+        no = 0;
+        keep = sourceRecord r t (s .masked);
+        steps = X;
+        count = many;
+        session = sessionOf (s .gates + 1)
+            (s .masked + many);
+      })
       admits = record {
         no = rw (room-is, le-leb (s .masked + many) (length masked) room, le-leb (s .masked + many) mostMasked most) refl;
         keep = λ _. sym (ap₂ (λ (x : GateRecord) (u : Twin). sourceRecord x u (s .masked)) (Y .same) twin-is);

@@ -33,13 +33,26 @@ few Whole = omega arith
 
 -- as many codes as bits, within the limits
 pub few-codes : (z : Sizes) (codes : List ℕ) {n : ℕ} → listGood isInputCode n codes ≡ true → n ≤ small z .wires → length codes ≤ 100000
-few-codes z codes {n} e l = omega (arith, few z, l, eqb→eq (length codes) n (true-T (eqb (length codes) n) (both-true (eqb (length codes) n) (every isInputCode codes) e .0)))
+few-codes z codes {n} e l = omega (
+  arith,
+  few z,
+  l,
+  eqb→eq (length codes) n (true-T (eqb (length codes) n)
+      (both-true (eqb (length codes) n) (every isInputCode codes) e .0)),
+)
 
 -- how many masked gates an opening has
 pub open-count : (codes : List ℕ) {m : ℕ} → PublicCount codes (length codes) m → 3 + m ≡ length (openGates codes)
 open-count codes k =
     let n = length codes in
-    omega (arith, length-append (maskGates n) (publicGates n (n + 5) 0 codes), past-publics n (n + 5) 0 codes, k .past (n + 5), ap (pastPublics (n + 5)) (take-all n codes (omega arith)))
+    omega (
+      arith,
+      length-append (maskGates n) (publicGates n (n + 5) 0 codes),
+      past-publics n (n + 5) 0 codes,
+      k .past (n + 5),
+      ap (pastPublics (n + 5))
+          (take-all n codes (omega arith)),
+    )
 
 module _ (z : Sizes) (widths codes : List ℕ) (room : ℕ) where
   pub no-four : widthsGood widths ≡ false → NoIs (opening z widths codes room) 4
@@ -64,11 +77,25 @@ module _ (z : Sizes) (widths codes : List ℕ) (room : ℕ) where
         module _ (eleven : listGood isInputCode (sum widths) codes ≡ true) where
           pub no-fourteen : room < length (openGates codes) → NoIs (opening z widths codes room) 14
           unfolding opening
-          no-fourteen l = rw (four, le-leb (length widths) (small z .inputs) few, le-leb (sum widths) (small z .wires) bits, eleven, lt-leb (length (openGates codes)) room l) (refl, omega arith)
+          no-fourteen l = rw (
+            four,
+            le-leb (length widths) (small z .inputs) few,
+            le-leb (sum widths) (small z .wires) bits,
+            eleven,
+            lt-leb
+                (length (openGates codes)) room l,
+          ) (refl, omega arith)
 
           pub no-none : length (openGates codes) ≤ room → NoIs (opening z widths codes room) 0
           unfolding opening
-          no-none l = rw (four, le-leb (length widths) (small z .inputs) few, le-leb (sum widths) (small z .wires) bits, eleven, le-leb (length (openGates codes)) room l) refl
+          no-none l = rw (
+            four,
+            le-leb (length widths) (small z .inputs) few,
+            le-leb (sum widths) (small z .wires) bits,
+            eleven,
+            le-leb
+                (length (openGates codes)) room l,
+          ) refl
 
   -- an opening that is admitted
   pub opening-yes : NoIs (opening z widths codes room) 0 → (length codes ≤ 100000) × (length (openGates codes) ≤ room)
@@ -91,7 +118,13 @@ module _ (z : Sizes) (widths codes : List ℕ) (room : ℕ) where
           )
 
   pub opened-plan : {m : ℕ} → PublicCount codes (length codes) m → NoIs (opening z widths codes room) 0
-      → OpenedIs z widths codes room (record { no = 0; steps = record { kind = 0; n = length codes; c = 0; a = noTwin; b = noTwin }; count = 3 + m; session = sessionOf 0 (3 + m) })
+      → OpenedIs z widths codes room (record {
+        no = 0;
+        steps = record { kind = 0; n = length codes; c = 0; a = noTwin; b = noTwin };
+        count = 3 + m;
+        session =
+            sessionOf 0 (3 + m);
+      })
   opened-plan {m} k h =
       let y = opening-yes h in
       let e = open-count codes k in

@@ -49,10 +49,13 @@ module _ (r : GateRecord) where
 
   -- question 8, by the kind
   module _ (next : ℕ) (b : Bool) where
-    pub two-operands : (r .kind ≡ 1 → b ≡ (ltb (r .first) next && ltb (r .second) next) → OperandsAre next r b) × (r .kind ≡ 2 → b ≡ (ltb (r .first) next && ltb (r .second) next) → OperandsAre next r b)
+    pub two-operands : (r .kind ≡ 1 → b ≡ (ltb (r .first) next && ltb (r .second) next) → OperandsAre next r b) ×
+        (r .kind ≡ 2 → b ≡ (ltb (r .first) next && ltb (r .second) next) → OperandsAre next r b)
     two-operands = (
-      λ e h g k. let s : _≡_ {A = Option Gate} (some (Xor (r .first) (r .second) (r .result))) (some g) = sym (gate-one e) ∙ k in let t : Xor (r .first) (r .second) (r .result) ≡ g = cc in rw (← t) h,
-      λ e h g k. let s : _≡_ {A = Option Gate} (some (And (r .first) (r .second) (r .result))) (some g) = sym (gate-two e) ∙ k in let t : And (r .first) (r .second) (r .result) ≡ g = cc in rw (← t) h,
+      λ e h g k. let s : _≡_ {A = Option Gate} (some (Xor (r .first) (r .second) (r .result))) (some g) = sym (gate-one e) ∙ k in
+          let t : Xor (r .first) (r .second) (r .result) ≡ g = cc in rw (← t) h,
+      λ e h g k. let s : _≡_ {A = Option Gate} (some (And (r .first) (r .second) (r .result))) (some g) = sym (gate-two e) ∙ k in
+          let t : And (r .first) (r .second) (r .result) ≡ g = cc in rw (← t) h,
     )
 
     pub constant-operand : r .kind ≡ 5 → b ≡ ltb (r .first) 2 → OperandsAre next r b
@@ -61,7 +64,8 @@ module _ (r : GateRecord) where
     pub one-operand : (r .kind ≡ 1 → ⊥) → (r .kind ≡ 2 → ⊥) → (r .kind ≡ 5 → ⊥) → b ≡ ltb (r .first) next → OperandsAre next r b
     one-operand x y z h g k = go (eqb (r .kind) 3) (eqb (r .kind) 4) (rw (ne-eqb (r .kind) 1 x, ne-eqb (r .kind) 2 y, ne-eqb (r .kind) 5 z) at k)
       where
-        go : (t u : Bool) → cond t (single (r .second) (Inv (r .first) (r .result))) (cond u (single (r .second) (Eqw (r .first) (r .result))) none) ≡ some g → b ≡ operandsGiven (λ w. ltb w next) g
+        go : (t u : Bool) → cond t (single (r .second) (Inv (r .first) (r .result))) (cond u (single (r .second) (Eqw (r .first) (r .result))) none) ≡ some g →
+            b ≡ operandsGiven (λ w. ltb w next) g
         go true u k = let t = single-same (r .second) (Inv (r .first) (r .result)) g k in rw (← t) h
         go false true k = let t = single-same (r .second) (Eqw (r .first) (r .result)) g k in rw (← t) h
         go false false k = clash (cc)
@@ -84,7 +88,8 @@ module _ (next : ℕ) (r : GateRecord) where
       only : (h : Gate) → result h ≡ r .result → single (r .second) h ≡ some g → result g ≡ r .result
       only h i e = let t = single-same r (r .second) h g e in rw (← t) i
 
-      go : (a b c d e : Bool) → cond a (some (Xor (r .first) (r .second) (r .result))) (cond b (some (And (r .first) (r .second) (r .result))) (cond c (single (r .second) (Inv (r .first) (r .result)))
+      go : (a b c d e : Bool) → cond a (some (Xor (r .first) (r .second) (r .result)))
+          (cond b (some (And (r .first) (r .second) (r .result))) (cond c (single (r .second) (Inv (r .first) (r .result)))
           (cond d (single (r .second) (Eqw (r .first) (r .result))) (cond e (single (r .second) (Eq (r .first) (r .result))) none)))) ≡ some g → result g ≡ r .result
       go true b c d e k = let t : Xor (r .first) (r .second) (r .result) ≡ g = cc in rw (← t)
       go false true c d e k = let t : And (r .first) (r .second) (r .result) ≡ g = cc in rw (← t)
@@ -103,7 +108,8 @@ module _ (next : ℕ) (r : GateRecord) where
   pub no-nine : isGate r ≡ true → {b : Bool} → OperandsAre next r b → b ≡ true → (r .result ≡ next → ⊥) → NoIs (gateGood next r) 9
   no-nine = go (gateOf r) result-is
     where
-      go : (o : Option Gate) → ((g : Gate) → o ≡ some g → result g ≡ r .result) → isSome o ≡ true → {b : Bool} → ((g : Gate) → o ≡ some g → b ≡ operandsGiven (λ w. ltb w next) g) → b ≡ true → (r .result ≡ next → ⊥) → NoIs (rest o) 9
+      go : (o : Option Gate) → ((g : Gate) → o ≡ some g → result g ≡ r .result) → isSome o ≡ true → {b : Bool} →
+          ((g : Gate) → o ≡ some g → b ≡ operandsGiven (λ w. ltb w next) g) → b ≡ true → (r .result ≡ next → ⊥) → NoIs (rest o) 9
       go none i e h f n = clash (cc)
       go (some g) i e h f n =
           let k : operandsGiven (λ w. ltb w next) g ≡ true = sym (h g refl) ∙ f in
@@ -112,7 +118,8 @@ module _ (next : ℕ) (r : GateRecord) where
   pub no-none : isGate r ≡ true → {b : Bool} → OperandsAre next r b → b ≡ true → r .result ≡ next → NoIs (gateGood next r) 0
   no-none = go (gateOf r) result-is
     where
-      go : (o : Option Gate) → ((g : Gate) → o ≡ some g → result g ≡ r .result) → isSome o ≡ true → {b : Bool} → ((g : Gate) → o ≡ some g → b ≡ operandsGiven (λ w. ltb w next) g) → b ≡ true → r .result ≡ next → NoIs (rest o) 0
+      go : (o : Option Gate) → ((g : Gate) → o ≡ some g → result g ≡ r .result) → isSome o ≡ true → {b : Bool} →
+          ((g : Gate) → o ≡ some g → b ≡ operandsGiven (λ w. ltb w next) g) → b ≡ true → r .result ≡ next → NoIs (rest o) 0
       go none i e h f n = clash (cc)
       go (some g) i e h f n =
           let k : operandsGiven (λ w. ltb w next) g ≡ true = sym (h g refl) ∙ f in

@@ -105,7 +105,13 @@ module _ (codes : List ℕ) (k w : ℕ) (l : k < length (openGates codes)) (h : 
     pub within : v < length codes
     within = onBool (ltb v (length codes))
         (λ t. ltb→lt v (length codes) (true-T (ltb v (length codes)) t))
-        (λ t. absurd (omega (arith, l, length-drop k (openGates codes), ap length (rest-is ∙ ap (publicGates n c v) (drop-of-length-le codes (ltb-false v (length codes) t))))))
+        (λ t. absurd (omega (
+          arith,
+          l,
+          length-drop k (openGates codes),
+          ap length
+              (rest-is ∙ ap (publicGates n c v) (drop-of-length-le codes (ltb-false v (length codes) t))),
+        )))
 
     pub public-made : {m : ℕ} {g : GateRecord} → m ≡ n → g ≡ record4 1 v m (m + 2 + k) → OpenMade codes k (record { gate = g; next = v + 1 })
     public-made i f =
@@ -118,7 +124,8 @@ module _ (codes : List ℕ) (k w : ℕ) (l : k < length (openGates codes)) (h : 
         let q = head-at (openGates codes) k (Xor v n c) (publicGates n (c + 1) (v + 1) (drop (v + 1) codes)) (rest-is ∙ ap (publicGates n c v) d) in
         record {
           gate = e ∙ ap (record4 1 v n) (sym z) ∙ q .0;
-          next = q .1 ∙ sym (ap (λ (gs : List Gate). gs ++ publicGates n (n + (5 + (k + 1 - 3))) (v + 1) (drop (v + 1) codes)) x ∙ ap (λ (j : ℕ). publicGates n j (v + 1) (drop (v + 1) codes)) y);
+          next = q .1 ∙ sym (ap (λ (gs : List Gate). gs ++ publicGates n (n + (5 + (k + 1 - 3))) (v + 1) (drop (v + 1) codes)) x ∙ ap
+              (λ (j : ℕ). publicGates n j (v + 1) (drop (v + 1) codes)) y);
         }
 
 pub public-most : (e : ℕ) → bit (isPublic e) ≤ 1

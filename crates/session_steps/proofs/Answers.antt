@@ -57,7 +57,8 @@ open-is {z} {widths} {codes} {masked} {masked′} {p} P w = go (opening z widths
         let k = P .kept (λ n. absurd (omega (arith, n, h .0, h .1))) in
         record {
           answer = rw e (ap₂ stepOf (k .1) (h .0));
-          lists = rw e (ap₂ (λ (s : Session) (m : List GateRecord). listsOf s [] m) (k .1) (w ∙ ap (λ (n : ℕ). sets masked 0 (take n (batchGates codes (p .steps)))) (k .0)));
+          lists = rw e (ap₂ (λ (s : Session) (m : List GateRecord). listsOf s [] m) (k .1)
+              (w ∙ ap (λ (n : ℕ). sets masked 0 (take n (batchGates codes (p .steps)))) (k .0)));
         }
     go (done gs) e h =
         let l : p .count ≡ length (batchGates codes (p .steps)) = P .count h ∙ sym (length-map (openGates codes) recordOf) ∙ ap length (sym (P .gates h)) in
@@ -79,7 +80,8 @@ module _ (z : Sizes) (codes : List ℕ) (s : Session) (source : List SourceRecor
 
   then-14 : (o : Outcome Gate) → firstAsked z (length codes) (s .gates) (length source) r ≡ o → asked z codes L r ≡ (andThen o λ g. ask 14 (roomFor codes L g) (done g))
   unfolding asked
-  then-14 o e = ask-then 24 (placeLeft z (s .gates) (length codes + s .gates) (length source)) (gateGood (length codes + s .gates) r) (λ g. ask 14 (roomFor codes L g) (done g))
+  then-14 o e = ask-then 24 (placeLeft z (s .gates) (length codes + s .gates) (length source)) (gateGood (length codes + s .gates) r)
+      (λ g. ask 14 (roomFor codes L g) (done g))
       ∙ ap (λ (o : Outcome Gate). andThen o λ g. ask 14 (roomFor codes L g) (done g)) e
     where
       ask-then : {A B : Type 0} (q : ℕ) (b : Bool) (x : Outcome A) (f : A → Outcome B) → ask q b (andThen x f) ≡ andThen (ask q b x) f

@@ -12,7 +12,8 @@ use Rattle.mask_rule.specs.Rule.{At}
 
 sets-more : (l vs : List GateRecord) (i : ℕ) (a : GateRecord) → set (sets l i vs) (i + length vs) a ≡ sets l i (vs ++ (a ∷ []))
 sets-more l [] i a = let z : i + 0 ≡ i = omega arith in ap (λ (k : ℕ). set l k a) z
-sets-more l (v ∷ vs) i a = let z : i + suc (length vs) ≡ suc i + length vs = omega arith in ap (λ (k : ℕ). set (sets (set l i v) (suc i) vs) k a) z ∙ sets-more (set l i v) vs (suc i) a
+sets-more l (v ∷ vs) i a = let z : i + suc (length vs) ≡ suc i + length vs = omega arith in
+    ap (λ (k : ℕ). set (sets (set l i v) (suc i) vs) k a) z ∙ sets-more (set l i v) vs (suc i) a
 
 -- zs is ys with the first k records of rs written from a place on
 pub record Wrote (ys rs : List GateRecord) (at m k : ℕ) (zs : List GateRecord) : Type 0 where
@@ -25,7 +26,8 @@ wrote-none ys rs at m = record { few = omega arith; list = refl }
 pub wrote-length : {ys rs : List GateRecord} {at m k : ℕ} {zs : List GateRecord} → Wrote ys rs at m k zs → length zs ≡ length ys
 wrote-length {ys} {rs} {at} {m} {k} w = ap length (w .list) ∙ length-sets ys at (take k rs)
 
-pub wrote-more : {ys rs : List GateRecord} {at m k : ℕ} {zs : List GateRecord} {g : GateRecord} → Wrote ys rs at m k zs → k < m → k < length rs → At rs k g → Wrote ys rs at m (k + 1) (set zs (at + k) g)
+pub wrote-more : {ys rs : List GateRecord} {at m k : ℕ} {zs : List GateRecord} {g : GateRecord} → Wrote ys rs at m k zs → k < m → k < length rs → At rs k g →
+    Wrote ys rs at m (k + 1) (set zs (at + k) g)
 wrote-more {ys} {rs} {at} {m} {k} {zs} {g} w l i a =
     let n : length (take k rs) ≡ k = length-take-le k rs (omega arith) in
     record {

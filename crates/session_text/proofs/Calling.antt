@@ -74,7 +74,8 @@ headerOf widths outputs q = record {
   «output_bits» = q .outputs;
 }
 
-pub masked-fronts : {widths outputs : List ℕ} {q : Asked} {t : Tables} (ws ms : List ℕ) → Fits widths outputs q t → q .inputs + q .count ≤ length ws → q .inputs + q .count ≤ length ms
+pub masked-fronts : {widths outputs : List ℕ} {q : Asked} {t : Tables} (ws ms : List ℕ) → Fits widths outputs q t → q .inputs + q .count ≤ length ws → q .inputs
+    + q .count ≤ length ms
     → Fronts (headerOf widths outputs q) t ws ms
 masked-fronts ws ms f w m = record {
   wired = f .wired;
@@ -97,7 +98,8 @@ masked-read {o} {widths} {outputs} {q} {t} a e f = record {
   formed = a .formed;
 }
 
-pub masked-written : {o : Outcome Netlist} {widths outputs : List ℕ} {q : Asked} {t : Tables} {no : ℕ} {is os : List ℕ} (codes wanted : List ℕ) {e x f y : List ℕ} {r : Answer} → no ≡ 0 → Stands o widths outputs q t no
+pub masked-written : {o : Outcome Netlist} {widths outputs : List ℕ} {q : Asked} {t : Tables} {no : ℕ} {is os : List ℕ} (codes wanted : List ℕ)
+    {e x f y : List ℕ} {r : Answer} → no ≡ 0 → Stands o widths outputs q t no
     → is ≡ widths ++ drop (length widths) (replicate 17 0) → os ≡ outputs ++ drop (length outputs) (replicate 16 0)
     → ((N : Netlist) → Read (headerOf widths outputs q) t is os N → MaskAnswers (maskOutcome codes wanted (length e) (length f) N) e x f y r)
     → MaskAnswers (andThen o (maskOutcome codes wanted (length e) (length f))) e x f y r
@@ -105,7 +107,8 @@ masked-written codes wanted {e = e} {f = f} z s i j d =
     let a = s .netlist z in
     mask-as (sym (ap (λ (o : Outcome Netlist). andThen o (maskOutcome codes wanted (length e) (length f))) (a .outcome))) (d (a .is) (masked-read a i j))
 
-pub masked-refused : {o : Outcome Netlist} {widths outputs : List ℕ} {q : Asked} {t : Tables} {no : ℕ} (codes wanted e f : List ℕ) → (no ≡ 0 → ⊥) → Stands o widths outputs q t no
+pub masked-refused : {o : Outcome Netlist} {widths outputs : List ℕ} {q : Asked} {t : Tables} {no : ℕ} (codes wanted e f : List ℕ) → (no ≡ 0 → ⊥) → Stands o
+    widths outputs q t no
     → MaskAnswers (andThen o (maskOutcome codes wanted (length e) (length f))) e e f f (Refused no)
 masked-refused {o} codes wanted e f d s =
     mask-refused e f (ap (λ (o : Outcome Netlist). andThen o (maskOutcome codes wanted (length e) (length f))) (no-some o d (s .asked) .0))
@@ -128,7 +131,8 @@ module _ (z : Sizes) (widths outputs : List ℕ) (s : Session) (source : List So
   -- the text of a netlist that is shown reads back as it
   pub shown-back : (lengths : List ℕ) (N : Netlist) → shown lengths ≡ done N → readNetlist (small z) (writeNetlist N) ≡ done N
   shown-back lengths N e =
-      reads-back (roomy-small z) N (shown-formed (small z) lengths widths outputs (s .gates) source N e) (shown-within (small z) lengths widths outputs (s .gates) source N e)
+      reads-back (roomy-small z) N (shown-formed (small z) lengths widths outputs (s .gates) source N e)
+      (shown-within (small z) lengths widths outputs (s .gates) source N e)
 
   written-shows : (lengths : List ℕ) (room : ℕ) (result : List ℕ) → textCall (small z) lengths widths outputs (s .gates) source room ≡ done result
       → Shows z lengths widths outputs s source result
@@ -159,7 +163,8 @@ module _ (z : Sizes) (widths outputs : List ℕ) (s : Session) (source : List So
 
   -- the theorem: what is shown masked is what Mask gives for the text that is shown
   pub masked-as-text : (lengths codes wanted : List ℕ) (textRoom codeRoom : ℕ) (N : Netlist) → shown lengths ≡ done N
-      → maskedCall (small z) lengths widths outputs (s .gates) source codes wanted textRoom codeRoom ≡ maskCall (small z) lengths (writeNetlist N) codes wanted textRoom codeRoom
+      → maskedCall (small z) lengths widths outputs (s .gates) source codes wanted textRoom codeRoom ≡ maskCall (small z) lengths (writeNetlist N) codes wanted
+      textRoom codeRoom
   unfolding maskedCall maskCall
   masked-as-text lengths codes wanted textRoom codeRoom N e =
       ap (λ (u : Outcome Netlist). andThen u (maskOutcome codes wanted textRoom codeRoom)) e
@@ -182,7 +187,8 @@ module _ (z : Sizes) (widths outputs : List ℕ) (s : Session) (source : List So
             let N : Netlist = k .0 in (
               writeNetlist N,
               record { netlist = N; shown = k .1; written = refl; back = shown-back lengths N (k .1) },
-              call-masks z (writeNetlist N) codes wanted out oc o r w m (mask-as (masked-as-text lengths codes wanted (length out) (length oc) N (k .1)) (h .answers)) n p,
+              call-masks z (writeNetlist N) codes wanted out oc o r w m (mask-as (masked-as-text lengths codes wanted (length out) (length oc) N (k .1))
+                  (h .answers)) n p,
             );
         operands = h .operands;
         results = h .results;

@@ -75,7 +75,8 @@ module _ (L : Limits) (lengths widths outputs : List ℕ) (gates : ℕ) (source 
       }
 
   -- what follows the header
-  goes-on : Yes L lengths widths outputs gates (length source) → shown ≡ (andThen (recordGates (sum widths) source gates) λ gs. done (netlistOf (headOf widths outputs gates) gs))
+  goes-on : Yes L lengths widths outputs gates (length source) → shown ≡ (andThen (recordGates (sum widths) source gates) λ gs. done
+      (netlistOf (headOf widths outputs gates) gs))
   goes-on y = ap (λ (o : Outcome Header). andThen o λ H. andThen (recordGates (sum widths) source gates) λ gs. done (netlistOf H gs)) (y .is)
 
   pub shown-made : (N : Netlist) → shown ≡ done N → Made N
@@ -120,7 +121,8 @@ module _ {z : Sizes} {a b c d : ℕ} {widths outputs : List ℕ} {gates : ℕ} {
   stands = record {
     asked = onBool (eqb (q .no) 0)
         (λ h. let e = eqb-true (q .no) 0 h in
-        rw (goes-on (small z) lengths widths outputs gates source (yes e)) (no-made (recordGates (sum widths) source gates) (netlistOf (headOf widths outputs gates)) no (records e)))
+        rw (goes-on (small z) lengths widths outputs gates source (yes e)) (no-made (recordGates (sum widths) source gates)
+        (netlistOf (headOf widths outputs gates)) no (records e)))
         (λ h. let n = eqb-false (q .no) 0 h in
         let s = no-some (headAsked (small z) lengths widths outputs gates (length source)) n (A .no) in
         rw (F .kept n) (no-kept (ap (λ (o : Outcome Header). andThen o λ H. andThen (recordGates (sum widths) source gates) λ gs. done (netlistOf H gs)) (s .0)) (s .1)));

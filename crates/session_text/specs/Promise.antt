@@ -49,7 +49,8 @@ abbrev pub masked : Sizes → List ℕ → List ℕ → Session → List SourceR
 masked z widths outputs s source codes wanted out outCodes o r w m =
     maskedCall (small z) (length o ∷ length r ∷ length m ∷ length w ∷ []) widths outputs (s .gates) source codes wanted (length out) (length outCodes)
 
-pub record MaskedPromise (z : Sizes) (widths outputs : List ℕ) (s : Session) (source : List SourceRecord) (codes wanted out out′ outCodes outCodes′ o o′ r r′ w w′ m m′ : List ℕ) (a : Answer) : Type 0 where
+pub record MaskedPromise (z : Sizes) (widths outputs : List ℕ) (s : Session) (source : List SourceRecord)
+    (codes wanted out out′ outCodes outCodes′ o o′ r r′ w w′ m m′ : List ℕ) (a : Answer) : Type 0 where
   pub answers : MaskAnswers (masked z widths outputs s source codes wanted out outCodes o r w m) out out′ outCodes outCodes′ a
   -- it is what Mask writes for the session's text
   pub masks : (n : ℕ) → a ≡ Done n → (t : List ℕ) × Shows z (length o ∷ length r ∷ length m ∷ length w ∷ []) widths outputs s source t

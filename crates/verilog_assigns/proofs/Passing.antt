@@ -113,11 +113,13 @@ module _ (p : List ℕ → Bool) where
 
     pub expr-behind : (e : Expr) (ts : List Token) → behindEnd (exprTokens e ++ ts) ≡ behindEnd ts
     expr-behind (term t) ts = term-behind t ts
-    expr-behind (xor e t) ts = ap behindEnd (regroup (exprTokens e) (mark (ascii "^") ∷ termTokens t) ts) ∙ expr-behind e (mark (ascii "^") ∷ termTokens t ++ ts) ∙ term-behind t ts
+    expr-behind (xor e t) ts = ap behindEnd (regroup (exprTokens e) (mark (ascii "^") ∷ termTokens t) ts) ∙ expr-behind e
+        (mark (ascii "^") ∷ termTokens t ++ ts) ∙ term-behind t ts
 
     term-behind : (t : Term) (ts : List Token) → behindEnd (termTokens t ++ ts) ≡ behindEnd ts
     term-behind (factor f) ts = factor-behind f ts
-    term-behind (and t f) ts = ap behindEnd (regroup (termTokens t) (mark (ascii "&") ∷ factorTokens f) ts) ∙ term-behind t (mark (ascii "&") ∷ factorTokens f ++ ts) ∙ factor-behind f ts
+    term-behind (and t f) ts = ap behindEnd (regroup (termTokens t) (mark (ascii "&") ∷ factorTokens f) ts) ∙ term-behind t
+        (mark (ascii "&") ∷ factorTokens f ++ ts) ∙ factor-behind f ts
 
     factor-behind : (f : Factor) (ts : List Token) → behindEnd (factorTokens f ++ ts) ≡ behindEnd ts
     factor-behind (read negated w) ts = ap behindEnd (regroup (tilde negated) (name w ∷ []) ts) ∙ tilde-behind negated (name w ∷ ts)
@@ -191,7 +193,8 @@ module _ {t : List ℕ} {p : List ℕ → Bool} {at : ℕ} where
             onBool (eqb code 15)
             (λ h. let nm : name w ≡ F .token = some-same (name w) (F .token) (sym (ap (λ (j : ℕ). tokenOf j w) (eqb-true code 15 h) ∙ name-marked w) ∙ F .is) in
             let k : p w ≡ false = rw (z, h) at e in
-            ap (namesPass p) (F .split) ∙ ap (λ (y : Token). namesPass p (y ∷ F .more)) (sym nm) ∙ pass-name p w (F .more) ∙ ap (λ (b : Bool). b && namesPass p (F .more)) k)
+            ap (namesPass p) (F .split) ∙ ap (λ (y : Token). namesPass p (y ∷ F .more)) (sym nm) ∙ pass-name p w (F .more) ∙ ap
+            (λ (b : Bool). b && namesPass p (F .more)) k)
             (λ h. absurd (never (rw (z, h) at e))))
 
     ended : code ≡ 9 → (us : List Token) → tokens (drop (P .place) t) ≡ some us → (namesPass p us ≡ true) × (tokens (drop to t) ≡ some (behindEnd us))
@@ -247,6 +250,7 @@ module _ (p : List ℕ → Bool) (c : ℕ) (w : List ℕ) where
   pub passes-mark : (c ≡ 0 → ⊥) → (c ≡ 15 → ⊥) → true ≡ tokenPasses p c w
   passes-mark f g = sym (rw (ne-eqb c 0 f, ne-eqb c 15 g))
 
-pub passes-name : (t words states : List ℕ) (n c : ℕ) (w : List ℕ) (x : ℕ) → c ≡ 15 → x ≡ wireOf t words states n w → leb 5 x ≡ tokenPasses (readable t words states n) c w
+pub passes-name : (t words states : List ℕ) (n c : ℕ) (w : List ℕ) (x : ℕ) → c ≡ 15 → x ≡ wireOf t words states n w → leb 5 x ≡ tokenPasses
+    (readable t words states n) c w
 unfolding readable
 passes-name t words states n c w x e q = ap (leb 5) q ∙ sym (ap (λ (k : ℕ). tokenPasses (readable t words states n) k w) e)

@@ -62,7 +62,8 @@ pub record Settling (t words : List ℕ) (n at : ℕ) (st₀ st : List ℕ) (cod
 
 -- the tokens of an assignment, behind its first three
 value-left : (a : Assign) (more : List Assign) (rest : List Token)
-    → ((exprTokens (a .value) ++ mark (ascii ";") ∷ []) ++ eachTokens assignTokens more) ++ mark (ascii "endmodule") ∷ rest ≡ exprTokens (a .value) ++ (mark (ascii ";") ∷ assignsLeft more rest)
+    → ((exprTokens (a .value) ++ mark (ascii ";") ∷ []) ++ eachTokens assignTokens more) ++ mark (ascii "endmodule") ∷ rest ≡ exprTokens (a .value) ++
+    (mark (ascii ";") ∷ assignsLeft more rest)
 value-left a more rest =
     append-assoc (exprTokens (a .value) ++ mark (ascii ";") ∷ []) (eachTokens assignTokens more) (mark (ascii "endmodule") ∷ rest)
     ∙ append-assoc (exprTokens (a .value)) (mark (ascii ";") ∷ []) (eachTokens assignTokens more ++ mark (ascii "endmodule") ∷ rest)
@@ -100,7 +101,8 @@ module _ {t words : List ℕ} {n at : ℕ} {st₀ : List ℕ} where
         none [] rest e = refl
         none (a ∷ xs) rest e = absurd (h (token-code code (between t (S .start) to) (mark (ascii "assign")) (known (S .token) (mark (ascii "assign")) _ e .0)))
 
-    module _ (five : code ≡ 5) {cx fx tx cy fy ty : ℕ} (X : TokenAt t to cx fx tx) (Y : TokenAt t tx cy fy ty) {r : Part} (P : PartIs t (readable t words st n) ty r) where
+    module _ (five : code ≡ 5) {cx fx tx cy fy ty : ℕ} (X : TokenAt t to cx fx tx) (Y : TokenAt t tx cy fy ty) {r : Part}
+        (P : PartIs t (readable t words st n) ty r) where
       -- the assignment at this place
       record This (xs : List Assign) (rest : List Token) : Type 0 where
         is : Assign
@@ -119,7 +121,8 @@ module _ {t words : List ℕ} {n at : ℕ} {st₀ : List ℕ} where
           let k₂ = known X (name (a .target)) (mark (ascii "=") ∷ body) (k₁ .1) in
           let k₃ = known Y (mark (ascii "=")) body (k₂ .1) in
           let c : cx ≡ 15 = token-code cx (between t fx tx) (name (a .target)) (k₂ .0) in
-          let v : between t fx tx ≡ a .target = same-name (some-same (name (between t fx tx)) (name (a .target)) (sym (ap (λ (c : ℕ). tokenOf c (between t fx tx)) c ∙ name-marked (between t fx tx)) ∙ k₂ .0)) in
+          let v : between t fx tx ≡ a .target = same-name (some-same (name (between t fx tx)) (name (a .target))
+          (sym (ap (λ (c : ℕ). tokenOf c (between t fx tx)) c ∙ name-marked (between t fx tx)) ∙ k₂ .0)) in
           let p = readable t words st n in
           let us = mark (ascii ";") ∷ assignsLeft more rest in
           let G = P .gives (exprTokens (a .value) ++ us) (k₃ .1 ∙ ap some (value-left a more rest)) in
@@ -128,7 +131,8 @@ module _ {t words : List ℕ} {n at : ℕ} {st₀ : List ℕ} where
             more = more;
             split = refl;
             target = sym v;
-            reads = G .said ∙ expr-pass p (a .value) us ∙ ap (λ (b : Bool). every p (exprReads (a .value)) && b) (end-pass p (assignsLeft more rest)) ∙ and-true (every p (exprReads (a .value)));
+            reads = G .said ∙ expr-pass p (a .value) us ∙ ap (λ (b : Bool). every p (exprReads (a .value)) && b) (end-pass p (assignsLeft more rest)) ∙ and-true
+                (every p (exprReads (a .value)));
             left = λ g. G .left g ∙ ap some (expr-behind p (a .value) us ∙ end-behind (assignsLeft more rest));
           }
 
@@ -140,7 +144,8 @@ module _ {t words : List ℕ} {n at : ℕ} {st₀ : List ℕ} where
             let a = T .is in
             let b : settle t words n (unsettled st) a .good ≡ false = ap (λ (x : Bool). x && isOpen (wireOf t words st n (a .target))) (sym (T .reads) ∙ g) in
             record {
-              said = sym (ap (λ (X : Settled). X .good) (A .same ∙ ap (settleAll t words n (unsettled st)) (T .split)) ∙ spoilt t words n (T .more) (settle t words n (unsettled st) a) b);
+              said = sym (ap (λ (X : Settled). X .good) (A .same ∙ ap (settleAll t words n (unsettled st)) (T .split)) ∙ spoilt t words n (T .more)
+                  (settle t words n (unsettled st) a) b);
               states = λ z. absurd (never (sym z));
             };
       }
@@ -153,14 +158,17 @@ module _ {t words : List ℕ} {n at : ℕ} {st₀ : List ℕ} where
               let T = this (A .more) rest (A .left) in
               let a = T .is in
               let o : isOpen (wireOf t words st n (a .target)) ≡ false = ap (λ (x : List ℕ). isOpen (wireOf t words st n x)) (T .target) ∙ sym (G .said) ∙ g in
-              let b : settle t words n (unsettled st) a .good ≡ false = right-false (every (readable t words st n) (exprReads (a .value))) (isOpen (wireOf t words st n (a .target))) o in
+              let b : settle t words n (unsettled st) a .good ≡ false = right-false (every (readable t words st n) (exprReads (a .value)))
+              (isOpen (wireOf t words st n (a .target))) o in
               record {
-                said = sym (ap (λ (X : Settled). X .good) (A .same ∙ ap (settleAll t words n (unsettled st)) (T .split)) ∙ spoilt t words n (T .more) (settle t words n (unsettled st) a) b);
+                said = sym (ap (λ (X : Settled). X .good) (A .same ∙ ap (settleAll t words n (unsettled st)) (T .split)) ∙ spoilt t words n (T .more)
+                    (settle t words n (unsettled st) a) b);
                 states = λ z. absurd (never (sym z));
               };
         }
 
-        pub settle-on : r .good ≡ true → good ≡ true → length st′ ≡ length st → {code′ start′ to′ : ℕ} → TokenAt t (r .at) code′ start′ to′ → Settling t words n at st₀ st′ code′ to′
+        pub settle-on : r .good ≡ true → good ≡ true → length st′ ≡ length st → {code′ start′ to′ : ℕ} → TokenAt t (r .at) code′ start′ to′ → Settling t words n
+            at st₀ st′ code′ to′
         settle-on g h l {code′} {start′} {to′} A′ = record {
           place = r .at;
           start = start′;

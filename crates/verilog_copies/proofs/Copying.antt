@@ -28,7 +28,8 @@ module _ {t words st ws : List ℕ} {count n : ℕ} {w : List ℕ} {c : ℕ} {be
   pub copy-other : {x : ℕ} → x ≡ wireOf t words st count w → (x ≡ 6 → ⊥) → CopyIs t words st ws count n w c before before c
   copy-other e h = record { isOutput = λ z. absurd (h (e ∙ z)); isOther = λ z. (refl, refl) }
 
-  pub copy-output : {after : Tables} {x y : ℕ} → x ≡ wireOf t words st count w → x ≡ 6 → y ≡ wireOf t words ws count w → after ≡ packed n before 4 y y c → CopyIs t words st ws count n w c before after (c + 1)
+  pub copy-output : {after : Tables} {x y : ℕ} → x ≡ wireOf t words st count w → x ≡ 6 → y ≡ wireOf t words ws count w → after ≡ packed n before 4 y y c →
+      CopyIs t words st ws count n w c before after (c + 1)
   copy-output e h q p = record { isOutput = λ z. (refl, p ∙ ap (λ (k : ℕ). packed n before 4 k k c) q); isOther = λ z. absurd (z (sym e ∙ h)) }
 
 -- ---- all of them
@@ -53,7 +54,8 @@ pub record Copying (t words st ws : List ℕ) (count n at c : ℕ) (o₀ r₀ o 
   pub results : length r ≡ length r₀
   pub first : n ≤ free
   pub few : free ≤ c + place
-  pub gives : (ps : List (List ℕ)) (rest : List Token) → tokens (drop at t) ≡ some (portsLeft ps rest) → Ahead t words st ws count n c (tables o₀ r₀) (tables o r) free place ps rest
+  pub gives : (ps : List (List ℕ)) (rest : List Token) → tokens (drop at t) ≡ some (portsLeft ps rest) → Ahead t words st ws count n c (tables o₀ r₀)
+      (tables o r) free place ps rest
 
 module _ {t words st ws : List ℕ} {count n at c : ℕ} {o₀ r₀ : List ℕ} where
   pub copies-start : {code from to : ℕ} → n ≤ c → TokenAt t at code from to → Copying t words st ws count n at c o₀ r₀ o₀ r₀ code from to c
@@ -70,13 +72,15 @@ module _ {t words st ws : List ℕ} {count n at c : ℕ} {o₀ r₀ : List ℕ} 
   module _ {o r : List ℕ} {code from to free : ℕ} (C : Copying t words st ws count n at c o₀ r₀ o r code from to free) where
     pub copies-end : (code ≡ 15 → ⊥) → CopiesIs t words st ws count n at c (tables o₀ r₀) (tables o r)
     copies-end h = record {
-      gives = λ ps rest e. let A = C .gives ps rest e in sym (A .same ∙ ap (λ (us : List (List ℕ)). putGates n (tables o r) (outputCopies t words st ws count free us)) (port-none (C .token) h (A .more) rest (A .left)) ∙ puts-none n (tables o r));
+      gives = λ ps rest e. let A = C .gives ps rest e in sym (A .same ∙ ap (λ (us : List (List ℕ)). putGates n (tables o r)
+          (outputCopies t words st ws count free us)) (port-none (C .token) h (A .more) rest (A .left)) ∙ puts-none n (tables o r));
     }
 
     pub copies-room : c + length t + 1 < half → free + 1 < half
     copies-room h = omega (arith, C .few, C .token .start, C .token .onward, C .token .within, h)
 
-    pub copies-on : code ≡ 15 → {o′ r′ : List ℕ} {free′ : ℕ} → CopyIs t words st ws count n (between t from to) free (tables o r) (tables o′ r′) free′ → length o′ ≡ length o → length r′ ≡ length r
+    pub copies-on : code ≡ 15 → {o′ r′ : List ℕ} {free′ : ℕ} → CopyIs t words st ws count n (between t from to) free (tables o r) (tables o′ r′) free′ → length
+        o′ ≡ length o → length r′ ≡ length r
         → {cc fc tc code′ from′ to′ : ℕ} → TokenAt t to cc fc tc → TokenAt t tc code′ from′ to′ → Copying t words st ws count n at c o₀ r₀ o′ r′ code′ from′ to′ free′
     copies-on five {o′} {r′} {free′} K lo lr {cc} {fc} {tc} X A = record {
       place = tc;
@@ -105,7 +109,8 @@ module _ {t words st ws : List ℕ} {count n at c : ℕ} {o₀ r₀ : List ℕ} 
         p : List ℕ → Bool
         p v = eqb (wireOf t words st count v) 6
 
-        one : (us : List (List ℕ)) → putGates n (tables o r) (outputCopies t words st ws count free (w ∷ us)) ≡ putGates n (tables o′ r′) (outputCopies t words st ws count free′ us)
+        one : (us : List (List ℕ)) → putGates n (tables o r) (outputCopies t words st ws count free (w ∷ us)) ≡ putGates n (tables o′ r′)
+            (outputCopies t words st ws count free′ us)
         one us = onBool (p w)
             (λ e. let k = K .isOutput (eqb-true (wireOf t words st count w) 6 e) in
             let gs = copies (free + 1) (map (wireOf t words ws count) (chosen p us)) in

@@ -219,7 +219,25 @@ end-phase onNothing = refl
 -- ---- operators
 
 pub operator-coded : (ts : List Token) (c : ℕ) (w : List ℕ) (x : Token) → tokenOf c w ≡ some x → operatorsIn (x ∷ ts) ≡ operatorCode c + operatorsIn ts
-operator-coded ts c w x e = by-code (λ c x. operatorsIn (x ∷ ts) ≡ operatorCode c + operatorsIn ts) w (omega arith) (omega arith, (omega arith, (omega arith, (omega arith, (omega arith, (omega arith, (omega arith, (omega arith, (omega arith, (omega arith, (omega arith, (omega arith, (omega arith, (omega arith, tt)))))))))))))) c x e
+operator-coded ts c w x e = by-code (λ c x. operatorsIn (x ∷ ts) ≡ operatorCode c + operatorsIn ts) w (omega arith) (
+  omega arith,
+  (
+    omega arith,
+    (
+      omega arith,
+      (
+        omega arith,
+        (
+          omega arith,
+          (
+            omega arith,
+            (omega arith, (omega arith, (omega arith, (omega arith, (omega arith, (omega arith, (omega arith, (omega arith, tt)))))))),
+          ),
+        ),
+      ),
+    ),
+  ),
+) c x e
 
 -- ---- the table
 

@@ -34,7 +34,8 @@ row-rest k js t phase code e h m =
     sym (ap (λ (n : ℕ). entryOf n code) e ∙ eqb-true (entryOf k code) 16 r)
 
 -- behind the phases 0 to 14 comes only 15
-pub last-phase : (p : ℕ) → p ≤ 15 → (p ≡ 0 → ⊥) → (p ≡ 1 → ⊥) → (p ≡ 2 → ⊥) → (p ≡ 3 → ⊥) → (p ≡ 4 → ⊥) → (p ≡ 5 → ⊥) → (p ≡ 6 → ⊥) → (p ≡ 7 → ⊥) → (p ≡ 8 → ⊥) → (p ≡ 9 → ⊥) → (p ≡ 10 → ⊥) → (p ≡ 11 → ⊥) → (p ≡ 12 → ⊥) → (p ≡ 13 → ⊥) → (p ≡ 14 → ⊥) → p ≡ 15
+pub last-phase : (p : ℕ) → p ≤ 15 → (p ≡ 0 → ⊥) → (p ≡ 1 → ⊥) → (p ≡ 2 → ⊥) → (p ≡ 3 → ⊥) → (p ≡ 4 → ⊥) → (p ≡ 5 → ⊥) → (p ≡ 6 → ⊥) → (p ≡ 7 → ⊥) → (p ≡ 8 → ⊥)
+    → (p ≡ 9 → ⊥) → (p ≡ 10 → ⊥) → (p ≡ 11 → ⊥) → (p ≡ 12 → ⊥) → (p ≡ 13 → ⊥) → (p ≡ 14 → ⊥) → p ≡ 15
 last-phase zero l h0 h1 h2 h3 h4 h5 h6 h7 h8 h9 h10 h11 h12 h13 h14 = absurd (h0 refl)
 last-phase (suc zero) l h0 h1 h2 h3 h4 h5 h6 h7 h8 h9 h10 h11 h12 h13 h14 = absurd (h1 refl)
 last-phase (suc (suc zero)) l h0 h1 h2 h3 h4 h5 h6 h7 h8 h9 h10 h11 h12 h13 h14 = absurd (h2 refl)
@@ -49,6 +50,8 @@ last-phase (suc (suc (suc (suc (suc (suc (suc (suc (suc (suc zero)))))))))) l h0
 last-phase (suc (suc (suc (suc (suc (suc (suc (suc (suc (suc (suc zero))))))))))) l h0 h1 h2 h3 h4 h5 h6 h7 h8 h9 h10 h11 h12 h13 h14 = absurd (h11 refl)
 last-phase (suc (suc (suc (suc (suc (suc (suc (suc (suc (suc (suc (suc zero)))))))))))) l h0 h1 h2 h3 h4 h5 h6 h7 h8 h9 h10 h11 h12 h13 h14 = absurd (h12 refl)
 last-phase (suc (suc (suc (suc (suc (suc (suc (suc (suc (suc (suc (suc (suc zero))))))))))))) l h0 h1 h2 h3 h4 h5 h6 h7 h8 h9 h10 h11 h12 h13 h14 = absurd (h13 refl)
-last-phase (suc (suc (suc (suc (suc (suc (suc (suc (suc (suc (suc (suc (suc (suc zero)))))))))))))) l h0 h1 h2 h3 h4 h5 h6 h7 h8 h9 h10 h11 h12 h13 h14 = absurd (h14 refl)
+last-phase (suc (suc (suc (suc (suc (suc (suc (suc (suc (suc (suc (suc (suc (suc zero)))))))))))))) l h0 h1 h2 h3 h4 h5 h6 h7 h8 h9 h10 h11 h12 h13 h14 = absurd
+    (h14 refl)
 last-phase (suc (suc (suc (suc (suc (suc (suc (suc (suc (suc (suc (suc (suc (suc (suc zero))))))))))))))) l h0 h1 h2 h3 h4 h5 h6 h7 h8 h9 h10 h11 h12 h13 h14 = refl
-last-phase (suc (suc (suc (suc (suc (suc (suc (suc (suc (suc (suc (suc (suc (suc (suc (suc p)))))))))))))))) l h0 h1 h2 h3 h4 h5 h6 h7 h8 h9 h10 h11 h12 h13 h14 = absurd (omega arith)
+last-phase (suc (suc (suc (suc (suc (suc (suc (suc (suc (suc (suc (suc (suc (suc (suc (suc p)))))))))))))))) l h0 h1 h2 h3 h4 h5 h6 h7 h8 h9 h10 h11 h12 h13
+    h14 = absurd (omega arith)

@@ -35,7 +35,10 @@ abbrev pub entryOf : ℕ → ℕ → ℕ
 entryOf n c = getD turnsTable (n * 16 + c) 0
 
 abbrev pub phaseOf : ℕ → Phase
-phaseOf n = cond (eqb n 0) onModule (cond (eqb n 1) onTitle (cond (eqb n 2) onPorts (cond (eqb n 3) onPort (cond (eqb n 4) behindPort (cond (eqb n 5) onHeadEnd (cond (eqb n 6) onItem (cond (eqb n 7) onAssign (cond (eqb n 8) onName (cond (eqb n 9) behindName (cond (eqb n 10) onTarget (cond (eqb n 11) onEquals (cond (eqb n 12) onOperand (cond (eqb n 13) onNegated (cond (eqb n 14) behindOperand (onNothing)))))))))))))))
+phaseOf n = cond (eqb n 0) onModule (cond (eqb n 1) onTitle (cond (eqb n 2) onPorts
+    (cond (eqb n 3) onPort (cond (eqb n 4) behindPort (cond (eqb n 5) onHeadEnd (cond (eqb n 6) onItem
+    (cond (eqb n 7) onAssign (cond (eqb n 8) onName (cond (eqb n 9) behindName (cond (eqb n 10) onTarget
+    (cond (eqb n 11) onEquals (cond (eqb n 12) onOperand (cond (eqb n 13) onNegated (cond (eqb n 14) behindOperand (onNothing)))))))))))))))
 
 -- the shape behind a token, where the table has a phase
 abbrev pub kept : ℕ → ℕ → Option Shape

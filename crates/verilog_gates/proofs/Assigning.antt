@@ -114,15 +114,18 @@ module _ {t : List ℕ} {place code start to cx fx tx cy fy ty n c : ℕ} {wire 
       let K = E .gives 0 (H .more) (H .left) (h .1) in
       let N = some-first (E .token) (K .rest) (K .left) (λ z. some-behind 0 (subst (λ (y : List Token). Accepts y (at behindOperand 0)) z (K .read .onward))) in
       let q = token-code (v .code) (between t (E .start) (v .behind)) (N .token) (N .is) in
-      let d = end-first (N .token) (N .more) (subst (λ (y : List Token). Accepts y (at behindOperand 0)) (N .split) (K .read .onward)) (ap noOperator (sym q) ∙ E .stop) in
+      let d = end-first (N .token) (N .more) (subst (λ (y : List Token). Accepts y (at behindOperand 0)) (N .split) (K .read .onward))
+      (ap noOperator (sym q) ∙ E .stop) in
       let m = K .read .made in
       record {
         value = K .read .tree;
         more = N .more;
         split = s ∙ ap (λ (y : List Token). mark (ascii "assign") ∷ y) (G .split ∙ ap (λ (y : Token). y ∷ G .more) (sym nm))
             ∙ ap (λ (y : List Token). mark (ascii "assign") ∷ name w ∷ y) (H .split ∙ ap (λ (y : Token). y ∷ H .more) (h .0))
-            ∙ ap (λ (y : List Token). mark (ascii "assign") ∷ name w ∷ mark (ascii "=") ∷ y) (K .read .text ∙ ap (λ (y : List Token). exprTokens (K .read .tree) ++ y) (N .split ∙ ap (λ (y : Token). y ∷ N .more) (d .0)))
-            ∙ ap (λ (y : List Token). mark (ascii "assign") ∷ name w ∷ mark (ascii "=") ∷ y) (sym (append-assoc (exprTokens (K .read .tree)) (mark (ascii ";") ∷ []) (N .more)));
+            ∙ ap (λ (y : List Token). mark (ascii "assign") ∷ name w ∷ mark (ascii "=") ∷ y)
+            (K .read .text ∙ ap (λ (y : List Token). exprTokens (K .read .tree) ++ y) (N .split ∙ ap (λ (y : Token). y ∷ N .more) (d .0)))
+            ∙ ap (λ (y : List Token). mark (ascii "assign") ∷ name w ∷ mark (ascii "=") ∷ y)
+            (sym (append-assoc (exprTokens (K .read .tree)) (mark (ascii ";") ∷ []) (N .more)));
         left = N .left;
         onward = d .1;
         wireIs = K .value ∙ ap (λ (M : Made). M .wire) m;
@@ -141,7 +144,8 @@ pub record Going (t heads words links wires₀ o₀ r₀ : List ℕ) (size count
   pub wide : length wires ≡ length wires₀
   pub operands : length o ≡ length o₀
   pub results : length r ≡ length r₀
-  pub gives : (ts : List Token) → tokens (drop at t) ≡ some ts → Accepts ts (flat onAssign) → Laying t words n count wires₀ c place ts (tables o₀ r₀) (tables o r) wires free
+  pub gives : (ts : List Token) → tokens (drop at t) ≡ some ts → Accepts ts (flat onAssign) → Laying t words n count wires₀ c place ts (tables o₀ r₀)
+      (tables o r) wires free
 
 given-length : (t words wires : List ℕ) (n : ℕ) (w : List ℕ) (x : ℕ) → length (given t words wires n w x) ≡ length wires
 unfolding given
@@ -203,7 +207,21 @@ module _ {t heads words links wires₀ o₀ r₀ : List ℕ} {size count n at c 
                 wired = omega (arith, G .ready .wired, wl);
                 within = E .token .within;
                 first = omega (arith, G .ready .first, E .more);
-                room = omega (arith, G .ready .room, G .token .start, G .token .onward, X .start, X .onward, Y .start, Y .onward, E .few, E .on, E .token .start, E .token .onward, E .token .within);
+                room = omega (
+                  arith,
+                  G .ready .room,
+                  G .token .start,
+                  G .token .onward,
+                  X .start,
+                  X .onward,
+                  Y .start,
+                  Y .onward,
+                  E .few,
+                  E .on,
+                  E .token .start,
+                  E .token .onward,
+                  E .token .within,
+                );
               };
               more = omega (arith, G .more, E .more);
               wide = wl ∙ G .wide;
@@ -233,7 +251,8 @@ module _ {t heads words links wires₀ o₀ r₀ : List ℕ} {size count n at c 
                   left = O .left;
                   onward = O .onward;
                   next = O .nextIs ∙ ap (λ (M : Made). M .next) m ∙ ap (λ (y : Laid). y .next) (sym s);
-                  wired = w ∙ (λ i. given t words (L .wired i) count (between t fx tx) ((O .wireIs ∙ ap (λ (M : Made). M .wire) m) i)) ∙ ap (λ (y : Laid). y .wires) (sym s);
+                  wired = w ∙ (λ i. given t words (L .wired i) count (between t fx tx) ((O .wireIs ∙ ap (λ (M : Made). M .wire) m) i)) ∙ ap
+                      (λ (y : Laid). y .wires) (sym s);
                   stored = O .stored ∙ ap (λ (M : Made). putGates n (tables o r) (M .gates)) m ∙ ap (λ (y : Tables). putGates n y gs) (L .stored)
                       ∙ sym (puts-append n (tables o₀ r₀) (B .gates) gs) ∙ ap (λ (y : Laid). putGates n (tables o₀ r₀) (y .gates)) (sym s);
                 }

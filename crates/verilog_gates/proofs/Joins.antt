@@ -40,7 +40,8 @@ unfolding putGates
 put-last n t a g = puts-append n t a (g ∷ [])
 
 -- an operator's gate behind those of its operands
-more-stored : (n : ℕ) (gate : ℕ → ℕ → ℕ → Gate) (L R : Made) (x y z : ℕ) (before now now′ after : Tables) → now ≡ putGates n before (L .gates) → now′ ≡ putGates n now (R .gates)
+more-stored : (n : ℕ) (gate : ℕ → ℕ → ℕ → Gate) (L R : Made) (x y z : ℕ) (before now now′ after : Tables) → now ≡ putGates n before (L .gates) → now′ ≡ putGates
+    n now (R .gates)
     → x ≡ L .wire → y ≡ R .wire → z ≡ R .next → after ≡ putGate n now′ (gate x y z) → after ≡ putGates n before (operate gate L R .gates)
 more-stored n gate L R x y z before now now′ after p q a b c e =
     let g = gate (L .wire) (R .wire) (R .next) in
@@ -79,7 +80,8 @@ module _ {A B : Type 0} (tokA : A → List Token) (madeA : A → (List ℕ → �
   FirstLaw = (k : ℕ) (ts rest : List Token) (M : Made) → Read tokB madeB wire k c ts rest M → Read tokA madeA wire k c ts rest M
 
   abbrev pub MoreLaw : Type 0
-  MoreLaw = (k : ℕ) (ts us rest : List Token) (L R : Made) → Read tokA madeA wire k c ts (mark sign ∷ us) L → Read tokB madeB wire k (L .next) us rest R → Read tokA madeA wire k c ts rest (operate gate L R)
+  MoreLaw = (k : ℕ) (ts us rest : List Token) (L R : Made) → Read tokA madeA wire k c ts (mark sign ∷ us) L → Read tokB madeB wire k (L .next) us rest R → Read
+      tokA madeA wire k c ts rest (operate gate L R)
 
   pub sum-start : FirstLaw → (stops : ℕ → Bool) {before after : Tables} {v : Value} → OperandIs tokB madeB stops wire t n from c before after v
       → OperandIs tokA madeA stops wire t n from c before after v
@@ -156,7 +158,8 @@ pub record OperandAt (t : List ℕ) (from : ℕ) (negated : Bool) (y : Lexed) : 
   pub once : negated ≡ false → eqb (y .code) 12 ≡ false
   pub ahead : (k : ℕ) (ts : List Token) → tokens (drop from t) ≡ some ts → Accepts ts (at onOperand k) → Ahead t place negated k ts
 
-pub mark-first : (t : List ℕ) (code : ℕ) (sign : List ℕ) → ((w : List ℕ) → tokenOf code w ≡ some (mark sign)) → {w : List ℕ} {behind c : ℕ} {ts : List Token} → c ≡ code → (F : First t c w behind ts) → ts ≡ mark sign ∷ F .more
+pub mark-first : (t : List ℕ) (code : ℕ) (sign : List ℕ) → ((w : List ℕ) → tokenOf code w ≡ some (mark sign)) → {w : List ℕ} {behind c : ℕ} {ts : List Token} →
+    c ≡ code → (F : First t c w behind ts) → ts ≡ mark sign ∷ F .more
 mark-first t code sign marked {w} e F =
     let x : mark sign ≡ F .token = some-same (mark sign) (F .token) (sym (ap (λ (y : ℕ). tokenOf y w) e ∙ marked w) ∙ F .is) in
     F .split ∙ ap (λ (y : Token). y ∷ F .more) (sym x)
@@ -266,7 +269,8 @@ start-code false k x us a h f g =
     (λ vs e b. g (ap codeOf (head-same (x ∷ us) x (mark (ascii "(")) us vs refl e .0)))
 
 -- behind an operand in parentheses, where no operator follows: its end
-close-first : (k : ℕ) (x : Token) (us : List Token) → Accepts (x ∷ us) (at behindOperand (suc k)) → noOperator (codeOf x) ≡ true → (x ∷ us ≡ mark (ascii ")") ∷ us) × Accepts us (at behindOperand k)
+close-first : (k : ℕ) (x : Token) (us : List Token) → Accepts (x ∷ us) (at behindOperand (suc k)) → noOperator (codeOf x) ≡ true →
+    (x ∷ us ≡ mark (ascii ")") ∷ us) × Accepts us (at behindOperand k)
 close-first k x us a h =
     behind-cases (suc k) (x ∷ us) a
     (λ vs e b. absurd (never (sym h ∙ ap (λ (y : Token). noOperator (codeOf y)) (head-same (x ∷ us) x (mark (ascii "&")) us vs refl e .0))))
@@ -277,7 +281,8 @@ close-first k x us a h =
     (λ vs q e b. absurd (omega arith))
 
 module _ {wire : List ℕ → ℕ} {t : List ℕ} {n from : ℕ} {negated : Bool} {y : Lexed} (O : OperandAt t from negated y) where
-  pub factor-name : (c x : ℕ) {before after : Tables} {v : Value} → y .code ≡ 15 → x ≡ wire (between t (y .from) (y .to)) → Finished t n negated x c (y .to) before after v
+  pub factor-name : (c x : ℕ) {before after : Tables} {v : Value} → y .code ≡ 15 → x ≡ wire (between t (y .from) (y .to)) → Finished t n negated x c (y .to)
+      before after v
       → FactorIs wire t n from c before after v
   unfolding putGates tokenOf
   factor-name c x {before} {after} {v} e p F =
@@ -304,7 +309,8 @@ module _ {wire : List ℕ → ℕ} {t : List ℕ} {n from : ℕ} {negated : Bool
               rest = G .more;
               left = G .left;
               M = invert negated M;
-              read = subst (λ (j : List Token). Read factorTokens factorMade wire k c j (G .more) (invert negated M)) (sym (A .split ∙ ap (λ (j : List Token). tilde negated ++ j) u)) (name-read negated w (G .more) b);
+              read = subst (λ (j : List Token). Read factorTokens factorMade wire k c j (G .more) (invert negated M))
+                  (sym (A .split ∙ ap (λ (j : List Token). tilde negated ++ j) u)) (name-read negated w (G .more) b);
               value = I .0;
               free = I .1;
               stored = I .2;
@@ -337,7 +343,8 @@ module _ {wire : List ℕ → ℕ} {t : List ℕ} {n from : ℕ} {negated : Bool
               rest = C .0;
               left = C .1;
               M = invert negated (X .M);
-              read = subst (λ (j : List Token). Read factorTokens factorMade wire k c j (C .0) (invert negated (X .M))) (sym (A .split ∙ ap (λ (j : List Token). tilde negated ++ j) u)) (group-read negated r);
+              read = subst (λ (j : List Token). Read factorTokens factorMade wire k c j (C .0) (invert negated (X .M)))
+                  (sym (A .split ∙ ap (λ (j : List Token). tilde negated ++ j) u)) (group-read negated r);
               value = I .0;
               free = I .1;
               stored = I .2;
@@ -348,10 +355,12 @@ module _ {wire : List ℕ → ℕ} {t : List ℕ} {n from : ℕ} {negated : Bool
       closing : (k : ℕ) {ts : List Token} → (X : Gives exprTokens exprMade wire t n (suc k) c (E .to) ts before now e)
           → (us : List Token) × (tokens (drop (e .behind) t) ≡ some us) × (X .rest ≡ mark (ascii ")") ∷ us)
       closing k X = onBool (eqb (e .code) 0)
-          (λ d. absurd (some-behind (suc k) (subst (λ (j : List Token). Accepts j (at behindOperand (suc k))) (none-left t (E .to) (e .code) (E .start) (e .behind) (E .token) (X .rest) (X .left) d) (X .read .onward))))
+          (λ d. absurd (some-behind (suc k) (subst (λ (j : List Token). Accepts j (at behindOperand (suc k)))
+          (none-left t (E .to) (e .code) (E .start) (e .behind) (E .token) (X .rest) (X .left) d) (X .read .onward))))
           (λ d. let G = first t (E .to) (e .code) (E .start) (e .behind) (E .token) (X .rest) (X .left) d in
           let q = token-code (e .code) (between t (E .start) (e .behind)) (G .token) (G .is) in
-          let C = close-first k (G .token) (G .more) (subst (λ (j : List Token). Accepts j (at behindOperand (suc k))) (G .split) (X .read .onward)) (ap noOperator (sym q) ∙ E .stop) in
+          let C = close-first k (G .token) (G .more) (subst (λ (j : List Token). Accepts j (at behindOperand (suc k))) (G .split) (X .read .onward))
+          (ap noOperator (sym q) ∙ E .stop) in
           (G .more, G .left, G .split ∙ C .0))
 
   -- no operand
@@ -372,7 +381,8 @@ module _ {wire : List ℕ → ℕ} {t : List ℕ} {n from : ℕ} {negated : Bool
       contradiction k ts q a =
           let A = O .ahead k ts q a in
           onBool (eqb (y .code) 0)
-          (λ d. some-operand negated k (subst (λ (j : List Token). Accepts j (at (operandPhase negated) k)) (none-left t (O .place) (y .code) (y .from) (y .to) (O .token) (A .more) (A .left) d) (A .onward)))
+          (λ d. some-operand negated k (subst (λ (j : List Token). Accepts j (at (operandPhase negated) k))
+          (none-left t (O .place) (y .code) (y .from) (y .to) (O .token) (A .more) (A .left) d) (A .onward)))
           (λ d. let G = first t (O .place) (y .code) (y .from) (y .to) (O .token) (A .more) (A .left) d in
           let q = token-code (y .code) (between t (y .from) (y .to)) (G .token) (G .is) in
           start-code negated k (G .token) (G .more) (subst (λ (j : List Token). Accepts j (at (operandPhase negated) k)) (G .split) (A .onward))
@@ -413,7 +423,8 @@ module _ (wire : List ℕ → ℕ) (t : List ℕ) (n from c : ℕ) where
   pub factors-more : {before now now′ after : Tables} {v u : Value} → Factors before now v → v .code ≡ 13 → FactorIs wire t n (v .behind) (v .next) now now′ u
       → after ≡ putGate n now′ (And (v .wire) (u .wire) (u .next)) → Factors before after (value (u .next) (u .next + 1) (u .code) (u .behind))
   factors-more S e R p =
-      sum-more termTokens termMade factorTokens factorMade (ascii "&") 13 And wire t n from c (λ k ts us rest L R l r. term-more l r) and-marked refl and-turn any any S e R p
+      sum-more termTokens termMade factorTokens factorMade (ascii "&") 13 And wire t n from c (λ k ts us rest L R l r. term-more l r) and-marked refl and-turn
+      any any S e R p
 
   pub factors-end : {before after : Tables} {v : Value} → Factors before after v → (v .code ≡ 13 → ⊥) → TermIs wire t n from c before after v
   factors-end {v = v} S h = retest S noAnd (let e = ne-eqb (v .code) 13 h in rw e)
@@ -424,7 +435,8 @@ module _ (wire : List ℕ → ℕ) (t : List ℕ) (n from c : ℕ) where
   pub terms-more : {before now now′ after : Tables} {v u : Value} → Terms before now v → v .code ≡ 14 → TermIs wire t n (v .behind) (v .next) now now′ u
       → after ≡ putGate n now′ (Xor (v .wire) (u .wire) (u .next)) → Terms before after (value (u .next) (u .next + 1) (u .code) (u .behind))
   terms-more S e R p =
-      sum-more exprTokens exprMade termTokens termMade (ascii "^") 14 Xor wire t n from c (λ k ts us rest L R l r. expr-more l r) xor-marked refl xor-turn noAnd noAnd S e R p
+      sum-more exprTokens exprMade termTokens termMade (ascii "^") 14 Xor wire t n from c (λ k ts us rest L R l r. expr-more l r) xor-marked refl xor-turn noAnd
+      noAnd S e R p
 
   pub terms-end : {before after : Tables} {v : Value} → Terms before after v → (v .code ≡ 14 → ⊥) → ExprIs wire t n from c before after v
   terms-end {v = v} S h = retest S noOperator (let e = ne-eqb (v .code) 14 h in rw e (S .stop))
@@ -444,7 +456,8 @@ pub sign-some : {code k : ℕ} → code ≡ k → eqb k 0 ≡ false → eqb code
 sign-some e z = ap (λ (x : ℕ). eqb x 0) e ∙ z
 
 pub left-less : {A : Type 0} {tokensOf : A → List Token} {madeOf : A → (List ℕ → ℕ) → ℕ → Made} {stops : ℕ → Bool} {wire : List ℕ → ℕ} {n c : ℕ} {before after : Tables}
-    (t : List ℕ) (code behind k : ℕ) (v : Value) → code ≡ k → eqb k 0 ≡ false → OperandIs tokensOf madeOf stops wire t n behind c before after v → left t (v .code) (v .behind) < left t code behind
+    (t : List ℕ) (code behind k : ℕ) (v : Value) → code ≡ k → eqb k 0 ≡ false → OperandIs tokensOf madeOf stops wire t n behind c before after v → left t
+    (v .code) (v .behind) < left t code behind
 left-less t code behind k v e p R =
     let z = sign-some e p in
     onBool (eqb (v .code) 0)
@@ -453,7 +466,8 @@ left-less t code behind k v e p R =
 
 -- what the reader of an expression in parentheses asks
 pub operand-ready : {t : List ℕ} {from : ℕ} {negated : Bool} {y : Lexed} (O : OperandAt t from negated y) → eqb (y .code) 0 ≡ false
-    → {heads words links wires : List ℕ} {size count n c : ℕ} → Ready t heads words links wires size count n from c → Ready t heads words links wires size count n (y .to) c
+    → {heads words links wires : List ℕ} {size count n c : ℕ} → Ready t heads words links wires size count n from c → Ready t heads words links wires size count
+    n (y .to) c
 operand-ready O z R = record {
   names = R .names;
   wired = R .wired;

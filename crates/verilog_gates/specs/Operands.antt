@@ -28,7 +28,8 @@ pub record Ready (t heads words links wires : List ℕ) (size count n from next 
   pub room : next + (length t - from) + 1 < half
 
 -- the tokens ts from a place on begin with those of a tree; the gates made of it were put into the tables
-pub record Gives {A : Type 0} (tokensOf : A → List Token) (madeOf : A → (List ℕ → ℕ) → ℕ → Made) (wire : List ℕ → ℕ) (t : List ℕ) (n k c to : ℕ) (ts : List Token) (before after : Tables) (v : Value) : Type 0 where
+pub record Gives {A : Type 0} (tokensOf : A → List Token) (madeOf : A → (List ℕ → ℕ) → ℕ → Made) (wire : List ℕ → ℕ) (t : List ℕ) (n k c to : ℕ)
+    (ts : List Token) (before after : Tables) (v : Value) : Type 0 where
   pub rest : List Token
   pub left : tokens (drop to t) ≡ some rest
   pub M : Made
@@ -39,7 +40,8 @@ pub record Gives {A : Type 0} (tokensOf : A → List Token) (madeOf : A → (Lis
 
 -- an operand from a place on, and the token behind it, which passes a test. Where the recogniser comes to a good end from here
 -- on, with k parentheses open, a tree was read
-pub record OperandIs {A : Type 0} (tokensOf : A → List Token) (madeOf : A → (List ℕ → ℕ) → ℕ → Made) (stops : ℕ → Bool) (wire : List ℕ → ℕ) (t : List ℕ) (n from c : ℕ) (before after : Tables) (v : Value) : Type 0 where
+pub record OperandIs {A : Type 0} (tokensOf : A → List Token) (madeOf : A → (List ℕ → ℕ) → ℕ → Made) (stops : ℕ → Bool) (wire : List ℕ → ℕ) (t : List ℕ)
+    (n from c : ℕ) (before after : Tables) (v : Value) : Type 0 where
   pub to : ℕ
   pub start : ℕ
   pub token : TokenAt t to (v .code) start (v .behind)

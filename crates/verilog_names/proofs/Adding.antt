@@ -36,7 +36,8 @@ module _ (t words words′ : List ℕ) where
       ap₂ (λ (x y : ℕ). cond (eqb x k) (suc n) y) f e
 
 module _ {t heads heads′ words words′ links links′ : List ℕ} {size n from to : ℕ} (C : Chained t heads words links size n)
-    (A : Added t heads heads′ words words′ links links′ size n from to) (ends : from ≤ to) (within : to ≤ length t) (worded : n < length words) (linked : n < length links) where
+    (A : Added t heads heads′ words words′ links links′ size n from to) (ends : from ≤ to) (within : to ≤ length t) (worded : n < length words)
+    (linked : n < length links) where
   w : List ℕ
   w = between t from to
 
@@ -73,7 +74,8 @@ module _ {t heads heads′ words words′ links links′ : List ℕ} {size n fro
       let e = ap (λ (l : List ℕ). getD l k 0) (A .headed) in
       onBool (eqb c k)
       (λ q. let z : c ≡ k = eqb-true c k q in
-      let f : getD (set heads c (n + 1)) k 0 ≡ n + 1 = subst (λ (j : ℕ). getD (set heads c (n + 1)) j 0 ≡ n + 1) z (getD-set-same heads c (n + 1) 0 (omega (arith, z, h, C .sized))) in
+      let f : getD (set heads c (n + 1)) k 0 ≡ n + 1 = subst (λ (j : ℕ). getD (set heads c (n + 1)) j 0 ≡ n + 1) z
+      (getD-set-same heads c (n + 1) 0 (omega (arith, z, h, C .sized))) in
       let s : n + 1 ≡ suc n = omega arith in
       e ∙ f ∙ s ∙ sym (rw (chain-added) (rw q)))
       (λ q. let d = eqb-false c k q in

@@ -30,14 +30,16 @@ module _ {t : List ℕ} {size most count kind from to : ℕ} {heads heads′ wor
   pub name-full : most ≤ count → NameIs t size most count kind from to heads heads′ words words′ links links′ st st′ false
   name-full h = record { said = sym (rw (lt-leb (count + 1) most (omega (arith, h)))); added = λ e. absurd (never (sym e)); state = λ e. absurd (never (sym e)) }
 
-  pub name-twice : count < most → {p : ℕ} → p ≡ found t words (between t from to) count → 0 < p → NameIs t size most count kind from to heads heads′ words words′ links links′ st st′ false
+  pub name-twice : count < most → {p : ℕ} → p ≡ found t words (between t from to) count → 0 < p → NameIs t size most count kind from to heads heads′ words
+      words′ links links′ st st′ false
   name-twice h {p} e q = record {
     said = sym (rw (le-leb (count + 1) most (omega (arith, h)), ne-eqb (found t words (between t from to) count) 0 (λ z. omega (arith, e, q, z))));
     added = λ e. absurd (never (sym e));
     state = λ e. absurd (never (sym e));
   }
 
-  pub name-new : count < most → {p : ℕ} → p ≡ found t words (between t from to) count → p ≤ 0 → Added t heads heads′ words words′ links links′ size count from to → st′ ≡ set st count kind
+  pub name-new : count < most → {p : ℕ} → p ≡ found t words (between t from to) count → p ≤ 0 → Added t heads heads′ words words′ links links′ size count from
+      to → st′ ≡ set st count kind
       → NameIs t size most count kind from to heads heads′ words words′ links links′ st st′ true
   name-new h {p} e q A s = record {
     said = sym (rw (le-leb (count + 1) most (omega (arith, h)), eq-eqb (found t words (between t from to) count) 0 (omega (arith, e, q))));
@@ -129,7 +131,8 @@ declared-name : (κ : ℕ) (w : List ℕ) (ts : List Token) → declaredFrom κ 
 unfolding declaredFrom
 declared-name κ w ts = refl
 
-declared-mark : (κ : ℕ) (x : Token) (ts : List Token) → (codeOf x ≡ 15 → ⊥) → declares (codeOf x) ≡ true → declaredFrom κ (x ∷ ts) ≡ declaredFrom (kindBehind κ (codeOf x)) ts
+declared-mark : (κ : ℕ) (x : Token) (ts : List Token) → (codeOf x ≡ 15 → ⊥) → declares (codeOf x) ≡ true → declaredFrom κ (x ∷ ts) ≡ declaredFrom
+    (kindBehind κ (codeOf x)) ts
 unfolding declaredFrom
 declared-mark κ (name w) ts h e = absurd (h refl)
 declared-mark κ (mark k) ts h e = rw e
@@ -240,8 +243,11 @@ module _ {t : List ℕ} {at size most : ℕ} {heads₀ words₀ links₀ st₀ :
             (λ z. let n = none-left t place code from to (D .token) ts q z in
             (ap (declaredFrom kind) n ∙ nothing-declared kind, ap behindDeclared n ∙ nothing-behind ∙ sym n))
             (λ z. let F = first t place code from to (D .token) ts q z in
-            let k : declares (codeOf (F .token)) ≡ false = ap declares (sym (token-code code (between t from to) (F .token) (F .is))) ∙ h in
-            (ap (declaredFrom kind) (F .split) ∙ declared-end kind (F .token) (F .more) k, ap behindDeclared (F .split) ∙ behind-end (F .token) (F .more) k ∙ sym (F .split)))
+            let k : declares (codeOf (F .token)) ≡ false = ap declares (sym (token-code code (between t from to) (F .token) (F .is))) ∙ h in (
+              ap (declaredFrom kind) (F .split) ∙ declared-end kind (F .token) (F .more) k,
+              ap behindDeclared (F .split) ∙ behind-end (F .token) (F .more) k ∙
+                  sym (F .split),
+            ))
 
     module _ {heads′ words′ links′ st′ : List ℕ} {r : Names} (O : OneIs t size most count kind code from to heads heads′ words words′ links links′ st st′ r) where
       pub load-bad : r .good ≡ false → NotDeclared t at most
@@ -256,19 +262,24 @@ module _ {t : List ℕ} {at size most : ℕ} {heads₀ words₀ links₀ st₀ :
                 let T = this e (L .rest) (L .left) in
                 let w = between t from to in
                 let more = declaredFrom kind (T .0) in
-                let s : declaredFrom 0 ts ≡ L .done ++ entry w kind ∷ more = L .split ∙ ap (λ (y : List Token). L .done ++ declaredFrom kind y) (T .1) ∙ ap (λ (y : List (Entry ℕ)). L .done ++ y) (declared-name kind w (T .0)) in
-                let f : fresh [] (keys (declaredFrom 0 ts)) ≡ fresh (keys (L .done)) (w ∷ keys more) = L .once ∙ ap (λ (y : List (Entry ℕ)). fresh (keys (L .done)) (keys y)) (ap (declaredFrom kind) (T .1) ∙ declared-name kind w (T .0)) in
+                let s : declaredFrom 0 ts ≡ L .done ++ entry w kind ∷ more = L .split ∙ ap (λ (y : List Token). L .done ++ declaredFrom kind y) (T .1) ∙ ap
+                (λ (y : List (Entry ℕ)). L .done ++ y) (declared-name kind w (T .0)) in
+                let f : fresh [] (keys (declaredFrom 0 ts)) ≡ fresh (keys (L .done)) (w ∷ keys more) = L .once ∙ ap
+                (λ (y : List (Entry ℕ)). fresh (keys (L .done)) (keys y)) (ap (declaredFrom kind) (T .1) ∙ declared-name kind w (T .0)) in
                 let said = O .named e .0 .said in
                 either-side (leb (count + 1) most) (eqb (found t words w count) 0) (sym said ∙ g)
                 (λ full. let l : most < count + 1 = leb-false (count + 1) most full in
                 let n = length-append (L .done) (entry w kind ∷ more) in
                 let d : length (declaredFrom 0 ts) ≡ length (L .done ++ entry w kind ∷ more) = ap length s in
-                right-false (fresh [] (keys (declaredFrom 0 ts))) (leb (length (declaredFrom 0 ts)) most) (lt-leb (length (declaredFrom 0 ts)) most (omega (arith, l, n, d, L .many))))
-                (λ twice. let m : elem w (keys (L .done)) ≡ true = ap (elem w) (sym (L .names)) ∙ not-false (elem w (namesOf t words count)) (sym (found-elem t words w count) ∙ twice) in
+                right-false (fresh [] (keys (declaredFrom 0 ts))) (leb (length (declaredFrom 0 ts)) most)
+                (lt-leb (length (declaredFrom 0 ts)) most (omega (arith, l, n, d, L .many))))
+                (λ twice. let m : elem w (keys (L .done)) ≡ true = ap (elem w) (sym (L .names)) ∙ not-false (elem w (namesOf t words count))
+                (sym (found-elem t words w count) ∙ twice) in
                 rw (f ∙ fresh-off (keys (L .done)) w (keys more) m));
           }
 
-      pub load-on : declares code ≡ true → r .good ≡ true → length heads′ ≡ length heads → length words′ ≡ length words → length links′ ≡ length links → length st′ ≡ length st
+      pub load-on : declares code ≡ true → r .good ≡ true → length heads′ ≡ length heads → length words′ ≡ length words → length links′ ≡ length links → length
+          st′ ≡ length st
           → most ≤ length words₀ → most ≤ length links₀ → most ≤ length st₀ → {code′ from′ to′ : ℕ} → TokenAt t to code′ from′ to′
           → Declaring t at size most heads₀ words₀ links₀ st₀ heads′ words′ links′ st′ code′ from′ to′ to (r .count) (r .kind)
       load-on h g lh lw ll ls mw ml ms {code′} {from′} {to′} A = onBool (eqb code 15) (λ e. named (eqb-true code 15 e)) (λ e. marked (eqb-false code 15 e))
@@ -289,7 +300,8 @@ module _ {t : List ℕ} {at size most : ℕ} {heads₀ words₀ links₀ st₀ :
                     let F = first t place code from to (D .token) (L .rest) (L .left) (declares-some code h) in
                     let c = token-code code (between t from to) (F .token) (F .is) in
                     let dm : declaredFrom kind (L .rest) ≡ declaredFrom (kindBehind kind code) (F .more) = ap (declaredFrom kind) (F .split)
-                    ∙ declared-mark kind (F .token) (F .more) (λ z. n (c ∙ z)) (ap declares (sym c) ∙ h) ∙ ap (λ (j : ℕ). declaredFrom (kindBehind kind j) (F .more)) (sym c) in
+                    ∙ declared-mark kind (F .token) (F .more) (λ z. n (c ∙ z)) (ap declares (sym c) ∙ h) ∙ ap
+                    (λ (j : ℕ). declaredFrom (kindBehind kind j) (F .more)) (sym c) in
                     record {
                       done = L .done;
                       rest = F .more;
@@ -325,15 +337,18 @@ module _ {t : List ℕ} {at size most : ℕ} {heads₀ words₀ links₀ st₀ :
                     let L = D .gives ts q in
                     let T = this e (L .rest) (L .left) in
                     let dn : declaredFrom kind (L .rest) ≡ entry w kind ∷ declaredFrom kind (T .0) = ap (declaredFrom kind) (T .1) ∙ declared-name kind w (T .0) in
-                    let m : elem w (keys (L .done)) ≡ false = ap (elem w) (sym (L .names)) ∙ not-true (elem w (namesOf t words count)) (sym (found-elem t words w count) ∙ B .1) in
+                    let m : elem w (keys (L .done)) ≡ false = ap (elem w) (sym (L .names)) ∙ not-true (elem w (namesOf t words count))
+                    (sym (found-elem t words w count) ∙ B .1) in
                     record {
                       done = L .done ++ entry w kind ∷ [];
                       rest = T .0;
                       left = T .2;
                       split = L .split ∙ ap (λ (y : List (Entry ℕ)). L .done ++ y) dn ∙ sym (append-assoc (L .done) (entry w kind ∷ []) (declaredFrom kind (T .0)));
                       behind = L .behind ∙ ap behindDeclared (T .1) ∙ behind-on (name w) (T .0) refl;
-                      names = names-added (D .names) Ad (D .token .onward) (D .token .within) fw fl ∙ ap (λ (y : List (List ℕ)). y ++ w ∷ []) (L .names) ∙ sym (keys-snoc (L .done) (entry w kind));
-                      states = ap (take (count + 1)) (N .0 .state g) ∙ take-set st count kind fs ∙ ap (λ (y : List ℕ). y ++ kind ∷ []) (L .states) ∙ sym (kinds-snoc (L .done) (entry w kind));
+                      names = names-added (D .names) Ad (D .token .onward) (D .token .within) fw fl ∙ ap (λ (y : List (List ℕ)). y ++ w ∷ []) (L .names) ∙ sym
+                          (keys-snoc (L .done) (entry w kind));
+                      states = ap (take (count + 1)) (N .0 .state g) ∙ take-set st count kind fs ∙ ap (λ (y : List ℕ). y ++ kind ∷ []) (L .states) ∙ sym
+                          (kinds-snoc (L .done) (entry w kind));
                       once = L .once ∙ ap (λ (y : List (Entry ℕ)). fresh (keys (L .done)) (keys y)) dn ∙ fresh-on (keys (L .done)) w (keys (declaredFrom kind (T .0))) m
                           ∙ ap (λ (y : List (List ℕ)). fresh y (keys (declaredFrom kind (T .0)))) (sym (keys-snoc (L .done) (entry w kind)));
                       many = length-snoc (L .done) (entry w kind) ∙ ap (λ (j : ℕ). j + 1) (L .many);

@@ -50,13 +50,15 @@ module _ (t words states : List ℕ) (n : ℕ) (w : List ℕ) (old new : ℕ) wh
       let k : eqb (wireOf t words states n w) old ≡ false = ap (λ (x : ℕ). eqb x old) (state-none t words states w n e) ∙ ne-eqb 0 old (λ z. omega (arith, z)) in
       (sym k, stays k)
 
-  pub become-other : (p : ℕ) → p ≡ found t words w n → 0 < p → (getD states (p - 1) 0 ≡ old → ⊥) → (false ≡ eqb (wireOf t words states n w) old) × (states ≡ becomes t words states n w old new)
+  pub become-other : (p : ℕ) → p ≡ found t words w n → 0 < p → (getD states (p - 1) 0 ≡ old → ⊥) → (false ≡ eqb (wireOf t words states n w) old) ×
+      (states ≡ becomes t words states n w old new)
   become-other p e h f =
       let k : eqb (wireOf t words states n w) old ≡ false = ne-eqb (wireOf t words states n w) old
       (λ z. f (ap (λ (x : ℕ). getD states (x - 1) 0) e ∙ sym (state-some t words states w n (omega (arith, e, h))) ∙ z)) in
       (sym k, stays k)
 
-  pub become-new : (p : ℕ) → p ≡ found t words w n → 0 < p → getD states (p - 1) 0 ≡ old → (true ≡ eqb (wireOf t words states n w) old) × (set states (p - 1) new ≡ becomes t words states n w old new)
+  pub become-new : (p : ℕ) → p ≡ found t words w n → 0 < p → getD states (p - 1) 0 ≡ old → (true ≡ eqb (wireOf t words states n w) old) ×
+      (set states (p - 1) new ≡ becomes t words states n w old new)
   become-new p e h f =
       let k : eqb (wireOf t words states n w) old ≡ true = eq-eqb (wireOf t words states n w) old
       (state-some t words states w n (omega (arith, e, h)) ∙ sym (ap (λ (x : ℕ). getD states (x - 1) 0) e) ∙ f) in
@@ -88,7 +90,8 @@ module _ (states : List ℕ) (least : ℕ) where
       let z : suc n ≡ n + 1 = omega arith in
       let e = ap (λ (j : ℕ). allFrom states j least) z ∙ every-take (λ x. leb least x) states n (omega arith) in
       onBool (eqb i n)
-      (λ q. sym (e ∙ last (allFrom states n least) (leb least (getD states n 0)) (lt-leb least (getD states n 0) (subst (λ (j : ℕ). getD states j 0 < least) (eqb-true i n q) k))))
+      (λ q. sym (e ∙ last (allFrom states n least) (leb least (getD states n 0))
+      (lt-leb least (getD states n 0) (subst (λ (j : ℕ). getD states j 0 < least) (eqb-true i n q) k))))
       (λ q. let d = eqb-false i n q in sym (e ∙ first (allFrom states n least) (leb least (getD states n 0)) (sym (all-off i n (omega (arith, d, h)) (omega arith) k))))
     where
       last : (a b : Bool) → b ≡ false → (a && b) ≡ false

@@ -49,7 +49,8 @@ pub record Seating (t words : List ℕ) (n at : ℕ) (st₀ ws₀ st ws : List �
   pub gives : (ps : List (List ℕ)) (rest : List Token) → tokens (drop at t) ≡ some (portsLeft ps rest) → Ahead t words n st₀ ws₀ st ws i o place ps rest
 
 -- the first token, known
-pub known : {t : List ℕ} {place c s b : ℕ} → TokenAt t place c s b → (x : Token) (us : List Token) → tokens (drop place t) ≡ some (x ∷ us) → (tokenOf c (between t s b) ≡ some x) × (tokens (drop b t) ≡ some us)
+pub known : {t : List ℕ} {place c s b : ℕ} → TokenAt t place c s b → (x : Token) (us : List Token) → tokens (drop place t) ≡ some (x ∷ us) →
+    (tokenOf c (between t s b) ≡ some x) × (tokens (drop b t) ≡ some us)
 known {t} {place} {c} {s} {b} A x us e = onBool (eqb c 0)
     (λ z. let n = none-left t place c s b A (x ∷ us) e z in let l = ap length n in absurd (omega (arith, l)))
     (λ z. let F = first t place c s b A (x ∷ us) e z in
@@ -69,20 +70,24 @@ same-name e = ap bytes e
 
 -- the port at a place, and what follows it
 module _ {t : List ℕ} where
-  pub port-here : {place code from to : ℕ} → TokenAt t place code from to → code ≡ 15 → (ps : List (List ℕ)) (rest : List Token) → tokens (drop place t) ≡ some (portsLeft ps rest)
+  pub port-here : {place code from to : ℕ} → TokenAt t place code from to → code ≡ 15 → (ps : List (List ℕ)) (rest : List Token) → tokens (drop place t) ≡ some
+      (portsLeft ps rest)
       → (us : List (List ℕ)) × (ps ≡ between t from to ∷ us) × (tokens (drop to t) ≡ some (behindPort us rest))
   port-here {code = code} {from} {to} A five [] rest e = let k = known A (mark (ascii ";")) rest e in
       let z = sym five ∙ token-code code (between t from to) (mark (ascii ";")) (k .0) in absurd (omega (arith, z))
   port-here {code = code} {from} {to} A five (w ∷ ps) rest e =
       let k = known A (name w) (behindPort ps rest) e in
-      let v : between t from to ≡ w = same-name (some-same (name (between t from to)) (name w) (sym (ap (λ (c : ℕ). tokenOf c (between t from to)) five ∙ name-marked (between t from to)) ∙ k .0)) in
+      let v : between t from to ≡ w = same-name (some-same (name (between t from to)) (name w)
+      (sym (ap (λ (c : ℕ). tokenOf c (between t from to)) five ∙ name-marked (between t from to)) ∙ k .0)) in
       (ps, ap (λ (x : List ℕ). x ∷ ps) (sym v), k .1)
 
-  pub port-next : {to cc fc tc : ℕ} → TokenAt t to cc fc tc → (us : List (List ℕ)) (rest : List Token) → tokens (drop to t) ≡ some (behindPort us rest) → tokens (drop tc t) ≡ some (portsLeft us rest)
+  pub port-next : {to cc fc tc : ℕ} → TokenAt t to cc fc tc → (us : List (List ℕ)) (rest : List Token) → tokens (drop to t) ≡ some (behindPort us rest) → tokens
+      (drop tc t) ≡ some (portsLeft us rest)
   port-next C [] rest e = known C (mark (ascii ")")) (mark (ascii ";") ∷ rest) e .1
   port-next C (v ∷ us) rest e = known C (mark (ascii ",")) (name v ∷ behindPort us rest) e .1
 
-  pub port-none : {place code from to : ℕ} → TokenAt t place code from to → (code ≡ 15 → ⊥) → (ps : List (List ℕ)) (rest : List Token) → tokens (drop place t) ≡ some (portsLeft ps rest) → ps ≡ []
+  pub port-none : {place code from to : ℕ} → TokenAt t place code from to → (code ≡ 15 → ⊥) → (ps : List (List ℕ)) (rest : List Token) → tokens (drop place t) ≡
+      some (portsLeft ps rest) → ps ≡ []
   port-none A h [] rest e = refl
   port-none {code = code} {from} {to} A h (w ∷ ps) rest e = absurd (h (token-code code (between t from to) (name w) (known A (name w) (behindPort ps rest) e .0)))
 
@@ -101,7 +106,8 @@ module _ {t words : List ℕ} {n at : ℕ} {st₀ ws₀ : List ℕ} where
     pub seat-end : (code ≡ 15 → ⊥) → PortsIs t words n at st₀ st ws₀ ws (record { good = true; inputs = i; outputs = o })
     seat-end h = record {
       gives = λ ps rest e. let A = S .gives ps rest e in
-          let q : seatAll t words n (unseated st₀ ws₀) ps ≡ seated st ws i o = A .same ∙ ap (seatAll t words n (seated st ws i o)) (port-none (S .token) h (A .more) rest (A .tokensAre)) in
+          let q : seatAll t words n (unseated st₀ ws₀) ps ≡ seated st ws i o = A .same ∙ ap (seatAll t words n (seated st ws i o))
+          (port-none (S .token) h (A .more) rest (A .tokensAre)) in
           record {
             said = sym (ap (λ (P : Seated). P .good) q);
             states = λ g. sym (ap (λ (P : Seated). P .states) q);
@@ -123,7 +129,13 @@ module _ {t words : List ℕ} {n at : ℕ} {st₀ ws₀ : List ℕ} where
           pick X Y q ∙ (λ j. seated (sym (K .1) j) (sym (K .2) j) (sym (ap (λ (x : Ports). x .inputs) (K .0)) j) (sym (ap (λ (x : Ports). x .outputs) (K .0)) j)))
           (λ q. let K = P .isOther (eqb-false σ 1 q) in
           let two : eqb σ 2 ≡ true = sym (ap (λ (x : Ports). x .good) (K .0)) ∙ g in
-          pass X Y q ∙ (λ j. record { good = two j; states = sym (K .1) j; wires = sym (K .2) j; inputs = sym (ap (λ (x : Ports). x .inputs) (K .0)) j; outputs = sym (ap (λ (x : Ports). x .outputs) (K .0)) j }))
+          pass X Y q ∙ (λ j. record {
+            good = two j;
+            states = sym (K .1) j;
+            wires = sym (K .2) j;
+            inputs = sym (ap (λ (x : Ports). x .inputs) (K .0)) j;
+            outputs = sym (ap (λ (x : Ports). x .outputs) (K .0)) j;
+          }))
 
       pub seat-bad : {i′ o′ : ℕ} {st″ ws″ : List ℕ} → r .good ≡ false → PortsIs t words n at st₀ st″ ws₀ ws″ (record { good = false; inputs = i′; outputs = o′ })
       seat-bad g = record {
@@ -132,7 +144,8 @@ module _ {t words : List ℕ} {n at : ℕ} {st₀ ws₀ : List ℕ} where
             let b : seat t words n (seated st ws i o) (between t from to) .good ≡ false = onBool (eqb (wireOf t words st n (between t from to)) 1)
             (λ q. absurd (never (sym (ap (λ (x : Ports). x .good) (P .isInput (eqb-true (wireOf t words st n (between t from to)) 1 q) .0)) ∙ g)))
             (λ q. rw q (sym (ap (λ (x : Ports). x .good) (P .isOther (eqb-false (wireOf t words st n (between t from to)) 1 q) .0)) ∙ g)) in
-            let q = ap (λ (x : Seated). x .good) (A .same ∙ ap (seatAll t words n (seated st ws i o)) (T .1)) ∙ spoilt t words n (T .0) (seat t words n (seated st ws i o) (between t from to)) b in
+            let q = ap (λ (x : Seated). x .good) (A .same ∙ ap (seatAll t words n (seated st ws i o)) (T .1)) ∙ spoilt t words n (T .0)
+            (seat t words n (seated st ws i o) (between t from to)) b in
             record {
               said = sym q;
               states = λ z. absurd (never (sym z));
@@ -142,7 +155,8 @@ module _ {t words : List ℕ} {n at : ℕ} {st₀ ws₀ : List ℕ} where
             };
       }
 
-      pub seat-on : r .good ≡ true → length st′ ≡ length st → length ws′ ≡ length ws → {cc fc tc code′ from′ to′ : ℕ} → TokenAt t to cc fc tc → TokenAt t tc code′ from′ to′
+      pub seat-on : r .good ≡ true → length st′ ≡ length st → length ws′ ≡ length ws → {cc fc tc code′ from′ to′ : ℕ} → TokenAt t to cc fc tc → TokenAt t tc
+          code′ from′ to′
           → Seating t words n at st₀ ws₀ st′ ws′ code′ from′ to′ (r .inputs) (r .outputs)
       seat-on g ls lw {cc} {fc} {tc} C A = record {
         place = tc;
@@ -163,13 +177,20 @@ module _ {t words : List ℕ} {n at : ℕ} {st₀ ws₀ : List ℕ} where
           counts =
               let z : eqb code 0 ≡ false = ap (λ (c : ℕ). eqb c 0) five in
               onBool (eqb (wireOf t words st n (between t from to)) 1)
-              (λ q. let K = P .isInput (eqb-true (wireOf t words st n (between t from to)) 1 q) .0 in
-              (omega (arith, ap (λ (x : Ports). x .inputs) K, S .few .0, S .token .start, S .token .on z, C .start, C .onward), omega (arith, ap (λ (x : Ports). x .outputs) K, S .few .1, S .token .start, S .token .on z, C .start, C .onward)))
-              (λ q. let K = P .isOther (eqb-false (wireOf t words st n (between t from to)) 1 q) .0 in
-              (omega (arith, ap (λ (x : Ports). x .inputs) K, S .few .0, S .token .start, S .token .on z, C .start, C .onward), omega (arith, ap (λ (x : Ports). x .outputs) K, S .few .1, S .token .start, S .token .on z, C .start, C .onward)))
+              (λ q. let K = P .isInput (eqb-true (wireOf t words st n (between t from to)) 1 q) .0 in (
+                omega (arith, ap (λ (x : Ports). x .inputs) K, S .few .0, S .token .start, S .token .on z, C .start, C .onward),
+                omega
+                    (arith, ap (λ (x : Ports). x .outputs) K, S .few .1, S .token .start, S .token .on z, C .start, C .onward),
+              ))
+              (λ q. let K = P .isOther (eqb-false (wireOf t words st n (between t from to)) 1 q) .0 in (
+                omega (arith, ap (λ (x : Ports). x .inputs) K, S .few .0, S .token .start, S .token .on z, C .start, C .onward),
+                omega
+                    (arith, ap (λ (x : Ports). x .outputs) K, S .few .1, S .token .start, S .token .on z, C .start, C .onward),
+              ))
 
 -- fewer tokens are left
-pub seat-less : (t : List ℕ) (code to : ℕ) {cc fc tc code′ from′ to′ : ℕ} → code ≡ 15 → TokenAt t to cc fc tc → TokenAt t tc code′ from′ to′ → left t code′ to′ < left t code to
+pub seat-less : (t : List ℕ) (code to : ℕ) {cc fc tc code′ from′ to′ : ℕ} → code ≡ 15 → TokenAt t to cc fc tc → TokenAt t tc code′ from′ to′ → left t code′ to′
+    < left t code to
 seat-less t code to {code′ = code′} five C A =
     let z : eqb code 0 ≡ false = ap (λ (c : ℕ). eqb c 0) five in
     onBool (eqb code′ 0)

@@ -19,4 +19,5 @@ pub record NameIs (t : List ℕ) (size most count kind from to : ℕ) (heads hea
 -- one token: a name, or a mark that may change the kind of those that follow
 pub record OneIs (t : List ℕ) (size most count kind code from to : ℕ) (heads heads′ words words′ links links′ st st′ : List ℕ) (r : Names) : Type 0 where
   pub named : code ≡ 15 → NameIs t size most count kind from to heads heads′ words words′ links links′ st st′ (r .good) × (r .count ≡ count + 1) × (r .kind ≡ kind)
-  pub marked : (code ≡ 15 → ⊥) → (r .good ≡ true) × (r .count ≡ count) × (r .kind ≡ kindBehind kind code) × (heads′ ≡ heads) × (words′ ≡ words) × (links′ ≡ links) × (st′ ≡ st)
+  pub marked : (code ≡ 15 → ⊥) → (r .good ≡ true) × (r .count ≡ count) × (r .kind ≡ kindBehind kind code) × (heads′ ≡ heads) × (words′ ≡ words) ×
+      (links′ ≡ links) × (st′ ≡ st)

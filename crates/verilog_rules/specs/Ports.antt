@@ -15,8 +15,10 @@ use Rattle.verilog_rules.specs.declared.ports.Ports.{Ports}
 
 -- the state of the name decides: 1 is an input, 2 an output, any other no port
 pub record PortIs (t words : List ℕ) (n : ℕ) (w : List ℕ) (inputs outputs : ℕ) (st st′ ws ws′ : List ℕ) (r : Ports) : Type 0 where
-  pub isInput : wireOf t words st n w ≡ 1 → (r ≡ record { good = true; inputs = inputs + 1; outputs = outputs }) × (st′ ≡ becomes t words st n w 1 5) × (ws′ ≡ given t words ws n w inputs)
-  pub isOther : (wireOf t words st n w ≡ 1 → ⊥) → (r ≡ record { good = eqb (wireOf t words st n w) 2; inputs = inputs; outputs = outputs + 1 }) × (st′ ≡ becomes t words st n w 2 4) × (ws′ ≡ ws)
+  pub isInput : wireOf t words st n w ≡ 1 → (r ≡ record { good = true; inputs = inputs + 1; outputs = outputs }) × (st′ ≡ becomes t words st n w 1 5) ×
+      (ws′ ≡ given t words ws n w inputs)
+  pub isOther : (wireOf t words st n w ≡ 1 → ⊥) → (r ≡ record { good = eqb (wireOf t words st n w) 2; inputs = inputs; outputs = outputs + 1 }) ×
+      (st′ ≡ becomes t words st n w 2 4) × (ws′ ≡ ws)
 
 -- ---- all of them
 
@@ -32,7 +34,14 @@ abbrev pub seat : List ℕ → List ℕ → ℕ → Seated → List ℕ → Seat
 seat t words n P w =
     let σ = wireOf t words (P .states) n w in
     cond (eqb σ 1)
-    (record { good = P .good; states = becomes t words (P .states) n w 1 5; wires = given t words (P .wires) n w (P .inputs); inputs = P .inputs + 1; outputs = P .outputs })
+    (record {
+      good = P .good;
+      states = becomes t words (P .states) n w 1 5;
+      wires = given t words (P .wires) n w (P .inputs);
+      inputs = P .inputs + 1;
+      outputs =
+          P .outputs;
+    })
     (record { good = P .good && eqb σ 2; states = becomes t words (P .states) n w 2 4; wires = P .wires; inputs = P .inputs; outputs = P .outputs + 1 })
 
 abbrev pub seatAll : List ℕ → List ℕ → ℕ → Seated → List (List ℕ) → Seated

@@ -14,7 +14,7 @@ use Rattle.netlist.specs.Lists.{every, sameBytes, ascii}
 use Rattle.netlist.specs.Text.{space, lf}
 use Rattle.netlist.proofs.Tests.{onBool, both, pair, isTrue, true-T}
 use Rattle.read_text.specs.Line.{takeWhile, dropWhile, Scanned}
-use Rattle.read_text.proofs.ScanLaws.{front-back, scan-front, dropped-head}
+use Rattle.read_text.proofs.Scans.{front-back, scan-front, dropped-head}
 use Rattle.verilog.specs.Tokens.{isLetter, inWord, isSign, starts, isWhite, elem, marks, isName, Token, token, name, consToken, tokens}
 use Rattle.verilog.proofs.Listing.{same-equal}
 use Rattle.verilog.proofs.Texts.{end-tokens, word-tokens, sign-tokens, white-tokens, other-tokens}

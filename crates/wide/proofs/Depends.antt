@@ -88,6 +88,7 @@ wire-depends N x y w l e h =
     start v k =
         onBool (ltb v (length x))
         (λ t. let b : v < length x = ltb-true v (length x) t in
-        List·getD-append x (replicate (N .wires - length x) false) false v b ∙ k v (own-mark (N .wires) v (omega arith)) ∙ sym (List·getD-append y (replicate (N .wires - length y) false) false v (omega arith)))
+        List·getD-append x (replicate (N .wires - length x) false) false v b ∙ k v (own-mark (N .wires) v (omega arith)) ∙ sym
+        (List·getD-append y (replicate (N .wires - length y) false) false v (omega arith)))
         (λ t. let b : length x ≤ v = ltb-false v (length x) t in
         behind-inputs x (N .wires - length x) v b ∙ sym (behind-inputs y (N .wires - length y) v (omega arith)))

@@ -34,7 +34,8 @@ length-take-upto (suc k) [] = omega arith
 length-take-upto (suc k) (x ∷ is) = let h = length-take-upto k is in omega arith
 
 set-upto : (S : Sets) (w : ℕ) → length (setAt S w) ≤ sizeAt S w
-set-upto S w = length-take-upto (sizeAt S w) (threeOf (getD (S .set0) w 0) (threeOf (getD (S .set1) w 0) (threeOf (getD (S .set2) w 0) (threeOf (getD (S .set3) w 0) []))))
+set-upto S w = length-take-upto (sizeAt S w) (threeOf (getD (S .set0) w 0) (threeOf (getD (S .set1) w 0)
+    (threeOf (getD (S .set2) w 0) (threeOf (getD (S .set3) w 0) []))))
 
 -- a test of every two of a list, pair by pair
 pub pair-every : (t : ℕ → ℕ → Bool) (ws : List ℕ) → T (everyPair t ws) → (j : ℕ) → j < length ws / 2 → T (t (getD ws (2 * j) 0) (getD ws (2 * j + 1) 0))

@@ -143,10 +143,17 @@ module _ {t : Tables} {m W o : ℕ} {S : Sets} {N : Netlist} {codes ws : List �
       let d = F .differs (omega arith) in
       let at : (w : ℕ) → w ≡ wire → (s : ℕ) → countIn (bare t m W) false ps w s ≡ countIn (bare t m W) true ps w s → countIn N false ps wire s ≡ countIn N true ps wire s
       = λ w q s h. subst (λ (v : ℕ). countIn N false ps v s ≡ countIn N true ps v s) q (sym (same-one false w s) ∙ h ∙ same-one true w s) in
-      subst (λ (es : List ℕ). listed (length es) (leak N es) ≡ some (record { wire = wire; ones = picked (reachSet N (length ps) wire) (p .setting); base = p .base; own = p .count })) plain
+      subst (λ (es : List ℕ). listed (length es) (leak N es) ≡ some (record {
+        wire = wire;
+        ones = picked (reachSet N (length ps) wire) (p .setting);
+        base =
+            p .base;
+        own = p .count;
+      })) plain
       (lowest-listed N ps wire fits ranked (p .setting) (p .base) (p .count) (let q = G .holds .wires in omega arith) (λ v l. uncode v (L .level v l))
       (λ u l. at (p .wire) e u (d .smaller u l))
-      (λ h. d .other (same-one false (p .wire) (p .setting) ∙ subst (λ (v : ℕ). countIn N false ps v (p .setting) ≡ countIn N true ps v (p .setting)) (sym e) h ∙ sym (same-one true (p .wire) (p .setting))))
+      (λ h. d .other (same-one false (p .wire) (p .setting) ∙ subst (λ (v : ℕ). countIn N false ps v (p .setting) ≡ countIn N true ps v (p .setting)) (sym e) h
+      ∙ sym (same-one true (p .wire) (p .setting))))
       (d .base ∙ same-one false (p .wire) (p .setting) ∙ ap (λ (v : ℕ). countIn N false ps v (p .setting)) e)
       (d .count ∙ same-one true (p .wire) (p .setting) ∙ ap (λ (v : ℕ). countIn N true ps v (p .setting)) e))
 

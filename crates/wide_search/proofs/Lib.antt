@@ -1,5 +1,5 @@
 -- Laws that several proofs cite.
-pub mod Items
+pub mod ItemSets
 pub mod Servings
 pub mod Passes
 pub mod Answers

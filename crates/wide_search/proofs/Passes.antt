@@ -34,7 +34,7 @@ use Rattle.wide_colours.specs.Colours.{Upto, Inputs, Seeded}
 use Rattle.wide_colours.proofs.Giving.{different-kept, seeded-different}
 use Rattle.wide_search.specs.Items.{pairAt, itemSet, isMarked, Serving}
 use Rattle.wide_search.specs.Judging.{Given, CleanAt, Judged, Judging}
-use Rattle.wide_search.proofs.Items.{item-wire, item-pair}
+use Rattle.wide_search.proofs.ItemSets.{item-wire, item-pair}
 
 -- codes are paints without colours
 pub codes-plain : (es : List ℕ) → ((i : ℕ) → i < length es → getD es i 0 < 4) → codesOf es ≡ es
@@ -133,7 +133,8 @@ module _ (t : Tables) (m W : ℕ) (S : Sets) (codes ws : List ℕ) (below : (i :
       pub wire-leaks : wire′ < wire → Level N codes wire′ → ⊥
       wire-leaks l h =
           let d = F .lowest .differs l in
-          d .other (same-one false wire′ (found .difference .setting) ∙ level-painted N ps wire′ (uncode wire′ h) (found .difference .setting) ∙ sym (same-one true wire′ (found .difference .setting)))
+          d .other (same-one false wire′ (found .difference .setting) ∙ level-painted N ps wire′ (uncode wire′ h) (found .difference .setting) ∙ sym
+          (same-one true wire′ (found .difference .setting)))
 
       entry : (j : ℕ) → j < 2 * pair → getD (take (2 * pair) ws) j 0 ≡ getD ws j 0
       entry j l = getD-take (2 * pair) ws j 0 l
@@ -247,20 +248,22 @@ pub passing-more : {t : Tables} {m W : ℕ} {S : Sets} {codes ws : List ℕ} {st
     → ((o n : ℕ) (N : Netlist) → Given t m (length words) (length codes) S o N → x - 1 < n → start + n ≤ length words + length ws / 2
     → Judging N codes ws marks (length words) start n (x - 1 + 1) wire pair → Judging N codes ws marks′ (length words) start n (x - 1) wire′ pair′)
     → Passing t m W S codes ws start total paints₀ marks₀ base₀ bases₀ wire₀ pair₀ paints′ marks′ words′ base′ bases′ wire′ pair′ (x - 1)
-passing-more {t} {m} {W} {S} {codes} {ws} {start} {total} {marks = marks} {wire = wire} {pair} {x} P l room {marks′ = marks′} {wire′ = wire′} {pair′} a b c d e f g step = record {
-  passed = let z = P .passed in omega arith;
-  same-paints = a ∙ P .same-paints;
-  same-marks = b ∙ P .same-marks;
-  same-words = c ∙ P .same-words;
-  same-base = d ∙ P .same-base;
-  same-bases = e ∙ P .same-bases;
-  lower = let z = P .lower in omega arith;
-  fewer = let z = P .fewer in omega arith;
-  judged = λ o N G J.
-      let w = P .same-words in
-      let p = P .passed in
-      let y : x ≡ x - 1 + 1 = omega arith in
-      subst (λ (Y : ℕ). Judging N codes ws marks′ Y start total (x - 1) wire′ pair′) w
-      (step o total N (subst (λ (Y : ℕ). Given t m Y (length codes) S o N) (sym w) G) (omega arith) (omega arith)
-      (subst (λ (Y : ℕ). Judging N codes ws marks Y start total (x - 1 + 1) wire pair) (sym w) (subst (λ (z : ℕ). Judging N codes ws marks W start total z wire pair) y (P .judged o N G J))));
-}
+passing-more {t} {m} {W} {S} {codes} {ws} {start} {total} {marks = marks} {wire = wire} {pair} {x} P l room {marks′ = marks′} {wire′ = wire′} {pair′} a b c d e
+    f g step = record {
+      passed = let z = P .passed in omega arith;
+      same-paints = a ∙ P .same-paints;
+      same-marks = b ∙ P .same-marks;
+      same-words = c ∙ P .same-words;
+      same-base = d ∙ P .same-base;
+      same-bases = e ∙ P .same-bases;
+      lower = let z = P .lower in omega arith;
+      fewer = let z = P .fewer in omega arith;
+      judged = λ o N G J.
+          let w = P .same-words in
+          let p = P .passed in
+          let y : x ≡ x - 1 + 1 = omega arith in
+          subst (λ (Y : ℕ). Judging N codes ws marks′ Y start total (x - 1) wire′ pair′) w
+          (step o total N (subst (λ (Y : ℕ). Given t m Y (length codes) S o N) (sym w) G) (omega arith) (omega arith)
+          (subst (λ (Y : ℕ). Judging N codes ws marks Y start total (x - 1 + 1) wire pair) (sym w)
+          (subst (λ (z : ℕ). Judging N codes ws marks W start total z wire pair) y (P .judged o N G J))));
+    }

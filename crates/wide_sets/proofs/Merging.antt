@@ -43,7 +43,8 @@ module _ {x y out₀ : List ℕ} where
       small = λ a b h. set-small out k (r .value) (M .small a b h) (N .small a b);
       value =
           M .value ∙ ap (λ (t : List ℕ). take k out ++ t) (N .value) ∙ sym (append-assoc (take k out) (r .value ∷ []) (merge (drop (r .i) x) (drop (r .j) y)))
-          ∙ ap (λ (t : List ℕ). t ++ merge (drop (r .i) x) (drop (r .j) y)) (sym (ap (λ (m : ℕ). take m (set out k (r .value))) (add-one k) ∙ take-suc-set out k (r .value) l));
+          ∙ ap (λ (t : List ℕ). t ++ merge (drop (r .i) x) (drop (r .j) y)) (sym
+          (ap (λ (m : ℕ). take m (set out k (r .value))) (add-one k) ∙ take-suc-set out k (r .value) l));
     }
 
     pub merging-all : length x + length y ≤ i + j → (k ≤ length out) × (take k out ≡ merge x y)
@@ -59,7 +60,8 @@ module _ {x y out₀ : List ℕ} where
     merging-full {r} N e =
         let t = length-take-le k out (omega arith) in
         let n = merge (drop (r .i) x) (drop (r .j) y) in
-        let v : length (merge x y) ≡ length (take k out) + suc (length n) = ap length (M .value ∙ ap (λ (t : List ℕ). take k out ++ t) (N .value)) ∙ length-append (take k out) (r .value ∷ n) in
+        let v : length (merge x y) ≡ length (take k out) + suc (length n) = ap length (M .value ∙ ap (λ (t : List ℕ). take k out ++ t) (N .value)) ∙
+        length-append (take k out) (r .value ∷ n) in
         omega arith
 
 -- ---- two sets put together in an array of twelve

@@ -63,7 +63,7 @@ fn unite_sets(
     true
 }
 
-// The same. A set that is that of both is copied.
+// Puts the union of the sets of wires a and b for wire c, unless it has more than twelve members; a set that is that of both is copied.
 fn join(
     set0: &mut [u64],
     set1: &mut [u64],

@@ -13,7 +13,7 @@ use Rattle.netlist.specs.Write.{line, decimals, gateText, writeNetlist}
 use Rattle.write_buffer.specs.Wrote.{Wrote, top}
 use Rattle.old_form.specs.OldWrite.{partyBits, writeOld}
 use Rattle.write_header.specs.Header.{spaced, headerText, oldHeaderText}
-use Rattle.write_buffer.proofs.Wrote.{wrote-none, wrote-then, wrote-as}
+use Rattle.write_buffer.proofs.Writing.{wrote-none, wrote-then, wrote-as}
 
 regroup : (a b c d e : List ℕ) → (a ++ (b ++ (c ++ d))) ++ e ≡ a ++ (b ++ (c ++ (d ++ e)))
 regroup a b c d e = simp append-assoc

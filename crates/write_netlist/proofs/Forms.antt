@@ -16,7 +16,7 @@ use Rattle.write_gates.specs.Gates.{WroteGates}
 use Rattle.write_header.specs.Header.{headerTextIn}
 use Rattle.old_form.specs.declared.Dialect.{Dialect}
 use Rattle.write_gates.specs.Room.{longestLine}
-use Rattle.write_gates.proofs.Gates.{gates-none, gates-then, gates-as}
+use Rattle.write_gates.proofs.GateLines.{gates-none, gates-then, gates-as}
 use Rattle.write_gates.proofs.Delivering.{ample-holds}
 use Rattle.write_netlist.specs.Form.{formTextIn}
 

@@ -17,7 +17,7 @@ use Rattle.write_wires.specs.Packed.{Worded}
 use Rattle.write_wires.specs.Spilt.{Spilt}
 use Rattle.write_wires.proofs.Spilling.{spilt-all}
 use Rattle.write_parts.specs.Parts.{parted, frontOf1, frontOf2, words1, words2}
-use Rattle.write_buffer.proofs.Wrote.{wrote-as, wrote-out}
+use Rattle.write_buffer.proofs.Writing.{wrote-as, wrote-out}
 
 pub line1 : (a c : ℕ) (name : List ℕ) → frontOf1 a c ++ (name ++ (lf ∷ [])) ≡ line (words1 a c name)
 line1 a c name = simp append-assoc

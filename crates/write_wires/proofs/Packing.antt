@@ -107,7 +107,8 @@ packed-bytes n h =
     let e : 56 ≡ 8 * k + (56 - 8 * k) = omega arith in
     let p : 2 ^ 56 ≡ 2 ^ (8 * k) * 2 ^ (56 - 8 * k) = ap (λ (m : ℕ). 2 ^ m) e ∙ pow-add 2 (8 * k) (56 - 8 * k) in
     let s : k * (2 ^ (8 * k) * 2 ^ (56 - 8 * k)) ≡ 2 ^ (8 * k) * (k * 2 ^ (56 - 8 * k))
-    = sym (mul-assoc k (2 ^ (8 * k)) (2 ^ (56 - 8 * k))) ∙ ap (λ (m : ℕ). m * 2 ^ (56 - 8 * k)) (mul-comm k (2 ^ (8 * k))) ∙ mul-assoc (2 ^ (8 * k)) k (2 ^ (56 - 8 * k)) in
+    = sym (mul-assoc k (2 ^ (8 * k)) (2 ^ (56 - 8 * k))) ∙ ap (λ (m : ℕ). m * 2 ^ (56 - 8 * k)) (mul-comm k (2 ^ (8 * k))) ∙ mul-assoc (2 ^ (8 * k)) k
+    (2 ^ (56 - 8 * k)) in
     ap (λ (m : ℕ). bytesOf 8 (joined (text n) + m)) (ap (λ (m : ℕ). k * m) p ∙ s)
     ∙ bytes-joined (text n) 8 (8 - k) (k * 2 ^ (56 - 8 * k)) (text-bytes n h) (omega arith)
 

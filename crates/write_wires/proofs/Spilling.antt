@@ -9,7 +9,7 @@ use lib.ListN.{length, set, length-append}
 use lib.Seq.{sets, set-set, set-comm}
 use Rattle.write_buffer.specs.Wrote.{Wrote, top, cap}
 use Rattle.write_buffer.proofs.Places.{sets-append}
-use Rattle.write_buffer.proofs.Wrote.{wrote-as}
+use Rattle.write_buffer.proofs.Writing.{wrote-as}
 use Rattle.write_wires.specs.Packed.{bytesOf, text, packed}
 use Rattle.write_wires.specs.Spilt.{Stored, Spilt}
 use Rattle.write_wires.proofs.Packing.{length-bytes, text-most, text-least, text-long, spare, packed-bytes, packed-top}
@@ -58,7 +58,8 @@ pub spilt-then : {e m x u v : List ℕ} {at r s j l : ℕ} (k : ℕ) → Spilt j
 spilt-then {u = u} {v = v} {r = r} k a b h f g = record {
   rest = b .rest;
   end = r + 8;
-  wrote = wrote-as (sym (append-assoc u v (b .rest))) (over u (a .rest) (v ++ b .rest) (a .wrote) (a .next) (b .wrote) (simp length-append (omega (arith, a .spilt, b .eight))));
+  wrote = wrote-as (sym (append-assoc u v (b .rest))) (over u (a .rest) (v ++ b .rest) (a .wrote) (a .next) (b .wrote)
+      (simp length-append (omega (arith, a .spilt, b .eight))));
   few = simp length-append (omega (arith, a .few));
   spilt = omega (arith, b .eight);
   next = simp length-append (omega (arith, a .next, b .next));

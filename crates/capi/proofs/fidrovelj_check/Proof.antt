@@ -34,7 +34,12 @@ returns : tie.Need-returns
 returns c =
     let a = c .before .before .before .before .before .before .before .before .before .before .before .before .before in
     let check = a .check in
-    record { answer = check .result; promise = rw (a .before .sizes .ensures) at (check .ensures); shows = record { told = search needs; leak = c .before .before .tell .ensures .leak } }
+    record {
+      answer = check .result;
+      promise = rw (a .before .sizes .ensures) at (check .ensures);
+      shows =
+          record { told = search needs; leak = c .before .before .tell .ensures .leak };
+    }
 
 pub fidrovelj-check-spec : {M : Type 1} → statement M
 fidrovelj-check-spec =

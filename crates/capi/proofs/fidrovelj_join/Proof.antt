@@ -13,7 +13,12 @@ join-requires c κs = search needs
 
 number-requires : tie.Need-number-requires
 number-requires c κs = let at-call = c .before .before .before .before .before .before .before .before .before .before .before .before in
-    countable (at-call .join .ensures .answers) (omega (arith, at-call .before .before .before .before .before .before .before .before .before .before .before .before .before .before .before .before .before .before .before .good))
+    countable (at-call .join .ensures .answers)
+    (omega (
+      arith,
+      at-call .before .before .before .before .before .before .before .before .before .before .before .before .before .before .before .before
+          .before .before .before .good,
+    ))
 
 same-length : tie.Need-same-length
 same-length c = search needs

@@ -31,7 +31,9 @@ shorter-requires-2 : tie.Need-shorter-requires-2
 shorter-requires-2 c κs = search needs
 
 read-requires : tie.Need-read-requires
-read-requires c κs = rw (c .before .before .before .before .before .before .before .large .ensures) (readable-large (c .before .before .before .before .before .before .before .before .before .before .before .before .before .before .before .before .before .before .args .sizes))
+read-requires c κs = rw (c .before .before .before .before .before .before .before .large .ensures)
+    (readable-large (c .before .before .before .before .before .before .before .before .before .before .before .before .before .before .before .before .before
+    .before .args .sizes))
 
 enum-known-question : tie.Need-enum-known-question
 enum-known-question c = search needs
@@ -40,7 +42,9 @@ enum-known-h : tie.Need-enum-known-h
 enum-known-h c = search needs
 
 judge-requires : tie.Need-judge-requires
-judge-requires c κs = let s = c .before .before .before .before .before .before .before .before .before .before .before .before .before .before .before .before .before .before .before .before .before .before .before .before .before .before .before .before .before .before .before .before .before .before .before .before .args in
+judge-requires c κs = let s =
+    c .before .before .before .before .before .before .before .before .before .before .before .before .before .before .before .before .before .before .before
+    .before .before .before .before .before .before .before .before .before .before .before .before .before .before .before .before .before .args in
     let t = c .before .before .before .before .before .before .before .before .before .before .before .before .before .before .before .before .before .read in
     let o = length (s .operands .now) in
     let r = length (s .results .now) in
@@ -49,10 +53,15 @@ judge-requires c κs = let s = c .before .before .before .before .before .before
     let b = length (s .base .now) in
     let z = length (s .records .now) / 15 in
     let k = read-is (o ∷ r ∷ g ∷ _ ∷ []) (s .text .now) (t .last .1 .0) (t .last .1 .1 .0) (tables (t .last .1 .1 .1 .0) (t .last .1 .1 .1 .1 .0))
-    (c .before .before .before .before .before .before .before .before .before .before .before .before .before .before .before .before .before .before .before .before .before .before .before .before .before .large .ensures) (c .before .before .before .before .before .before .before .before .before .h .given .1) (t .ensures) in
+    (c .before .before .before .before .before .before .before .before .before .before .before .before .before .before .before .before .before .before .before
+    .before .before .before .before .before .before .large .ensures)
+    (c .before .before .before .before .before .before .before .before .before .h .given .1) (t .ensures) in
     let a = k .1 in
     let long = sym (all-long (s .sizes) (s .text .now) (s .codes .now) (s .operands .now) (s .results .now) (s .marks .now) (s .words .now) (s .base .now)
-    (s .records .now) (c .before .before .before .before .before .before .before .before .before .before .before .before .before .before .before .before .before .before .before .before .before .before .before .before .shorter .ensures) (c .before .before .before .before .before .before .before .before .before .before .before .before .before .before .before .before .before .before .before .before .before .before .before .shorter2 .ensures)) ∙ k .0 in (
+    (s .records .now) (c .before .before .before .before .before .before .before .before .before .before .before .before .before .before .before .before .before
+    .before .before .before .before .before .before .before .shorter .ensures)
+    (c .before .before .before .before .before .before .before .before .before .before .before .before .before .before .before .before .before .before
+    .before .before .before .before .before .shorter2 .ensures)) ∙ k .0 in (
       a .wired,
       (
         a .manyIn,
@@ -75,12 +84,17 @@ same-length-3 : tie.Need-same-length-3
 same-length-3 c = search needs
 
 returns : tie.Need-returns
-returns c = let s = c .before .before .before .before .before .before .before .before .before .before .before .before .before .before .before .before .before .before .before .before .before .before .before .before .before .before .before .before .args in
+returns c = let s = c .before .before .before .before .before .before .before .before .before .before .before .before .before .before .before .before .before
+    .before .before .before .before .before .before .before .before .before .before .before .args in
     let t = c .before .before .before .before .before .before .before .before .before .read in
     answer-not (s .sizes) (s .text .now) (s .codes .now) (s .operands .now) (s .results .now) (s .marks .now) (s .words .now) (s .base .now) (s .records .now)
-    (c .before .before .before .before .before .before .before .before .before .before .before .before .before .before .before .before .shorter .ensures) (c .before .before .before .before .before .before .before .before .before .before .before .before .before .before .before .shorter2 .ensures) (s .leak .now) (s .ones .now)
+    (c .before .before .before .before .before .before .before .before .before .before .before .before .before .before .before .before .shorter .ensures)
+    (c .before .before .before .before .before .before .before .before .before .before .before .before .before .before .before .shorter2 .ensures)
+    (s .leak .now) (s .ones .now)
     (read-is (length (s .operands .now) ∷ length (s .results .now) ∷ length (s .marks .now) ∷ _ ∷ []) (s .text .now) (t .last .1 .0) (t .last .1 .1 .0)
-    (tables (t .last .1 .1 .1 .0) (t .last .1 .1 .1 .1 .0)) (c .before .before .before .before .before .before .before .before .before .before .before .before .before .before .before .before .before .large .ensures) (c .before .question .given .1) (t .ensures))
+    (tables (t .last .1 .1 .1 .0) (t .last .1 .1 .1 .1 .0))
+    (c .before .before .before .before .before .before .before .before .before .before .before .before .before .before .before .before .before .large
+    .ensures) (c .before .question .given .1) (t .ensures))
 
 same-length-4 : tie.Need-same-length-4
 same-length-4 c = search needs
@@ -107,12 +121,25 @@ same-length-11 : tie.Need-same-length-11
 same-length-11 c = search needs
 
 returns-2 : tie.Need-returns-2
-returns-2 c = let s = c .before .before .before .before .before .before .before .before .before .before .before .before .before .before .before .before .before .before .before .before .before .before .before .before .before .before .before .before .before .before .before .before .before .before .before .before .before .before .before .before .before .before .before .before .before .before .before .before .before .args in
-    let t = c .before .before .before .before .before .before .before .before .before .before .before .before .before .before .before .before .before .before .before .before .before .before .before .before .before .before .before .before .before .before .read in
+returns-2 c = let s =
+    c .before .before .before .before .before .before .before .before .before .before .before .before .before .before .before .before .before .before .before
+    .before .before .before .before .before .before .before .before .before .before .before .before .before .before .before .before .before .before .before
+    .before .before .before .before .before .before .before .before .before .before .before .args in
+    let t = c .before .before .before .before .before .before .before .before .before .before .before .before .before .before .before .before .before .before
+    .before .before .before .before .before .before .before .before .before .before .before .before .read in
     answer-read (s .sizes) (s .text .now) (s .codes .now) (s .operands .now) (s .results .now) (s .marks .now) (s .words .now) (s .base .now) (s .records .now)
-    (c .before .before .before .before .before .before .before .before .before .before .before .before .before .before .before .before .before .before .before .before .before .before .before .before .before .before .before .before .before .before .before .before .before .before .before .before .before .shorter .ensures) (c .before .before .before .before .before .before .before .before .before .before .before .before .before .before .before .before .before .before .before .before .before .before .before .before .before .before .before .before .before .before .before .before .before .before .before .before .shorter2 .ensures)
+    (c .before .before .before .before .before .before .before .before .before .before .before .before .before .before .before .before .before .before .before
+    .before .before .before .before .before .before .before .before .before .before .before .before .before .before .before .before .before .before .shorter
+    .ensures) (c .before .before .before .before .before .before .before .before .before .before .before .before .before .before .before .before .before
+    .before .before .before .before .before .before .before .before .before .before .before .before .before .before .before .before .before .before .before
+    .shorter2 .ensures)
     (read-is (length (s .operands .now) ∷ length (s .results .now) ∷ length (s .marks .now) ∷ _ ∷ []) (s .text .now) (t .last .1 .0) (t .last .1 .1 .0)
-    (tables (t .last .1 .1 .1 .0) (t .last .1 .1 .1 .1 .0)) (c .before .before .before .before .before .before .before .before .before .before .before .before .before .before .before .before .before .before .before .before .before .before .before .before .before .before .before .before .before .before .before .before .before .before .before .before .before .before .large .ensures) (c .before .before .before .before .before .before .before .before .before .before .before .before .before .before .before .before .before .before .before .before .before .before .h .given .1) (t .ensures))
+    (tables (t .last .1 .1 .1 .0) (t .last .1 .1 .1 .1 .0))
+    (c .before .before .before .before .before .before .before .before .before .before .before .before .before .before .before .before .before .before
+    .before .before .before .before .before .before .before .before .before .before .before .before .before .before .before .before .before .before .before
+    .before .large .ensures)
+    (c .before .before .before .before .before .before .before .before .before .before .before .before .before .before .before .before .before .before
+    .before .before .before .before .h .given .1) (t .ensures))
     (c .before .before .before .before .before .before .before .before .before .before .before .before .judge .ensures)
 
 pub answer-spec : {M : Type 1} → statement M

@@ -56,12 +56,18 @@ same-length-8 : tie.Need-same-length-8
 same-length-8 c = search needs
 
 returns : tie.Need-returns
-returns c = let a = c .before .before .before .before .before .before .before .before .before .before .before .before .before .before .before .before .before .before .before .before .before .before .before .before .before .before .before .before .before .before .before .before .before .before .before .before .before .before .before .before .answer in
+returns c = let a = c .before .before .before .before .before .before .before .before .before .before .before .before .before .before .before .before .before
+    .before .before .before .before .before .before .before .before .before .before .before .before .before .before .before .before .before .before .before
+    .before .before .before .before .answer in
     record {
       answers = a .ensures;
-      operands = zeros-same (c .before .before .before .before .before .before .before .before .before .before .before .before .before .before .before .before .before .before .before .before .before .before .words2 .ensures) (a .kept .1 .1 .1 .1 .0);
-      results = zeros-same (c .before .before .before .before .before .before .before .before .before .before .before .before .before .before .before .before .before .before .words3 .ensures) (a .kept .1 .1 .1 .1 .1 .0);
-      marks = zeros-same (c .before .before .before .before .before .before .before .before .before .before .before .before .before .before .bytes .ensures) (a .kept .1 .1 .1 .1 .1 .1 .0);
+      operands = zeros-same
+          (c .before .before .before .before .before .before .before .before .before .before .before .before .before .before .before .before .before .before
+          .before .before .before .before .words2 .ensures) (a .kept .1 .1 .1 .1 .0);
+      results = zeros-same (c .before .before .before .before .before .before .before .before .before .before .before .before .before .before .before .before
+          .before .before .words3 .ensures) (a .kept .1 .1 .1 .1 .1 .0);
+      marks = zeros-same (c .before .before .before .before .before .before .before .before .before .before .before .before .before .before .bytes .ensures)
+          (a .kept .1 .1 .1 .1 .1 .1 .0);
       words = zeros-same (c .before .before .before .before .before .before .before .before .before .before .words4 .ensures) (a .kept .1 .1 .1 .1 .1 .1 .1 .0);
       base = zeros-same (c .before .before .before .before .before .before .words6 .ensures) (a .kept .1 .1 .1 .1 .1 .1 .1 .1 .0);
       records = zeros-same (c .before .before .words7 .ensures) (a .kept .1 .1 .1 .1 .1 .1 .1 .1 .1 .0);

@@ -29,13 +29,19 @@ cast-verdict-2 : tie.Need-cast-verdict-2
 cast-verdict-2 c = search needs
 
 verdict-requires : tie.Need-verdict-requires
-verdict-requires c κs = let s = c .before .before .before .before .before .before .before .before .before .before .before .before .before .before .before .before .before .before .before .before in
+verdict-requires c κs = let s =
+    c .before .before .before .before .before .before .before .before .before .before .before .before .before .before .before .before .before .before .before
+    .before in
     let p = s .pre .1 in
-    let b = asked-bits (take (s .args .h .«input_values») (s .args .widths)) (s .args .codes .now) (sym (c .before .before .before .before .before .before .before .before .before .before .ask-codes .ensures) ∙ ap askedOf (c .before .before .before .before .before .before .before .before .enum-told .given .1)) in
+    let b = asked-bits (take (s .args .h .«input_values») (s .args .widths)) (s .args .codes .now)
+    (sym (c .before .before .before .before .before .before .before .before .before .before .ask-codes .ensures) ∙ ap askedOf
+    (c .before .before .before .before .before .before .before .before .enum-told .given .1)) in
     (s .pre .0, omega (arith, b, p .1, p .2), p .3, p .4, p .5, p .6)
 
 returns : tie.Need-returns
-returns c = λ N H w F. let s = c .before .before .before .before .before .before .before .before .before .before .before .before .before in judged-refused (s .args .codes .now) (take (s .args .h .«input_values») (s .args .widths)) (c .before .before .before .ask-codes .ensures) w _ (s .args .leak .now) (s .args .ones .now) (c .before .question .given .1)
+returns c = λ N H w F. let s = c .before .before .before .before .before .before .before .before .before .before .before .before .before in
+    judged-refused (s .args .codes .now) (take (s .args .h .«input_values») (s .args .widths)) (c .before .before .before .ask-codes .ensures) w _
+    (s .args .leak .now) (s .args .ones .now) (c .before .question .given .1)
 
 same-length : tie.Need-same-length
 same-length c = search needs
@@ -56,7 +62,15 @@ same-length-6 : tie.Need-same-length-6
 same-length-6 c = search needs
 
 returns-2 : tie.Need-returns-2
-returns-2 c = λ N H w F. let s = c .before .before .before .before .before .before .before .before .before .before .before .before .before .before .before .before .before .before .before .before .before .before .before .before .before .before .before .before .before .before .before .before .before in judged-passed (s .args .codes .now) (take (s .args .h .«input_values») (s .args .widths)) (c .before .before .before .before .before .before .before .before .before .before .before .before .before .before .before .before .before .before .before .before .before .before .before .ask-codes .ensures) w F (c .before .before .before .before .before .before .before .before .before .before .before .before .before .before .before .before .before .before .before .before .before .enum-told .given .1) (c .before .before .before .before .before .before .before .before .before .before .before .before .verdict .ensures _ _ N H)
+returns-2 c = λ N H w F. let s =
+    c .before .before .before .before .before .before .before .before .before .before .before .before .before .before .before .before .before .before .before
+    .before .before .before .before .before .before .before .before .before .before .before .before .before .before in
+    judged-passed (s .args .codes .now) (take (s .args .h .«input_values») (s .args .widths))
+    (c .before .before .before .before .before .before .before .before .before .before .before .before .before .before .before .before .before .before .before
+    .before .before .before .before .ask-codes .ensures) w F
+    (c .before .before .before .before .before .before .before .before .before .before .before .before .before .before .before .before .before .before .before
+    .before .before .enum-told .given .1) (c .before .before .before .before .before .before .before .before .before .before .before .before .verdict .ensures _
+    _ N H)
 
 pub judge-spec : {M : Type 1} → statement M
 judge-spec =

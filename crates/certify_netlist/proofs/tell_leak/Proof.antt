@@ -61,8 +61,10 @@ same-length-2 c = search needs
 returns-3 : tie.Need-returns-3
 returns-3 c = λ N codes e h W.
     let s = c .before .before .before .before .before .before .before .before .before .before .before .before .before in
-    leak-told (s .args .n) (c .before .before .before .before .before .before .before .before .count .result) e (s .pre .0) h W (c .before .before .before .before .before .before .before .before .count .ensures) (s .args .leak .now) (s .args .ones .now)
-    (c .before .before .before .before .before .before .before .if1 .left) (c .before .before .before .before .before .before .if2 .left) (c .before .before .write .ensures)
+    leak-told (s .args .n) (c .before .before .before .before .before .before .before .before .count .result) e (s .pre .0) h W
+    (c .before .before .before .before .before .before .before .before .count .ensures) (s .args .leak .now) (s .args .ones .now)
+    (c .before .before .before .before .before .before .before .if1 .left) (c .before .before .before .before .before .before .if2 .left)
+    (c .before .before .write .ensures)
 
 pub tell-leak-spec : {M : Type 1} → statement M
 tell-leak-spec =

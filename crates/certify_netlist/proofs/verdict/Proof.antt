@@ -55,7 +55,9 @@ same-length-3 : tie.Need-same-length-3
 same-length-3 c = search needs
 
 returns : tie.Need-returns
-returns c = λ n o N H M. let s = c .before .before .before .before .before .before .before .before .before .before .before .before .before .before .before .before .before .before .before .before in
+returns c = λ n o N H M. let s =
+    c .before .before .before .before .before .before .before .before .before .before .before .before .before .before .before .before .before .before .before
+    .before in
     let m = length-take-le (s .args .wires) (s .args .marks .now) (s .pre .2) in
     let K = subst (λ (W : ℕ). Holds (tables (s .args .operands .now) (s .args .results .now)) (s .args .count) W n o N) (sym m) H in
     (λ w h. c .before .before .before .before .before .before .before .certified .ensures .1 n o N K M w (omega (arith, h, H .wires, c .if1 .taken)), refl, refl)
@@ -64,17 +66,27 @@ slice-relend-prefix-witness : tie.Need-slice-relend-prefix-witness
 slice-relend-prefix-witness c = search needs
 
 slice-aggregate-witness : tie.Need-slice-aggregate-witness
-slice-aggregate-witness c = sym (length-take-le _ _ (omega (arith, c .before .before .before .before .before .before .before .before .before .before .before .before .before .before .before .before .before .before .before .before .before .before .before .pre .3)))
+slice-aggregate-witness c = sym
+    (length-take-le _ _ (omega (
+      arith,
+      c .before .before .before .before .before .before .before .before .before .before .before .before .before .before .before .before .before .before
+          .before .before .before .before .before .pre .3,
+    )))
 
 slice-relend-prefix-witness-2 : tie.Need-slice-relend-prefix-witness-2
 slice-relend-prefix-witness-2 c = search needs
 
 slice-aggregate-witness-2 : tie.Need-slice-aggregate-witness-2
-slice-aggregate-witness-2 c = sym (length-take-le _ _ (c .before .before .before .before .before .before .before .before .before .before .before .before .before .before .before .before .before .before .before .before .before .before .before .before .pre .4))
+slice-aggregate-witness-2 c = sym
+    (length-take-le _ _ (c .before .before .before .before .before .before .before .before .before .before .before .before .before .before .before .before
+    .before .before .before .before .before .before .before .before .pre .4))
 
 witness-requires : tie.Need-witness-requires
-witness-requires c κs = let s = c .before .before .before .before .before .before .before .before .before .before .before .before .before .before .before .before .before .before .before .before .before .before .before .before in
-    fronts (length (s .args .codes .now)) (c .before .before .before .before .before .before .before .before .before .before .before .certified .result) (length-take-le _ _ (omega (arith, s .pre .3))) (length-take-le _ _ (s .pre .4)) (s .pre .0) (s .pre .1)
+witness-requires c κs = let s =
+    c .before .before .before .before .before .before .before .before .before .before .before .before .before .before .before .before .before .before .before
+    .before .before .before .before .before in
+    fronts (length (s .args .codes .now)) (c .before .before .before .before .before .before .before .before .before .before .before .certified .result)
+    (length-take-le _ _ (omega (arith, s .pre .3))) (length-take-le _ _ (s .pre .4)) (s .pre .0) (s .pre .1)
     (omega (arith, c .before .before .before .before .if1 .left))
 
 same-length-4 : tie.Need-same-length-4
@@ -96,10 +108,16 @@ same-length-9 : tie.Need-same-length-9
 same-length-9 c = search needs
 
 returns-2 : tie.Need-returns-2
-returns-2 c = λ n o N H M. let s = c .before .before .before .before .before .before .before .before .before .before .before .before .before .before .before .before .before .before .before .before .before .before .before .before .before .before .before .before .before .before .before .before .before in
+returns-2 c = λ n o N H M. let s =
+    c .before .before .before .before .before .before .before .before .before .before .before .before .before .before .before .before .before .before .before
+    .before .before .before .before .before .before .before .before .before .before .before .before .before .before in
     let m = length-take-le (s .args .wires) (s .args .marks .now) (s .pre .2) in
     let K = subst (λ (W : ℕ). Holds (tables (s .args .operands .now) (s .args .results .now)) (s .args .count) W n o N) (sym m) H in
-    c .before .before .before .before .before .before .before .before .witness .ensures n o N (subst (λ (W : ℕ). Holds (tables (s .args .operands .now) (s .args .results .now)) (s .args .count) W n o N) (sym (length-take-le _ _ (omega (arith, s .pre .3)))) H) M (λ v h. c .before .before .before .before .before .before .before .before .before .before .before .before .before .before .before .before .before .before .before .before .certified .ensures .1 n o N K M v h)
+    c .before .before .before .before .before .before .before .before .witness .ensures n o N
+    (subst (λ (W : ℕ). Holds (tables (s .args .operands .now) (s .args .results .now)) (s .args .count) W n o N)
+    (sym (length-take-le _ _ (omega (arith, s .pre .3)))) H) M
+    (λ v h. c .before .before .before .before .before .before .before .before .before .before .before .before .before .before .before .before .before
+    .before .before .before .certified .ensures .1 n o N K M v h)
 
 pub verdict-spec : {M : Type 1} → statement M
 verdict-spec =

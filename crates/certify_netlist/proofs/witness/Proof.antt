@@ -29,9 +29,15 @@ same-length-4 : tie.Need-same-length-4
 same-length-4 c = search needs
 
 returns : tie.Need-returns
-returns c = λ n o N H M lower. let s = c .before .before .before .before .before .before .before .before .before .before .before .before .before .before .before .before .before .before .before .before .before .before .before .before .before .before in
-    let l = c .before .before .before .before .before .before .before .before .before .before .before .before .before .before .before .before .search .kept .1 .1 .1 .1 .0 in
-    c .before .before .before .before .tell-leak .ensures N (s .args .codes .now) refl (omega (arith, H .wires, l, c .before .before .before .before .before .before .before .before .before .before .if1 .taken)) (c .before .before .before .before .before .before .before .before .before .before .before .before .before .before .before .before .search .ensures n o N H M (omega (arith, l, c .before .before .before .before .before .before .before .before .before .before .if1 .taken)))
+returns c = λ n o N H M lower. let s =
+    c .before .before .before .before .before .before .before .before .before .before .before .before .before .before .before .before .before .before .before
+    .before .before .before .before .before .before .before in
+    let l = c .before .before .before .before .before .before .before .before .before .before .before .before .before .before .before .before .search .kept .1
+    .1 .1 .1 .0 in
+    c .before .before .before .before .tell-leak .ensures N (s .args .codes .now) refl
+    (omega (arith, H .wires, l, c .before .before .before .before .before .before .before .before .before .before .if1 .taken))
+    (c .before .before .before .before .before .before .before .before .before .before .before .before .before .before .before .before .search .ensures n o
+    N H M (omega (arith, l, c .before .before .before .before .before .before .before .before .before .before .if1 .taken)))
 
 tell-unknown-requires : tie.Need-tell-unknown-requires
 tell-unknown-requires c κs = search needs
@@ -46,7 +52,9 @@ same-length-7 : tie.Need-same-length-7
 same-length-7 c = search needs
 
 returns-2 : tie.Need-returns-2
-returns-2 c = λ n o N H M lower. let s = c .before .before .before .before .before .before .before .before .before .before .before .before .before .before .before .before .before .before .before .before in c .before .before .tell-unknown .ensures N (s .args .codes .now) (s .args .ones .now) (omega (arith, H .wires, s .pre .3)) lower
+returns-2 c = λ n o N H M lower. let s =
+    c .before .before .before .before .before .before .before .before .before .before .before .before .before .before .before .before .before .before .before
+    .before in c .before .before .tell-unknown .ensures N (s .args .codes .now) (s .args .ones .now) (omega (arith, H .wires, s .pre .3)) lower
 
 pub witness-spec : {M : Type 1} → statement M
 witness-spec =

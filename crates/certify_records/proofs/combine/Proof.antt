@@ -26,7 +26,9 @@ enum-told : tie.Need-enum-told
 enum-told c = search needs
 
 returns : tie.Need-returns
-returns c = let a = c .before .before .before .before .before .before .before .aligned .ensures in join-says (c .before .before .before .before .before .before .before .before .args .kind) (a .0) (a .1) (c .reduced .ensures) (rw (c .before .before .r .given .1) at (c .before .before .before .before .meet .ensures))
+returns c = let a = c .before .before .before .before .before .before .before .aligned .ensures in
+    join-says (c .before .before .before .before .before .before .before .before .args .kind) (a .0) (a .1) (c .reduced .ensures)
+    (rw (c .before .before .r .given .1) at (c .before .before .before .before .meet .ensures))
 
 returns-2 : tie.Need-returns-2
 returns-2 c = search needs

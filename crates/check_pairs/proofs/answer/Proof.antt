@@ -24,7 +24,9 @@ shorter-requires-2 : tie.Need-shorter-requires-2
 shorter-requires-2 c κs = search needs
 
 read-requires : tie.Need-read-requires
-read-requires c κs = rw (c .before .before .before .before .before .before .before .large .ensures) (readable-large (c .before .before .before .before .before .before .before .before .before .before .before .before .before .before .before .before .before .args .sizes))
+read-requires c κs = rw (c .before .before .before .before .before .before .before .large .ensures)
+    (readable-large (c .before .before .before .before .before .before .before .before .before .before .before .before .before .before .before .before .before
+    .args .sizes))
 
 enum-known-question : tie.Need-enum-known-question
 enum-known-question c = search needs
@@ -33,7 +35,9 @@ enum-known-h : tie.Need-enum-known-h
 enum-known-h c = search needs
 
 judge-requires : tie.Need-judge-requires
-judge-requires c κs = let s = c .before .before .before .before .before .before .before .before .before .before .before .before .before .before .before .before .before .before .before .before .before .before .before .before .before .before .before .before .before .before .before .before .args in
+judge-requires c κs = let s =
+    c .before .before .before .before .before .before .before .before .before .before .before .before .before .before .before .before .before .before .before
+    .before .before .before .before .before .before .before .before .before .before .before .before .before .args in
     let t = c .before .before .before .before .before .before .before .before .before .before .before .before .before .before .read in
     let o = length (s .operands .now) in
     let r = length (s .results .now) in
@@ -42,10 +46,15 @@ judge-requires c κs = let s = c .before .before .before .before .before .before
     let b = length (s .base .now) in
     let z = length (s .bases .now) in
     let k = read-is (o ∷ r ∷ g ∷ _ ∷ []) (s .text .now) (t .last .1 .0) (t .last .1 .1 .0) (tables (t .last .1 .1 .1 .0) (t .last .1 .1 .1 .1 .0))
-    (c .before .before .before .before .before .before .before .before .before .before .before .before .before .before .before .before .before .before .before .before .before .before .large .ensures) (c .before .before .before .before .before .before .h .given .1) (t .ensures) in
+    (c .before .before .before .before .before .before .before .before .before .before .before .before .before .before .before .before .before .before .before
+    .before .before .before .large .ensures) (c .before .before .before .before .before .before .h .given .1) (t .ensures) in
     let a = k .1 in
     let long = sym (all-long (s .sizes) (s .text .now) (s .codes .now) (s .pairs .now) (s .operands .now) (s .results .now) (s .marks .now) (s .words .now)
-    (s .base .now) (s .bases .now) (c .before .before .before .before .before .before .before .before .before .before .before .before .before .before .before .before .before .before .before .before .before .shorter .ensures) (c .before .before .before .before .before .before .before .before .before .before .before .before .before .before .before .before .before .before .before .before .shorter2 .ensures)) ∙ k .0 in (
+    (s .base .now) (s .bases .now)
+    (c .before .before .before .before .before .before .before .before .before .before .before .before .before .before .before .before .before .before
+    .before .before .before .shorter .ensures)
+    (c .before .before .before .before .before .before .before .before .before .before .before .before .before .before .before .before .before .before
+    .before .before .shorter2 .ensures)) ∙ k .0 in (
       a .wired,
       (
         a .manyIn,
@@ -67,12 +76,16 @@ same-length-3 : tie.Need-same-length-3
 same-length-3 c = search needs
 
 returns : tie.Need-returns
-returns c = let s = c .before .before .before .before .before .before .before .before .before .before .before .before .before .before .before .before .before .before .before .before .before .before .before .before .before .before .before .args in
+returns c = let s = c .before .before .before .before .before .before .before .before .before .before .before .before .before .before .before .before .before
+    .before .before .before .before .before .before .before .before .before .before .args in
     let t = c .before .before .before .before .before .before .before .before .before .read in
     call-not (s .sizes) (s .text .now) (s .codes .now) (s .pairs .now) (s .operands .now) (s .results .now) (s .marks .now) (s .words .now) (s .base .now)
-    (s .bases .now) (c .before .before .before .before .before .before .before .before .before .before .before .before .before .before .before .before .shorter .ensures) (c .before .before .before .before .before .before .before .before .before .before .before .before .before .before .before .shorter2 .ensures)
+    (s .bases .now) (c .before .before .before .before .before .before .before .before .before .before .before .before .before .before .before .before .shorter
+    .ensures) (c .before .before .before .before .before .before .before .before .before .before .before .before .before .before .before .shorter2 .ensures)
     (read-is (length (s .operands .now) ∷ length (s .results .now) ∷ length (s .marks .now) ∷ _ ∷ []) (s .text .now) (t .last .1 .0) (t .last .1 .1 .0)
-    (tables (t .last .1 .1 .1 .0) (t .last .1 .1 .1 .1 .0)) (c .before .before .before .before .before .before .before .before .before .before .before .before .before .before .before .before .before .large .ensures) (c .before .question .given .1) (t .ensures))
+    (tables (t .last .1 .1 .1 .0) (t .last .1 .1 .1 .1 .0))
+    (c .before .before .before .before .before .before .before .before .before .before .before .before .before .before .before .before .before .large
+    .ensures) (c .before .question .given .1) (t .ensures))
 
 same-length-4 : tie.Need-same-length-4
 same-length-4 c = search needs
@@ -93,12 +106,22 @@ same-length-9 : tie.Need-same-length-9
 same-length-9 c = search needs
 
 returns-2 : tie.Need-returns-2
-returns-2 c = let s = c .before .before .before .before .before .before .before .before .before .before .before .before .before .before .before .before .before .before .before .before .before .before .before .before .before .before .before .before .before .before .before .before .before .before .before .before .before .before .before .args in
-    let t = c .before .before .before .before .before .before .before .before .before .before .before .before .before .before .before .before .before .before .before .before .before .read in
+returns-2 c = let s =
+    c .before .before .before .before .before .before .before .before .before .before .before .before .before .before .before .before .before .before .before
+    .before .before .before .before .before .before .before .before .before .before .before .before .before .before .before .before .before .before .before
+    .before .args in
+    let t = c .before .before .before .before .before .before .before .before .before .before .before .before .before .before .before .before .before .before
+    .before .before .before .read in
     call-read (s .sizes) (s .text .now) (s .codes .now) (s .pairs .now) (s .operands .now) (s .results .now) (s .marks .now) (s .words .now) (s .base .now)
-    (s .bases .now) (c .before .before .before .before .before .before .before .before .before .before .before .before .before .before .before .before .before .before .before .before .before .before .before .before .before .before .before .before .shorter .ensures) (c .before .before .before .before .before .before .before .before .before .before .before .before .before .before .before .before .before .before .before .before .before .before .before .before .before .before .before .shorter2 .ensures)
+    (s .bases .now) (c .before .before .before .before .before .before .before .before .before .before .before .before .before .before .before .before .before
+    .before .before .before .before .before .before .before .before .before .before .before .shorter .ensures)
+    (c .before .before .before .before .before .before .before .before .before .before .before .before .before .before .before .before .before .before
+    .before .before .before .before .before .before .before .before .before .shorter2 .ensures)
     (read-is (length (s .operands .now) ∷ length (s .results .now) ∷ length (s .marks .now) ∷ _ ∷ []) (s .text .now) (t .last .1 .0) (t .last .1 .1 .0)
-    (tables (t .last .1 .1 .1 .0) (t .last .1 .1 .1 .1 .0)) (c .before .before .before .before .before .before .before .before .before .before .before .before .before .before .before .before .before .before .before .before .before .before .before .before .before .before .before .before .before .large .ensures) (c .before .before .before .before .before .before .before .before .before .before .before .before .before .h .given .1) (t .ensures))
+    (tables (t .last .1 .1 .1 .0) (t .last .1 .1 .1 .1 .0))
+    (c .before .before .before .before .before .before .before .before .before .before .before .before .before .before .before .before .before .before
+    .before .before .before .before .before .before .before .before .before .before .before .large .ensures)
+    (c .before .before .before .before .before .before .before .before .before .before .before .before .before .h .given .1) (t .ensures))
     (c .before .before .before .before .before .before .judge .ensures)
 
 pub answer-spec : {M : Type 1} → statement M

@@ -47,17 +47,25 @@ same-length-6 : tie.Need-same-length-6
 same-length-6 c = search needs
 
 returns : tie.Need-returns
-returns c = let s = c .before .before .before .before .before .before .before .before .before .before .before .before .before .before .before .before .before .before .before .before .before .before .before .before .before .before .before .before .before .before .before .before .before .before .before .before .before .before .before .before .before .before .before .before .before .before .before .before .before .before .before .before .args in
-    let a = c .before .before .before .before .before .before .before .before .before .before .before .before .before .before .before .before .before .before .before .before .before .before .before .before .before .before .before .before .before .before .before .before .before .before .before .before .answer in
+returns c = let s = c .before .before .before .before .before .before .before .before .before .before .before .before .before .before .before .before .before
+    .before .before .before .before .before .before .before .before .before .before .before .before .before .before .before .before .before .before .before
+    .before .before .before .before .before .before .before .before .before .before .before .before .before .before .before .before .args in
+    let a = c .before .before .before .before .before .before .before .before .before .before .before .before .before .before .before .before .before .before
+    .before .before .before .before .before .before .before .before .before .before .before .before .before .before .before .before .before .before .answer
+    in
     record {
       outcome = a .ensures;
       judged = call-judged (s .sizes) (s .text .now) (s .codes .now) (s .pairs .now) (s .operands .now) (s .results .now) (s .marks .now) (s .words .now)
           (s .base .now) (s .bases .now) (a .result) (a .ensures);
       check = λ v p e. call-check (s .sizes) (s .text .now) (s .codes .now) (s .pairs .now) (s .operands .now) (s .results .now) (s .marks .now)
           (s .words .now) (s .base .now) (s .bases .now) v p (sym (ap outcomeOf e) ∙ a .ensures);
-      operands = zeros-same (c .before .before .before .before .before .before .before .before .before .before .before .before .before .before .before .before .before .before .before .before .before .before .words2 .ensures) (a .kept .1 .1 .1 .0);
-      results = zeros-same (c .before .before .before .before .before .before .before .before .before .before .before .before .before .before .before .before .before .before .words3 .ensures) (a .kept .1 .1 .1 .1 .0);
-      marks = zeros-same (c .before .before .before .before .before .before .before .before .before .before .before .before .before .before .bytes .ensures) (a .kept .1 .1 .1 .1 .1 .0);
+      operands = zeros-same
+          (c .before .before .before .before .before .before .before .before .before .before .before .before .before .before .before .before .before .before
+          .before .before .before .before .words2 .ensures) (a .kept .1 .1 .1 .0);
+      results = zeros-same (c .before .before .before .before .before .before .before .before .before .before .before .before .before .before .before .before
+          .before .before .words3 .ensures) (a .kept .1 .1 .1 .1 .0);
+      marks = zeros-same (c .before .before .before .before .before .before .before .before .before .before .before .before .before .before .bytes .ensures)
+          (a .kept .1 .1 .1 .1 .1 .0);
       words = zeros-same (c .before .before .before .before .before .before .before .before .before .before .words4 .ensures) (a .kept .1 .1 .1 .1 .1 .1 .0);
       base = zeros-same (c .before .before .before .before .before .before .words6 .ensures) (a .kept .1 .1 .1 .1 .1 .1 .1 .0);
       bases = zeros-same (c .before .before .words7 .ensures) (a .kept .1 .1 .1 .1 .1 .1 .1 .1 .0);

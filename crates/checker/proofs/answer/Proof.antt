@@ -26,7 +26,8 @@ shorter-requires : tie.Need-shorter-requires
 shorter-requires c κs = search needs
 
 read-requires : tie.Need-read-requires
-read-requires c κs = rw (c .before .before .before .before .before .before .large .ensures) (readable-large (c .before .before .before .before .before .before .before .before .before .before .before .before .before .before .args .sizes))
+read-requires c κs = rw (c .before .before .before .before .before .before .large .ensures)
+    (readable-large (c .before .before .before .before .before .before .before .before .before .before .before .before .before .before .args .sizes))
 
 enum-known-question : tie.Need-enum-known-question
 enum-known-question c = search needs
@@ -36,7 +37,8 @@ enum-known-h c = search needs
 
 judge-requires : tie.Need-judge-requires
 judge-requires c κs =
-    let s = c .before .before .before .before .before .before .before .before .before .before .before .before .before .before .before .before .before .before .before .before .before .before .before .before .before .before .before .before .args in
+    let s = c .before .before .before .before .before .before .before .before .before .before .before .before .before .before .before .before .before .before
+    .before .before .before .before .before .before .before .before .before .before .args in
     let t = c .before .before .before .before .before .before .before .before .before .before .before .before .before .read in
     let o = length (s .operands .now) in
     let r = length (s .results .now) in
@@ -44,9 +46,12 @@ judge-requires c κs =
     let w = length (s .words .now) in
     let b = length (s .base .now) in
     let k = read-is (o ∷ r ∷ g ∷ _ ∷ []) (s .text .now) (t .last .1 .0) (t .last .1 .1 .0) (tables (t .last .1 .1 .1 .0) (t .last .1 .1 .1 .1 .0))
-    (c .before .before .before .before .before .before .before .before .before .before .before .before .before .before .before .before .before .before .before .before .large .ensures) (c .before .before .before .before .before .h .given .1) (t .ensures) in
+    (c .before .before .before .before .before .before .before .before .before .before .before .before .before .before .before .before .before .before .before
+    .before .large .ensures) (c .before .before .before .before .before .h .given .1) (t .ensures) in
     let a = k .1 in
-    let long = sym (all-long (s .sizes) (s .text .now) (s .codes .now) (s .operands .now) (s .results .now) (s .marks .now) (s .words .now) (s .base .now) (c .before .before .before .before .before .before .before .before .before .before .before .before .before .before .before .before .before .before .before .shorter .ensures)) ∙ k .0 in (
+    let long = sym (all-long (s .sizes) (s .text .now) (s .codes .now) (s .operands .now) (s .results .now) (s .marks .now) (s .words .now) (s .base .now)
+    (c .before .before .before .before .before .before .before .before .before .before .before .before .before .before .before .before .before .before
+    .before .shorter .ensures)) ∙ k .0 in (
       a .wired,
       (
         a .manyIn,
@@ -68,12 +73,15 @@ same-length-3 c = search needs
 
 returns : tie.Need-returns
 returns c =
-    let s = c .before .before .before .before .before .before .before .before .before .before .before .before .before .before .before .before .before .before .before .before .before .before .before .before .args in
+    let s = c .before .before .before .before .before .before .before .before .before .before .before .before .before .before .before .before .before .before
+    .before .before .before .before .before .before .args in
     let t = c .before .before .before .before .before .before .before .before .before .read in
     call-not (s .sizes) (s .text .now) (s .codes .now) (s .operands .now) (s .results .now) (s .marks .now) (s .words .now) (s .base .now)
     (c .before .before .before .before .before .before .before .before .before .before .before .before .before .before .before .shorter .ensures)
     (read-is (length (s .operands .now) ∷ length (s .results .now) ∷ length (s .marks .now) ∷ _ ∷ []) (s .text .now) (t .last .1 .0) (t .last .1 .1 .0)
-    (tables (t .last .1 .1 .1 .0) (t .last .1 .1 .1 .1 .0)) (c .before .before .before .before .before .before .before .before .before .before .before .before .before .before .before .before .large .ensures) (c .before .question .given .1) (t .ensures))
+    (tables (t .last .1 .1 .1 .0) (t .last .1 .1 .1 .1 .0))
+    (c .before .before .before .before .before .before .before .before .before .before .before .before .before .before .before .before .large .ensures)
+    (c .before .question .given .1) (t .ensures))
 
 same-length-4 : tie.Need-same-length-4
 same-length-4 c = search needs
@@ -92,12 +100,17 @@ same-length-8 c = search needs
 
 returns-2 : tie.Need-returns-2
 returns-2 c =
-    let s = c .before .before .before .before .before .before .before .before .before .before .before .before .before .before .before .before .before .before .before .before .before .before .before .before .before .before .before .before .before .before .before .before .before .args in
+    let s = c .before .before .before .before .before .before .before .before .before .before .before .before .before .before .before .before .before .before
+    .before .before .before .before .before .before .before .before .before .before .before .before .before .before .before .args in
     let t = c .before .before .before .before .before .before .before .before .before .before .before .before .before .before .before .before .before .before .read in
     call-read (s .sizes) (s .text .now) (s .codes .now) (s .operands .now) (s .results .now) (s .marks .now) (s .words .now) (s .base .now)
-    (c .before .before .before .before .before .before .before .before .before .before .before .before .before .before .before .before .before .before .before .before .before .before .before .before .shorter .ensures)
+    (c .before .before .before .before .before .before .before .before .before .before .before .before .before .before .before .before .before .before .before
+    .before .before .before .before .before .shorter .ensures)
     (read-is (length (s .operands .now) ∷ length (s .results .now) ∷ length (s .marks .now) ∷ _ ∷ []) (s .text .now) (t .last .1 .0) (t .last .1 .1 .0)
-    (tables (t .last .1 .1 .1 .0) (t .last .1 .1 .1 .1 .0)) (c .before .before .before .before .before .before .before .before .before .before .before .before .before .before .before .before .before .before .before .before .before .before .before .before .before .large .ensures) (c .before .before .before .before .before .before .before .before .before .before .h .given .1) (t .ensures))
+    (tables (t .last .1 .1 .1 .0) (t .last .1 .1 .1 .1 .0))
+    (c .before .before .before .before .before .before .before .before .before .before .before .before .before .before .before .before .before .before
+    .before .before .before .before .before .before .before .large .ensures)
+    (c .before .before .before .before .before .before .before .before .before .before .h .given .1) (t .ensures))
     (c .before .before .before .before .judge .ensures)
 
 pub answer-spec : {M : Type 1} → statement M

@@ -12,7 +12,8 @@ large-requires : tie.Need-large-requires
 large-requires c κs = search needs
 
 read-in-requires : tie.Need-read-in-requires
-read-in-requires c κs = rw (c .before .before .before .before .before .large .ensures) (readable-large (c .before .before .before .before .before .before .before .before .before .before .before .args .sizes))
+read-in-requires c κs = rw (c .before .before .before .before .before .large .ensures)
+    (readable-large (c .before .before .before .before .before .before .before .before .before .before .before .args .sizes))
 
 enum-known-question : tie.Need-enum-known-question
 enum-known-question c = search needs
@@ -22,10 +23,13 @@ enum-known-h c = search needs
 
 write-requires : tie.Need-write-requires
 write-requires c κs =
-    let s = c .before .before .before .before .before .before .before .before .before .before .before .before .before .before .before .before .before .before .before .before .before .before .before .before .args in
+    let s = c .before .before .before .before .before .before .before .before .before .before .before .before .before .before .before .before .before .before
+    .before .before .before .before .before .before .args in
     let t = c .before .before .before .before .before .before .before .before .before .before .before .before .read-in in
     let k = read-in-is (s .from) (length (s .operands .now) ∷ length (s .results .now) ∷ length (s .marks .now) ∷ length (s .marks .now) ∷ []) (s .text .now)
-    (t .last .1 .0) (t .last .1 .1 .0) (tables (t .last .1 .1 .1 .0) (t .last .1 .1 .1 .1 .0)) (c .before .before .before .before .before .before .before .before .before .before .before .before .before .before .before .before .before .before .large .ensures) (c .before .before .before .before .h .given .1) (t .ensures) in
+    (t .last .1 .0) (t .last .1 .1 .0) (tables (t .last .1 .1 .1 .0) (t .last .1 .1 .1 .1 .0))
+    (c .before .before .before .before .before .before .before .before .before .before .before .before .before .before .before .before .before .before
+    .large .ensures) (c .before .before .before .before .h .given .1) (t .ensures) in
     (k .1 .manyIn, k .1 .manyOut, k .1 .wired)
 
 same-length : tie.Need-same-length
@@ -39,11 +43,14 @@ same-length-3 c = search needs
 
 returns : tie.Need-returns
 returns c =
-    let s = c .before .before .before .before .before .before .before .before .before .before .before .before .before .before .before .before .before .before .before .before .before .args in
+    let s = c .before .before .before .before .before .before .before .before .before .before .before .before .before .before .before .before .before .before
+    .before .before .before .args in
     let t = c .before .before .before .before .before .before .before .before .before .read-in in
     call-not (s .from) (s .to) (s .sizes) (s .text .now) _ (s .operands .now) (s .results .now) (s .marks .now)
     (read-in-is (s .from) (length (s .operands .now) ∷ length (s .results .now) ∷ length (s .marks .now) ∷ length (s .marks .now) ∷ []) (s .text .now)
-    (t .last .1 .0) (t .last .1 .1 .0) (tables (t .last .1 .1 .1 .0) (t .last .1 .1 .1 .1 .0)) (c .before .before .before .before .before .before .before .before .before .before .before .before .before .before .before .large .ensures) (c .before .question .given .1) (t .ensures))
+    (t .last .1 .0) (t .last .1 .1 .0) (tables (t .last .1 .1 .1 .0) (t .last .1 .1 .1 .1 .0))
+    (c .before .before .before .before .before .before .before .before .before .before .before .before .before .before .before .large .ensures)
+    (c .before .question .given .1) (t .ensures))
 
 same-length-4 : tie.Need-same-length-4
 same-length-4 c = search needs
@@ -59,11 +66,14 @@ same-length-7 c = search needs
 
 returns-2 : tie.Need-returns-2
 returns-2 c =
-    let s = c .before .before .before .before .before .before .before .before .before .before .before .before .before .before .before .before .before .before .before .before .before .before .before .before .before .before .before .args in
+    let s = c .before .before .before .before .before .before .before .before .before .before .before .before .before .before .before .before .before .before
+    .before .before .before .before .before .before .before .before .before .args in
     let t = c .before .before .before .before .before .before .before .before .before .before .before .before .before .before .before .read-in in
     call-read (s .from) (s .to) (s .sizes) (s .text .now) (s .out .now) (s .operands .now) (s .results .now) (s .marks .now)
     (read-in-is (s .from) (length (s .operands .now) ∷ length (s .results .now) ∷ length (s .marks .now) ∷ length (s .marks .now) ∷ []) (s .text .now)
-    (t .last .1 .0) (t .last .1 .1 .0) (tables (t .last .1 .1 .1 .0) (t .last .1 .1 .1 .1 .0)) (c .before .before .before .before .before .before .before .before .before .before .before .before .before .before .before .before .before .before .before .before .before .large .ensures) (c .before .before .before .before .before .before .before .h .given .1) (t .ensures))
+    (t .last .1 .0) (t .last .1 .1 .0) (tables (t .last .1 .1 .1 .0) (t .last .1 .1 .1 .1 .0))
+    (c .before .before .before .before .before .before .before .before .before .before .before .before .before .before .before .before .before .before
+    .before .before .before .large .ensures) (c .before .before .before .before .before .before .before .h .given .1) (t .ensures))
     (c .before .before .write .ensures)
 
 pub answer-spec : {M : Type 1} → statement M

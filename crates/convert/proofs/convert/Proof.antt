@@ -30,7 +30,8 @@ same-length-4 c = search needs
 
 returns : tie.Need-returns
 returns c =
-    let a = c .before .before .before .before .before .before .before .before .before .before .before .before .before .before .before .before .before .before .before .before .answer in
+    let a = c .before .before .before .before .before .before .before .before .before .before .before .before .before .before .before .before .before .before
+    .before .before .answer in
     record {
       answers = a .ensures;
       operands = zeros-same (c .before .before .before .before .before .before .before .before .before .before .words .ensures) (a .kept .1 .1 .0);

@@ -16,7 +16,8 @@ has-form-requires c κs = search needs
 returns : tie.Need-returns
 returns c =
     let s = c .before .before .before .before .before .before .args in
-    form-not (s .to) (gatesOf (tables (s .operands .now) (s .results .now)) (s .h .gates)) (s .inputs) (s .outputs) (omega (arith, c .before .before .before .before .before .before .pre .0))
+    form-not (s .to) (gatesOf (tables (s .operands .now) (s .results .now)) (s .h .gates)) (s .inputs) (s .outputs)
+    (omega (arith, c .before .before .before .before .before .before .pre .0))
     (omega (arith, c .before .before .before .before .before .before .pre .1)) (c .before .has-form .ensures) _ _ (not-true _ (c .if1 .taken))
 
 deliver-requires : tie.Need-deliver-requires
@@ -28,8 +29,11 @@ same-length c = search needs
 returns-2 : tie.Need-returns-2
 returns-2 c =
     let s = c .before .before .before .before .before .before .before .before .before .before .args in
-    form-yes (s .to) (gatesOf (tables (s .operands .now) (s .results .now)) (s .h .gates)) (s .inputs) (s .outputs) (omega (arith, c .before .before .before .before .before .before .before .before .before .before .pre .0))
-    (omega (arith, c .before .before .before .before .before .before .before .before .before .before .pre .1)) (c .before .before .before .before .before .has-form .ensures) (not-false _ (c .before .before .before .before .if1 .left)) (c .before .before .deliver .ensures)
+    form-yes (s .to) (gatesOf (tables (s .operands .now) (s .results .now)) (s .h .gates)) (s .inputs) (s .outputs)
+    (omega (arith, c .before .before .before .before .before .before .before .before .before .before .pre .0))
+    (omega (arith, c .before .before .before .before .before .before .before .before .before .before .pre .1))
+    (c .before .before .before .before .before .has-form .ensures) (not-false _ (c .before .before .before .before .if1 .left))
+    (c .before .before .deliver .ensures)
 
 pub write-spec : {M : Type 1} → statement M
 write-spec =

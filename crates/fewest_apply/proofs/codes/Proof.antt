@@ -29,7 +29,12 @@ code-requires : tie.Need-code-requires Inv-loop μ-loop
 code-requires c κs = search needs
 
 slice-write-out : tie.Need-slice-write-out Inv-loop μ-loop
-slice-write-out c = omega (arith, c .before .before .before .before .before .before .before .before .pre .1, c .before .before .before .loop-test .taken, c .before .before .before .before .loop .inv .so .size)
+slice-write-out c = omega (
+  arith,
+  c .before .before .before .before .before .before .before .before .pre .1,
+  c .before .before .before .loop-test .taken,
+  c .before .before .before .before .loop .inv .so .size,
+)
 
 add-i : tie.Need-add-i Inv-loop μ-loop
 add-i c = search needs
@@ -38,7 +43,8 @@ loop-less : tie.Need-loop-less Inv-loop μ-loop
 loop-less c = search needs
 
 loop-again : tie.Need-loop-again Inv-loop μ-loop
-loop-again c = filling-more (c .before .before .before .before .loop .inv) (c .before .before .before .loop-test .taken) (c .before .before .before .before .before .before .before .before .pre .1) (c .code .ensures)
+loop-again c = filling-more (c .before .before .before .before .loop .inv) (c .before .before .before .loop-test .taken)
+    (c .before .before .before .before .before .before .before .before .pre .1) (c .code .ensures)
 
 same-length : tie.Need-same-length Inv-loop μ-loop
 same-length c = c .before .loop .inv .so .size

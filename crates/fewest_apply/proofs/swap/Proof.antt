@@ -28,7 +28,12 @@ mul-swapped : tie.Need-mul-swapped Inv-loop μ-loop
 mul-swapped c = search needs
 
 slice-read-swapped : tie.Need-slice-read-swapped Inv-loop μ-loop
-slice-read-swapped c = omega (arith, c .before .before .before .before .before .before .before .pre .0, c .before .before .loop-test .taken, c .before .before .before .loop .inv .so .size)
+slice-read-swapped c = omega (
+  arith,
+  c .before .before .before .before .before .before .before .pre .0,
+  c .before .before .loop-test .taken,
+  c .before .before .before .loop .inv .so .size,
+)
 
 mul-swapped-2 : tie.Need-mul-swapped-2 Inv-loop μ-loop
 mul-swapped-2 c = search needs
@@ -43,7 +48,12 @@ mul-operands : tie.Need-mul-operands Inv-loop μ-loop
 mul-operands c = search needs
 
 slice-write-operands : tie.Need-slice-write-operands Inv-loop μ-loop
-slice-write-operands c = omega (arith, c .before .before .before .before .before .before .before .before .before .pre .0, c .before .before .before .before .loop-test .taken, c .before .before .before .before .before .loop .inv .so .size)
+slice-write-operands c = omega (
+  arith,
+  c .before .before .before .before .before .before .before .before .before .pre .0,
+  c .before .before .before .before .loop-test .taken,
+  c .before .before .before .before .before .loop .inv .so .size,
+)
 
 add-i : tie.Need-add-i Inv-loop μ-loop
 add-i c = search needs
@@ -52,7 +62,8 @@ loop-less : tie.Need-loop-less Inv-loop μ-loop
 loop-less c = search needs
 
 loop-again : tie.Need-loop-again Inv-loop μ-loop
-loop-again c = swapping-more (c .before .before .before .before .before .loop .inv) (c .before .before .before .before .loop-test .taken) (c .before .before .before .before .before .before .before .before .before .pre .0) (c .swapped .ensures)
+loop-again c = swapping-more (c .before .before .before .before .before .loop .inv) (c .before .before .before .before .loop-test .taken)
+    (c .before .before .before .before .before .before .before .before .before .pre .0) (c .swapped .ensures)
 
 same-length : tie.Need-same-length Inv-loop μ-loop
 same-length c = c .before .loop .inv .so .size

@@ -21,9 +21,13 @@ enum-known-m : tie.Need-enum-known-m
 enum-known-m c = search needs
 
 write-requires : tie.Need-write-requires
-write-requires c κs = let s = c .before .before .before .before .before .before .before .before .before .before .before .before .before .before .before .before .before .before .before .before .before .before .args in
+write-requires c κs = let s =
+    c .before .before .before .before .before .before .before .before .before .before .before .before .before .before .before .before .before .before .before
+    .before .before .before .args in
     let r = c .before .before .before .before .before .before .before .before .before .before .before .before .read in
-    let a = read-is (c .before .before .before .before .before .before .before .before .before .before .before .before .before .before .before .before .small .ensures) (length (s .operands .now) ∷ length (s .results .now) ∷ length (s .variables .now) ∷ []) (s .text .now) (tables (r .last .1 .0) (r .last .1 .1 .0)) (r .result) _ (c .before .before .before .before .m .given .1) (r .ensures) in
+    let a = read-is (c .before .before .before .before .before .before .before .before .before .before .before .before .before .before .before .before .small
+    .ensures) (length (s .operands .now) ∷ length (s .results .now) ∷ length (s .variables .now) ∷ []) (s .text .now)
+    (tables (r .last .1 .0) (r .last .1 .1 .0)) (r .result) _ (c .before .before .before .before .m .given .1) (r .ensures) in
     a .wired
 
 same-length : tie.Need-same-length
@@ -36,10 +40,13 @@ same-length-3 : tie.Need-same-length-3
 same-length-3 c = search needs
 
 returns : tie.Need-returns
-returns c = let s = c .before .before .before .before .before .before .before .before .before .before .before .before .before .before .before .before .before .before .before .args in
+returns c = let s = c .before .before .before .before .before .before .before .before .before .before .before .before .before .before .before .before .before
+    .before .before .args in
     let r = c .before .before .before .before .before .before .before .before .before .read in
     call-read (s .sizes) (s .text .now) (s .out .now) (s .operands .now) (s .results .now) (s .variables .now)
-    (file-not _ _ _ (read-not (c .before .before .before .before .before .before .before .before .before .before .before .before .before .small .ensures) (length (s .operands .now) ∷ length (s .results .now) ∷ length (s .variables .now) ∷ []) (s .text .now) (tables (r .last .1 .0) (r .last .1 .1 .0)) (r .result) _ (c .before .question .given .1) (r .ensures)))
+    (file-not _ _ _ (read-not (c .before .before .before .before .before .before .before .before .before .before .before .before .before .small .ensures)
+    (length (s .operands .now) ∷ length (s .results .now) ∷ length (s .variables .now) ∷ []) (s .text .now) (tables (r .last .1 .0) (r .last .1 .1 .0))
+    (r .result) _ (c .before .question .given .1) (r .ensures)))
 
 same-length-4 : tie.Need-same-length-4
 same-length-4 c = search needs
@@ -54,11 +61,16 @@ same-length-7 : tie.Need-same-length-7
 same-length-7 c = search needs
 
 returns-2 : tie.Need-returns-2
-returns-2 c = let s = c .before .before .before .before .before .before .before .before .before .before .before .before .before .before .before .before .before .before .before .before .before .before .before .before .before .args in
+returns-2 c = let s =
+    c .before .before .before .before .before .before .before .before .before .before .before .before .before .before .before .before .before .before .before
+    .before .before .before .before .before .before .args in
     let r = c .before .before .before .before .before .before .before .before .before .before .before .before .before .before .before .read in
     let T = tables (r .last .1 .0) (r .last .1 .1 .0) in
     call-read (s .sizes) (s .text .now) (s .out .now) (s .operands .now) (s .results .now) (s .variables .now)
-    (file-read _ T _ (read-is (c .before .before .before .before .before .before .before .before .before .before .before .before .before .before .before .before .before .before .before .small .ensures) (length (s .operands .now) ∷ length (s .results .now) ∷ length (s .variables .now) ∷ []) (s .text .now) T (r .result) _ (c .before .before .before .before .before .before .before .m .given .1) (r .ensures)) (c .before .before .write .ensures))
+    (file-read _ T _ (read-is
+    (c .before .before .before .before .before .before .before .before .before .before .before .before .before .before .before .before .before .before
+    .before .small .ensures) (length (s .operands .now) ∷ length (s .results .now) ∷ length (s .variables .now) ∷ []) (s .text .now) T (r .result) _
+    (c .before .before .before .before .before .before .before .m .given .1) (r .ensures)) (c .before .before .write .ensures))
 
 pub answer-spec : {M : Type 1} → statement M
 answer-spec =

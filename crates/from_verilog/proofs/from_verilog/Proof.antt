@@ -55,17 +55,27 @@ same-length-8 c = search needs
 
 returns : tie.Need-returns
 returns c =
-    let s = c .before .before .before .before .before .before .before .before .before .before .before .before .before .before .before .before .before .before .before .before .before .before .before .before .before .before .before .before .before .before .before .before .before .before .before .before .before .before .before .before .before .before .before .before .before .before .before .before .before .before .before .before .before .before .before .before .before .before .before .before .before .before .args in
-    let a = c .before .before .before .before .before .before .before .before .before .before .before .before .before .before .before .before .before .before .before .before .before .before .before .before .before .before .before .before .before .before .before .before .before .before .before .before .before .before .before .before .before .before .before .before .answer in
+    let s = c .before .before .before .before .before .before .before .before .before .before .before .before .before .before .before .before .before .before
+    .before .before .before .before .before .before .before .before .before .before .before .before .before .before .before .before .before .before .before
+    .before .before .before .before .before .before .before .before .before .before .before .before .before .before .before .before .before .before .before
+    .before .before .before .before .before .before .args in
+    let a = c .before .before .before .before .before .before .before .before .before .before .before .before .before .before .before .before .before .before
+    .before .before .before .before .before .before .before .before .before .before .before .before .before .before .before .before .before .before .before
+    .before .before .before .before .before .before .before .answer in
     record {
       answers = a .ensures;
       delivered =
           call-delivered (s .sizes) (s .text .now) (s .out .now) (s .operands .now) (s .results .now) (s .heads .now) (s .words .now) (s .links .now) (s .states .now)
           (s .wires .now) (a .ensures);
-      operands = zeros-same (c .before .before .before .before .before .before .before .before .before .before .before .before .before .before .before .before .before .before .before .before .before .before .before .before .before .before .words2 .ensures) (a .kept .1 .1 .0);
-      results = zeros-same (c .before .before .before .before .before .before .before .before .before .before .before .before .before .before .before .before .before .before .before .before .before .before .words3 .ensures) (a .kept .1 .1 .1 .0);
-      heads = zeros-same (c .before .before .before .before .before .before .before .before .before .before .before .before .before .before .before .before .before .before .words4 .ensures) (a .kept .1 .1 .1 .1 .0);
-      words = zeros-same (c .before .before .before .before .before .before .before .before .before .before .before .before .before .before .words5 .ensures) (a .kept .1 .1 .1 .1 .1 .0);
+      operands = zeros-same
+          (c .before .before .before .before .before .before .before .before .before .before .before .before .before .before .before .before .before .before
+          .before .before .before .before .before .before .before .before .words2 .ensures) (a .kept .1 .1 .0);
+      results = zeros-same (c .before .before .before .before .before .before .before .before .before .before .before .before .before .before .before .before
+          .before .before .before .before .before .before .words3 .ensures) (a .kept .1 .1 .1 .0);
+      heads = zeros-same (c .before .before .before .before .before .before .before .before .before .before .before .before .before .before .before .before
+          .before .before .words4 .ensures) (a .kept .1 .1 .1 .1 .0);
+      words = zeros-same (c .before .before .before .before .before .before .before .before .before .before .before .before .before .before .words5 .ensures)
+          (a .kept .1 .1 .1 .1 .1 .0);
       links = zeros-same (c .before .before .before .before .before .before .before .before .before .before .words7 .ensures) (a .kept .1 .1 .1 .1 .1 .1 .0);
       states = zeros-same (c .before .before .before .before .before .before .wires2 .ensures) (a .kept .1 .1 .1 .1 .1 .1 .1 .0);
       wires = zeros-same (c .before .before .wires3 .ensures) (a .kept .1 .1 .1 .1 .1 .1 .1 .1 .0);

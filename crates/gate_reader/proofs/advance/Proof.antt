@@ -43,7 +43,7 @@ use denote.Triple.Table.{entered, cited}
 use denote.Triple.Walked.{says, Stays, stay-none, walkOf, goes-none, Walks, ends-at, walked, walk-meets}
 use denote.Exit.{yes}
 use Rattle.gate_reader.specs.Steps.{placeAfter}
-use Rattle.gate_reader.proofs.CallLaws.{advance-is}
+use Rattle.gate_reader.proofs.Calling.{advance-is}
 use Rattle.gate_reader.specs.declared.GateReader.{GateReader}
 use Rattle.gate_reader.specs.declared.step.Step.{Step}
 use Rattle.gate_reader.proofs.GateReader as T

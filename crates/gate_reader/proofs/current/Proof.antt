@@ -46,7 +46,7 @@ use denote.Triple.Walked.{says, Stays, stay-none, walkOf, goes-none, Walks, ends
 use denote.Exit.{yes}
 use denote.Triple.Clauses.{ensured, lasts}
 use Rattle.gate_reader.specs.Steps.{StepIs}
-use Rattle.gate_reader.proofs.CallLaws.{current-is}
+use Rattle.gate_reader.proofs.Calling.{current-is}
 use Rattle.gate_reader.specs.declared.GateReader.{GateReader}
 use Rattle.gate_reader.specs.declared.step.Step.{Step}
 use Rattle.gate_reader.proofs.GateReader as T

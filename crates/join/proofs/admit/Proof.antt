@@ -22,19 +22,26 @@ returns c = let a = c .before .before .before .before .before .args in
 
 sub-valid-codes : tie.Need-sub-valid-codes
 sub-valid-codes c = let a = c .before .before .before .before .before .args in
-    omega (arith, c .before .before .before .before .before .pre .1, masks-bits (take (a .h .«input_values») (a .widths .now)) (sym (c .before .ends-in-masks .ensures) ∙ not-false _ (c .if1 .left)))
+    omega (
+      arith,
+      c .before .before .before .before .before .pre .1,
+      masks-bits (take (a .h .«input_values») (a .widths .now))
+          (sym (c .before .ends-in-masks .ensures) ∙ not-false _ (c .if1 .left)),
+    )
 
 valid-codes-requires : tie.Need-valid-codes-requires
 valid-codes-requires c κs = search needs
 
 returns-2 : tie.Need-returns-2
 returns-2 c = let a = c .before .before .before .before .before .before .before .args in
-    ask-eleven (take (a .h .«input_values») (a .widths .now)) (a .codes .now) (a .h) (sym (c .before .before .before .ends-in-masks .ensures) ∙ not-false _ (c .before .before .if1 .left))
+    ask-eleven (take (a .h .«input_values») (a .widths .now)) (a .codes .now) (a .h)
+    (sym (c .before .before .before .ends-in-masks .ensures) ∙ not-false _ (c .before .before .if1 .left))
     (sym (c .before .valid-codes .ensures) ∙ not-true _ (c .if2 .taken))
 
 returns-3 : tie.Need-returns-3
 returns-3 c = let a = c .before .before .before .before .before .before .before .args in
-    ask-admits (take (a .h .«input_values») (a .widths .now)) (a .codes .now) (a .h) (sym (c .before .before .before .ends-in-masks .ensures) ∙ not-false _ (c .before .before .if1 .left))
+    ask-admits (take (a .h .«input_values») (a .widths .now)) (a .codes .now) (a .h)
+    (sym (c .before .before .before .ends-in-masks .ensures) ∙ not-false _ (c .before .before .if1 .left))
     (sym (c .before .valid-codes .ensures) ∙ not-false _ (c .if2 .left))
 
 pub admit-spec : {M : Type 1} → statement M

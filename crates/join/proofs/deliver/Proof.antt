@@ -31,15 +31,23 @@ cast-if2 c = search needs
 
 returns-2 : tie.Need-returns-2
 returns-2 c = λ A B F S. let a = c .before .before .before .before .before .before .before .before .before .before .before .before .before .before .args in
-    join-5 F S (a .l) (a .out-codes .now) (a .codes .now) (a .out .now) (sym (c .before .before .before .before .before .before .seam-holds .ensures) ∙ not-false _ (c .before .before .before .before .before .if1 .left)) (c .if2 .taken)
+    join-5 F S (a .l) (a .out-codes .now) (a .codes .now) (a .out .now) (sym (c .before .before .before .before .before .before .seam-holds .ensures) ∙
+    not-false _ (c .before .before .before .before .before .if1 .left)) (c .if2 .taken)
 
 write-requires : tie.Need-write-requires
-write-requires c κs = let p = c .before .before .before .before .before .before .before .before .before .before .before .before .before .before .before .before .before .pre in
+write-requires c κs = let p =
+    c .before .before .before .before .before .before .before .before .before .before .before .before .before .before .before .before .before .pre in
     let a = c .before .before .before .before .before .before .before .before .before .before .before .before .before .before .before .before .before .args in
-    let e = sym (c .before .before .before .before .before .before .before .before .before .seam-holds .ensures) ∙ not-false _ (c .before .before .before .before .before .before .before .before .if1 .left) in
+    let e = sym (c .before .before .before .before .before .before .before .before .before .seam-holds .ensures) ∙ not-false _
+    (c .before .before .before .before .before .before .before .before .if1 .left) in
     let w = c .before .before .before .if2 .left in (
       (seam-meets (a .a) (a .out-codes .now) (a .b) (a .codes .now) (p .0) (p .1) (p .4) e (omega (arith, w)), p .2, p .3, p .0 .wired, p .1 .wired),
-      (omega (arith, p .0 .gates, p .1 .gates, p .0 .ins, p .1 .ins), omega (arith, w, p .5, p .0 .gates, p .1 .gates, p .0 .ins, p .1 .ins), omega (arith, w, p .6, p .0 .gates, p .1 .gates, p .0 .ins, p .1 .ins)),
+      (
+        omega (arith, p .0 .gates, p .1 .gates, p .0 .ins, p .1 .ins),
+        omega (arith, w, p .5, p .0 .gates, p .1 .gates, p .0 .ins, p .1 .ins),
+        omega
+            (arith, w, p .6, p .0 .gates, p .1 .gates, p .0 .ins, p .1 .ins),
+      ),
     )
 
 same-length : tie.Need-same-length
@@ -52,9 +60,15 @@ same-length-3 : tie.Need-same-length-3
 same-length-3 c = search needs
 
 returns-3 : tie.Need-returns-3
-returns-3 c = λ A B F S. let a = c .before .before .before .before .before .before .before .before .before .before .before .before .before .before .before .before .before .before .before .before .before .before .before .before .args in
-    join-14 F S (a .l) (a .out-codes .now) (a .codes .now) (a .out .now) (sym (c .before .before .before .before .before .before .before .before .before .before .before .before .before .before .before .before .seam-holds .ensures) ∙ not-false _ (c .before .before .before .before .before .before .before .before .before .before .before .before .before .before .before .if1 .left))
-    (c .before .before .before .before .before .before .before .before .before .before .if2 .left) (c .before .before .before .before .before .before .write .ensures A B F S)
+returns-3 c = λ A B F S. let a =
+    c .before .before .before .before .before .before .before .before .before .before .before .before .before .before .before .before .before .before .before
+    .before .before .before .before .before .args in
+    join-14 F S (a .l) (a .out-codes .now) (a .codes .now) (a .out .now)
+    (sym (c .before .before .before .before .before .before .before .before .before .before .before .before .before .before .before .before .seam-holds
+    .ensures) ∙ not-false _
+    (c .before .before .before .before .before .before .before .before .before .before .before .before .before .before .before .if1 .left))
+    (c .before .before .before .before .before .before .before .before .before .before .if2 .left)
+    (c .before .before .before .before .before .before .write .ensures A B F S)
 
 pub deliver-spec : {M : Type 1} → statement M
 deliver-spec =

@@ -42,13 +42,19 @@ same-length-6 : tie.Need-same-length-6
 same-length-6 c = search needs
 
 returns : tie.Need-returns
-returns c = let s = c .before .before .before .before .before .before .before .before .before .before .before .before .before .before .before .before .before .before .before .before .before .before .before .before .before .before .before .before .before .before .before .before .before .before .before .before .before .before .before .before .before .before .before .before .before .before .before .before .before .before .args in
-    let a = c .before .before .before .before .before .before .before .before .before .before .before .before .before .before .before .before .before .before .before .before .before .before .before .before .before .before .before .before .before .before .before .before .answer in
+returns c = let s = c .before .before .before .before .before .before .before .before .before .before .before .before .before .before .before .before .before
+    .before .before .before .before .before .before .before .before .before .before .before .before .before .before .before .before .before .before .before
+    .before .before .before .before .before .before .before .before .before .before .before .before .before .before .args in
+    let a = c .before .before .before .before .before .before .before .before .before .before .before .before .before .before .before .before .before .before
+    .before .before .before .before .before .before .before .before .before .before .before .before .before .before .answer in
     let k = a .kept .1 .1 .1 .1 .1 .1 in
     record {
       answers = a .ensures;
-      delivered = call-delivered (s .sizes) (s .first .now) (s .second .now) (s .codes .now) (s .out-codes .now) (s .inner .now) (s .out .now) (s .operands .now) (s .results .now) (s .marks .now) (s .words .now) (s .base .now) (a .ensures);
-      operands = zeros-same (c .before .before .before .before .before .before .before .before .before .before .before .before .before .before .before .before .before .before .words2 .ensures) (k .0);
+      delivered = call-delivered (s .sizes) (s .first .now) (s .second .now) (s .codes .now) (s .out-codes .now) (s .inner .now) (s .out .now)
+          (s .operands .now) (s .results .now) (s .marks .now) (s .words .now) (s .base .now) (a .ensures);
+      operands = zeros-same
+          (c .before .before .before .before .before .before .before .before .before .before .before .before .before .before .before .before .before .before
+          .words2 .ensures) (k .0);
       results = zeros-same (c .before .before .before .before .before .before .before .before .before .before .before .before .before .before .words3 .ensures) (k .1 .0);
       marks = zeros-same (c .before .before .before .before .before .before .before .before .before .before .bytes .ensures) (k .1 .1 .0);
       words = zeros-same (c .before .before .before .before .before .before .words4 .ensures) (k .1 .1 .1 .0);

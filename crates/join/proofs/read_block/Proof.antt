@@ -21,11 +21,20 @@ enum-known-h : tie.Need-enum-known-h
 enum-known-h c = search needs
 
 admit-requires : tie.Need-admit-requires
-admit-requires c κs = let s = c .before .before .before .before .before .before .before .before .before .before .before .before .before .before .before .before .before .before .before .before .before .before .args in
+admit-requires c κs = let s =
+    c .before .before .before .before .before .before .before .before .before .before .before .before .before .before .before .before .before .before .before
+    .before .before .before .args in
     let t = c .before .before .before .before .before .before .before .before .before .before .before .read in
     let k = read-is (length (s .operands .now) ∷ length (s .results .now) ∷ length (s .marks .now) ∷ s .shortest ∷ []) (s .text .now) (t .last .1 .0)
-    (t .last .1 .1 .0) (tables (t .last .1 .1 .1 .0) (t .last .1 .1 .1 .1 .0)) refl (c .before .before .before .h .given .1) (t .ensures) in
-    (omega (arith, k .1 .manyIn, c .before .before .before .before .before .before .before .before .before .before .before .before .before .before .before .before .before .before .before .before .before .before .pre .inputs), read-bits (k .1))
+    (t .last .1 .1 .0) (tables (t .last .1 .1 .1 .0) (t .last .1 .1 .1 .1 .0)) refl (c .before .before .before .h .given .1) (t .ensures) in (
+      omega (
+        arith,
+        k .1 .manyIn,
+        c .before .before .before .before .before .before .before .before .before .before .before .before .before .before .before .before .before .before
+            .before .before .before .before .pre .inputs,
+      ),
+      read-bits (k .1),
+    )
 
 same-length : tie.Need-same-length
 same-length c = search needs
@@ -37,11 +46,13 @@ same-length-3 : tie.Need-same-length-3
 same-length-3 c = search needs
 
 returns : tie.Need-returns
-returns c = let s = c .before .before .before .before .before .before .before .before .before .before .before .before .before .before .before .before .before .before .before .before .args in
+returns c = let s = c .before .before .before .before .before .before .before .before .before .before .before .before .before .before .before .before .before
+    .before .before .before .args in
     let t = c .before .before .before .before .before .before .before .before .before .read in
     let ls = length (s .operands .now) ∷ length (s .results .now) ∷ length (s .marks .now) ∷ s .shortest ∷ [] in
     block-not (s .l) ls (s .text .now) (s .codes .now)
-    (read-is ls (s .text .now) (t .last .1 .0) (t .last .1 .1 .0) (tables (t .last .1 .1 .1 .0) (t .last .1 .1 .1 .1 .0)) refl (c .before .question .given .1) (t .ensures))
+    (read-is ls (s .text .now) (t .last .1 .0) (t .last .1 .1 .0) (tables (t .last .1 .1 .1 .0) (t .last .1 .1 .1 .1 .0)) refl (c .before .question .given .1)
+    (t .ensures))
 
 same-length-4 : tie.Need-same-length-4
 same-length-4 c = search needs
@@ -53,7 +64,9 @@ same-length-6 : tie.Need-same-length-6
 same-length-6 c = search needs
 
 returns-2 : tie.Need-returns-2
-returns-2 c = let s = c .before .before .before .before .before .before .before .before .before .before .before .before .before .before .before .before .before .before .before .before .before .before .before .args in
+returns-2 c = let s =
+    c .before .before .before .before .before .before .before .before .before .before .before .before .before .before .before .before .before .before .before
+    .before .before .before .before .args in
     let t = c .before .before .before .before .before .before .before .before .before .before .before .before .read in
     let ls = length (s .operands .now) ∷ length (s .results .now) ∷ length (s .marks .now) ∷ s .shortest ∷ [] in
     let tabs = tables (t .last .1 .1 .1 .0) (t .last .1 .1 .1 .1 .0) in

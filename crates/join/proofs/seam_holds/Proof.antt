@@ -22,7 +22,8 @@ all-secret-requires c κs = search needs
 
 returns-3 : tie.Need-returns-3
 returns-3 c = let a = c .before .before .before .before .before .before .before .before .args in
-    seam-public (a .a) (a .out-codes .now) (a .b) (a .codes .now) (c .before .before .before .before .if1 .left) (sym (c .before .before .before .same .ensures) ∙ not-false _ (c .before .before .if2 .left))
+    seam-public (a .a) (a .out-codes .now) (a .b) (a .codes .now) (c .before .before .before .before .if1 .left)
+    (sym (c .before .before .before .same .ensures) ∙ not-false _ (c .before .before .if2 .left))
     (sym (c .before .all-secret .ensures) ∙ not-true _ (c .if3 .taken))
 
 cast-result : tie.Need-cast-result
@@ -30,7 +31,8 @@ cast-result c = search needs
 
 returns-4 : tie.Need-returns-4
 returns-4 c = let a = c .before .before .before .before .before .before .before .before .before .before .args in
-    seam-gates (a .a) (a .out-codes .now) (a .b) (a .codes .now) (c .before .before .before .before .before .before .if1 .left) (sym (c .before .before .before .before .before .same .ensures) ∙ not-false _ (c .before .before .before .before .if2 .left))
+    seam-gates (a .a) (a .out-codes .now) (a .b) (a .codes .now) (c .before .before .before .before .before .before .if1 .left)
+    (sym (c .before .before .before .before .before .same .ensures) ∙ not-false _ (c .before .before .before .before .if2 .left))
     (sym (c .before .before .before .all-secret .ensures) ∙ not-false _ (c .before .before .if3 .left)) refl
 
 pub seam-holds-spec : {M : Type 1} → statement M

@@ -25,18 +25,41 @@ append-requires : tie.Need-append-requires
 append-requires c κs = search needs
 
 add-t13 : tie.Need-add-t13
-add-t13 c = omega (arith, c .before .before .before .before .before .before .before .before .before .before .before .before .before .before .before .before .before .before .before .pre .1 .0, c .before .before .before .before .before .before .before .before .before .before .before .before .before .before .before .before .before .before .before .pre .0 .0 .fits)
+add-t13 c = omega (
+  arith,
+  c .before .before .before .before .before .before .before .before .before .before .before .before .before .before .before .before .before .before .before
+      .pre .1 .0,
+  c .before .before .before .before .before .before .before .before .before .before .before .before .before .before .before .before .before
+      .before .before .pre .0 .0 .fits,
+)
 
 sub-t14 : tie.Need-sub-t14
-sub-t14 c = omega (arith, c .before .before .before .before .before .before .before .before .before .before .before .before .before .before .before .before .before .before .before .before .pre .0 .0 .inner)
+sub-t14 c = omega (
+  arith,
+  c .before .before .before .before .before .before .before .before .before .before .before .before .before .before .before .before .before .before .before
+      .before .pre .0 .0 .inner,
+)
 
 add-t22 : tie.Need-add-t22
-add-t22 c = omega (arith, c .before .before .before .before .before .before .before .before .before .before .before .before .before .before .before .before .before .before .before .before .before .pre .0 .0 .inner, c .before .before .before .before .before .before .before .before .before .before .before .before .before .before .before .before .before .before .before .before .before .pre .0 .0 .fits)
+add-t22 c = omega (
+  arith,
+  c .before .before .before .before .before .before .before .before .before .before .before .before .before .before .before .before .before .before .before
+      .before .before .pre .0 .0 .inner,
+  c .before .before .before .before .before .before .before .before .before .before .before .before .before .before .before .before .before .before .before
+      .before .before .pre .0 .0 .fits,
+)
 
 deliver-requires : tie.Need-deliver-requires
-deliver-requires c κs = let p = c .before .before .before .before .before .before .before .before .before .before .before .before .before .before .before .before .before .before .before .before .before .before .before .before .pre .0 in
-    let s = c .before .before .before .before .before .before .before .before .before .before .before .before .before .before .before .before .before .before .before .before .before .before .before .before .args in
-    (p .1, p .2, wired-same (wires-of (s .a) (s .b) (p .0)) (c .before .before .before .before .before .before .before .before .before .before .before .append .ensures .wired))
+deliver-requires c κs = let p =
+    c .before .before .before .before .before .before .before .before .before .before .before .before .before .before .before .before .before .before .before
+    .before .before .before .before .before .pre .0 in
+    let s = c .before .before .before .before .before .before .before .before .before .before .before .before .before .before .before .before .before .before
+    .before .before .before .before .before .before .args in (
+      p .1,
+      p .2,
+      wired-same (wires-of (s .a) (s .b) (p .0))
+          (c .before .before .before .before .before .before .before .before .before .before .before .append .ensures .wired),
+    )
 
 same-length : tie.Need-same-length
 same-length c = search needs
@@ -48,8 +71,15 @@ same-length-3 : tie.Need-same-length-3
 same-length-3 c = search needs
 
 returns : tie.Need-returns
-returns c = λ A B F S. let s = c .before .before .before .before .before .before .before .before .before .before .before .before .before .before .before .before .before .before .before .before .before .before .before .before .before .before .before .args in
-    delivers-as (joined-form F S (wires-of (s .a) (s .b) (c .before .before .before .before .before .before .before .before .before .before .before .before .before .before .before .before .before .before .before .before .before .before .before .before .before .before .before .pre .0 .0)) (c .before .before .before .before .before .before .before .before .before .before .before .before .before .before .append .ensures)) (c .before .before .deliver .ensures)
+returns c = λ A B F S. let s =
+    c .before .before .before .before .before .before .before .before .before .before .before .before .before .before .before .before .before .before .before
+    .before .before .before .before .before .before .before .before .args in
+    delivers-as (joined-form F S
+    (wires-of (s .a) (s .b)
+    (c .before .before .before .before .before .before .before .before .before .before .before .before .before .before .before .before .before .before
+    .before .before .before .before .before .before .before .before .before .pre .0 .0))
+    (c .before .before .before .before .before .before .before .before .before .before .before .before .before .before .append .ensures))
+    (c .before .before .deliver .ensures)
 
 pub write-spec : {M : Type 1} → statement M
 write-spec =

@@ -26,7 +26,8 @@ shared-slice-read-operands-entry : tie.Need-shared-slice-read-operands-entry Inv
 shared-slice-read-operands-entry c = omega (arith, c .before .before .before .before .before .before .before .pre .0 .2 .operands)
 
 operands-entry-requires : tie.Need-operands-entry-requires Inv-loop μ-loop
-operands-entry-requires c κs = let n = c .before .before .before .before .before .before .before .pre .0 .2 .each _ (c .before .loop-test .taken) in (c .before .before .before .before .before .before .before .pre .0 .0, n .left, n .right)
+operands-entry-requires c κs = let n = c .before .before .before .before .before .before .before .pre .0 .2 .each _ (c .before .loop-test .taken) in
+    (c .before .before .before .before .before .before .before .pre .0 .0, n .left, n .right)
 
 mul-operands : tie.Need-mul-operands Inv-loop μ-loop
 mul-operands c = search needs
@@ -41,13 +42,20 @@ shared-slice-read-result-entry : tie.Need-shared-slice-read-result-entry Inv-loo
 shared-slice-read-result-entry c = omega (arith, c .before .before .before .before .before .before .before .before .before .pre .0 .2 .results)
 
 result-entry-requires : tie.Need-result-entry-requires Inv-loop μ-loop
-result-entry-requires c κs = (c .before .before .before .before .before .before .before .before .before .pre .0 .0, c .before .before .before .before .before .before .before .before .before .pre .0 .2 .each _ (c .before .before .before .loop-test .taken) .result)
+result-entry-requires c κs = (
+  c .before .before .before .before .before .before .before .before .before .pre .0 .0,
+  c .before .before .before .before .before .before .before .before .before .pre .0 .2 .each _ (c .before .before .before .loop-test .taken) .result,
+)
 
 mul-results : tie.Need-mul-results Inv-loop μ-loop
 mul-results c = search needs
 
 slice-write-results : tie.Need-slice-write-results Inv-loop μ-loop
-slice-write-results c = omega (arith, c .before .before .before .before .before .before .before .before .before .before .pre .1 .1, c .before .before .before .before .before .loop .inv .so .results)
+slice-write-results c = omega (
+  arith,
+  c .before .before .before .before .before .before .before .before .before .before .pre .1 .1,
+  c .before .before .before .before .before .loop .inv .so .results,
+)
 
 add-i : tie.Need-add-i Inv-loop μ-loop
 add-i c = search needs
@@ -57,7 +65,8 @@ loop-less c = search needs
 
 loop-again : tie.Need-loop-again Inv-loop μ-loop
 loop-again c = let p = c .before .before .before .before .before .before .before .before .before .before .pre in
-    appending-more (p .0 .0) (p .0 .2) (p .1 .0) (p .1 .1) (c .before .before .before .before .before .loop .inv) (c .before .before .before .before .loop-test .taken) (c .before .before .operands-entry .ensures) (c .result-entry .ensures)
+    appending-more (p .0 .0) (p .0 .2) (p .1 .0) (p .1 .1) (c .before .before .before .before .before .loop .inv)
+    (c .before .before .before .before .loop-test .taken) (c .before .before .operands-entry .ensures) (c .result-entry .ensures)
 
 same-length : tie.Need-same-length Inv-loop μ-loop
 same-length c = c .before .loop .inv .so .operands

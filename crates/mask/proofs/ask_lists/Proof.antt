@@ -76,7 +76,8 @@ returns-3 c =
     let wanted = s .args .wanted .now in
     let p = sym (t .before .before .before .valid-codes .ensures) ∙ not-false _ (t .before .before .if1 .left) in
     let q = sym (t .before .valid-wanted .ensures) ∙ not-false _ (t .if2 .left) in
-    λ N a. mask-14 a codes wanted p q (w .deliver .ensures N (source-of a codes wanted p q _ refl (omega (arith, s .pre .inputs, s .good .1 .1 .1 .1 .1 .0))) (masked-formed a codes wanted p q))
+    λ N a. mask-14 a codes wanted p q (w .deliver .ensures N (source-of a codes wanted p q _ refl (omega (arith, s .pre .inputs, s .good .1 .1 .1 .1 .1 .0)))
+    (masked-formed a codes wanted p q))
 
 pub ask-lists-spec : {M : Type 1} → statement M
 ask-lists-spec =

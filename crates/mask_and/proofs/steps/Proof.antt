@@ -2,7 +2,7 @@
 use Prim.Native.Nat.{_-_}
 use mathlib.Core.Path.{refl}
 use mathlib.Core.List.{[], _∷_}
-use Rattle.write_buffer.proofs.Wrote.{wrote-length}
+use Rattle.write_buffer.proofs.Writing.{wrote-length}
 use Rattle.mask_and.proofs.Rows.{Walked, walked-none, walked-more, walked-all, row-at}
 use borrow.Author.Needs.{needs}
 use native.Mathlib.Omega.{arith}

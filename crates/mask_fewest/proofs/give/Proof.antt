@@ -16,10 +16,13 @@ use Rattle.fewest_search.proofs.turn.keep.Reads as keep-reads
 use Rattle.mask.proofs.deliver.Reads as deliver-reads
 
 slice-aggregate-deliver : tie.Need-slice-aggregate-deliver
-slice-aggregate-deliver c = let s = c .before .before .before .before .before .before .before .before .before .before .before .before .before in sym (length-take-le _ _ (omega (arith, s .pre .codes, s .pre .ways)))
+slice-aggregate-deliver c = let s = c .before .before .before .before .before .before .before .before .before .before .before .before .before in
+    sym (length-take-le _ _ (omega (arith, s .pre .codes, s .pre .ways)))
 
 deliver-requires : tie.Need-deliver-requires
-deliver-requires c κs = let s = c .before .before .before .before .before .before .before .before .before .before .before .before .before .before .before in let l = length-take-le (s .args .n) (s .args .ways .now) (omega (arith, s .pre .codes, s .pre .ways)) in (s .pre .fronts, omega (arith, s .pre .codes), s .pre .outs)
+deliver-requires c κs = let s = c .before .before .before .before .before .before .before .before .before .before .before .before .before .before .before in
+    let l = length-take-le (s .args .n) (s .args .ways .now) (omega (arith, s .pre .codes, s .pre .ways)) in
+    (s .pre .fronts, omega (arith, s .pre .codes), s .pre .outs)
 
 enum-known-question : tie.Need-enum-known-question
 enum-known-question c = search needs
@@ -28,16 +31,24 @@ enum-known-size : tie.Need-enum-known-size
 enum-known-size c = search needs
 
 slice-aggregate-keep : tie.Need-slice-aggregate-keep
-slice-aggregate-keep c = let s = c .before .before .before .before .before .before .before .before .before .before .before .before .before .before .before .before .before .before .before .before .before .before .before .before .before .before .before .before in sym (length-take-le _ _ (omega (arith, s .pre .codes, s .pre .ways)))
+slice-aggregate-keep c = let s =
+    c .before .before .before .before .before .before .before .before .before .before .before .before .before .before .before .before .before .before .before
+    .before .before .before .before .before .before .before .before .before in sym (length-take-le _ _ (omega (arith, s .pre .codes, s .pre .ways)))
 
 slice-relend-prefix-keep : tie.Need-slice-relend-prefix-keep
 slice-relend-prefix-keep c = search needs
 
 slice-aggregate-keep-2 : tie.Need-slice-aggregate-keep-2
-slice-aggregate-keep-2 c = let s = c .before .before .before .before .before .before .before .before .before .before .before .before .before .before .before .before .before .before .before .before .before .before .before .before .before .before .before .before .before in sym (length-take-le _ _ (s .pre .inputs))
+slice-aggregate-keep-2 c = let s =
+    c .before .before .before .before .before .before .before .before .before .before .before .before .before .before .before .before .before .before .before
+    .before .before .before .before .before .before .before .before .before .before in sym (length-take-le _ _ (s .pre .inputs))
 
 keep-requires : tie.Need-keep-requires
-keep-requires c κs = let s = c .before .before .before .before .before .before .before .before .before .before .before .before .before .before .before .before .before .before .before .before .before .before .before .before .before .before .before .before .before in length-take-le (s .args .n) (s .args .ins .now) (s .pre .inputs) ∙ sym (length-take-le (s .args .n) (s .args .ways .now) (omega (arith, s .pre .codes, s .pre .ways)))
+keep-requires c κs = let s =
+    c .before .before .before .before .before .before .before .before .before .before .before .before .before .before .before .before .before .before .before
+    .before .before .before .before .before .before .before .before .before .before in
+    length-take-le (s .args .n) (s .args .ins .now) (s .pre .inputs) ∙ sym (length-take-le (s .args .n) (s .args .ways .now)
+    (omega (arith, s .pre .codes, s .pre .ways)))
 
 cast-tally : tie.Need-cast-tally
 cast-tally c = search needs
@@ -64,7 +75,12 @@ same-length-4 : tie.Need-same-length-4
 same-length-4 c = search needs
 
 returns : tie.Need-returns
-returns c = let s = c .before .before .before .before .before .before .before .before .before .before .before .before .before .before .before .before .before .before .before .before .before .before .before .before .before .before .before in let a = s .args in let l = length-take-le (a .n) (a .ways .now) (omega (arith, s .pre .codes, s .pre .ways)) in λ N S f. give-refused N (take (a .n) (a .ways .now)) (a .wanted .now) (a .r) (a .ins .now) (a .tally .now) (omega (arith, s .pre .inputs)) (s .pre .tally) (c .before .before .before .before .before .before .before .before .before .before .before .deliver .ensures N (source-codes l S) f) (c .before .question .given .1)
+returns c = let s = c .before .before .before .before .before .before .before .before .before .before .before .before .before .before .before .before .before
+    .before .before .before .before .before .before .before .before .before .before in let a = s .args in
+    let l = length-take-le (a .n) (a .ways .now) (omega (arith, s .pre .codes, s .pre .ways)) in
+    λ N S f. give-refused N (take (a .n) (a .ways .now)) (a .wanted .now) (a .r) (a .ins .now) (a .tally .now) (omega (arith, s .pre .inputs)) (s .pre .tally)
+    (c .before .before .before .before .before .before .before .before .before .before .before .deliver .ensures N (source-codes l S) f)
+    (c .before .question .given .1)
 
 same-length-5 : tie.Need-same-length-5
 same-length-5 c = search needs
@@ -85,7 +101,16 @@ same-length-10 : tie.Need-same-length-10
 same-length-10 c = search needs
 
 returns-2 : tie.Need-returns-2
-returns-2 c = let s = c .before .before .before .before .before .before .before .before .before .before .before .before .before .before .before .before .before .before .before .before .before .before .before .before .before .before .before .before .before .before .before .before .before .before in let a = s .args in let n = a .n in let l = length-take-le n (a .ways .now) (omega (arith, s .pre .codes, s .pre .ways)) in let e = c .before .before .before .before .keep .ensures in λ N S f. give-done N (take n (a .ways .now)) (a .wanted .now) (a .r) (a .ins .now) (a .tally .now) (omega (arith, s .pre .inputs)) (s .pre .tally) (c .before .before .before .before .before .before .before .before .before .before .before .before .before .before .before .before .before .before .deliver .ensures N (source-codes l S) f) (c .before .before .before .before .before .before .before .before .size .given .1) (ap (λ (x : List ℕ). x ++ drop n (a .ins .now)) e ∙ laid-front n (take n (a .ways .now)) (a .ins .now) l (s .pre .inputs)) (two-set (a .tally .now) _ _ (s .pre .tally))
+returns-2 c = let s =
+    c .before .before .before .before .before .before .before .before .before .before .before .before .before .before .before .before .before .before .before
+    .before .before .before .before .before .before .before .before .before .before .before .before .before .before .before in let a = s .args in
+    let n = a .n in let l = length-take-le n (a .ways .now) (omega (arith, s .pre .codes, s .pre .ways)) in
+    let e = c .before .before .before .before .keep .ensures in λ N S f. give-done N (take n (a .ways .now)) (a .wanted .now) (a .r) (a .ins .now)
+    (a .tally .now) (omega (arith, s .pre .inputs)) (s .pre .tally)
+    (c .before .before .before .before .before .before .before .before .before .before .before .before .before .before .before .before .before .before .deliver
+    .ensures N (source-codes l S) f) (c .before .before .before .before .before .before .before .before .size .given .1)
+    (ap (λ (x : List ℕ). x ++ drop n (a .ins .now)) e ∙ laid-front n (take n (a .ways .now)) (a .ins .now) l (s .pre .inputs))
+    (two-set (a .tally .now) _ _ (s .pre .tally))
 
 pub give-spec : {M : Type 1} → statement M
 give-spec =

@@ -25,7 +25,11 @@ add-steps : tie.Need-add-steps
 add-steps c = search needs
 
 steps-requires : tie.Need-steps-requires
-steps-requires c κs = let a = c .before .before .before .before .before .before .before .before .before .before .before .args in (c .before .before .before .before .before .before .before .before .before .before .before .pre .0, omega (arith, c .before .before .before .past .ensures, past-most (a .c) (a .a) (a .b)))
+steps-requires c κs = let a = c .before .before .before .before .before .before .before .before .before .before .before .args in (
+  c .before .before .before .before .before .before .before .before .before .before .before .pre .0,
+  omega
+      (arith, c .before .before .before .past .ensures, past-most (a .c) (a .a) (a .b)),
+)
 
 and-twin-requires : tie.Need-and-twin-requires
 and-twin-requires c κs = search needs
@@ -35,7 +39,10 @@ same-length c = search needs
 
 returns : tie.Need-returns
 returns c = let a = c .before .before .before .before .before .before .before .before .before .before .before .before .before .before .before .args in
-    and-made (a .n) (a .c) (a .a) (a .b) (c .before .before .before .before .before .before .before .before .before .before .before .change .ensures) (c .before .before .before .before .before .before .before .before .changed .ensures) (c .before .before .before .before .before .before .before .past .ensures) (c .before .before .before .before .before .before .mask-wire .ensures) (c .before .before .before .before .before .mask-wire2 .ensures)
+    and-made (a .n) (a .c) (a .a) (a .b) (c .before .before .before .before .before .before .before .before .before .before .before .change .ensures)
+    (c .before .before .before .before .before .before .before .before .changed .ensures)
+    (c .before .before .before .before .before .before .before .past .ensures) (c .before .before .before .before .before .before .mask-wire .ensures)
+    (c .before .before .before .before .before .mask-wire2 .ensures)
     (c .before .before .before .steps .ensures) (c .and-twin .ensures)
 
 pub and-spec : {M : Type 1} → statement M

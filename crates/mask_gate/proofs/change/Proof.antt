@@ -22,7 +22,9 @@ same-length c = search needs
 
 returns-2 : tie.Need-returns-2
 returns-2 c = let a = c .before .before .before .before .before .before .before .before .before .before .args in
-    change-made (a .n) (a .c) (a .a) (a .b) (c .before .before .before .before .before .before .if1 .left) (c .before .before .before .before .before .code-after .ensures) (c .before .before .before .before .mask-wire .ensures) (c .before .before .xor .ensures)
+    change-made (a .n) (a .c) (a .a) (a .b) (c .before .before .before .before .before .before .if1 .left)
+    (c .before .before .before .before .before .code-after .ensures) (c .before .before .before .before .mask-wire .ensures)
+    (c .before .before .xor .ensures)
 
 pub change-spec : {M : Type 1} → statement M
 change-spec =

@@ -24,7 +24,9 @@ same-length c = search needs
 
 returns : tie.Need-returns
 returns c = let a = c .before .before .before .before .before .before .before .before .before .before .before .before .before .args in
-    xor-made (a .n) (a .c) (a .a) (a .b) (c .before .before .before .before .before .before .before .before .before .change .ensures) (c .before .before .before .before .before .before .changed .ensures) (c .before .before .before .before .before .past .ensures) (c .before .before .before .xor .ensures) (c .xor-twin .ensures)
+    xor-made (a .n) (a .c) (a .a) (a .b) (c .before .before .before .before .before .before .before .before .before .change .ensures)
+    (c .before .before .before .before .before .before .changed .ensures) (c .before .before .before .before .before .past .ensures)
+    (c .before .before .before .xor .ensures) (c .xor-twin .ensures)
 
 pub xor-spec : {M : Type 1} → statement M
 xor-spec =

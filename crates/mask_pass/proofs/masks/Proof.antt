@@ -1,5 +1,5 @@
 -- `mask_pass::masks` meets its contract.
-use Rattle.write_gates.proofs.Gates.{gates-then}
+use Rattle.write_gates.proofs.GateLines.{gates-then}
 use borrow.Author.Needs.{needs}
 use Rattle.mask_pass.proofs.masks.Statement.{statement}
 use Rattle.mask_pass.proofs.masks.Tie as tie

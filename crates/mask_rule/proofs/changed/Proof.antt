@@ -14,7 +14,8 @@ third-code-requires : tie.Need-third-code-requires
 third-code-requires c κs = search needs
 
 returns-2 : tie.Need-returns-2
-returns-2 c = let a = c .before .before .before .before .args in changed-made (a .c) (a .a) (a .b) (c .before .before .if1 .left) (c .before .code-after .ensures) (c .third-code .ensures)
+returns-2 c = let a = c .before .before .before .before .args in changed-made (a .c) (a .a) (a .b) (c .before .before .if1 .left)
+    (c .before .code-after .ensures) (c .third-code .ensures)
 
 pub changed-spec : {M : Type 1} → statement M
 changed-spec = tie.close (tie.spec returns code-after-requires third-code-requires returns-2)

@@ -29,17 +29,21 @@ returns-2 : tie.Need-returns-2
 returns-2 c = let a = c .before .before .args in by-kind (a .n) (a .c) (a .a) (a .b) (a .k) _ 2 (c .before .match .keys2) (c .and .ensures) (c .before .before .pre .2)
 
 returns-3 : tie.Need-returns-3
-returns-3 c = let a = c .before .before .args in by-kind (a .n) (a .c) (a .a) (a .b) (a .k) _ 3 (c .before .match .keys3) (at-only (c .one .ensures)) (c .before .before .pre .2)
+returns-3 c = let a = c .before .before .args in by-kind (a .n) (a .c) (a .a) (a .b) (a .k) _ 3 (c .before .match .keys3) (at-only (c .one .ensures))
+    (c .before .before .pre .2)
 
 returns-4 : tie.Need-returns-4
-returns-4 c = let a = c .before .before .args in by-kind (a .n) (a .c) (a .a) (a .b) (a .k) _ 4 (c .before .match .keys4) (at-only (c .one2 .ensures)) (c .before .before .pre .2)
+returns-4 c = let a = c .before .before .args in by-kind (a .n) (a .c) (a .a) (a .b) (a .k) _ 4 (c .before .match .keys4) (at-only (c .one2 .ensures))
+    (c .before .before .pre .2)
 
 returns-5 : tie.Need-returns-5
-returns-5 c = let a = c .before .before .args in by-kind (a .n) (a .c) (a .a) (a .b) (a .k) _ 5 (c .before .match .keys5) (at-only (c .one3 .ensures)) (c .before .before .pre .2)
+returns-5 c = let a = c .before .before .args in by-kind (a .n) (a .c) (a .a) (a .b) (a .k) _ 5 (c .before .match .keys5) (at-only (c .one3 .ensures))
+    (c .before .before .pre .2)
 
 returns-6 : tie.Need-returns-6
 returns-6 c = let a = c .before .before .args in let r = c .before .match .rest in
-    by-others (a .n) (a .c) (a .a) (a .b) (a .k) _ (r .0 .0 .0 .0 .1) (r .0 .0 .0 .1) (r .0 .0 .1) (r .0 .1) (r .1) (at-only (c .one4 .ensures)) (c .before .before .pre .2)
+    by-others (a .n) (a .c) (a .a) (a .b) (a .k) _ (r .0 .0 .0 .0 .1) (r .0 .0 .0 .1) (r .0 .0 .1) (r .0 .1) (r .1) (at-only (c .one4 .ensures))
+    (c .before .before .pre .2)
 
 pub gate-spec : {M : Type 1} → statement M
 gate-spec =

@@ -12,7 +12,8 @@ change-requires : tie.Need-change-requires
 change-requires c κs = search needs
 
 returns : tie.Need-returns
-returns c = let a = c .before .before .before .args in at-change _ _ (a .a) (a .b) _ _ _ (omega (arith, c .before .if1 .taken, c .before .before .extra .ensures)) (c .change .ensures)
+returns c = let a = c .before .before .before .args in at-change _ _ (a .a) (a .b) _ _ _
+    (omega (arith, c .before .if1 .taken, c .before .before .extra .ensures)) (c .change .ensures)
 
 changed-requires : tie.Need-changed-requires
 changed-requires c κs = search needs

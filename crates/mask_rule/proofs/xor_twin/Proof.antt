@@ -14,7 +14,8 @@ third-code-requires : tie.Need-third-code-requires
 third-code-requires c κs = search needs
 
 returns : tie.Need-returns
-returns c = let a = c .before .before .before .args in xor-twin (a .c) (a .a) (a .b) (c .before .before .changed .ensures) (c .before .past .ensures) (c .third-code .ensures)
+returns c = let a = c .before .before .before .args in xor-twin (a .c) (a .a) (a .b) (c .before .before .changed .ensures) (c .before .past .ensures)
+    (c .third-code .ensures)
 
 pub xor-twin-spec : {M : Type 1} → statement M
 xor-twin-spec = tie.close (tie.spec changed-requires past-requires third-code-requires returns)

@@ -15,7 +15,8 @@ returns c =
     λ N h z F. short-codes (maskNetlist N (a .codes .now) (a .wanted .now)) (omega (arith, z .codes, c .if1 .taken))
 
 holds-requires : tie.Need-holds-requires
-holds-requires c κs = let s = c .before .before .before .before .before .before .before .before .before .before .before .before .before .before in (s .pre .0, (s .pre .1, omega arith))
+holds-requires c κs = let s = c .before .before .before .before .before .before .before .before .before .before .before .before .before .before in
+    (s .pre .0, (s .pre .1, omega arith))
 
 same-length : tie.Need-same-length
 same-length c = search needs
@@ -25,11 +26,15 @@ same-length-2 c = search needs
 
 returns-2 : tie.Need-returns-2
 returns-2 c =
-    let a = c .before .before .before .before .before .before .before .before .before .before .before .before .before .before .before .before .before .before .before .before .args in
-    λ N h z F. short-text (maskNetlist N (a .codes .now) (a .wanted .now)) (sym (c .before .before .before .before .before .holds .ensures N h z F) ∙ not-true _ (c .if2 .taken))
+    let a = c .before .before .before .before .before .before .before .before .before .before .before .before .before .before .before .before .before .before
+    .before .before .args in
+    λ N h z F. short-text (maskNetlist N (a .codes .now) (a .wanted .now)) (sym (c .before .before .before .before .before .holds .ensures N h z F) ∙ not-true _
+    (c .if2 .taken))
 
 fill-requires : tie.Need-fill-requires
-fill-requires c κs = let s = c .before .before .before .before .before .before .before .before .before .before .before .before .before .before .before .before .before .before .before .before .before .before .before .before in
+fill-requires c κs = let s =
+    c .before .before .before .before .before .before .before .before .before .before .before .before .before .before .before .before .before .before .before
+    .before .before .before .before .before in
     let m = c .before .before .before .before .before .before .before .before .before .holds in
     let l = m .last .1 .1 .1 .1 .1 .1 .1 .1 .1 .1 .1 in
     let k = m .kept .1 .1 .1 .1 .1 .1 .1 .1 .1 .1 .1 in
@@ -48,11 +53,20 @@ same-length-6 : tie.Need-same-length-6
 same-length-6 c = search needs
 
 returns-3 : tie.Need-returns-3
-returns-3 c = let s = c .before .before .before .before .before .before .before .before .before .before .before .before .before .before .before .before .before .before .before .before .before .before .before .before .before .before .before .before .before .before .before .before .before in
+returns-3 c = let s =
+    c .before .before .before .before .before .before .before .before .before .before .before .before .before .before .before .before .before .before .before
+    .before .before .before .before .before .before .before .before .before .before .before .before .before .before in
     let m = c .before .before .before .before .before .before .before .before .before .before .before .before .before .before .before .before .before .before .holds in
     let k = m .kept .1 .1 .1 .1 .1 .1 .1 .1 .1 .1 .1 .0 in
-    λ N h z F. delivered (maskNetlist N (s .args .codes .now) (s .args .wanted .now)) (sym (m .ensures N h z F) ∙ not-false _ (c .before .before .before .before .before .before .before .before .before .before .before .before .before .if2 .left)) (omega (arith, s .good .1 .0))
-    (omega (arith, z .codes, c .before .before .before .before .before .before .before .before .before .before .before .before .before .before .before .before .before .before .before .before .before .if1 .left)) (c .before .before .before .before .before .before .before .before .fill .ensures N (source-same k h) z)
+    λ N h z F. delivered (maskNetlist N (s .args .codes .now) (s .args .wanted .now))
+    (sym (m .ensures N h z F) ∙ not-false _
+    (c .before .before .before .before .before .before .before .before .before .before .before .before .before .if2 .left)) (omega (arith, s .good .1 .0))
+    (omega (
+      arith,
+      z .codes,
+      c .before .before .before .before .before .before .before .before .before .before .before .before .before .before .before .before .before .before
+          .before .before .before .if1 .left,
+    )) (c .before .before .before .before .before .before .before .before .fill .ensures N (source-same k h) z)
 
 pub answer-spec : {M : Type 1} → statement M
 answer-spec =

@@ -27,8 +27,12 @@ answer-requires : tie.Need-answer-requires
 answer-requires c κs =
     let m = c .before .before .before .before .before .before .before .before .before .before .count in
     let l = m .last .1 .1 .1 .1 .1 in
-    let k = m .kept .1 .1 .1 .1 .1 in
-    (empty-table (search needs), ready-same {ws′ = l .0} {es′ = l .1 .0} (k .0) (k .1 .0) (c .before .before .before .before .before .before .before .before .before .before .before .before .before .before .before .before .before .before .before .before .before .before .before .pre))
+    let k = m .kept .1 .1 .1 .1 .1 in (
+      empty-table (search needs),
+      ready-same {ws′ = l .0} {es′ = l .1 .0} (k .0) (k .1 .0)
+          (c .before .before .before .before .before .before .before .before .before .before .before .before .before .before .before .before .before .before
+          .before .before .before .before .before .pre),
+    )
 
 same-length : tie.Need-same-length
 same-length c = search needs
@@ -44,7 +48,8 @@ same-length-4 c = search needs
 
 returns : tie.Need-returns
 returns c =
-    let m = c .before .before .before .before .before .before .before .before .before .before .before .before .before .before .before .before .before .before .before .count in
+    let m = c .before .before .before .before .before .before .before .before .before .before .before .before .before .before .before .before .before .before
+    .before .count in
     let k = m .kept .1 .1 .1 .1 .1 .0 in
     λ N h F. c .before .before .before .before .before .before .before .before .answer .ensures N (source-same k h) (numbers-counted (m .ensures N (h .holds))) F
 
@@ -61,8 +66,12 @@ answer-requires-2 : tie.Need-answer-requires-2
 answer-requires-2 c κs =
     let m = c .before .before .before .before .before .before .before .before .before .before .before .before .before .count in
     let l = m .last .1 .1 .1 .1 .1 in
-    let k = m .kept .1 .1 .1 .1 .1 in
-    (whole-table (c .before .before .before .before .before .before .fill .ensures), ready-same {ws′ = l .0} {es′ = l .1 .0} (k .0) (k .1 .0) (c .before .before .before .before .before .before .before .before .before .before .before .before .before .before .before .before .before .before .before .before .before .before .before .before .before .before .pre))
+    let k = m .kept .1 .1 .1 .1 .1 in (
+      whole-table (c .before .before .before .before .before .before .fill .ensures),
+      ready-same {ws′ = l .0} {es′ = l .1 .0} (k .0) (k .1 .0)
+          (c .before .before .before .before .before .before .before .before .before .before .before .before .before .before .before .before .before .before
+          .before .before .before .before .before .before .before .before .pre),
+    )
 
 same-length-5 : tie.Need-same-length-5
 same-length-5 c = search needs
@@ -78,7 +87,8 @@ same-length-8 c = search needs
 
 returns-2 : tie.Need-returns-2
 returns-2 c =
-    let m = c .before .before .before .before .before .before .before .before .before .before .before .before .before .before .before .before .before .before .before .before .before .before .count in
+    let m = c .before .before .before .before .before .before .before .before .before .before .before .before .before .before .before .before .before .before
+    .before .before .before .before .count in
     let k = m .kept .1 .1 .1 .1 .1 .0 in
     λ N h F. c .before .before .before .before .before .before .before .before .answer2 .ensures N (source-same k h) (numbers-counted (m .ensures N (h .holds))) F
 

@@ -36,7 +36,9 @@ same-length-2 : tie.Need-same-length-2
 same-length-2 c = search needs
 
 returns-2 : tie.Need-returns-2
-returns-2 c = λ N h z F. measured-holds (c .before .before .before .before .before .write .ensures N h z .wrote) (c .before .before .before .before .before .before .before .before .before .before .before .before .before .before .before .before .before .before .before .before .before .before .before .pre .1 .1)
+returns-2 c = λ N h z F. measured-holds (c .before .before .before .before .before .write .ensures N h z .wrote)
+    (c .before .before .before .before .before .before .before .before .before .before .before .before .before .before .before .before .before .before .before
+    .before .before .before .before .pre .1 .1)
 
 pub holds-spec : {M : Type 1} → statement M
 holds-spec =

@@ -23,7 +23,8 @@ enum-told c = search needs
 
 returns : tie.Need-returns
 returns c N h e = let a = c .before .before .before .before .before .before .before .before .before .before .before .args in
-    refused-twelve N (a .codes .now) (a .pairs .now) (take (a .h .«input_values») (a .widths)) e (sym (ap askedOf (c .before .enum-told .given .1)) ∙ c .before .before .before .ask-codes .ensures) (c .if1 .taken)
+    refused-twelve N (a .codes .now) (a .pairs .now) (take (a .h .«input_values») (a .widths)) e
+    (sym (ap askedOf (c .before .enum-told .given .1)) ∙ c .before .before .before .ask-codes .ensures) (c .if1 .taken)
 
 cast-pairs-good : tie.Need-cast-pairs-good
 cast-pairs-good c = search needs
@@ -33,7 +34,8 @@ pairs-good-requires c κs = search needs
 
 returns-2 : tie.Need-returns-2
 returns-2 c N h e = let a = c .before .before .before .before .before .before .before .before .before .before .before .before .before .before .args in
-    refused-pairs N (a .codes .now) (a .pairs .now) (take (a .h .«input_values») (a .widths)) e (sym (ap askedOf (c .before .before .before .before .enum-told .given .1)) ∙ c .before .before .before .before .before .before .ask-codes .ensures)
+    refused-pairs N (a .codes .now) (a .pairs .now) (take (a .h .«input_values») (a .widths)) e
+    (sym (ap askedOf (c .before .before .before .before .enum-told .given .1)) ∙ c .before .before .before .before .before .before .ask-codes .ensures)
     (c .before .before .before .if1 .left) (h .wires) (sym (c .before .pairs-good .ensures) ∙ not-true _ (c .if2 .taken))
 
 cast-verdicts : tie.Need-cast-verdicts
@@ -43,18 +45,32 @@ cast-verdicts-2 : tie.Need-cast-verdicts-2
 cast-verdicts-2 c = search needs
 
 verdicts-requires : tie.Need-verdicts-requires
-verdicts-requires c κs = let s = c .before .before .before .before .before .before .before .before .before .before .before .before .before .before .before .before .before .before .before in
+verdicts-requires c κs = let s =
+    c .before .before .before .before .before .before .before .before .before .before .before .before .before .before .before .before .before .before .before in
     let p = s .pre in
     let a = s .args in
     let ws = take (a .h .«input_values») (a .widths) in
-    let asked = (sym (c .before .before .before .before .before .before .before .before .before .before .before .ask-codes .ensures) ∙ ap askedOf (c .before .before .before .before .before .before .before .before .before .enum-told .given .1)) in
+    let asked = (sym (c .before .before .before .before .before .before .before .before .before .before .before .ask-codes .ensures) ∙ ap askedOf
+    (c .before .before .before .before .before .before .before .before .before .enum-told .given .1)) in
     let bits = asked-bits ws (a .codes .now) asked in
-    let good : pairsGood (a .h .wires) (a .pairs .now) ≡ true = sym (c .before .before .before .before .before .before .pairs-good .ensures) ∙ not-false _ (c .before .before .before .before .before .if2 .left) in
-    (p .0, (c .before .before .before .before .before .before .before .before .if1 .left, omega (arith, bits, p .1 .1, p .1 .2), p .1 .3, p .1 .4, p .1 .5, good-below (a .h .wires) (a .pairs .now) good, asked-codes ws (a .codes .now) asked))
+    let good : pairsGood (a .h .wires) (a .pairs .now) ≡ true = sym (c .before .before .before .before .before .before .pairs-good .ensures) ∙ not-false _
+    (c .before .before .before .before .before .if2 .left) in (
+      p .0,
+      (
+        c .before .before .before .before .before .before .before .before .if1 .left,
+        omega (arith, bits, p .1 .1, p .1 .2),
+        p .1 .3,
+        p .1 .4,
+        p .1 .5,
+        good-below (a .h .wires) (a .pairs .now) good,
+        asked-codes ws (a .codes .now) asked,
+      ),
+    )
 
 returns-3 : tie.Need-returns-3
 returns-3 c N h e = let a = c .before .before .before .before .before .before .before .before .before .before .before .args in
-    refused-asked N (a .codes .now) (a .pairs .now) (take (a .h .«input_values») (a .widths)) e (sym (ap askedOf (c .before .question .given .1)) ∙ c .before .before .before .ask-codes .ensures)
+    refused-asked N (a .codes .now) (a .pairs .now) (take (a .h .«input_values») (a .widths)) e
+    (sym (ap askedOf (c .before .question .given .1)) ∙ c .before .before .before .ask-codes .ensures)
 
 same-length : tie.Need-same-length
 same-length c = search needs
@@ -66,9 +82,18 @@ same-length-3 : tie.Need-same-length-3
 same-length-3 c = search needs
 
 returns-4 : tie.Need-returns-4
-returns-4 c N h e = let a = c .before .before .before .before .before .before .before .before .before .before .before .before .before .before .before .before .before .before .before .before .before .before .before .before .before .before .args in
-    answered N (a .codes .now) (a .pairs .now) (take (a .h .«input_values») (a .widths)) e (sym (ap askedOf (c .before .before .before .before .before .before .before .before .before .before .before .before .before .before .before .before .enum-told .given .1)) ∙ c .before .before .before .before .before .before .before .before .before .before .before .before .before .before .before .before .before .before .ask-codes .ensures)
-    (c .before .before .before .before .before .before .before .before .before .before .before .before .before .before .before .if1 .left) (h .wires) (sym (c .before .before .before .before .before .before .before .before .before .before .before .before .before .pairs-good .ensures) ∙ not-false _ (c .before .before .before .before .before .before .before .before .before .before .before .before .if2 .left)) (c .before .before .before .before .before .before .verdicts .ensures _ _ N h)
+returns-4 c N h e = let a =
+    c .before .before .before .before .before .before .before .before .before .before .before .before .before .before .before .before .before .before .before
+    .before .before .before .before .before .before .before .args in
+    answered N (a .codes .now) (a .pairs .now) (take (a .h .«input_values») (a .widths)) e
+    (sym (ap askedOf (c .before .before .before .before .before .before .before .before .before .before .before .before .before .before .before .before
+    .enum-told .given .1)) ∙
+    c .before .before .before .before .before .before .before .before .before .before .before .before .before .before .before .before .before .before
+    .ask-codes .ensures)
+    (c .before .before .before .before .before .before .before .before .before .before .before .before .before .before .before .if1 .left) (h .wires)
+    (sym (c .before .before .before .before .before .before .before .before .before .before .before .before .before .pairs-good .ensures) ∙ not-false _
+    (c .before .before .before .before .before .before .before .before .before .before .before .before .if2 .left))
+    (c .before .before .before .before .before .before .verdicts .ensures _ _ N h)
 
 pub judge-spec : {M : Type 1} → statement M
 judge-spec =

@@ -3,7 +3,7 @@ use Prim.Native.Nat.{_-_}
 use mathlib.Core.Path.{_∙_}
 use lib.ListN.{length}
 use Rattle.program_text.proofs.Printing.{Printing, printing-none, printing-more, printing-all}
-use Rattle.write_buffer.proofs.Wrote.{exactly, few-then, wrote-length}
+use Rattle.write_buffer.proofs.Writing.{exactly, few-then, wrote-length}
 use borrow.Author.Needs.{needs}
 use native.Mathlib.Omega.{arith}
 use Rattle.program_text.proofs.digits.Statement.{statement}

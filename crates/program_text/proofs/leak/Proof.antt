@@ -1,5 +1,5 @@
 -- `leak`: the word, the four numbers and LF.
-use Rattle.write_buffer.proofs.Wrote.{wrote-then}
+use Rattle.write_buffer.proofs.Writing.{wrote-then}
 use borrow.Author.Needs.{needs}
 use Rattle.program_text.proofs.leak.Statement.{statement}
 use Rattle.program_text.proofs.leak.Tie as tie

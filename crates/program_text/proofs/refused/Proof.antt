@@ -1,5 +1,5 @@
 -- `refused`: the word, a space, the number and LF.
-use Rattle.write_buffer.proofs.Wrote.{wrote-then}
+use Rattle.write_buffer.proofs.Writing.{wrote-then}
 use borrow.Author.Needs.{needs}
 use Rattle.program_text.proofs.refused.Statement.{statement}
 use Rattle.program_text.proofs.refused.Tie as tie

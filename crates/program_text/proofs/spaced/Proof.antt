@@ -1,5 +1,5 @@
 -- `spaced`: a space, and then the number.
-use Rattle.write_buffer.proofs.Wrote.{wrote-then}
+use Rattle.write_buffer.proofs.Writing.{wrote-then}
 use borrow.Author.Needs.{needs}
 use Rattle.program_text.proofs.spaced.Statement.{statement}
 use Rattle.program_text.proofs.spaced.Tie as tie

@@ -1,7 +1,7 @@
 -- Two numbers and the line's end.
 use borrow.Author.Needs.{needs}
-use Rattle.read_text.proofs.AnswerLaws.{number-is, number-not, end-is, end-more}
-use Rattle.read_header.proofs.HeaderLaws.{pair-first, pair-second, pair-more, pair-good}
+use Rattle.read_text.proofs.Answering.{number-is, number-not, end-is, end-more}
+use Rattle.read_header.proofs.Headers.{pair-first, pair-second, pair-more, pair-good}
 use Rattle.read_header.proofs.counts_line.Statement.{statement}
 use Rattle.read_header.proofs.counts_line.Tie as tie
 

@@ -1,7 +1,7 @@
 -- Three lines, with blank lines between them.
 use borrow.Author.Needs.{needs}
-use Rattle.read_header.proofs.WidthLaws.{widths-is, widths-not}
-use Rattle.read_header.proofs.HeaderLaws.{counts-is, counts-not, no-header-1, no-header-2, no-header-3, a-header}
+use Rattle.read_header.proofs.WidthLines.{widths-is, widths-not}
+use Rattle.read_header.proofs.Headers.{counts-is, counts-not, no-header-1, no-header-2, no-header-3, a-header}
 use Rattle.read_header.proofs.read_header.Statement.{statement}
 use Rattle.read_header.proofs.read_header.Tie as tie
 

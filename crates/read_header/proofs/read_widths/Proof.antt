@@ -4,8 +4,8 @@ use mathlib.Core.Path.{_≡_, refl, ap, _∙_}
 use native.Mathlib.Omega.{arith}
 use lib.ListN.{length, length-set}
 use borrow.Author.Needs.{needs}
-use Rattle.read_text.proofs.AnswerLaws.{number-is, number-not, end-is, end-more}
-use Rattle.read_header.proofs.WidthLaws.{Widening, widen-start, widen-on, widen-end, widen-not, widen-zero}
+use Rattle.read_text.proofs.Answering.{number-is, number-not, end-is, end-more}
+use Rattle.read_header.proofs.WidthLines.{Widening, widen-start, widen-on, widen-end, widen-not, widen-zero}
 use Rattle.read_header.proofs.read_widths.Statement.{statement}
 use Rattle.read_header.proofs.read_widths.Tie as tie
 

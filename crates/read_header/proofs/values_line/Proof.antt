@@ -1,7 +1,7 @@
 -- How many, and the widths.
 use borrow.Author.Needs.{needs}
-use Rattle.read_text.proofs.AnswerLaws.{number-is, number-not}
-use Rattle.read_header.proofs.WidthLaws.{widths-is, widths-not, values-off, values-bad, values-zero, values-count, values-good}
+use Rattle.read_text.proofs.Answering.{number-is, number-not}
+use Rattle.read_header.proofs.WidthLines.{widths-is, widths-not, values-off, values-bad, values-zero, values-count, values-good}
 use Rattle.read_header.proofs.values_line.Statement.{statement}
 use Rattle.read_header.proofs.values_line.Tie as tie
 

@@ -16,7 +16,8 @@ large-requires : tie.Need-large-requires
 large-requires c κs = search needs
 
 read-requires : tie.Need-read-requires
-read-requires c κs = rw (c .before .before .before .before .before .large .ensures) (readable-large (c .before .before .before .before .before .before .before .before .before .before .before .before .before .args .sizes))
+read-requires c κs = rw (c .before .before .before .before .before .large .ensures)
+    (readable-large (c .before .before .before .before .before .before .before .before .before .before .before .before .before .args .sizes))
 
 enum-known-question : tie.Need-enum-known-question
 enum-known-question c = search needs
@@ -26,14 +27,16 @@ enum-known-h c = search needs
 
 evaluate-requires : tie.Need-evaluate-requires
 evaluate-requires c κs =
-    let s = c .before .before .before .before .before .before .before .before .before .before .before .before .before .before .before .before .before .before .before .before .before .before .before .before .before .before .before .args in
+    let s = c .before .before .before .before .before .before .before .before .before .before .before .before .before .before .before .before .before .before
+    .before .before .before .before .before .before .before .before .before .args in
     let t = c .before .before .before .before .before .before .before .before .before .before .before .before .before .read in
     let o = length (s .operands .now) in
     let r = length (s .results .now) in
     let g = length (s .marks .now) in
     let w = length (s .words .now) in
     let k = read-is (o ∷ r ∷ g ∷ w ∷ []) (s .text .now) (t .last .1 .0) (t .last .1 .1 .0) (tables (t .last .1 .1 .1 .0) (t .last .1 .1 .1 .1 .0))
-    (c .before .before .before .before .before .before .before .before .before .before .before .before .before .before .before .before .before .before .before .large .ensures) (c .before .before .before .before .before .h .given .1) (t .ensures) in
+    (c .before .before .before .before .before .before .before .before .before .before .before .before .before .before .before .before .before .before .before
+    .large .ensures) (c .before .before .before .before .before .h .given .1) (t .ensures) in
     let a = k .1 in
     (a .wired, a .inBits, a .outBits, omega (arith, a .wires, table-at (large (s .sizes)) (o ∷ r ∷ g ∷ w ∷ []) 3 (k .0) (lit< tt)))
 
@@ -48,11 +51,13 @@ same-length-3 c = search needs
 
 returns : tie.Need-returns
 returns c =
-    let s = c .before .before .before .before .before .before .before .before .before .before .before .before .before .before .before .before .before .before .before .before .before .before .before .args in
+    let s = c .before .before .before .before .before .before .before .before .before .before .before .before .before .before .before .before .before .before
+    .before .before .before .before .before .args in
     let t = c .before .before .before .before .before .before .before .before .before .read in
     call-not (s .sizes) (s .text .now) (s .list .now) _ (s .operands .now) (s .results .now) (s .marks .now) (s .words .now)
     (read-is (length (s .operands .now) ∷ length (s .results .now) ∷ length (s .marks .now) ∷ length (s .words .now) ∷ []) (s .text .now)
-    (t .last .1 .0) (t .last .1 .1 .0) (tables (t .last .1 .1 .1 .0) (t .last .1 .1 .1 .1 .0)) (c .before .before .before .before .before .before .before .before .before .before .before .before .before .before .before .large .ensures)
+    (t .last .1 .0) (t .last .1 .1 .0) (tables (t .last .1 .1 .1 .0) (t .last .1 .1 .1 .1 .0))
+    (c .before .before .before .before .before .before .before .before .before .before .before .before .before .before .before .large .ensures)
     (c .before .question .given .1) (t .ensures))
 
 same-length-4 : tie.Need-same-length-4
@@ -72,11 +77,15 @@ same-length-8 c = search needs
 
 returns-2 : tie.Need-returns-2
 returns-2 c =
-    let s = c .before .before .before .before .before .before .before .before .before .before .before .before .before .before .before .before .before .before .before .before .before .before .before .before .before .before .before .before .before .before .before .before .args in
+    let s = c .before .before .before .before .before .before .before .before .before .before .before .before .before .before .before .before .before .before
+    .before .before .before .before .before .before .before .before .before .before .before .before .before .before .args in
     let t = c .before .before .before .before .before .before .before .before .before .before .before .before .before .before .before .before .before .before .read in
     call-read (s .sizes) (s .text .now) (s .list .now) (s .out .now) (s .operands .now) (s .results .now) (s .marks .now) (s .words .now)
     (read-is (length (s .operands .now) ∷ length (s .results .now) ∷ length (s .marks .now) ∷ length (s .words .now) ∷ []) (s .text .now)
-    (t .last .1 .0) (t .last .1 .1 .0) (tables (t .last .1 .1 .1 .0) (t .last .1 .1 .1 .1 .0)) (c .before .before .before .before .before .before .before .before .before .before .before .before .before .before .before .before .before .before .before .before .before .before .before .before .large .ensures) (c .before .before .before .before .before .before .before .before .before .before .h .given .1)
+    (t .last .1 .0) (t .last .1 .1 .0) (tables (t .last .1 .1 .1 .0) (t .last .1 .1 .1 .1 .0))
+    (c .before .before .before .before .before .before .before .before .before .before .before .before .before .before .before .before .before .before
+    .before .before .before .before .before .before .large .ensures)
+    (c .before .before .before .before .before .before .before .before .before .before .h .given .1)
     (t .ensures))
     (c .before .before .before .before .evaluate .ensures)
 

@@ -24,7 +24,8 @@ returns-3 : tie.Need-returns-3
 returns-3 c =
     let s = c .before .before .before .before .before .before .before .before .before .before .before .before .before .before .args in
     let e = c .before .before .before .before .before .before .before .before .if1 .left in
-    λ N h. words-done h (s .list .now) e (c .before .before .before .before .before .before .before .if2 .left) (c .before .before .before .before .outputs .ensures N (holds-ins e h))
+    λ N h. words-done h (s .list .now) e (c .before .before .before .before .before .before .before .if2 .left)
+    (c .before .before .before .before .outputs .ensures N (holds-ins e h))
 
 pub deliver-spec : {M : Type 1} → statement M
 deliver-spec =

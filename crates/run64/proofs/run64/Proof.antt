@@ -37,13 +37,17 @@ same-length-5 c = search needs
 
 returns : tie.Need-returns
 returns c =
-    let s = c .before .before .before .before .before .before .before .before .before .before .before .before .before .before .before .before .before .before .before .before .before .before .before .before .before .before .before .before .before .before .before .before .before .before .before .before .before .before .before .args in
-    let a = c .before .before .before .before .before .before .before .before .before .before .before .before .before .before .before .before .before .before .before .before .before .before .before .before .before .before .answer in
+    let s = c .before .before .before .before .before .before .before .before .before .before .before .before .before .before .before .before .before .before
+    .before .before .before .before .before .before .before .before .before .before .before .before .before .before .before .before .before .before .before
+    .before .before .args in
+    let a = c .before .before .before .before .before .before .before .before .before .before .before .before .before .before .before .before .before .before
+    .before .before .before .before .before .before .before .before .answer in
     let k = a .kept in
     record {
       answers = a .ensures;
       lane = call-lanes (s .sizes) (s .text .now) (s .list .now) (s .out .now) (s .operands .now) (s .results .now) (s .marks .now) (s .words .now) (a .ensures);
-      operands = zeros-same (c .before .before .before .before .before .before .before .before .before .before .before .before .before .before .words2 .ensures) (k .1 .1 .1 .0);
+      operands = zeros-same (c .before .before .before .before .before .before .before .before .before .before .before .before .before .before .words2 .ensures)
+          (k .1 .1 .1 .0);
       results = zeros-same (c .before .before .before .before .before .before .before .before .before .before .words3 .ensures) (k .1 .1 .1 .1 .0);
       marks = zeros-same (c .before .before .before .before .before .before .bytes .ensures) (k .1 .1 .1 .1 .1 .0);
       words = zeros-same (c .before .before .words4 .ensures) (k .1 .1 .1 .1 .1 .1 .0);

@@ -89,7 +89,13 @@ use Rattle.session_steps.proofs.open.Statement as stated
 use Rattle.session_steps.proofs.open.Code as code
 
 abbrev stayed : Stays (opens.ended .signature .params) (opens.ended .kept)
-stayed = (stay-none-slice (0 ∷ []) tt (plain (λ _. u32)) yes, (stay-none-slice (1 ∷ []) tt (plain (λ _. u8)) yes, (gave-slice (2 ∷ []) tt (plain (λ _. R.the-row)), (stay-none (λ _. Z.the-row) yes, tt))))
+stayed = (
+  stay-none-slice (0 ∷ []) tt (plain (λ _. u32)) yes,
+  (
+    stay-none-slice (1 ∷ []) tt (plain (λ _. u8)) yes,
+    (gave-slice (2 ∷ []) tt (plain (λ _. R.the-row)), (stay-none (λ _. Z.the-row) yes, tt)),
+  ),
+)
 
 module _ {M : Type 1} (𝓤 : URA M) (H : Heap 𝓤) (A : Atoms 𝓤) (mem : Memory → SProp 𝓤) (run : Routine → Fun 𝓤) where
   -- the contracts that the proof cites
@@ -142,21 +148,47 @@ module _ {M : Type 1} (𝓤 : URA M) (H : Heap 𝓤) (A : Atoms 𝓤) (W : Given
 
   -- the call of `plan`
   abbrev to-plan : PlanAt 𝓤 H A mem run .Ghost
-  to-plan = (((κ₀, (κ₁, tt)), (q₀, (q₁, tt)), tt, (wid, (cod, (length (msk .now), (z, tt)))), (wv ∷ [], (cv ∷ [], (vint w64 (length (msk .now)) ∷ [], (zv ∷ [], tt))))), tt)
+  to-plan = (
+    (
+      (κ₀, (κ₁, tt)),
+      (q₀, (q₁, tt)),
+      tt,
+      (wid, (cod, (length (msk .now), (z, tt)))),
+      (wv ∷ [], (cv ∷ [], (vint w64 (length (msk .now)) ∷ [], (zv ∷ [], tt)))),
+    ),
+    tt,
+  )
 
-  goes-plan : ent 𝓤 (onEntry 𝓤 H A plan.signature (κ₀, (κ₁, tt)) (q₀, (q₁, tt)) (wid, (cod, (length (msk .now), (z, tt)))) (wv ∷ [], (cv ∷ [], (vint w64 (length (msk .now)) ∷ [], (zv ∷ [], tt))))) (PlanAt 𝓤 H A mem run .pre to-plan)
-  goes-plan = qed W ((‵ (flft κ₀ q₀) ⊛ (‵ (flft κ₁ q₁) ⊛ ‵ ftrue)) ∷ ‵ (owns (ShrSlice (named 0) κ₀ u32 ∷ ShrSlice (named 1) κ₁ u8 ∷ usize ∷ Z.the-row ∷ []) (wid, (cod, (length (msk .now), (z, tt)))) (wv ∷ [], (cv ∷ [], (vint w64 (length (msk .now)) ∷ [], (zv ∷ [], tt))))) ∷ []) ∵ join ! $ frame ! $ done !
+  goes-plan : ent 𝓤 (onEntry 𝓤 H A plan.signature (κ₀, (κ₁, tt)) (q₀, (q₁, tt)) (wid, (cod, (length (msk .now), (z, tt))))
+      (wv ∷ [], (cv ∷ [], (vint w64 (length (msk .now)) ∷ [], (zv ∷ [], tt))))) (PlanAt 𝓤 H A mem run .pre to-plan)
+  goes-plan = qed W ((‵ (flft κ₀ q₀) ⊛ (‵ (flft κ₁ q₁) ⊛ ‵ ftrue)) ∷ ‵ (owns (ShrSlice (named 0) κ₀ u32 ∷ ShrSlice (named 1) κ₁ u8 ∷ usize ∷ Z.the-row ∷ [])
+      (wid, (cod, (length (msk .now), (z, tt)))) (wv ∷ [], (cv ∷ [], (vint w64 (length (msk .now)) ∷ [], (zv ∷ [], tt))))) ∷ []) ∵ join ! $ frame ! $ done !
 
-  planned : (p : Opened) → ent 𝓤 (ensured 𝓤 H A plan.ended (plan.clauses 𝓤 H A mem run) (κ₀, (κ₁, tt)) (wid, (cod, (length (msk .now), (z, tt)))) tt p) (fact 𝓤 (OpenedIs z (wid .now) (cod .now) (length (msk .now)) p))
-  planned p = exE 𝓤 _ (λ ws. snd∗ 𝓤 (sem 𝓤 H A (lasts plan.ended (κ₀, (κ₁, tt)) (wid, (cod, (length (msk .now), (z, tt)))) ws)) (fact 𝓤 (OpenedIs z (wid .now) (cod .now) (length (msk .now)) p)))
+  planned : (p : Opened) → ent 𝓤 (ensured 𝓤 H A plan.ended (plan.clauses 𝓤 H A mem run) (κ₀, (κ₁, tt)) (wid, (cod, (length (msk .now), (z, tt)))) tt p)
+      (fact 𝓤 (OpenedIs z (wid .now) (cod .now) (length (msk .now)) p))
+  planned p = exE 𝓤 _ (λ ws. snd∗ 𝓤 (sem 𝓤 H A (lasts plan.ended (κ₀, (κ₁, tt)) (wid, (cod, (length (msk .now), (z, tt)))) ws))
+      (fact 𝓤 (OpenedIs z (wid .now) (cod .now) (length (msk .now)) p)))
 
   -- the call of `write`
   abbrev to-write : Opened → Write 𝓤 H A mem run .Ghost
-  to-write p = (((κ₂, (κ₁, tt)), (q₂, (q₁, tt)), tt, (msk, (cod, (0, (p .steps, (p .count, tt))))), (mv ∷ [], (cv ∷ [], (vint w64 0 ∷ [], (LL.vals X.the-type X′.the-laws (p .steps), (vint w64 (p .count) ∷ [], tt)))))), tt)
+  to-write p = (
+    (
+      (κ₂, (κ₁, tt)),
+      (q₂, (q₁, tt)),
+      tt,
+      (msk, (cod, (0, (p .steps, (p .count, tt))))),
+      (mv ∷ [], (cv ∷ [], (vint w64 0 ∷ [], (LL.vals X.the-type X′.the-laws (p .steps), (vint w64 (p .count) ∷ [], tt))))),
+    ),
+    tt,
+  )
 
   goes-write : (p : Opened) → Places (cod .now) (p .steps) 0 (p .count) (length (msk .now))
-      → ent 𝓤 (onEntry 𝓤 H A write.signature (κ₂, (κ₁, tt)) (q₂, (q₁, tt)) (msk, (cod, (0, (p .steps, (p .count, tt))))) (mv ∷ [], (cv ∷ [], (vint w64 0 ∷ [], (LL.vals X.the-type X′.the-laws (p .steps), (vint w64 (p .count) ∷ [], tt)))))) (Write 𝓤 H A mem run .pre (to-write p))
-  goes-write p places = qed W ((‵ (flft κ₂ q₂) ⊛ (‵ (flft κ₁ q₁) ⊛ ‵ ftrue)) ∷ ‵ (owns (MutSlice (named 0) κ₂ R.the-row ∷ ShrSlice (named 1) κ₁ u8 ∷ usize ∷ X.the-row ∷ usize ∷ []) (msk, (cod, (0, (p .steps, (p .count, tt))))) (mv ∷ [], (cv ∷ [], (vint w64 0 ∷ [], (LL.vals X.the-type X′.the-laws (p .steps), (vint w64 (p .count) ∷ [], tt)))))) ∷ []) ∵
+      → ent 𝓤 (onEntry 𝓤 H A write.signature (κ₂, (κ₁, tt)) (q₂, (q₁, tt)) (msk, (cod, (0, (p .steps, (p .count, tt)))))
+      (mv ∷ [], (cv ∷ [], (vint w64 0 ∷ [], (LL.vals X.the-type X′.the-laws (p .steps), (vint w64 (p .count) ∷ [], tt))))))
+      (Write 𝓤 H A mem run .pre (to-write p))
+  goes-write p places = qed W ((‵ (flft κ₂ q₂) ⊛ (‵ (flft κ₁ q₁) ⊛ ‵ ftrue)) ∷ ‵
+      (owns (MutSlice (named 0) κ₂ R.the-row ∷ ShrSlice (named 1) κ₁ u8 ∷ usize ∷ X.the-row ∷ usize ∷ []) (msk, (cod, (0, (p .steps, (p .count, tt)))))
+      (mv ∷ [], (cv ∷ [], (vint w64 0 ∷ [], (LL.vals X.the-type X′.the-laws (p .steps), (vint w64 (p .count) ∷ [], tt)))))) ∷ []) ∵
       says ! places $ frame ! $ done !
 
   abbrev WriteZs : Type 0
@@ -166,17 +198,20 @@ module _ {M : Type 1} (𝓤 : URA M) (H : Heap 𝓤) (A : Atoms 𝓤) (W : Given
   abbrev to-step : Session → ℕ → Said 𝓤 H A mem run .Ghost
   to-step t n = ((tt, tt, tt, (t, (n, tt)), (LL.vals S.the-type S′.the-laws t, (vint w8 n ∷ [], tt))), tt)
 
-  goes-step : (t : Session) (n : ℕ) → ent 𝓤 (sep 𝓤 (sem 𝓤 H A ftrue) (sem 𝓤 H A (owns (S.the-row ∷ u8 ∷ []) (t, (n, tt)) (LL.vals S.the-type S′.the-laws t, (vint w8 n ∷ [], tt))))) (Said 𝓤 H A mem run .pre (to-step t n))
+  goes-step : (t : Session) (n : ℕ) → ent 𝓤 (sep 𝓤 (sem 𝓤 H A ftrue) (sem 𝓤 H A (owns (S.the-row ∷ u8 ∷ []) (t, (n, tt))
+      (LL.vals S.the-type S′.the-laws t, (vint w8 n ∷ [], tt))))) (Said 𝓤 H A mem run .pre (to-step t n))
   goes-step t n = qed W (‵ ftrue ∷ ‵ (owns (S.the-row ∷ u8 ∷ []) (t, (n, tt)) (LL.vals S.the-type S′.the-laws t, (vint w8 n ∷ [], tt))) ∷ []) ∵ join ! $ frame ! $ done !
 
   stepped : (t : Session) (n : ℕ) (r : Step) → ent 𝓤 (ensured 𝓤 H A step.ended (step.clauses 𝓤 H A mem run) tt (t, (n, tt)) tt r) (fact 𝓤 (r ≡ stepOf t n))
   stepped t n r = exE 𝓤 _ (λ ws. snd∗ 𝓤 (sem 𝓤 H A (lasts step.ended tt (t, (n, tt)) ws)) (fact 𝓤 (r ≡ stepOf t n)))
 
   exits : (r : Step) (u : Val) (zs : List GateRecord) → length zs ≡ length (msk .now) → OpenIs z (wid .now) (cod .now) (msk .now) zs r
-      → ent 𝓤 (⋆ 𝓤 H A (‵ (E.the-row .own r (u ∷ [])) ∷ (‵ (flft κ₂ q₂) ⊛ (‵ (flft κ₁ q₁) ⊛ ‵ ftrue)) ∷ ‵ (finally R.the-row (msk .name) zs) ∷ ‵ Cod ∷ ‵ (flft κ₀ q₀) ∷ ‵ Wid ∷ [])) (Post u)
+      → ent 𝓤 (⋆ 𝓤 H A (‵ (E.the-row .own r (u ∷ [])) ∷ (‵ (flft κ₂ q₂) ⊛ (‵ (flft κ₁ q₁) ⊛ ‵ ftrue)) ∷ ‵ (finally R.the-row (msk .name) zs) ∷ ‵ Cod ∷ ‵
+      (flft κ₀ q₀) ∷ ‵ Wid ∷ [])) (Post u)
   exits r u zs lm said′ =
       qed W (‵ (E.the-row .own r (u ∷ [])) ∷ (‵ (flft κ₂ q₂) ⊛ (‵ (flft κ₁ q₁) ⊛ ‵ ftrue)) ∷ ‵ (finally R.the-row (msk .name) zs) ∷ ‵ Cod ∷ ‵ (flft κ₀ q₀) ∷ ‵ Wid ∷ []) ∵
-      suffices ! _ (ends-at 𝓤 H A opens.ended stayed (opens.clauses 𝓤 H A mem run) W (((κ₀, (κ₁, (κ₂, tt))), (q₀, (q₁, (q₂, tt))), tt, a, vals), tt) u r (tt, (tt, (zs, (tt, tt)))) (tt, (tt, (lm, (tt, tt))))) $ says ! said′ $
+      suffices ! _ (ends-at 𝓤 H A opens.ended stayed (opens.clauses 𝓤 H A mem run) W (((κ₀, (κ₁, (κ₂, tt))), (q₀, (q₁, (q₂, tt))), tt, a, vals), tt) u r
+      (tt, (tt, (zs, (tt, tt)))) (tt, (tt, (lm, (tt, tt))))) $ says ! said′ $
       move ! (1 ∷ []) $
       split ! $
       move ! (1 ∷ []) $
@@ -219,14 +254,20 @@ module _ {M : Type 1} (𝓤 : URA M) (H : Heap 𝓤) (A : Atoms 𝓤) (W : Given
     session-is : Is S.the-row (p .session) (LL.vals S.the-type S′.the-laws (p .session))
     session-is = LL.owed P.the-type P′.the-laws p _ ip .1 .1 .1 .0
 
-  module _ (C : Calls 𝓤 H) (Λ : Loops 𝓤 H) (fm : FmC 𝓤 H (W .laws) C) (known-plan : Triple 𝓤 (C #session-plan·opening·plan) (PlanAt 𝓤 H A mem run)) (known-write : Triple 𝓤 (C #session-steps·write) (Write 𝓤 H A mem run)) (known-step : Triple 𝓤 (C #session-plan·taking·step) (Said 𝓤 H A mem run)) where
+  module _ (C : Calls 𝓤 H) (Λ : Loops 𝓤 H) (fm : FmC 𝓤 H (W .laws) C) (known-plan : Triple 𝓤 (C #session-plan·opening·plan) (PlanAt 𝓤 H A mem run))
+      (known-write : Triple 𝓤 (C #session-steps·write) (Write 𝓤 H A mem run)) (known-step : Triple 𝓤 (C #session-plan·taking·step) (Said 𝓤 H A mem run)) where
     walk : ent 𝓤 (onEntry 𝓤 H A opens.signature (κ₀, (κ₁, (κ₂, tt))) (q₀, (q₁, (q₂, tt))) a vals) (WpFn 𝓤 H C Λ code.function (wv ∷ cv ∷ mv ∷ zv ∷ []) Post)
     walk =
-        qed W ((‵ (flft κ₀ q₀) ⊛ (‵ (flft κ₁ q₁) ⊛ (‵ (flft κ₂ q₂) ⊛ ‵ ftrue))) ∷ ‵ (owns (ShrSlice (named 0) κ₀ u32 ∷ ShrSlice (named 1) κ₁ u8 ∷ MutSlice (named 2) κ₂ R.the-row ∷ Z.the-row ∷ []) a vals) ∷ []) ∵
-        split ! $ move ! (1 ∷ []) $ split ! $ move ! (1 ∷ []) $ split ! $ move ! (4 ∷ []) $ fsplit ! $ move ! (1 ∷ []) $ fsplit ! $ move ! (1 ∷ []) $ fsplit ! $ keep ! (0 ∷ 2 ∷ 3 ∷ 4 ∷ 6 ∷ 7 ∷ []) $ enter ! C Λ code.function (wv ∷ cv ∷ mv ∷ zv ∷ []) _ $
-        alloc1 ! (λ l₀. alloc1 ! (λ l₁. alloc1 ! (λ l₂. alloc1 ! (λ l₃. alloc1 ! (λ l₄. alloc1 ! (λ l₅. alloc1 ! (λ l₆. alloc1 ! (λ l₇. alloc1 ! (λ l₈. alloc1 ! (λ l₉. alloc0 ! $ params1 ! $
-        pass1 ! (init ! 16 refl (tt, (tt, (record { fits = rw′ .0 }, tt)))) $ pass1 ! (init ! 14 refl (tt, (tt, (record { fits = rc .0 }, tt)))) $ pass1 ! (init ! 12 refl (tt, (tt, (record { fits = rm .0 }, tt)))) $ pass1 ! (init ! 10 refl (typed-sizes)) $ pass0 ! $
-        assigns ! (of-opd ! (load ! (from ! (fld ! refl (stop !))) (look-in ! 12 (sub ! 1 refl (whole !))))) (from ! (stop !)) (init ! 6 refl (tt, record { fits = rm .0 })) $
+        qed W ((‵ (flft κ₀ q₀) ⊛ (‵ (flft κ₁ q₁) ⊛ (‵ (flft κ₂ q₂) ⊛ ‵ ftrue))) ∷ ‵
+        (owns (ShrSlice (named 0) κ₀ u32 ∷ ShrSlice (named 1) κ₁ u8 ∷ MutSlice (named 2) κ₂ R.the-row ∷ Z.the-row ∷ []) a vals) ∷ []) ∵
+        split ! $ move ! (1 ∷ []) $ split ! $ move ! (1 ∷ []) $ split ! $ move ! (4 ∷ []) $ fsplit ! $ move ! (1 ∷ []) $ fsplit ! $ move ! (1 ∷ []) $ fsplit ! $
+        keep ! (0 ∷ 2 ∷ 3 ∷ 4 ∷ 6 ∷ 7 ∷ []) $ enter ! C Λ code.function (wv ∷ cv ∷ mv ∷ zv ∷ []) _ $
+        alloc1 ! (λ l₀. alloc1 ! (λ l₁. alloc1 ! (λ l₂. alloc1 ! (λ l₃. alloc1 !
+        (λ l₄. alloc1 ! (λ l₅. alloc1 ! (λ l₆. alloc1 ! (λ l₇. alloc1 ! (λ l₈. alloc1 ! (λ l₉. alloc0 ! $ params1 ! $
+        pass1 ! (init ! 16 refl (tt, (tt, (record { fits = rw′ .0 }, tt)))) $ pass1 ! (init ! 14 refl (tt, (tt, (record { fits = rc .0 }, tt)))) $ pass1 !
+        (init ! 12 refl (tt, (tt, (record { fits = rm .0 }, tt)))) $ pass1 ! (init ! 10 refl (typed-sizes)) $ pass0 ! $
+        assigns ! (of-opd ! (load ! (from ! (fld ! refl (stop !))) (look-in ! 12 (sub ! 1 refl (whole !))))) (from ! (stop !))
+        (init ! 6 refl (tt, record { fits = rm .0 })) $
         move ! (21 ∷ []) $
         use1 W (‵ Cod ⊛ ‵ Cod) (shr-slice-copy 𝓤 H A W (named 0) κ₁ u8 .twice cod (cv ∷ [])) $
         split ! $
@@ -248,18 +289,26 @@ module _ {M : Type 1} (𝓤 : URA M) (H : Heap 𝓤) (A : Atoms 𝓤) (W : Given
         move ! (26 ∷ 0 ∷ []) $
         join ! $
         use2 W (raw (PlanAt 𝓤 H A mem run .pre to-plan)) goes-plan $
-        calls-at ! fm (PlanAt 𝓤 H A mem run) known-plan to-plan (and-then ! (load ! (from ! (stop !)) (look ! 19 refl)) (and-then ! (load ! (from ! (stop !)) (look ! 17 refl)) (and-then ! (load ! (from ! (stop !)) (look ! 9 refl)) (and-then ! (load ! (from ! (stop !)) (look ! 13 refl)) (no-more !))))) (λ u.
-        use1 W (later (some (λ (p : Opened). ((‵ (flft κ₀ q₀) ⊛ (‵ (flft κ₁ q₁) ⊛ ‵ ftrue)) ⊛ ‵ (P.the-row .own p (u ∷ []))) ⊛ raw (ensured 𝓤 H A plan.ended (plan.clauses 𝓤 H A mem run) (κ₀, (κ₁, tt)) (wid, (cod, (length (msk .now), (z, tt)))) tt p)))) (id⊢ 𝓤 _) $ await ! tt $ pick ! (λ p.
+        calls-at ! fm (PlanAt 𝓤 H A mem run) known-plan to-plan (and-then ! (load ! (from ! (stop !)) (look ! 19 refl))
+        (and-then ! (load ! (from ! (stop !)) (look ! 17 refl)) (and-then ! (load ! (from ! (stop !)) (look ! 9 refl))
+        (and-then ! (load ! (from ! (stop !)) (look ! 13 refl)) (no-more !))))) (λ u.
+        use1 W (later (some (λ (p : Opened). ((‵ (flft κ₀ q₀) ⊛ (‵ (flft κ₁ q₁) ⊛ ‵ ftrue)) ⊛ ‵ (P.the-row .own p (u ∷ []))) ⊛ raw
+        (ensured 𝓤 H A plan.ended (plan.clauses 𝓤 H A mem run) (κ₀, (κ₁, tt)) (wid, (cod, (length (msk .now), (z, tt)))) tt p)))) (id⊢ 𝓤 _) $ await ! tt $
+        pick ! (λ p.
         split ! $
         move ! (1 ∷ []) $
-        use1 W (raw (fact 𝓤 (OpenedIs z (wid .now) (cod .now) (length (msk .now)) p))) (planned p) $ heard ! (OpenedIs z (wid .now) (cod .now) (length (msk .now)) p) (λ plan′.
+        use1 W (raw (fact 𝓤 (OpenedIs z (wid .now) (cod .now) (length (msk .now)) p))) (planned p) $ heard !
+        (OpenedIs z (wid .now) (cod .now) (length (msk .now)) p) (λ plan′.
         split ! $
         move ! (1 ∷ []) $
         peeks ! P.the-row (Is P.the-row) (shows 𝓤 H A P.the-row) p (u ∷ []) (λ ip.
-        land ! (from ! (stop !)) (init ! 12 refl (typed-plan p u ip)) $ rewrite ! 12 (λ (y : Val). ‵ (fat fullShare P′.mir l₅ 0 y)) (ap only (LL.tells P.the-type P′.the-laws p _ ip)) refl $
+        land ! (from ! (stop !)) (init ! 12 refl (typed-plan p u ip)) $ rewrite ! 12 (λ (y : Val). ‵ (fat fullShare P′.mir l₅ 0 y))
+        (ap only (LL.tells P.the-type P′.the-laws p _ ip)) refl $
         drop ! $
         assigns ! (addr ! (from ! (fld ! refl (hop ! (look-in ! 15 (sub ! 0 refl (whole !))) (stop !))))) (from ! (stop !)) (init ! 5 refl (tt, tt)) $
-        assigns ! (agg ! (and-then ! (load ! (from ! (stop !)) (look ! 5 refl)) (and-then ! (load ! (from ! (fld ! refl (stop !))) (look-in ! 15 (sub ! 1 refl (whole !)))) (no-more !)))) (from ! (stop !)) (init ! 3 refl (tt, (tt, (record { fits = rm .0 }, tt)))) $
+        assigns ! (agg ! (and-then ! (load ! (from ! (stop !)) (look ! 5 refl)) (and-then !
+        (load ! (from ! (fld ! refl (stop !))) (look-in ! 15 (sub ! 1 refl (whole !)))) (no-more !)))) (from ! (stop !))
+        (init ! 3 refl (tt, (tt, (record { fits = rm .0 }, tt)))) $
         split ! $
         move ! (25 ∷ 1 ∷ []) $
         join ! $
@@ -279,11 +328,17 @@ module _ {M : Type 1} (𝓤 : URA M) (H : Heap 𝓤) (A : Atoms 𝓤) (W : Given
         fjoin ! $
         move ! (2 ∷ 0 ∷ []) $
         use2 W (raw (Write 𝓤 H A mem run .pre (to-write p))) (goes-write p (plan′ .places)) $
-        calls-at ! fm (Write 𝓤 H A mem run) known-write (to-write p) (and-then ! (load ! (from ! (stop !)) (look ! 4 refl)) (and-then ! (load ! (from ! (stop !)) (look ! 18 refl)) (and-then ! (lit ! tt) (and-then ! (load ! (from ! (fld ! refl (stop !))) (look-in ! 12 (sub ! 1 refl (whole !)))) (and-then ! (load ! (from ! (fld ! refl (stop !))) (look-in ! 12 (sub ! 2 refl (whole !)))) (no-more !)))))) (λ u₁.
-        use1 W (later (some (λ (t : Unit {0}). ((‵ (flft κ₂ q₂) ⊛ (‵ (flft κ₁ q₁) ⊛ ‵ ftrue)) ⊛ ‵ (Nothing .own t (u₁ ∷ []))) ⊛ raw (ensured 𝓤 H A write.ended (write.clauses 𝓤 H A mem run) (κ₂, (κ₁, tt)) (msk, (cod, (0, (p .steps, (p .count, tt))))) tt t)))) (id⊢ 𝓤 _) $ await ! tt $ pick ! (λ t.
+        calls-at ! fm (Write 𝓤 H A mem run) known-write (to-write p) (and-then ! (load ! (from ! (stop !)) (look ! 4 refl))
+        (and-then ! (load ! (from ! (stop !)) (look ! 18 refl)) (and-then ! (lit ! tt)
+        (and-then ! (load ! (from ! (fld ! refl (stop !))) (look-in ! 12 (sub ! 1 refl (whole !))))
+        (and-then ! (load ! (from ! (fld ! refl (stop !))) (look-in ! 12 (sub ! 2 refl (whole !)))) (no-more !)))))) (λ u₁.
+        use1 W (later (some (λ (t : Unit {0}). ((‵ (flft κ₂ q₂) ⊛ (‵ (flft κ₁ q₁) ⊛ ‵ ftrue)) ⊛ ‵ (Nothing .own t (u₁ ∷ []))) ⊛ raw
+        (ensured 𝓤 H A write.ended (write.clauses 𝓤 H A mem run) (κ₂, (κ₁, tt)) (msk, (cod, (0, (p .steps, (p .count, tt))))) tt t)))) (id⊢ 𝓤 _) $ await !
+        tt $ pick ! (λ t.
         split ! $
         move ! (1 ∷ []) $
-        use1 W (some (λ (ms : WriteZs). ‵ (lasts write.ended (κ₂, (κ₁, tt)) (msk, (cod, (0, (p .steps, (p .count, tt))))) ms) ⊛ raw (fact 𝓤 (ms .0 ≡ sets (msk .now) 0 (take (p .count) (batchGates (cod .now) (p .steps))))))) (id⊢ 𝓤 _) $ pick ! (λ ms.
+        use1 W (some (λ (ms : WriteZs). ‵ (lasts write.ended (κ₂, (κ₁, tt)) (msk, (cod, (0, (p .steps, (p .count, tt))))) ms) ⊛ raw
+        (fact 𝓤 (ms .0 ≡ sets (msk .now) 0 (take (p .count) (batchGates (cod .now) (p .steps))))))) (id⊢ 𝓤 _) $ pick ! (λ ms.
         split ! $
         move ! (1 ∷ []) $
         heard ! (ms .0 ≡ sets (msk .now) 0 (take (p .count) (batchGates (cod .now) (p .steps)))) (λ em.
@@ -306,8 +361,11 @@ module _ {M : Type 1} (𝓤 : URA M) (H : Heap 𝓤) (A : Atoms 𝓤) (W : Given
         fjoin ! $
         nothing ! $
         use2 W (raw (Said 𝓤 H A mem run .pre (to-step (p .session) (p .no)))) (goes-step (p .session) (p .no)) $
-        calls-at ! fm (Said 𝓤 H A mem run) known-step (to-step (p .session) (p .no)) (and-then ! (load ! (from ! (fld ! refl (stop !))) (look-in ! 14 (sub ! 3 refl (whole !)))) (and-then ! (load ! (from ! (fld ! refl (stop !))) (look-in ! 14 (sub ! 0 refl (whole !)))) (no-more !))) (λ w.
-        use1 W (later (some (λ (r : Step). (‵ ftrue ⊛ ‵ (E.the-row .own r (w ∷ []))) ⊛ raw (ensured 𝓤 H A step.ended (step.clauses 𝓤 H A mem run) tt (p .session, (p .no, tt)) tt r)))) (id⊢ 𝓤 _) $ await ! tt $ pick ! (λ r.
+        calls-at ! fm (Said 𝓤 H A mem run) known-step (to-step (p .session) (p .no))
+        (and-then ! (load ! (from ! (fld ! refl (stop !))) (look-in ! 14 (sub ! 3 refl (whole !))))
+        (and-then ! (load ! (from ! (fld ! refl (stop !))) (look-in ! 14 (sub ! 0 refl (whole !)))) (no-more !))) (λ w.
+        use1 W (later (some (λ (r : Step). (‵ ftrue ⊛ ‵ (E.the-row .own r (w ∷ []))) ⊛ raw
+        (ensured 𝓤 H A step.ended (step.clauses 𝓤 H A mem run) tt (p .session, (p .no, tt)) tt r)))) (id⊢ 𝓤 _) $ await ! tt $ pick ! (λ r.
         split ! $
         move ! (1 ∷ []) $
         use1 W (raw (fact 𝓤 (r ≡ stepOf (p .session) (p .no)))) (stepped (p .session) (p .no) r) $ heard ! (r ≡ stepOf (p .session) (p .no)) (λ er.
@@ -315,7 +373,8 @@ module _ {M : Type 1} (𝓤 : URA M) (H : Heap 𝓤) (A : Atoms 𝓤) (W : Given
         drop ! $
         peeks ! E.the-row (Is E.the-row) (shows 𝓤 H A E.the-row) r (w ∷ []) (λ ir.
         land ! (from ! (stop !)) (init ! 24 refl (typed-step r w ir)) $ returns ! (look ! 24 refl) $
-        forget ! 6 refl $ forget ! 8 refl $ forget ! 10 refl $ forget ! 12 refl $ forget ! 14 refl $ forget ! 16 refl $ forget ! 18 refl $ forget ! 20 refl $ forget ! 22 refl $ forget ! 24 refl $
+        forget ! 6 refl $ forget ! 8 refl $ forget ! 10 refl $ forget ! 12 refl $ forget ! 14 refl $ forget ! 16 refl $ forget ! 18 refl $ forget ! 20 refl $
+        forget ! 22 refl $ forget ! 24 refl $
         move ! (24 ∷ 25 ∷ []) $ free1 ! $
         move ! (22 ∷ 23 ∷ []) $ free1 ! $
         move ! (20 ∷ 21 ∷ []) $ free1 ! $
@@ -329,18 +388,31 @@ module _ {M : Type 1} (𝓤 : URA M) (H : Heap 𝓤) (A : Atoms 𝓤) (W : Given
         free0 ! $
         by ! (exits r w (ms .0) lm (subst (OpenIs z (wid .now) (cod .now) (msk .now) (ms .0)) (sym er) (open-is plan′ em)))))))))))))))))))))))))))
 
-module _ {M : Type 1} (𝓤 : URA M) (H : Heap 𝓤) (A : Atoms 𝓤) (W : Given 𝓤 H A) (mem : Memory → SProp 𝓤) (run : Routine → Fun 𝓤) (𝓣 : Tables 𝓤 H) (known-plan : Triple 𝓤 (𝓣 .C #session-plan·opening·plan) (PlanAt 𝓤 H A mem run)) (known-write : Triple 𝓤 (𝓣 .C #session-steps·write) (Write 𝓤 H A mem run)) (known-step : Triple 𝓤 (𝓣 .C #session-plan·taking·step) (Said 𝓤 H A mem run)) where
+module _ {M : Type 1} (𝓤 : URA M) (H : Heap 𝓤) (A : Atoms 𝓤) (W : Given 𝓤 H A) (mem : Memory → SProp 𝓤) (run : Routine → Fun 𝓤) (𝓣 : Tables 𝓤 H)
+    (known-plan : Triple 𝓤 (𝓣 .C #session-plan·opening·plan) (PlanAt 𝓤 H A mem run)) (known-write : Triple 𝓤 (𝓣 .C #session-steps·write) (Write 𝓤 H A mem run))
+    (known-step : Triple 𝓤 (𝓣 .C #session-plan·taking·step) (Said 𝓤 H A mem run)) where
   open-walks : Walks 𝓤 H A opens.ended stayed (WpFn 𝓤 H (𝓣 .C) (𝓣 .Λ) code.function) (opens.clauses 𝓤 H A mem run)
   open-walks = walked 𝓤 H A opens.ended stayed (opens.clauses 𝓤 H A mem run) (WpFn 𝓤 H (𝓣 .C) (𝓣 .Λ) code.function)
       (λ κs. (slice-vals, (slice-vals, (slice-vals, (EL.vals Z.the-type Z′.the-laws, tt)))))
-      (λ κs. (shr-slice-tells (named 0) (κs .0) u32, (shr-slice-tells (named 1) (κs .1 .0) u8, (mut-slice-tells (named 2) (κs .1 .1 .0) R.the-row, (EL.tells Z.the-type Z′.the-laws, tt)))))
+      (λ κs. (
+        shr-slice-tells (named 0) (κs .0) u32,
+        (
+          shr-slice-tells (named 1) (κs .1 .0) u8,
+          (mut-slice-tells (named 2) (κs .1 .1 .0) R.the-row, (EL.tells Z.the-type Z′.the-laws, tt)),
+        ),
+      ))
       (λ κs qs bounds a g are. via 𝓤 _ (fst∗ 𝓤 _ (emp 𝓤)) (
       walk 𝓤 H A W mem run (κs .0) (κs .1 .0) (κs .1 .1 .0) (qs .0) (qs .1 .0) (qs .1 .1 .0) (a .0) (a .1 .0) (a .1 .1 .0) (a .1 .1 .1 .0)
       (are .1 .1 .1 .0) (are .0 .0 .1) (are .1 .0 .0 .1) (are .1 .1 .0 .0 .1) (𝓣 .C) (𝓣 .Λ) (fmOf 𝓤 H (W .laws) 𝓣) known-plan known-write known-step))
 
   open-meets : Meets 𝓤 H A opens.signature (WpFn 𝓤 H (𝓣 .C) (𝓣 .Λ) code.function) (opens.spec 𝓤 H A mem run)
-  open-meets = walk-meets 𝓤 H A opens.ended stayed W
-      (goes-none-slice 𝓤 H A W 3 (0 ∷ []) tt (plain (λ _. u32)) yes, (goes-none-slice 𝓤 H A W 3 (1 ∷ []) tt (plain (λ _. u8)) yes, (goes-gave-slice 𝓤 H A W 3 2 tt (plain (λ _. R.the-row)), (goes-none 𝓤 H A W 3 (λ _. Z.the-row) yes (λ κs x f. refl), tt))))
+  open-meets = walk-meets 𝓤 H A opens.ended stayed W (
+    goes-none-slice 𝓤 H A W 3 (0 ∷ []) tt (plain (λ _. u32)) yes,
+    (
+      goes-none-slice 𝓤 H A W 3 (1 ∷ []) tt (plain (λ _. u8)) yes,
+      (goes-gave-slice 𝓤 H A W 3 2 tt (plain (λ _. R.the-row)), (goes-none 𝓤 H A W 3 (λ _. Z.the-row) yes (λ κs x f. refl), tt)),
+    ),
+  )
       (opens.clauses 𝓤 H A mem run) (WpFn 𝓤 H (𝓣 .C) (𝓣 .Λ) code.function) (WpFn-mono 𝓤 H (W .laws) 𝓣 code.function) open-walks
 
 pub open-spec : {M : Type 1} → stated.statement M
@@ -349,6 +421,7 @@ open-spec 𝓤 H 𝓜 𝓖 𝓡 =
     entered 𝓤 H (tripleOf 𝓤 H (𝓖 .A) opens.signature (opens.spec 𝓤 H (𝓖 .A) (𝓜 .mem) (𝓡 .run)))
     (tables 𝓤 H 𝓜 𝓡 code.env .C) (tables 𝓤 H 𝓜 𝓡 code.env .Λ) #session-steps·open code.function (code.unfolded 𝓤 H 𝓜 𝓡)
     (open-meets 𝓤 H (𝓖 .A) (givenOf 𝓤 H 𝓜 𝓖) (𝓜 .mem) (𝓡 .run) (tablesOf 𝓤 H 𝓜 (tables 𝓤 H 𝓜 𝓡 code.env))
-    (cited 𝓤 H (PlanAt 𝓤 H (𝓖 .A) (𝓜 .mem) (𝓡 .run)) 𝓜 𝓡 code.env #session-plan·opening·plan plan-def.routine code.calls-session-plan·opening·plan (plan-thm.met 𝓤 H 𝓜 𝓖 𝓡))
+    (cited 𝓤 H (PlanAt 𝓤 H (𝓖 .A) (𝓜 .mem) (𝓡 .run)) 𝓜 𝓡 code.env #session-plan·opening·plan plan-def.routine code.calls-session-plan·opening·plan
+    (plan-thm.met 𝓤 H 𝓜 𝓖 𝓡))
     (cited 𝓤 H (Write 𝓤 H (𝓖 .A) (𝓜 .mem) (𝓡 .run)) 𝓜 𝓡 code.env #session-steps·write write-def.routine code.calls-session-steps·write (write-thm.met 𝓤 H 𝓜 𝓖 𝓡))
     (cited 𝓤 H (Said 𝓤 H (𝓖 .A) (𝓜 .mem) (𝓡 .run)) 𝓜 𝓡 code.env #session-plan·taking·step step-def.routine code.calls-session-plan·taking·step (step-thm.met 𝓤 H 𝓜 𝓖 𝓡)))

@@ -139,7 +139,8 @@ module _ {M : Type 1} (𝓤 : URA M) (H : Heap 𝓤) (A : Atoms 𝓤) (W : Given
   abbrev to-off : ℕ → Off 𝓤 H A mem run .Ghost
   to-off f = ((tt, tt, tt, (s, (f, tt)), (sv ∷ [], (vint w32 f ∷ [], tt))), tt)
 
-  goes-off : (f : ℕ) → ent 𝓤 (sep 𝓤 (sem 𝓤 H A ftrue) (sem 𝓤 H A (owns (S.the-row ∷ u32 ∷ []) (s, (f, tt)) (sv ∷ [], (vint w32 f ∷ [], tt))))) (Off 𝓤 H A mem run .pre (to-off f))
+  goes-off : (f : ℕ) → ent 𝓤 (sep 𝓤 (sem 𝓤 H A ftrue) (sem 𝓤 H A (owns (S.the-row ∷ u32 ∷ []) (s, (f, tt)) (sv ∷ [], (vint w32 f ∷ [], tt)))))
+      (Off 𝓤 H A mem run .pre (to-off f))
   goes-off f = qed W (‵ ftrue ∷ ‵ (owns (S.the-row ∷ u32 ∷ []) (s, (f, tt)) (sv ∷ [], (vint w32 f ∷ [], tt))) ∷ []) ∵ join ! $ frame ! $ done !
 
   offed : (f : ℕ) (r : Step) → ent 𝓤 (ensured 𝓤 H A off.ended (off.clauses 𝓤 H A mem run) tt (s, (f, tt)) tt r) (fact 𝓤 (Said f r))
@@ -148,16 +149,20 @@ module _ {M : Type 1} (𝓤 : URA M) (H : Heap 𝓤) (A : Atoms 𝓤) (W : Given
   exits : (r : Step) (u : Val) → r ≡ said s (offAsked s (src .now)) → ent 𝓤 (⋆ 𝓤 H A (‵ (E.the-row .own r (u ∷ [])) ∷ ‵ Src ∷ ‵ (flft κ q) ∷ [])) (Post u)
   exits r u said′ =
       qed W (‵ (E.the-row .own r (u ∷ [])) ∷ ‵ Src ∷ ‵ (flft κ q) ∷ []) ∵
-      suffices ! _ (ends-at 𝓤 H A take-off.ended stayed (take-off.clauses 𝓤 H A mem run) W (((κ, tt), (q, tt), tt, a, vals), tt) u r (tt, (tt, tt)) (tt, (tt, tt))) $ says ! said′ $
-      nothing ! $ move ! (3 ∷ 0 ∷ []) $ join ! $ frame ! $ nothing ! $ move ! (2 ∷ 0 ∷ []) $ fjoin ! $ owned ! S.the-row (Is S.the-row) (LL.makes S.the-type S′.the-plain 𝓤 H A) s _ is $ fjoin ! $ done !
+      suffices ! _ (ends-at 𝓤 H A take-off.ended stayed (take-off.clauses 𝓤 H A mem run) W (((κ, tt), (q, tt), tt, a, vals), tt) u r (tt, (tt, tt))
+      (tt, (tt, tt))) $ says ! said′ $
+      nothing ! $ move ! (3 ∷ 0 ∷ []) $ join ! $ frame ! $ nothing ! $ move ! (2 ∷ 0 ∷ []) $ fjoin ! $ owned ! S.the-row (Is S.the-row)
+      (LL.makes S.the-type S′.the-plain 𝓤 H A) s _ is $ fjoin ! $ done !
 
   typed-step : (r : Step) (u : Val) → Is E.the-row r (u ∷ []) → Holds (hasTy E′.mir u) × WT u
   typed-step r u ir = LL.lawful E.the-type E′.the-laws 𝓤 H A W .typed r (u ∷ []) ir .0
 
-  from-fits : (i : ℕ) → Is Q.the-row (getD (src .now) i blankSource) (LL.vals Q.the-type Q′.the-laws (getD (src .now) i blankSource)) → getD (src .now) i blankSource .from < 2 ^ 32
+  from-fits : (i : ℕ) → Is Q.the-row (getD (src .now) i blankSource) (LL.vals Q.the-type Q′.the-laws (getD (src .now) i blankSource)) → getD (src .now) i
+      blankSource .from < 2 ^ 32
   from-fits i ie = LL.owed Q.the-type Q′.the-laws (getD (src .now) i blankSource) _ ie .1 .1 .1 .1 .1 .0 .1
 
-  module _ (𝓣 : Tables 𝓤 H) (known-last : Triple 𝓤 (𝓣 .C #session-plan·taking·last) (Last 𝓤 H A mem run)) (known-off : Triple 𝓤 (𝓣 .C #session-plan·taking·off) (Off 𝓤 H A mem run)) where
+  module _ (𝓣 : Tables 𝓤 H) (known-last : Triple 𝓤 (𝓣 .C #session-plan·taking·last) (Last 𝓤 H A mem run))
+      (known-off : Triple 𝓤 (𝓣 .C #session-plan·taking·off) (Off 𝓤 H A mem run)) where
     abbrev C : Calls 𝓤 H
     C = 𝓣 .C
 
@@ -191,17 +196,24 @@ module _ {M : Type 1} (𝓤 : URA M) (H : Heap 𝓤) (A : Atoms 𝓤) (W : Given
           (λ yes.
           use1 W (‵ Src ⊛ ‵ Src) (shr-slice-copy 𝓤 H A W (named 0) κ Q.the-row .twice src (av ∷ [])) $
           split ! $
-          assigns ! (bin ! (load ! (from ! (stop !)) (look ! 13 refl)) (lit ! tt) (record { fits = source-fits (length (src .now)) i (ltb→lt i (length (src .now)) yes) (rs .1) })) (from ! (stop !)) (init ! 7 refl (tt, record { fits = source-fits (length (src .now)) i (ltb→lt i (length (src .now)) yes) (rs .1) })) $
-          assigns ! (bin ! (load ! (from ! (fld ! refl (stop !))) (look-in ! 15 (sub ! 0 refl (whole !)))) (load ! (from ! (stop !)) (look ! 7 refl)) tt) (from ! (stop !)) (init ! 5 refl (tt, tt)) $
+          assigns ! (bin ! (load ! (from ! (stop !)) (look ! 13 refl)) (lit ! tt)
+          (record { fits = source-fits (length (src .now)) i (ltb→lt i (length (src .now)) yes) (rs .1) })) (from ! (stop !))
+          (init ! 7 refl (tt, record { fits = source-fits (length (src .now)) i (ltb→lt i (length (src .now)) yes) (rs .1) })) $
+          assigns ! (bin ! (load ! (from ! (fld ! refl (stop !))) (look-in ! 15 (sub ! 0 refl (whole !)))) (load ! (from ! (stop !)) (look ! 7 refl)) tt)
+          (from ! (stop !)) (init ! 5 refl (tt, tt)) $
           rewrite ! 5 (λ (x : ℕ). ‵ (fat fullShare tyPtr l₇ 0 (vptr (src .ptr .0) x))) (sym (place-is 28 (src .ptr .1) i)) refl $
           fsplit ! $
           drop ! $
           fsplit ! $
           move ! (1 ∷ 3 ∷ []) $
-          looks-slice ! tt Q.the-row (Is Q.the-row) (shows 𝓤 H A Q.the-row) (LL.vals Q.the-type Q′.the-laws) (LL.tells Q.the-type Q′.the-laws) (LL.copy Q.the-type Q′.the-copy 𝓤 H A W) (src .now) (src .ptr .0) (src .ptr .1) (λ q′.
-          elem-out ! Q.the-row (Is Q.the-row) (shows 𝓤 H A Q.the-row) (LL.vals Q.the-type Q′.the-laws) (LL.tells Q.the-type Q′.the-laws) q′ (src .now) i blankSource (src .ptr .0) (src .ptr .1) (ltb→lt i (length (src .now)) yes) (λ ie.
-          assigns ! (of-opd ! (load ! (from ! (hop ! (look ! 9 refl) (fld ! refl (stop !)))) (look-in ! 0 (sub ! 5 refl (whole !))))) (from ! (stop !)) (init ! 7 refl (tt, record { fits = from-fits i ie })) $
-          elem-back ! Q.the-row q′ (src .now) i blankSource (LL.vals Q.the-type Q′.the-laws (getD (src .now) i blankSource)) (src .ptr .0) (src .ptr .1) (ltb→lt i (length (src .now)) yes) $ shuts-slice ! tt Q.the-row q′ (src .now) (src .ptr .0) (src .ptr .1) $
+          looks-slice ! tt Q.the-row (Is Q.the-row) (shows 𝓤 H A Q.the-row) (LL.vals Q.the-type Q′.the-laws) (LL.tells Q.the-type Q′.the-laws)
+          (LL.copy Q.the-type Q′.the-copy 𝓤 H A W) (src .now) (src .ptr .0) (src .ptr .1) (λ q′.
+          elem-out ! Q.the-row (Is Q.the-row) (shows 𝓤 H A Q.the-row) (LL.vals Q.the-type Q′.the-laws) (LL.tells Q.the-type Q′.the-laws) q′ (src .now) i
+          blankSource (src .ptr .0) (src .ptr .1) (ltb→lt i (length (src .now)) yes) (λ ie.
+          assigns ! (of-opd ! (load ! (from ! (hop ! (look ! 9 refl) (fld ! refl (stop !)))) (look-in ! 0 (sub ! 5 refl (whole !))))) (from ! (stop !))
+          (init ! 7 refl (tt, record { fits = from-fits i ie })) $
+          elem-back ! Q.the-row q′ (src .now) i blankSource (LL.vals Q.the-type Q′.the-laws (getD (src .now) i blankSource)) (src .ptr .0) (src .ptr .1)
+          (ltb→lt i (length (src .now)) yes) $ shuts-slice ! tt Q.the-row q′ (src .now) (src .ptr .0) (src .ptr .1) $
           nothing ! $
           owned ! u32 (Is u32) (uint-makes 𝓤 H A W w32) ((getD (src .now) i blankSource) .from) _ (refl, from-fits i ie) $
           fjoin ! $
@@ -209,17 +221,22 @@ module _ {M : Type 1} (𝓤 : URA M) (H : Heap 𝓤) (A : Atoms 𝓤) (W : Given
           fjoin ! $
           nothing ! $
           use2 W (raw (Off 𝓤 H A mem run .pre (to-off ((getD (src .now) i blankSource) .from)))) (goes-off ((getD (src .now) i blankSource) .from)) $
-          calls-at ! (fmOf 𝓤 H (W .laws) 𝓣) (Off 𝓤 H A mem run) known-off (to-off ((getD (src .now) i blankSource) .from)) (and-then ! (load ! (from ! (stop !)) (look ! 19 refl)) (and-then ! (load ! (from ! (stop !)) (look ! 5 refl)) (no-more !))) (λ w.
-          use1 W (later (some (λ (r : Step). (‵ ftrue ⊛ ‵ (E.the-row .own r (w ∷ []))) ⊛ raw (ensured 𝓤 H A off.ended (off.clauses 𝓤 H A mem run) tt (s, (((getD (src .now) i blankSource) .from), tt)) tt r)))) (id⊢ 𝓤 _) $ await ! tt $ pick ! (λ r.
+          calls-at ! (fmOf 𝓤 H (W .laws) 𝓣) (Off 𝓤 H A mem run) known-off (to-off ((getD (src .now) i blankSource) .from))
+          (and-then ! (load ! (from ! (stop !)) (look ! 19 refl)) (and-then ! (load ! (from ! (stop !)) (look ! 5 refl)) (no-more !))) (λ w.
+          use1 W (later (some (λ (r : Step). (‵ ftrue ⊛ ‵ (E.the-row .own r (w ∷ []))) ⊛ raw
+          (ensured 𝓤 H A off.ended (off.clauses 𝓤 H A mem run) tt (s, (((getD (src .now) i blankSource) .from), tt)) tt r)))) (id⊢ 𝓤 _) $ await ! tt $ pick
+          ! (λ r.
           split ! $
           move ! (1 ∷ []) $
-          use1 W (raw (fact 𝓤 (Said ((getD (src .now) i blankSource) .from) r))) (offed ((getD (src .now) i blankSource) .from) r) $ heard ! (Said ((getD (src .now) i blankSource) .from) r) (λ er.
+          use1 W (raw (fact 𝓤 (Said ((getD (src .now) i blankSource) .from) r))) (offed ((getD (src .now) i blankSource) .from) r) $ heard !
+          (Said ((getD (src .now) i blankSource) .from) r) (λ er.
           split ! $
           drop ! $
           peeks ! E.the-row (Is E.the-row) (shows 𝓤 H A E.the-row) r (w ∷ []) (λ ir.
           land ! (from ! (stop !)) (init ! 21 refl (typed-step r w ir)) $
           returns-within ! Post refl (look ! 21 refl) $
-          forget ! 5 refl $ forget ! 7 refl $ forget ! 9 refl $ forget ! 11 refl $ forget ! 13 refl $ forget ! 15 refl $ forget ! 17 refl $ forget ! 19 refl $ forget ! 21 refl $
+          forget ! 5 refl $ forget ! 7 refl $ forget ! 9 refl $ forget ! 11 refl $ forget ! 13 refl $ forget ! 15 refl $ forget ! 17 refl $ forget ! 19 refl $
+          forget ! 21 refl $
           move ! (21 ∷ 22 ∷ []) $ free1 ! $
           move ! (19 ∷ 20 ∷ []) $ free1 ! $
           move ! (17 ∷ 18 ∷ []) $ free1 ! $
@@ -241,8 +258,10 @@ module _ {M : Type 1} (𝓤 : URA M) (H : Heap 𝓤) (A : Atoms 𝓤) (W : Given
           fjoin ! $
           nothing ! $
           use2 W (raw (Off 𝓤 H A mem run .pre (to-off 0))) (goes-off 0) $
-          calls-at ! (fmOf 𝓤 H (W .laws) 𝓣) (Off 𝓤 H A mem run) known-off (to-off 0) (and-then ! (load ! (from ! (stop !)) (look ! 17 refl)) (and-then ! (lit ! tt) (no-more !))) (λ w.
-          use1 W (later (some (λ (r : Step). (‵ ftrue ⊛ ‵ (E.the-row .own r (w ∷ []))) ⊛ raw (ensured 𝓤 H A off.ended (off.clauses 𝓤 H A mem run) tt (s, (0, tt)) tt r)))) (id⊢ 𝓤 _) $ await ! tt $ pick ! (λ r.
+          calls-at ! (fmOf 𝓤 H (W .laws) 𝓣) (Off 𝓤 H A mem run) known-off (to-off 0)
+          (and-then ! (load ! (from ! (stop !)) (look ! 17 refl)) (and-then ! (lit ! tt) (no-more !))) (λ w.
+          use1 W (later (some (λ (r : Step). (‵ ftrue ⊛ ‵ (E.the-row .own r (w ∷ []))) ⊛ raw
+          (ensured 𝓤 H A off.ended (off.clauses 𝓤 H A mem run) tt (s, (0, tt)) tt r)))) (id⊢ 𝓤 _) $ await ! tt $ pick ! (λ r.
           split ! $
           move ! (1 ∷ []) $
           use1 W (raw (fact 𝓤 (Said 0 r))) (offed 0 r) $ heard ! (Said 0 r) (λ er.
@@ -269,37 +288,47 @@ module _ {M : Type 1} (𝓤 : URA M) (H : Heap 𝓤) (A : Atoms 𝓤) (W : Given
     walk =
         qed W ((‵ (flft κ q) ⊛ ‵ ftrue) ∷ ‵ (owns (S.the-row ∷ ShrSlice (named 0) κ Q.the-row ∷ []) a vals) ∷ []) ∵
         split ! $ move ! (2 ∷ []) $ fsplit ! $ drop ! $ fsplit ! $ keep ! (0 ∷ 2 ∷ []) $ enter ! C Λ code.function (sv ∷ av ∷ []) _ $
-        alloc1 ! (λ l₀. alloc1 ! (λ l₁. alloc1 ! (λ l₂. alloc1 ! (λ l₃. alloc1 ! (λ l₄. alloc1 ! (λ l₅. alloc1 ! (λ l₆. alloc1 ! (λ l₇. alloc1 ! (λ l₈. alloc0 ! $ params1 ! $
-        pass1 ! (init ! 14 refl (LL.lawful S.the-type S′.the-laws 𝓤 H A W .typed s _ is .0)) $ pass1 ! (init ! 12 refl (tt, (tt, (record { fits = rs .0 }, tt)))) $ pass0 ! $
+        alloc1 ! (λ l₀. alloc1 ! (λ l₁. alloc1 ! (λ l₂. alloc1 ! (λ l₃. alloc1 !
+        (λ l₄. alloc1 ! (λ l₅. alloc1 ! (λ l₆. alloc1 ! (λ l₇. alloc1 ! (λ l₈. alloc0 ! $ params1 ! $
+        pass1 ! (init ! 14 refl (LL.lawful S.the-type S′.the-laws 𝓤 H A W .typed s _ is .0)) $ pass1 !
+        (init ! 12 refl (tt, (tt, (record { fits = rs .0 }, tt)))) $ pass0 ! $
         nothing ! $
         owned ! S.the-row (Is S.the-row) (LL.makes S.the-type S′.the-plain 𝓤 H A) s _ is $
         fjoin ! $
         nothing ! $
         use2 W (raw (Last 𝓤 H A mem run .pre to-last)) goes-last $
         calls-at ! fm (Last 𝓤 H A mem run) known-last to-last (and-then ! (load ! (from ! (stop !)) (look ! 15 refl)) (no-more !)) (λ u.
-        use1 W (later (some (λ (i : ℕ). (‵ ftrue ⊛ ‵ (usize .own i (u ∷ []))) ⊛ raw (ensured 𝓤 H A last.ended (last.clauses 𝓤 H A mem run) tt (s, tt) tt i)))) (id⊢ 𝓤 _) $ await ! tt $ pick ! (λ i.
+        use1 W (later (some (λ (i : ℕ). (‵ ftrue ⊛ ‵ (usize .own i (u ∷ []))) ⊛ raw (ensured 𝓤 H A last.ended (last.clauses 𝓤 H A mem run) tt (s, tt) tt i))))
+        (id⊢ 𝓤 _) $ await ! tt $ pick ! (λ i.
         split ! $
         move ! (1 ∷ []) $
         use1 W (raw (fact 𝓤 (i ≡ s .gates - 1))) (lasting i) $ heard ! (i ≡ s .gates - 1) (λ ei.
         split ! $
         drop ! $
         peeks ! usize (Is usize) (shows 𝓤 H A usize) i (u ∷ []) (λ ii.
-        land ! (from ! (stop !)) (init ! 11 refl (uint-lawful 𝓤 H A W w64 .typed i (u ∷ []) ii .0)) $ rewrite ! 11 (λ (y : Val). ‵ (fat fullShare word l₃ 0 y)) (ap only (uint-tells w64 i _ ii)) refl $
+        land ! (from ! (stop !)) (init ! 11 refl (uint-lawful 𝓤 H A W w64 .typed i (u ∷ []) ii .0)) $ rewrite ! 11 (λ (y : Val). ‵ (fat fullShare word l₃ 0 y))
+        (ap only (uint-tells w64 i _ ii)) refl $
         drop ! $
-        assigns ! (of-opd ! (load ! (from ! (fld ! refl (stop !))) (look-in ! 12 (sub ! 1 refl (whole !))))) (from ! (stop !)) (init ! 8 refl (tt, record { fits = rs .0 })) $
+        assigns ! (of-opd ! (load ! (from ! (fld ! refl (stop !))) (look-in ! 12 (sub ! 1 refl (whole !))))) (from ! (stop !))
+        (init ! 8 refl (tt, record { fits = rs .0 })) $
         assigns ! (bin ! (load ! (from ! (stop !)) (look ! 10 refl)) (load ! (from ! (stop !)) (look ! 8 refl)) tt) (from ! (stop !)) (init ! 6 refl (tt, tt)) $
         keep ! (18 ∷ 19 ∷ 0 ∷ 1 ∷ 2 ∷ 3 ∷ 4 ∷ 5 ∷ 6 ∷ 7 ∷ 8 ∷ 9 ∷ 10 ∷ 11 ∷ 12 ∷ 13 ∷ 14 ∷ 15 ∷ 16 ∷ 17 ∷ []) $
         behind l₀ l₁ l₂ l₃ l₄ l₅ l₆ l₇ l₈ i ei)))))))))))))
 
-module _ {M : Type 1} (𝓤 : URA M) (H : Heap 𝓤) (A : Atoms 𝓤) (W : Given 𝓤 H A) (mem : Memory → SProp 𝓤) (run : Routine → Fun 𝓤) (𝓣 : Tables 𝓤 H) (known-last : Triple 𝓤 (𝓣 .C #session-plan·taking·last) (Last 𝓤 H A mem run)) (known-off : Triple 𝓤 (𝓣 .C #session-plan·taking·off) (Off 𝓤 H A mem run)) where
-  take-off-walks : Walks 𝓤 H A take-off.ended stayed (WpFn 𝓤 H (𝓣 .C) (𝓣 .Λ) code.function) (take-off.clauses 𝓤 H A mem run)
-  take-off-walks = walked 𝓤 H A take-off.ended stayed (take-off.clauses 𝓤 H A mem run) (WpFn 𝓤 H (𝓣 .C) (𝓣 .Λ) code.function)
-      (λ κs. (LL.vals S.the-type S′.the-laws, (slice-vals, tt))) (λ κs. (LL.tells S.the-type S′.the-laws, (shr-slice-tells (named 0) (κs .0) Q.the-row, tt)))
-      (λ κs qs bounds a g are. via 𝓤 _ (fst∗ 𝓤 _ (emp 𝓤)) (walk 𝓤 H A W mem run (κs .0) (qs .0) (a .0) (a .1 .0) (are .0) (are .1 .0 .0 .1) 𝓣 known-last known-off))
+module _ {M : Type 1} (𝓤 : URA M) (H : Heap 𝓤) (A : Atoms 𝓤) (W : Given 𝓤 H A) (mem : Memory → SProp 𝓤) (run : Routine → Fun 𝓤) (𝓣 : Tables 𝓤 H)
+    (known-last : Triple 𝓤 (𝓣 .C #session-plan·taking·last) (Last 𝓤 H A mem run)) (known-off : Triple 𝓤 (𝓣 .C #session-plan·taking·off) (Off 𝓤 H A mem run))
+  where
+    take-off-walks : Walks 𝓤 H A take-off.ended stayed (WpFn 𝓤 H (𝓣 .C) (𝓣 .Λ) code.function) (take-off.clauses 𝓤 H A mem run)
+    take-off-walks = walked 𝓤 H A take-off.ended stayed (take-off.clauses 𝓤 H A mem run) (WpFn 𝓤 H (𝓣 .C) (𝓣 .Λ) code.function)
+        (λ κs. (LL.vals S.the-type S′.the-laws, (slice-vals, tt))) (λ κs. (LL.tells S.the-type S′.the-laws, (shr-slice-tells (named 0) (κs .0) Q.the-row, tt)))
+        (λ κs qs bounds a g are. via 𝓤 _ (fst∗ 𝓤 _ (emp 𝓤)) (walk 𝓤 H A W mem run (κs .0) (qs .0) (a .0) (a .1 .0) (are .0) (are .1 .0 .0 .1) 𝓣 known-last known-off))
 
-  take-off-meets : Meets 𝓤 H A take-off.signature (WpFn 𝓤 H (𝓣 .C) (𝓣 .Λ) code.function) (take-off.spec 𝓤 H A mem run)
-  take-off-meets = walk-meets 𝓤 H A take-off.ended stayed W (goes-none 𝓤 H A W 1 (λ _. S.the-row) yes (λ κs x f. refl), (goes-none-slice 𝓤 H A W 1 (0 ∷ []) tt (plain (λ _. Q.the-row)) yes, tt))
-      (take-off.clauses 𝓤 H A mem run) (WpFn 𝓤 H (𝓣 .C) (𝓣 .Λ) code.function) (WpFn-mono 𝓤 H (W .laws) 𝓣 code.function) take-off-walks
+    take-off-meets : Meets 𝓤 H A take-off.signature (WpFn 𝓤 H (𝓣 .C) (𝓣 .Λ) code.function) (take-off.spec 𝓤 H A mem run)
+    take-off-meets = walk-meets 𝓤 H A take-off.ended stayed W (
+      goes-none 𝓤 H A W 1 (λ _. S.the-row) yes (λ κs x f. refl),
+      (goes-none-slice 𝓤 H A W 1 (0 ∷ []) tt (plain (λ _. Q.the-row)) yes, tt),
+    )
+        (take-off.clauses 𝓤 H A mem run) (WpFn 𝓤 H (𝓣 .C) (𝓣 .Λ) code.function) (WpFn-mono 𝓤 H (W .laws) 𝓣 code.function) take-off-walks
 
 pub take-off-spec : {M : Type 1} → stated.statement M
 unfolding code.routine tablesOf

@@ -73,7 +73,13 @@ use Rattle.session_steps.proofs.write.Code as code
 use Rattle.session_steps.proofs.write.Code.Mir as mir-of
 
 abbrev stayed : Stays (write.ended .signature .params) (write.ended .kept)
-stayed = (stay-slice (0 ∷ []) tt (plain (λ _. R.the-row)), (stay-none-slice (1 ∷ []) tt (plain (λ _. u8)) yes, (stay-none (λ _. usize) yes, (stay-none (λ _. X.the-row) yes, (stay-none (λ _. usize) yes, tt)))))
+stayed = (
+  stay-slice (0 ∷ []) tt (plain (λ _. R.the-row)),
+  (
+    stay-none-slice (1 ∷ []) tt (plain (λ _. u8)) yes,
+    (stay-none (λ _. usize) yes, (stay-none (λ _. X.the-row) yes, (stay-none (λ _. usize) yes, tt))),
+  ),
+)
 
 record State (codes : List ℕ) (d : Batch) (ys : List GateRecord) (rs : List GateRecord) (at m : ℕ) : Type 0 where
   made : ℕ
@@ -103,9 +109,11 @@ made = D′.mir
 abbrev Gate : {M : Type 1} (𝓤 : URA M) (H : Heap 𝓤) (A : Atoms 𝓤) (mem : Memory → SProp 𝓤) (run : Routine → Fun 𝓤) → Contract 𝓤
 Gate 𝓤 H A mem run = tripleOf 𝓤 H A gate.signature (gate.spec 𝓤 H A mem run)
 
-module _ {M : Type 1} (𝓤 : URA M) (H : Heap 𝓤) (A : Atoms 𝓤) (W : Given 𝓤 H A) (mem : Memory → SProp 𝓤) (run : Routine → Fun 𝓤) (κ κ₁ : Lft) (q q₁ : Share) (b o : ℕ) (γ : GName) (ys : List GateRecord)
+module _ {M : Type 1} (𝓤 : URA M) (H : Heap 𝓤) (A : Atoms 𝓤) (W : Given 𝓤 H A) (mem : Memory → SProp 𝓤) (run : Routine → Fun 𝓤) (κ κ₁ : Lft) (q q₁ : Share)
+    (b o : ℕ) (γ : GName) (ys : List GateRecord)
     (cod : RefT (List ℕ)) (i : ℕ) (d : Batch) (m : ℕ)
-    (i-fits : i < 2 ^ 64) (is : Is X.the-row d (LL.vals X.the-type X′.the-laws d)) (m-fits : m < 2 ^ 64) (room : Room R.the-row (length ys)) (croom : Room u8 (length (cod .now)))
+    (i-fits : i < 2 ^ 64) (is : Is X.the-row d (LL.vals X.the-type X′.the-laws d)) (m-fits : m < 2 ^ 64) (room : Room R.the-row (length ys))
+    (croom : Room u8 (length (cod .now)))
     (places : Places (cod .now) d i m (length ys)) where
   abbrev x : List GateRecord → RefT (List GateRecord)
   x l = record { ptr = (b, o); name = γ; now = l }
@@ -140,13 +148,17 @@ module _ {M : Type 1} (𝓤 : URA M) (H : Heap 𝓤) (A : Atoms 𝓤) (W : Given
   Cod = ShrSlice (named 0) κ₁ u8 .own cod (cv ∷ [])
 
   exits : (zs : List GateRecord) → length zs ≡ length ys → zs ≡ sets ys i (take m rs)
-      → ent 𝓤 (⋆ 𝓤 H A (‵ (fobs γ (codedHoleys R.the-row .code (heres R.the-row zs))) ∷ ‵ (fbor κ (Held R.the-row (length zs) b o γ)) ∷ ‵ (flft κ q) ∷ ‵ (flft κ₁ q₁) ∷ ‵ Cod ∷ [])) (Post vunit)
+      → ent 𝓤 (⋆ 𝓤 H A (‵ (fobs γ (codedHoleys R.the-row .code (heres R.the-row zs))) ∷ ‵ (fbor κ (Held R.the-row (length zs) b o γ)) ∷ ‵ (flft κ q) ∷ ‵
+      (flft κ₁ q₁) ∷ ‵ Cod ∷ [])) (Post vunit)
   exits zs l e =
       qed W (‵ (fobs γ (codedHoleys R.the-row .code (heres R.the-row zs))) ∷ ‵ (fbor κ (Held R.the-row (length zs) b o γ)) ∷ ‵ (flft κ q) ∷ ‵ (flft κ₁ q₁) ∷ ‵ Cod ∷ []) ∵
-      suffices ! _ (ends-at 𝓤 H A write.ended stayed (write.clauses 𝓤 H A mem run) W (((κ, (κ₁, tt)), (q, (q₁, tt)), tt, a, vals), tt) vunit tt (zs, (tt, (tt, (tt, (tt, tt))))) (l, (tt, (tt, (tt, (tt, tt)))))) $ says ! e $
+      suffices ! _ (ends-at 𝓤 H A write.ended stayed (write.clauses 𝓤 H A mem run) W (((κ, (κ₁, tt)), (q, (q₁, tt)), tt, a, vals), tt) vunit tt
+      (zs, (tt, (tt, (tt, (tt, tt))))) (l, (tt, (tt, (tt, (tt, tt)))))) $ says ! e $
       nothing ! $ move ! (4 ∷ 0 ∷ []) $ join ! $ move ! (3 ∷ 0 ∷ []) $ join ! $
-      frame ! $ fjoin ! $ pureI ! (at-slice R.the-row (x zs) (s ∷ [])) (tt, (tt, tt)) (ap (λ (k : ℕ). sliceVal (b, o) k ∷ []) (sym l), subst (Room R.the-row) (sym l) room) $ fjoin ! $
-      nothing ! $ owned ! usize (Is usize) (uint-makes 𝓤 H A W w64) m _ (refl, m-fits) $ fjoin ! $ owned ! X.the-row (Is X.the-row) (LL.makes X.the-type X′.the-plain 𝓤 H A) d _ is $ fjoin ! $
+      frame ! $ fjoin ! $ pureI ! (at-slice R.the-row (x zs) (s ∷ [])) (tt, (tt, tt))
+      (ap (λ (k : ℕ). sliceVal (b, o) k ∷ []) (sym l), subst (Room R.the-row) (sym l) room) $ fjoin ! $
+      nothing ! $ owned ! usize (Is usize) (uint-makes 𝓤 H A W w64) m _ (refl, m-fits) $ fjoin ! $ owned ! X.the-row (Is X.the-row)
+      (LL.makes X.the-type X′.the-plain 𝓤 H A) d _ is $ fjoin ! $
       owned ! usize (Is usize) (uint-makes 𝓤 H A W w64) i _ (refl, i-fits) $ fjoin ! $ move ! (2 ∷ 0 ∷ []) $ fjoin ! $ move ! (1 ∷ 0 ∷ []) $ fjoin ! $ frame ! $
       feqI ! (List Val) (vunit ∷ []) (vunit ∷ []) refl $ done !
 
@@ -159,7 +171,8 @@ module _ {M : Type 1} (𝓤 : URA M) (H : Heap 𝓤) (A : Atoms 𝓤) (W : Given
 
   asked : (k w : ℕ) → k < m → (d .kind ≡ 0 → GoesOn (cod .now) k w)
       → ent 𝓤 (onEntry 𝓤 H A gate.signature (κ₁, tt) (q₁, tt) (cod, (d, (k, (w, tt)))) (passed k w)) (Gate 𝓤 H A mem run .pre (to k w))
-  asked k w l goes = qed W ((‵ (flft κ₁ q₁) ⊛ ‵ ftrue) ∷ ‵ (owns (ShrSlice (named 0) κ₁ u8 ∷ X.the-row ∷ usize ∷ usize ∷ []) (cod, (d, (k, (w, tt)))) (passed k w)) ∷ []) ∵
+  asked k w l goes = qed W ((‵ (flft κ₁ q₁) ⊛ ‵ ftrue) ∷ ‵ (owns (ShrSlice (named 0) κ₁ u8 ∷ X.the-row ∷ usize ∷ usize ∷ []) (cod, (d, (k, (w, tt))))
+      (passed k w)) ∷ []) ∵
       says ! (places .ready, omega (arith, l, places .gates), goes) $ frame ! $ done !
 
   said : (k w : ℕ) (g : Made) → ent 𝓤 (ensured 𝓤 H A gate.ended (gate.clauses 𝓤 H A mem run) (κ₁, tt) (cod, (d, (k, (w, tt)))) tt g) (fact 𝓤 (MadeIs (cod .now) d k g))
@@ -207,11 +220,13 @@ module _ {M : Type 1} (𝓤 : URA M) (H : Heap 𝓤) (A : Atoms 𝓤) (W : Given
 
     module _ (l₀ l₁ l₂ l₃ l₄ l₅ l₆ l₇ l₈ l₉ l₁₀ l₁₁ l₁₂ : ℕ) where
       abbrev En : Env 𝓤 H
-      En = (tyUnit, l₀) ∷ (slice, l₁) ∷ (codes, l₂) ∷ (word, l₃) ∷ (bat, l₄) ∷ (word, l₅) ∷ (word, l₆) ∷ (word, l₇) ∷ (made, l₈) ∷ (tyBool, l₉) ∷ (word, l₁₀) ∷ (word, l₁₁) ∷ (tyPtr, l₁₂) ∷ []
+      En = (tyUnit, l₀) ∷ (slice, l₁) ∷ (codes, l₂) ∷ (word, l₃) ∷ (bat, l₄) ∷ (word, l₅) ∷ (word, l₆) ∷ (word, l₇) ∷ (made, l₈) ∷ (tyBool, l₉) ∷ (word, l₁₀) ∷
+          (word, l₁₁) ∷ (tyPtr, l₁₂) ∷ []
 
       abbrev At : S → List (Item 𝓤)
       At z =
-          ‵ (fobs γ (codedHoleys R.the-row .code (heres R.the-row (z .list)))) ∷ ‵ (fbor κ (Held R.the-row (length (z .list)) b o γ)) ∷ ‵ (flft κ q) ∷ ‵ (flft κ₁ q₁) ∷ ‵ Cod
+          ‵ (fobs γ (codedHoleys R.the-row .code (heres R.the-row (z .list)))) ∷ ‵ (fbor κ (Held R.the-row (length (z .list)) b o γ)) ∷ ‵ (flft κ q) ∷ ‵
+          (flft κ₁ q₁) ∷ ‵ Cod
           ∷ ‵ (froom tyPtr l₁₂ 0) ∷ ‵ (fdies tyPtr l₁₂)
           ∷ ‵ (froom word l₁₁ 0) ∷ ‵ (fdies word l₁₁)
           ∷ ‵ (froom word l₁₀ 0) ∷ ‵ (fdies word l₁₀)
@@ -239,32 +254,47 @@ module _ {M : Type 1} (𝓤 : URA M) (H : Heap 𝓤) (A : Atoms 𝓤) (W : Given
               assigns ! (bin ! (load ! (from ! (stop !)) (look ! 17 refl)) (load ! (from ! (stop !)) (look ! 19 refl)) tt) (from ! (stop !)) (init ! 11 refl (tt, tt)) $
               rewrite ! 11 (λ (t : Bool). ‵ (fat fullShare tyBool l₉ 0 (vbool t))) e refl $ stays ! (load ! (from ! (stop !)) (look ! 11 refl)) $
               move ! (4 ∷ []) $ use1 W (‵ Cod ⊛ ‵ Cod) (shr-slice-copy 𝓤 H A W (named 0) κ₁ u8 .twice cod (cv ∷ [])) $ split ! $
-              nothing ! $ owned ! usize (Is usize) (uint-makes 𝓤 H A W w64) (z .next) _ (refl, z .next-fits) $ fjoin ! $ owned ! usize (Is usize) (uint-makes 𝓤 H A W w64) (z .made) _ (refl, k-fits) $ fjoin ! $
+              nothing ! $ owned ! usize (Is usize) (uint-makes 𝓤 H A W w64) (z .next) _ (refl, z .next-fits) $ fjoin ! $ owned ! usize (Is usize)
+              (uint-makes 𝓤 H A W w64) (z .made) _ (refl, k-fits) $ fjoin ! $
               owned ! X.the-row (Is X.the-row) (LL.makes X.the-type X′.the-plain 𝓤 H A) d _ is $ fjoin ! $ move ! (1 ∷ 0 ∷ []) $ fjoin ! $
               nothing ! $ move ! (6 ∷ 0 ∷ []) $ join ! $ use2 W (raw (Gate 𝓤 H A mem run .pre (to (z .made) (z .next)))) (asked (z .made) (z .next) less (z .goes)) $
               -- [what `gate` asks; the codes' slice; obs; the borrow; the list's token; _12; …]
-              calls-at ! (fmOf 𝓤 H (W .laws) 𝓣) (Gate 𝓤 H A mem run) known (to (z .made) (z .next)) (and-then ! (load ! (from ! (stop !)) (look ! 25 refl)) (and-then ! (load ! (from ! (stop !)) (look ! 21 refl)) (and-then ! (load ! (from ! (stop !)) (look ! 17 refl)) (and-then ! (load ! (from ! (stop !)) (look ! 15 refl)) (no-more !))))) (λ u.
-              use1 W (later (some (λ (g : Made). ((‵ (flft κ₁ q₁) ⊛ ‵ ftrue) ⊛ ‵ (D.the-row .own g (u ∷ []))) ⊛ raw (ensured 𝓤 H A gate.ended (gate.clauses 𝓤 H A mem run) (κ₁, tt) (cod, (d, (z .made, (z .next, tt)))) tt g)))) (id⊢ 𝓤 _) $ await ! tt $ pick ! (λ g.
-              split ! $ move ! (1 ∷ []) $ use1 W (raw (fact 𝓤 (MadeIs (cod .now) d (z .made) g))) (said (z .made) (z .next) g) $ heard ! (MadeIs (cod .now) d (z .made) g) (λ f. split ! $ split ! $ move ! (2 ∷ []) $
+              calls-at ! (fmOf 𝓤 H (W .laws) 𝓣) (Gate 𝓤 H A mem run) known (to (z .made) (z .next))
+              (and-then ! (load ! (from ! (stop !)) (look ! 25 refl)) (and-then ! (load ! (from ! (stop !)) (look ! 21 refl))
+              (and-then ! (load ! (from ! (stop !)) (look ! 17 refl)) (and-then ! (load ! (from ! (stop !)) (look ! 15 refl)) (no-more !))))) (λ u.
+              use1 W (later (some (λ (g : Made). ((‵ (flft κ₁ q₁) ⊛ ‵ ftrue) ⊛ ‵ (D.the-row .own g (u ∷ []))) ⊛ raw
+              (ensured 𝓤 H A gate.ended (gate.clauses 𝓤 H A mem run) (κ₁, tt) (cod, (d, (z .made, (z .next, tt)))) tt g)))) (id⊢ 𝓤 _) $ await ! tt $ pick !
+              (λ g.
+              split ! $ move ! (1 ∷ []) $ use1 W (raw (fact 𝓤 (MadeIs (cod .now) d (z .made) g))) (said (z .made) (z .next) g) $ heard !
+              (MadeIs (cod .now) d (z .made) g) (λ f. split ! $ split ! $ move ! (2 ∷ []) $
               -- [what g owns; the codes' token; true; the codes' slice; obs; the borrow; the list's token; _12; …]
               peeks ! D.the-row (Is D.the-row) (shows 𝓤 H A D.the-row) g (u ∷ []) (λ ig.
-              land ! (from ! (stop !)) (init ! 15 refl (typed g u ig)) $ rewrite ! 15 (λ (y : Val). ‵ (fat fullShare made l₈ 0 y)) (ap only (LL.tells D.the-type D′.the-laws g _ ig)) refl $
-              assigns ! (bin ! (load ! (from ! (stop !)) (look ! 25 refl)) (load ! (from ! (stop !)) (look ! 19 refl)) (record { fits = place-fits })) (from ! (stop !)) (init ! 11 refl (tt, record { fits = place-fits })) $
-              assigns ! (bin ! (load ! (from ! (stop !)) (look ! 11 refl)) (lit ! tt) (record { fits = byte-fits })) (from ! (stop !)) (init ! 9 refl (tt, record { fits = byte-fits })) $
-              assigns ! (bin ! (load ! (from ! (fld ! refl (stop !))) (look-in ! 29 (sub ! 0 refl (whole !)))) (load ! (from ! (stop !)) (look ! 9 refl)) tt) (from ! (stop !)) (init ! 7 refl (tt, tt)) $
+              land ! (from ! (stop !)) (init ! 15 refl (typed g u ig)) $ rewrite ! 15 (λ (y : Val). ‵ (fat fullShare made l₈ 0 y))
+              (ap only (LL.tells D.the-type D′.the-laws g _ ig)) refl $
+              assigns ! (bin ! (load ! (from ! (stop !)) (look ! 25 refl)) (load ! (from ! (stop !)) (look ! 19 refl)) (record { fits = place-fits }))
+              (from ! (stop !)) (init ! 11 refl (tt, record { fits = place-fits })) $
+              assigns ! (bin ! (load ! (from ! (stop !)) (look ! 11 refl)) (lit ! tt) (record { fits = byte-fits })) (from ! (stop !))
+              (init ! 9 refl (tt, record { fits = byte-fits })) $
+              assigns ! (bin ! (load ! (from ! (fld ! refl (stop !))) (look-in ! 29 (sub ! 0 refl (whole !)))) (load ! (from ! (stop !)) (look ! 9 refl)) tt)
+              (from ! (stop !)) (init ! 7 refl (tt, tt)) $
               rewrite ! 7 (λ (p : ℕ). ‵ (fat fullShare tyPtr l₁₂ 0 (vptr b p))) (sym (place-is 16 o (i + z .made))) refl $
               move ! (4 ∷ 5 ∷ 6 ∷ []) $ opens-slice ! tt R.the-row (z .list) b o $
-              elem-out ! R.the-row (Is R.the-row) (shows 𝓤 H A R.the-row) (LL.vals R.the-type R′.the-laws) (LL.tells R.the-type R′.the-laws) fullShare (z .list) (i + z .made) blank b o there (λ _.
+              elem-out ! R.the-row (Is R.the-row) (shows 𝓤 H A R.the-row) (LL.vals R.the-type R′.the-laws) (LL.tells R.the-type R′.the-laws) fullShare (z .list)
+              (i + z .made) blank b o there (λ _.
               -- [list[i + z .made]; what it owns; the others; the open borrow; obs; auth; what g owns; the codes' token; true; the codes' slice; _12; …]
-              assigns ! (of-opd ! (load ! (from ! (fld ! refl (stop !))) (look-in ! 18 (sub ! 0 refl (whole !))))) (from ! (hop ! (look ! 10 refl) (stop !))) (store-raw ! 0 refl (LL.lawful R.the-type R′.the-laws 𝓤 H A W .typed (g .gate) _ (gate-is g u ig) .0)) $
+              assigns ! (of-opd ! (load ! (from ! (fld ! refl (stop !))) (look-in ! 18 (sub ! 0 refl (whole !))))) (from ! (hop ! (look ! 10 refl) (stop !)))
+              (store-raw ! 0 refl (LL.lawful R.the-type R′.the-laws 𝓤 H A W .typed (g .gate) _ (gate-is g u ig) .0)) $
               move ! (1 ∷ []) $ drop ! $ owned ! R.the-row (Is R.the-row) (LL.makes R.the-type R′.the-plain 𝓤 H A) (g .gate) _ (gate-is g u ig) $ move ! (1 ∷ 0 ∷ []) $
               elem-put ! R.the-row fullShare (z .list) (i + z .made) (g .gate) (LL.vals R.the-type R′.the-laws (g .gate)) b o there $
               closes-slice ! tt R.the-row (z .list) (set (z .list) (i + z .made) (g .gate)) (length-set (z .list) (i + z .made) (g .gate)) b o $
               -- [obs; the borrow; the list's token; what g owns; the codes' token; true; the codes' slice; _12; …]
-              assigns ! (of-opd ! (load ! (from ! (fld ! refl (stop !))) (look-in ! 15 (sub ! 1 refl (whole !))))) (from ! (stop !)) (store ! 17 refl (tt, record { fits = from-fits g u ig })) $
-              assigns-last ! (bin ! (load ! (from ! (stop !)) (look ! 19 refl)) (lit ! tt) (record { fits = next-fits })) (from ! (stop !)) (store ! 19 refl (tt, record { fits = next-fits })) $
+              assigns ! (of-opd ! (load ! (from ! (fld ! refl (stop !))) (look-in ! 15 (sub ! 1 refl (whole !))))) (from ! (stop !))
+              (store ! 17 refl (tt, record { fits = from-fits g u ig })) $
+              assigns-last ! (bin ! (load ! (from ! (stop !)) (look ! 19 refl)) (lit ! tt) (record { fits = next-fits })) (from ! (stop !))
+              (store ! 19 refl (tt, record { fits = next-fits })) $
               forget ! 7 refl $ forget ! 9 refl $ forget ! 11 refl $ forget ! 13 refl $ forget ! 15 refl $
-              keep ! (0 ∷ 1 ∷ 2 ∷ 4 ∷ 6 ∷ 7 ∷ 8 ∷ 9 ∷ 10 ∷ 11 ∷ 12 ∷ 13 ∷ 14 ∷ 15 ∷ 16 ∷ 17 ∷ 18 ∷ 19 ∷ 20 ∷ 21 ∷ 22 ∷ 23 ∷ 24 ∷ 25 ∷ 26 ∷ 27 ∷ 28 ∷ 29 ∷ 30 ∷ 31 ∷ 32 ∷ []) $
+              keep ! (0 ∷ 1 ∷ 2 ∷ 4 ∷ 6 ∷ 7 ∷ 8 ∷ 9 ∷ 10 ∷ 11 ∷ 12 ∷ 13 ∷ 14 ∷ 15 ∷ 16 ∷ 17 ∷ 18 ∷ 19 ∷ 20 ∷ 21 ∷ 22 ∷ 23 ∷ 24 ∷ 25 ∷ 26 ∷ 27 ∷ 28 ∷ 29 ∷ 30 ∷
+              31 ∷ 32 ∷ []) $
               again ! Nearer At z (onto z g less (from-fits g u ig) f) (add-one-dec m (z .made) less))))))
             where
               less : z .made < m
@@ -286,10 +316,15 @@ module _ {M : Type 1} (𝓤 : URA M) (H : Heap 𝓤) (A : Atoms 𝓤) (W : Given
               next-fits = omega (arith, less)
           go false e =
               assigns ! (bin ! (load ! (from ! (stop !)) (look ! 17 refl)) (load ! (from ! (stop !)) (look ! 19 refl)) tt) (from ! (stop !)) (init ! 11 refl (tt, tt)) $
-              rewrite ! 11 (λ (t : Bool). ‵ (fat fullShare tyBool l₉ 0 (vbool t))) e refl $ leaves-loop ! (load ! (from ! (stop !)) (look ! 11 refl)) $ exec ! C Λ En mir-of.t-4 (atRet En Post) $
+              rewrite ! 11 (λ (t : Bool). ‵ (fat fullShare tyBool l₉ 0 (vbool t))) e refl $ leaves-loop ! (load ! (from ! (stop !)) (look ! 11 refl)) $ exec ! C
+              Λ En mir-of.t-4 (atRet En Post) $
               assigns ! (of-opd ! (unit-lit !)) (from ! (stop !)) (init ! 29 refl (tt, tt)) $
-              returns ! (look ! 29 refl) $ forget ! 11 refl $ forget ! 15 refl $ forget ! 17 refl $ forget ! 19 refl $ forget ! 21 refl $ forget ! 23 refl $ forget ! 25 refl $ forget ! 27 refl $ forget ! 29 refl $
-              move ! (29 ∷ 30 ∷ []) $ free1 ! $ move ! (27 ∷ 28 ∷ []) $ free1 ! $ move ! (25 ∷ 26 ∷ []) $ free1 ! $ move ! (23 ∷ 24 ∷ []) $ free1 ! $ move ! (21 ∷ 22 ∷ []) $ free1 ! $ move ! (19 ∷ 20 ∷ []) $ free1 ! $ move ! (17 ∷ 18 ∷ []) $ free1 ! $ move ! (15 ∷ 16 ∷ []) $ free1 ! $ move ! (13 ∷ 14 ∷ []) $ free1 ! $ move ! (11 ∷ 12 ∷ []) $ free1 ! $ move ! (9 ∷ 10 ∷ []) $ free1 ! $ move ! (7 ∷ 8 ∷ []) $ free1 ! $ move ! (5 ∷ 6 ∷ []) $ free1 ! $ free0 ! $
+              returns ! (look ! 29 refl) $ forget ! 11 refl $ forget ! 15 refl $ forget ! 17 refl $ forget ! 19 refl $ forget ! 21 refl $ forget ! 23 refl $
+              forget ! 25 refl $ forget ! 27 refl $ forget ! 29 refl $
+              move ! (29 ∷ 30 ∷ []) $ free1 ! $ move ! (27 ∷ 28 ∷ []) $ free1 ! $ move ! (25 ∷ 26 ∷ []) $ free1 ! $ move ! (23 ∷ 24 ∷ []) $ free1 ! $ move !
+              (21 ∷ 22 ∷ []) $ free1 ! $ move ! (19 ∷ 20 ∷ []) $ free1 ! $ move ! (17 ∷ 18 ∷ []) $ free1 ! $ move ! (15 ∷ 16 ∷ []) $ free1 ! $ move !
+              (13 ∷ 14 ∷ []) $ free1 ! $ move ! (11 ∷ 12 ∷ []) $ free1 ! $ move ! (9 ∷ 10 ∷ []) $ free1 ! $ move ! (7 ∷ 8 ∷ []) $ free1 ! $ move !
+              (5 ∷ 6 ∷ []) $ free1 ! $ free0 ! $
               by ! (exits (z .list) (wrote-length (z .wrote)) (wrote-all (z .wrote) (ltb-false (z .made) m e)))
 
       -- the loop, and the rest of the body
@@ -298,28 +333,52 @@ module _ {M : Type 1} (𝓤 : URA M) (H : Heap 𝓤) (A : Atoms 𝓤) (W : Given
 
     walk : ent 𝓤 (onEntry 𝓤 H A write.signature (κ, (κ₁, tt)) (q, (q₁, tt)) a vals) (WpFn 𝓤 H C Λ code.function (s ∷ cv ∷ vint w64 i ∷ v ∷ vint w64 m ∷ []) Post)
     walk =
-        qed W ((‵ (flft κ q) ⊛ (‵ (flft κ₁ q₁) ⊛ ‵ ftrue)) ∷ ‵ (owns (MutSlice (named 0) κ R.the-row ∷ ShrSlice (named 1) κ₁ u8 ∷ usize ∷ X.the-row ∷ usize ∷ []) a vals) ∷ []) ∵ enter ! C Λ code.function (s ∷ cv ∷ vint w64 i ∷ v ∷ vint w64 m ∷ []) _ $
-        alloc1 ! (λ l₀. alloc1 ! (λ l₁. alloc1 ! (λ l₂. alloc1 ! (λ l₃. alloc1 ! (λ l₄. alloc1 ! (λ l₅. alloc1 ! (λ l₆. alloc1 ! (λ l₇. alloc1 ! (λ l₈. alloc1 ! (λ l₉. alloc1 ! (λ l₁₀. alloc1 ! (λ l₁₁. alloc1 ! (λ l₁₂. alloc0 ! $ params1 ! $
-        pass1 ! (init ! 22 refl (tt, (tt, (record { fits = room .0 }, tt)))) $ pass1 ! (init ! 20 refl (tt, (tt, (record { fits = croom .0 }, tt)))) $ pass1 ! (init ! 18 refl (tt, record { fits = i-fits })) $
+        qed W ((‵ (flft κ q) ⊛ (‵ (flft κ₁ q₁) ⊛ ‵ ftrue)) ∷ ‵ (owns (MutSlice (named 0) κ R.the-row ∷ ShrSlice (named 1) κ₁ u8 ∷ usize ∷ X.the-row ∷ usize ∷
+        []) a vals) ∷ []) ∵ enter ! C Λ code.function (s ∷ cv ∷ vint w64 i ∷ v ∷ vint w64 m ∷ []) _ $
+        alloc1 ! (λ l₀. alloc1 ! (λ l₁. alloc1 ! (λ l₂. alloc1 ! (λ l₃. alloc1 !
+        (λ l₄. alloc1 ! (λ l₅. alloc1 ! (λ l₆. alloc1 ! (λ l₇. alloc1 ! (λ l₈. alloc1 !
+        (λ l₉. alloc1 ! (λ l₁₀. alloc1 ! (λ l₁₁. alloc1 ! (λ l₁₂. alloc0 ! $ params1 ! $
+        pass1 ! (init ! 22 refl (tt, (tt, (record { fits = room .0 }, tt)))) $ pass1 ! (init ! 20 refl (tt, (tt, (record { fits = croom .0 }, tt)))) $ pass1 !
+        (init ! 18 refl (tt, record { fits = i-fits })) $
         pass1 ! (init ! 16 refl (LL.lawful X.the-type X′.the-laws 𝓤 H A W .typed d _ is .0)) $ pass1 ! (init ! 14 refl (tt, record { fits = m-fits })) $ pass0 ! $
-        assigns ! (of-opd ! (lit ! tt)) (from ! (stop !)) (init ! 12 refl (tt, record { fits = lit< tt })) $ assigns ! (of-opd ! (lit ! tt)) (from ! (stop !)) (init ! 10 refl (tt, record { fits = lit< tt })) $
+        assigns ! (of-opd ! (lit ! tt)) (from ! (stop !)) (init ! 12 refl (tt, record { fits = lit< tt })) $ assigns ! (of-opd ! (lit ! tt)) (from ! (stop !))
+        (init ! 10 refl (tt, record { fits = lit< tt })) $
         move ! (27 ∷ []) $ fsplit ! $ fsplit ! $ move ! (1 ∷ []) $ fsplit ! $ move ! (3 ∷ []) $ fsplit ! $ move ! (31 ∷ []) $ split ! $ move ! (1 ∷ []) $ split ! $
         -- [the codes' token; true; the list's token; the codes' slice; what the others own; obs; the borrow; the list's fact; _12; …]
         keep ! (5 ∷ 6 ∷ 2 ∷ 0 ∷ 3 ∷ 8 ∷ 9 ∷ 10 ∷ 11 ∷ 12 ∷ 13 ∷ 14 ∷ 15 ∷ 16 ∷ 17 ∷ 18 ∷ 19 ∷ 20 ∷ 21 ∷ 22 ∷ 23 ∷ 24 ∷ 25 ∷ 26 ∷ 27 ∷ 28 ∷ 29 ∷ 30 ∷ 31 ∷ 32 ∷ 33 ∷ []) $
         looped l₀ l₁ l₂ l₃ l₄ l₅ l₆ l₇ l₈ l₉ l₁₀ l₁₁ l₁₂ starts)))))))))))))
 
-module _ {M : Type 1} (𝓤 : URA M) (H : Heap 𝓤) (A : Atoms 𝓤) (W : Given 𝓤 H A) (mem : Memory → SProp 𝓤) (run : Routine → Fun 𝓤) (𝓣 : Tables 𝓤 H) (known : Triple 𝓤 (𝓣 .C #session-plan·batch·gate) (Gate 𝓤 H A mem run)) where
+module _ {M : Type 1} (𝓤 : URA M) (H : Heap 𝓤) (A : Atoms 𝓤) (W : Given 𝓤 H A) (mem : Memory → SProp 𝓤) (run : Routine → Fun 𝓤) (𝓣 : Tables 𝓤 H)
+    (known : Triple 𝓤 (𝓣 .C #session-plan·batch·gate) (Gate 𝓤 H A mem run)) where
   write-walks : Walks 𝓤 H A write.ended stayed (WpFn 𝓤 H (𝓣 .C) (𝓣 .Λ) code.function) (write.clauses 𝓤 H A mem run)
   write-walks = walked 𝓤 H A write.ended stayed (write.clauses 𝓤 H A mem run) (WpFn 𝓤 H (𝓣 .C) (𝓣 .Λ) code.function)
       (λ κs. (slice-vals, (slice-vals, (uint-vals w64, (LL.vals X.the-type X′.the-laws, (uint-vals w64, tt))))))
-      (λ κs. (mut-slice-tells (named 0) (κs .0) R.the-row, (shr-slice-tells (named 1) (κs .1 .0) u8, (uint-tells w64, (LL.tells X.the-type X′.the-laws, (uint-tells w64, tt))))))
+      (λ κs. (
+        mut-slice-tells (named 0) (κs .0) R.the-row,
+        (
+          shr-slice-tells (named 1) (κs .1 .0) u8,
+          (uint-tells w64, (LL.tells X.the-type X′.the-laws, (uint-tells w64, tt))),
+        ),
+      ))
       (λ κs qs bounds a g are. needs 𝓤 (Places (a .1 .0 .now) (a .1 .1 .1 .0) (a .1 .1 .0) (a .1 .1 .1 .1 .0) (length (a .0 .now))) _ (λ places.
-      walk 𝓤 H A W mem run (κs .0) (κs .1 .0) (qs .0) (qs .1 .0) (a .0 .ptr .0) (a .0 .ptr .1) (a .0 .name) (a .0 .now) (a .1 .0) (a .1 .1 .0) (a .1 .1 .1 .0) (a .1 .1 .1 .1 .0)
+      walk 𝓤 H A W mem run (κs .0) (κs .1 .0) (qs .0) (qs .1 .0) (a .0 .ptr .0) (a .0 .ptr .1) (a .0 .name) (a .0 .now) (a .1 .0) (a .1 .1 .0) (a .1 .1 .1 .0)
+      (a .1 .1 .1 .1 .0)
       (are .1 .1 .0 .1) (are .1 .1 .1 .0) (are .1 .1 .1 .1 .0 .1) (are .0 .0 .1) (are .1 .0 .0 .1) places 𝓣 known))
 
   write-meets : Meets 𝓤 H A write.signature (WpFn 𝓤 H (𝓣 .C) (𝓣 .Λ) code.function) (write.spec 𝓤 H A mem run)
-  write-meets = walk-meets 𝓤 H A write.ended stayed W
-      (goes-slice 𝓤 H A W 2 0 tt (plain (λ _. R.the-row)), (goes-none-slice 𝓤 H A W 2 (1 ∷ []) tt (plain (λ _. u8)) yes, (goes-none 𝓤 H A W 2 (λ _. usize) yes (λ κs x f. refl), (goes-none 𝓤 H A W 2 (λ _. X.the-row) yes (λ κs x f. refl), (goes-none 𝓤 H A W 2 (λ _. usize) yes (λ κs x f. refl), tt)))))
+  write-meets = walk-meets 𝓤 H A write.ended stayed W (
+    goes-slice 𝓤 H A W 2 0 tt (plain (λ _. R.the-row)),
+    (
+      goes-none-slice 𝓤 H A W 2 (1 ∷ []) tt (plain (λ _. u8)) yes,
+      (
+        goes-none 𝓤 H A W 2 (λ _. usize) yes (λ κs x f. refl),
+        (
+          goes-none 𝓤 H A W 2 (λ _. X.the-row) yes (λ κs x f. refl),
+          (goes-none 𝓤 H A W 2 (λ _. usize) yes (λ κs x f. refl), tt),
+        ),
+      ),
+    ),
+  )
       (write.clauses 𝓤 H A mem run) (WpFn 𝓤 H (𝓣 .C) (𝓣 .Λ) code.function) (WpFn-mono 𝓤 H (W .laws) 𝓣 code.function) write-walks
 
 pub write-spec : {M : Type 1} → stated.statement M

@@ -1,5 +1,5 @@
 -- `line`: the name, the two numbers with their words, and LF.
-use Rattle.write_buffer.proofs.Wrote.{wrote-then}
+use Rattle.write_buffer.proofs.Writing.{wrote-then}
 use borrow.Author.Needs.{needs}
 use Rattle.test_report.proofs.line.Statement.{statement}
 use Rattle.test_report.proofs.line.Tie as tie

@@ -14,7 +14,8 @@ small-requires : tie.Need-small-requires
 small-requires c κs = search needs
 
 read-requires : tie.Need-read-requires
-read-requires c κs = rw (c .before .before .before .before .before .small .ensures) (readable-small (c .before .before .before .before .before .before .before .before .before .before .before .before .before .args .sizes))
+read-requires c κs = rw (c .before .before .before .before .before .small .ensures)
+    (readable-small (c .before .before .before .before .before .before .before .before .before .before .before .before .before .args .sizes))
 
 enum-known-question : tie.Need-enum-known-question
 enum-known-question c = search needs
@@ -23,13 +24,16 @@ enum-known-h : tie.Need-enum-known-h
 enum-known-h c = search needs
 
 deliver-requires : tie.Need-deliver-requires
-deliver-requires c κs = let s = c .before .before .before .before .before .before .before .before .before .before .before .before .before .before .before .before .before .before .before .before .before .before .before .before .before .before .before .args in
+deliver-requires c κs = let s =
+    c .before .before .before .before .before .before .before .before .before .before .before .before .before .before .before .before .before .before .before
+    .before .before .before .before .before .before .before .before .args in
     let t = c .before .before .before .before .before .before .before .before .before .before .before .before .before .read in
     let o = length (s .operands .now) in
     let r = length (s .results .now) in
     let g = length (s .marks .now) in
     let k = read-is (o ∷ r ∷ g ∷ g ∷ []) (s .text .now) (t .last .1 .0) (t .last .1 .1 .0) (tables (t .last .1 .1 .1 .0) (t .last .1 .1 .1 .1 .0))
-    (c .before .before .before .before .before .before .before .before .before .before .before .before .before .before .before .before .before .before .before .small .ensures) (c .before .before .before .before .before .h .given .1) (t .ensures) in
+    (c .before .before .before .before .before .before .before .before .before .before .before .before .before .before .before .before .before .before .before
+    .small .ensures) (c .before .before .before .before .before .h .given .1) (t .ensures) in
     let a = k .1 in
     (a .wired, omega (arith, a .wires, small-fits (s .sizes) .1), omega (arith, a .gates), a .inBits)
 
@@ -43,11 +47,14 @@ same-length-3 : tie.Need-same-length-3
 same-length-3 c = search needs
 
 returns : tie.Need-returns
-returns c = let s = c .before .before .before .before .before .before .before .before .before .before .before .before .before .before .before .before .before .before .before .before .before .before .before .args in
+returns c = let s = c .before .before .before .before .before .before .before .before .before .before .before .before .before .before .before .before .before
+    .before .before .before .before .before .before .args in
     let t = c .before .before .before .before .before .before .before .before .before .read in
     call-not (s .sizes) (s .text .now) (s .codes .now) _ _ (s .operands .now) (s .results .now) (s .marks .now)
     (read-is (length (s .operands .now) ∷ length (s .results .now) ∷ length (s .marks .now) ∷ length (s .marks .now) ∷ []) (s .text .now) (t .last .1 .0)
-    (t .last .1 .1 .0) (tables (t .last .1 .1 .1 .0) (t .last .1 .1 .1 .1 .0)) (c .before .before .before .before .before .before .before .before .before .before .before .before .before .before .before .small .ensures) (c .before .question .given .1) (t .ensures))
+    (t .last .1 .1 .0) (tables (t .last .1 .1 .1 .0) (t .last .1 .1 .1 .1 .0))
+    (c .before .before .before .before .before .before .before .before .before .before .before .before .before .before .before .small .ensures)
+    (c .before .question .given .1) (t .ensures))
 
 same-length-4 : tie.Need-same-length-4
 same-length-4 c = search needs
@@ -65,11 +72,16 @@ same-length-8 : tie.Need-same-length-8
 same-length-8 c = search needs
 
 returns-2 : tie.Need-returns-2
-returns-2 c = let s = c .before .before .before .before .before .before .before .before .before .before .before .before .before .before .before .before .before .before .before .before .before .before .before .before .before .before .before .before .before .before .before .before .args in
+returns-2 c = let s =
+    c .before .before .before .before .before .before .before .before .before .before .before .before .before .before .before .before .before .before .before
+    .before .before .before .before .before .before .before .before .before .before .before .before .before .args in
     let t = c .before .before .before .before .before .before .before .before .before .before .before .before .before .before .before .before .before .before .read in
     call-read (s .sizes) (s .text .now) (s .codes .now) (s .wires .now) (s .out-codes .now) (s .operands .now) (s .results .now) (s .marks .now)
     (read-is (length (s .operands .now) ∷ length (s .results .now) ∷ length (s .marks .now) ∷ length (s .marks .now) ∷ []) (s .text .now) (t .last .1 .0)
-    (t .last .1 .1 .0) (tables (t .last .1 .1 .1 .0) (t .last .1 .1 .1 .1 .0)) (c .before .before .before .before .before .before .before .before .before .before .before .before .before .before .before .before .before .before .before .before .before .before .before .before .small .ensures) (c .before .before .before .before .before .before .before .before .before .before .h .given .1) (t .ensures))
+    (t .last .1 .1 .0) (tables (t .last .1 .1 .1 .0) (t .last .1 .1 .1 .1 .0))
+    (c .before .before .before .before .before .before .before .before .before .before .before .before .before .before .before .before .before .before
+    .before .before .before .before .before .before .small .ensures)
+    (c .before .before .before .before .before .before .before .before .before .before .h .given .1) (t .ensures))
     (c .before .before .before .before .deliver .ensures)
 
 pub answer-spec : {M : Type 1} → statement M

@@ -13,7 +13,8 @@ valid-codes-requires : tie.Need-valid-codes-requires
 valid-codes-requires c κs = search needs
 
 returns : tie.Need-returns
-returns c = let s = c .before .before .before .before .before .before .before .args in λ N h. twins-11 h (s .codes .now) _ _ (sym (c .before .valid-codes .ensures) ∙ not-true _ (c .if1 .taken))
+returns c = let s = c .before .before .before .before .before .before .before .args in
+    λ N h. twins-11 h (s .codes .now) _ _ (sym (c .before .valid-codes .ensures) ∙ not-true _ (c .if1 .taken))
 
 place-requires : tie.Need-place-requires
 place-requires c κs = let s = c .before .before .before .before .before .before .before .before .before in
@@ -29,7 +30,8 @@ same-length-2 c = search needs
 
 returns-2 : tie.Need-returns-2
 returns-2 c = let codes = c .before .before .before .before .before .before .before .before .before .before .before .before .before .before .args .codes .now in
-    let q = sym (c .before .before .before .before .before .before .before .before .valid-codes .ensures) ∙ not-false _ (c .before .before .before .before .before .before .before .if1 .left) in
+    let q = sym (c .before .before .before .before .before .before .before .before .valid-codes .ensures) ∙ not-false _
+    (c .before .before .before .before .before .before .before .if1 .left) in
     λ N h. twins-14 h codes q (c .before .before .before .before .place .ensures N (holds-codes h codes q))
 
 pub deliver-spec : {M : Type 1} → statement M

@@ -33,8 +33,10 @@ same-length-5 : tie.Need-same-length-5
 same-length-5 c = search needs
 
 returns : tie.Need-returns
-returns c = let s = c .before .before .before .before .before .before .before .before .before .before .before .before .before .before .before .before .before .before .before .before .before .before .before .before .before .before .before .before .before .before .before .before .before .before .before .args in
-    let a = c .before .before .before .before .before .before .before .before .before .before .before .before .before .before .before .before .before .before .before .before .before .before .answer in
+returns c = let s = c .before .before .before .before .before .before .before .before .before .before .before .before .before .before .before .before .before
+    .before .before .before .before .before .before .before .before .before .before .before .before .before .before .before .before .before .before .args in
+    let a = c .before .before .before .before .before .before .before .before .before .before .before .before .before .before .before .before .before .before
+    .before .before .before .before .answer in
     let k = a .kept .1 .1 .1 .1 in
     record {
       answers = a .ensures;

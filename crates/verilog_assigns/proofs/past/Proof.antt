@@ -30,7 +30,8 @@ next-requires-2 : tie.Need-next-requires-2 Inv-loop μ-loop
 next-requires-2 c κs = c .before .before .loop .inv .1 .token .within
 
 loop-less : tie.Need-loop-less Inv-loop μ-loop
-loop-less c = pass-less (c .before .before .before .before .before .before .args .text .now) (c .before .before .before .loop .code) (c .before .before .before .loop .to) (c .before .if1 .left) (c .next2 .ensures)
+loop-less c = pass-less (c .before .before .before .before .before .before .args .text .now) (c .before .before .before .loop .code)
+    (c .before .before .before .loop .to) (c .before .if1 .left) (c .next2 .ensures)
 
 loop-again : tie.Need-loop-again Inv-loop μ-loop
 loop-again c = (_, past-on (c .before .before .before .loop .inv .1) (c .before .before .loop-test .taken) (c .before .if1 .left) (c .next2 .ensures))

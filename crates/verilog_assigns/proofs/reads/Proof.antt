@@ -27,7 +27,12 @@ loop-holds : tie.Need-loop-holds Inv-loop μ-loop
 loop-holds c = pass-start (c .next .ensures)
 
 passes-requires : tie.Need-passes-requires Inv-loop μ-loop
-passes-requires c κs = (c .before .before .before .before .before .before .before .before .pre .0, c .before .before .before .before .before .before .before .before .pre .1, c .before .loop .inv .token .onward, c .before .loop .inv .token .within)
+passes-requires c κs = (
+  c .before .before .before .before .before .before .before .before .pre .0,
+  c .before .before .before .before .before .before .before .before .pre .1,
+  c .before .loop .inv .token .onward,
+  c .before .loop .inv .token .within,
+)
 
 returns : tie.Need-returns Inv-loop μ-loop
 returns c = pass-bad (c .before .before .before .loop .inv) (c .before .before .loop-test .taken) (sym (c .before .passes .ensures) ∙ not-true _ (c .if1 .taken))
@@ -36,10 +41,15 @@ next-requires-2 : tie.Need-next-requires-2 Inv-loop μ-loop
 next-requires-2 c κs = c .before .before .before .loop .inv .token .within
 
 loop-less : tie.Need-loop-less Inv-loop μ-loop
-loop-less c = let s = c .before .before .before .before .before .before .before .before .before .before .before .args in pass-less (s .text .now) (c .before .before .before .before .loop .code) (c .before .before .before .before .loop .to) (passes-some (readable (s .text .now) (s .words .now) (s .states .now) (s .count)) (c .before .before .before .before .loop .code) (between (s .text .now) (c .before .before .before .before .loop .from) (c .before .before .before .before .loop .to)) (sym (c .before .before .passes .ensures) ∙ not-false _ (c .before .if1 .left))) (c .next2 .ensures)
+loop-less c = let s = c .before .before .before .before .before .before .before .before .before .before .before .args in
+    pass-less (s .text .now) (c .before .before .before .before .loop .code) (c .before .before .before .before .loop .to)
+    (passes-some (readable (s .text .now) (s .words .now) (s .states .now) (s .count)) (c .before .before .before .before .loop .code)
+    (between (s .text .now) (c .before .before .before .before .loop .from) (c .before .before .before .before .loop .to))
+    (sym (c .before .before .passes .ensures) ∙ not-false _ (c .before .if1 .left))) (c .next2 .ensures)
 
 loop-again : tie.Need-loop-again Inv-loop μ-loop
-loop-again c = pass-on (c .before .before .before .before .loop .inv) (c .before .before .before .loop-test .taken) (sym (c .before .before .passes .ensures) ∙ not-false _ (c .before .if1 .left)) (c .next2 .ensures)
+loop-again c = pass-on (c .before .before .before .before .loop .inv) (c .before .before .before .loop-test .taken)
+    (sym (c .before .before .passes .ensures) ∙ not-false _ (c .before .if1 .left)) (c .next2 .ensures)
 
 returns-2 : tie.Need-returns-2 Inv-loop μ-loop
 returns-2 c = pass-end (c .before .loop .inv) (c .loop-test .left)

@@ -24,7 +24,9 @@ same-length-2 : tie.Need-same-length-2
 same-length-2 c = search needs
 
 returns-2 : tie.Need-returns-2
-returns-2 c = target-other (c .before .before .before .before .before .before .before .advance .ensures .0) (c .before .before .before .before .if1 .left) (c .before .before .before .before .before .before .before .advance .ensures .1) (c .before .before .advance2 .ensures .0) (c .before .before .advance2 .ensures .1)
+returns-2 c = target-other (c .before .before .before .before .before .before .before .advance .ensures .0) (c .before .before .before .before .if1 .left)
+    (c .before .before .before .before .before .before .before .advance .ensures .1) (c .before .before .advance2 .ensures .0)
+    (c .before .before .advance2 .ensures .1)
 
 pub target-spec : {M : Type 1} → statement M
 target-spec =

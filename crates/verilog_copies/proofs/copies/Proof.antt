@@ -27,7 +27,9 @@ loop-holds : tie.Need-loop-holds Inv-loop μ-loop
 loop-holds c = copies-start (c .before .before .before .before .before .before .before .before .before .pre .4) (c .next .ensures)
 
 copy-requires : tie.Need-copy-requires Inv-loop μ-loop
-copy-requires c κs = let C = c .before .before .before .loop .inv in let p = c .before .before .before .before .before .before .before .before .before .before .before .before .before .pre in (p .0, p .1, p .2, C .token .onward, C .token .within, C .first, copies-room C (p .5))
+copy-requires c κs = let C = c .before .before .before .loop .inv in
+    let p = c .before .before .before .before .before .before .before .before .before .before .before .before .before .pre in
+    (p .0, p .1, p .2, C .token .onward, C .token .within, C .first, copies-room C (p .5))
 
 next-requires-2 : tie.Need-next-requires-2 Inv-loop μ-loop
 next-requires-2 c κs = c .before .before .before .before .before .before .before .before .loop .inv .token .within
@@ -36,10 +38,17 @@ next-requires-3 : tie.Need-next-requires-3 Inv-loop μ-loop
 next-requires-3 c κs = c .next2 .ensures .within
 
 loop-less : tie.Need-loop-less Inv-loop μ-loop
-loop-less c = seat-less (c .before .before .before .before .before .before .before .before .before .before .before .before .before .before .before .before .before .before .before .before .args .text .now) (c .before .before .before .before .before .before .before .before .before .before .loop .code) (c .before .before .before .before .before .before .before .before .before .before .loop .to) (c .before .before .before .before .before .before .before .before .before .loop-test .taken) (c .before .next2 .ensures) (c .next3 .ensures)
+loop-less c = seat-less
+    (c .before .before .before .before .before .before .before .before .before .before .before .before .before .before .before .before .before .before .before
+    .before .args .text .now) (c .before .before .before .before .before .before .before .before .before .before .loop .code)
+    (c .before .before .before .before .before .before .before .before .before .before .loop .to)
+    (c .before .before .before .before .before .before .before .before .before .loop-test .taken) (c .before .next2 .ensures) (c .next3 .ensures)
 
 loop-again : tie.Need-loop-again Inv-loop μ-loop
-loop-again c = copies-on (c .before .before .before .before .before .before .before .before .before .before .loop .inv) (c .before .before .before .before .before .before .before .before .before .loop-test .taken) (c .before .before .before .before .before .before .copy .ensures) (c .before .before .before .before .before .before .copy .kept .1 .1 .1 .1 .1 .1 .0) (c .before .before .before .before .before .before .copy .kept .1 .1 .1 .1 .1 .1 .1 .0) (c .before .next2 .ensures) (c .next3 .ensures)
+loop-again c = copies-on (c .before .before .before .before .before .before .before .before .before .before .loop .inv)
+    (c .before .before .before .before .before .before .before .before .before .loop-test .taken)
+    (c .before .before .before .before .before .before .copy .ensures) (c .before .before .before .before .before .before .copy .kept .1 .1 .1 .1 .1 .1 .0)
+    (c .before .before .before .before .before .before .copy .kept .1 .1 .1 .1 .1 .1 .1 .0) (c .before .next2 .ensures) (c .next3 .ensures)
 
 same-length : tie.Need-same-length Inv-loop μ-loop
 same-length c = c .before .loop .inv .operands

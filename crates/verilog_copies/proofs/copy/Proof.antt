@@ -31,7 +31,9 @@ same-length-2 : tie.Need-same-length-2
 same-length-2 c = search needs
 
 returns-2 : tie.Need-returns-2
-returns-2 c = copy-output (c .before .before .before .before .before .before .before .before .before .wire-of .ensures) (c .before .before .before .before .before .before .before .before .if1 .left) (c .before .before .before .before .before .before .before .wire-of2 .ensures) (c .before .before .before .before .put .ensures)
+returns-2 c = copy-output (c .before .before .before .before .before .before .before .before .before .wire-of .ensures)
+    (c .before .before .before .before .before .before .before .before .if1 .left)
+    (c .before .before .before .before .before .before .before .wire-of2 .ensures) (c .before .before .before .before .put .ensures)
 
 pub copy-spec : {M : Type 1} → statement M
 copy-spec =

@@ -22,25 +22,49 @@ closed-requires c κs = search needs
 
 returns : tie.Need-returns
 unfolding stepped
-returns c = (c .closed .ensures .0 ∙ ap (λ (q : ℕ). afterClose q (c .before .before .before .args .depth)) (c .before .before .turn .ensures .0) ∙ rw (eq-eqb _ _ (c .before .if1 .taken)), c .closed .ensures .1, c .closed .ensures .2)
+returns c = (
+  c .closed .ensures .0 ∙ ap (λ (q : ℕ). afterClose q (c .before .before .before .args .depth)) (c .before .before .turn .ensures .0) ∙ rw
+      (eq-eqb _ _ (c .before .if1 .taken)),
+  c .closed .ensures .1,
+  c .closed .ensures .2,
+)
 
 finished-requires : tie.Need-finished-requires
 finished-requires c κs = search needs
 
 returns-2 : tie.Need-returns-2
 unfolding stepped
-returns-2 c = (c .finished .ensures .0 ∙ ap (λ (q : ℕ). afterEnd q (c .before .before .before .before .args .depth)) (c .before .before .before .turn .ensures .0) ∙ rw (ne-eqb _ _ (c .before .before .if1 .left), eq-eqb _ _ (c .before .if2 .taken)), c .finished .ensures .1, c .finished .ensures .2)
+returns-2 c = (
+  c .finished .ensures .0 ∙ ap (λ (q : ℕ). afterEnd q (c .before .before .before .before .args .depth))
+      (c .before .before .before .turn .ensures .0) ∙ rw (ne-eqb _ _ (c .before .before .if1 .left), eq-eqb _ _ (c .before .if2 .taken)),
+  c .finished .ensures .1,
+  c .finished .ensures .2,
+)
 
 opened-requires : tie.Need-opened-requires
 opened-requires c κs = search needs
 
 returns-3 : tie.Need-returns-3
 unfolding stepped
-returns-3 c = (c .opened .ensures .0 ∙ ap (λ (q : ℕ). afterOpen q (c .before .before .before .before .before .args .depth)) (c .before .before .before .before .turn .ensures .0) ∙ rw (ne-eqb _ _ (c .before .before .before .if1 .left), ne-eqb _ _ (c .before .before .if2 .left), eq-eqb _ _ (c .before .if3 .taken)), c .opened .ensures .1, c .opened .ensures .2)
+returns-3 c = (
+  c .opened .ensures .0 ∙ ap (λ (q : ℕ). afterOpen q (c .before .before .before .before .before .args .depth))
+      (c .before .before .before .before .turn .ensures .0) ∙ rw (
+        ne-eqb _ _ (c .before .before .before .if1 .left),
+        ne-eqb _ _ (c .before .before .if2 .left),
+        eq-eqb _ _ (c .before .if3 .taken),
+      ),
+  c .opened .ensures .1,
+  c .opened .ensures .2,
+)
 
 returns-4 : tie.Need-returns-4
 unfolding stepped
-returns-4 c = (ap (λ (q : ℕ). kept q (c .before .before .before .before .args .depth)) (c .before .before .before .turn .ensures .0) ∙ rw (ne-eqb _ _ (c .before .before .if1 .left), ne-eqb _ _ (c .before .if2 .left), ne-eqb _ _ (c .if3 .left)), c .before .before .before .turn .ensures .1, omega arith)
+returns-4 c = (
+  ap (λ (q : ℕ). kept q (c .before .before .before .before .args .depth)) (c .before .before .before .turn .ensures .0) ∙ rw
+      (ne-eqb _ _ (c .before .before .if1 .left), ne-eqb _ _ (c .before .if2 .left), ne-eqb _ _ (c .if3 .left)),
+  c .before .before .before .turn .ensures .1,
+  omega arith,
+)
 
 pub behind-spec : {M : Type 1} → statement M
 behind-spec =

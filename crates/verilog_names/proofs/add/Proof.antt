@@ -65,7 +65,15 @@ same-length-3 : tie.Need-same-length-3
 same-length-3 c = search needs
 
 returns : tie.Need-returns
-returns c = record { headed = ap (λ (k : ℕ). set (c .before .before .before .before .before .before .before .args .heads .now) k (c .before .before .before .before .before .before .before .args .count + 1)) (c .before .chain-of .ensures .0); worded = refl; linked = ap (λ (k : ℕ). set (c .before .before .before .before .before .before .before .args .links .now) (c .before .before .before .before .before .before .before .args .count) (getD (c .before .before .before .before .before .before .before .args .heads .now) k 0)) (c .before .chain-of .ensures .0) }
+returns c = record {
+  headed = ap (λ (k : ℕ). set (c .before .before .before .before .before .before .before .args .heads .now) k
+      (c .before .before .before .before .before .before .before .args .count + 1)) (c .before .chain-of .ensures .0);
+  worded = refl;
+  linked = ap
+      (λ (k : ℕ). set (c .before .before .before .before .before .before .before .args .links .now)
+      (c .before .before .before .before .before .before .before .args .count) (getD (c .before .before .before .before .before .before .before .args .heads .now)
+      k 0)) (c .before .chain-of .ensures .0);
+}
 
 pub add-spec : {M : Type 1} → statement M
 add-spec =

@@ -31,7 +31,8 @@ loop-holds : tie.Need-loop-holds Inv-loop μ-loop
 loop-holds c =
     let x = c .before .before .before .before .before .before .before .args in
     find-start (x .text .now) (x .words .now) (x .w .now) (x .size) (x .count) _
-    (c .before .before .before .before .before .before .before .pre .headed _ (c .before .chain-of .ensures .1) ∙ ap (λ (k : ℕ). newest (x .text .now) (x .words .now) (x .size) k (x .count)) (c .before .chain-of .ensures .0))
+    (c .before .before .before .before .before .before .before .pre .headed _ (c .before .chain-of .ensures .1) ∙ ap
+    (λ (k : ℕ). newest (x .text .now) (x .words .now) (x .size) k (x .count)) (c .before .chain-of .ensures .0))
 
 sub-i : tie.Need-sub-i Inv-loop μ-loop
 sub-i c = search needs
@@ -43,7 +44,8 @@ shared-slice-read-is-name : tie.Need-shared-slice-read-is-name Inv-loop μ-loop
 shared-slice-read-is-name c = search needs
 
 is-name-requires : tie.Need-is-name-requires Inv-loop μ-loop
-is-name-requires c κs = c .before .before .before .before .before .before .before .before .before .before .pre .places _ (omega (arith, c .before .before .loop .inv .within))
+is-name-requires c κs = c .before .before .before .before .before .before .before .before .before .before .pre .places _
+    (omega (arith, c .before .before .loop .inv .within))
 
 returns : tie.Need-returns Inv-loop μ-loop
 returns c = find-here _ _ _ _ _ _ _ (search needs) refl (sym (c .before .is-name .ensures) ∙ c .if1 .taken) (c .before .before .before .before .loop .inv)
@@ -58,10 +60,18 @@ loop-less : tie.Need-loop-less Inv-loop μ-loop
 loop-less c =
     let x = c .before .before .before .before .before .before .before .before .before .before .before .before .before .args in
     let i = c .before .before .before .before .before .loop .p - 1 in
-    omega (arith, c .before .before .before .before .before .before .before .before .before .before .before .before .before .pre .older i (omega (arith, c .before .before .before .before .before .loop .inv .within)), newest-within (x .text .now) (x .words .now) (x .size) (chainAt (x .text .now) (x .words .now) (x .size) i) i)
+    omega (
+      arith,
+      c .before .before .before .before .before .before .before .before .before .before .before .before .before .pre .older i
+          (omega (arith, c .before .before .before .before .before .loop .inv .within)),
+      newest-within (x .text .now) (x .words .now) (x .size)
+          (chainAt (x .text .now) (x .words .now) (x .size) i) i,
+    )
 
 loop-again : tie.Need-loop-again Inv-loop μ-loop
-loop-again c = find-on _ _ _ _ _ _ _ _ (search needs) refl (sym (c .before .before .is-name .ensures) ∙ c .before .if1 .left) (c .before .before .before .before .before .before .before .before .before .before .before .before .before .pre .older _ (omega (arith, c .before .before .before .before .before .loop .inv .within))) (c .before .before .before .before .before .loop .inv)
+loop-again c = find-on _ _ _ _ _ _ _ _ (search needs) refl (sym (c .before .before .is-name .ensures) ∙ c .before .if1 .left)
+    (c .before .before .before .before .before .before .before .before .before .before .before .before .before .pre .older _
+    (omega (arith, c .before .before .before .before .before .loop .inv .within))) (c .before .before .before .before .before .loop .inv)
 
 returns-2 : tie.Need-returns-2 Inv-loop μ-loop
 returns-2 c = find-none _ _ _ _ _ _ (λ h. search needs) (c .before .loop .inv)

@@ -43,10 +43,15 @@ part-word-code-end : tie.Need-part-word-code-end
 part-word-code-end c = search needs
 
 word-code-requires : tie.Need-word-code-requires
-word-code-requires c κs = let on = word-on _ _ _ (c .before .before .before .before .before .before .skip-white .ensures) (search needs) (sym (c .before .before .before .in-word .ensures) ∙ c .before .before .if2 .taken) _ (c .before .word-end .ensures) in search needs
+word-code-requires c κs = let on = word-on _ _ _ (c .before .before .before .before .before .before .skip-white .ensures) (search needs)
+    (sym (c .before .before .before .in-word .ensures) ∙ c .before .before .if2 .taken) _ (c .before .word-end .ensures) in search needs
 
 returns-2 : tie.Need-returns-2
-returns-2 c = subst (λ (k : ℕ). TokenAt (c .before .before .before .before .before .before .before .before .before .args .text .now) (c .before .before .before .before .before .before .before .before .before .args .at) k (c .before .before .before .before .before .before .before .skip-white .result) (c .before .before .word-end .result)) (sym (c .word-code .ensures)) (at-word _ _ _ (c .before .before .before .before .before .before .before .skip-white .ensures) (search needs) (sym (c .before .before .before .before .in-word .ensures) ∙ c .before .before .before .if2 .taken) _ (c .before .before .word-end .ensures))
+returns-2 c = subst (λ (k : ℕ). TokenAt (c .before .before .before .before .before .before .before .before .before .args .text .now)
+    (c .before .before .before .before .before .before .before .before .before .args .at) k
+    (c .before .before .before .before .before .before .before .skip-white .result) (c .before .before .word-end .result)) (sym (c .word-code .ensures))
+    (at-word _ _ _ (c .before .before .before .before .before .before .before .skip-white .ensures) (search needs)
+    (sym (c .before .before .before .before .in-word .ensures) ∙ c .before .before .before .if2 .taken) _ (c .before .before .word-end .ensures))
 
 class-requires : tie.Need-class-requires
 class-requires c κs = search needs
@@ -58,7 +63,12 @@ add-t6 : tie.Need-add-t6
 add-t6 c = search needs
 
 returns-3 : tie.Need-returns-3
-returns-3 c = subst (λ (k : ℕ). TokenAt (c .before .before .before .before .before .before .before .before .args .text .now) (c .before .before .before .before .before .before .before .before .args .at) k (c .before .before .before .before .before .before .skip-white .result) (c .before .before .before .before .before .before .skip-white .result + 1)) (sym (c .sign-code .ensures ∙ ap (λ (k : ℕ). cond (leb 15 k) 16 k) (c .before .class .ensures))) (at-sign _ _ _ (c .before .before .before .before .before .before .skip-white .ensures) (search needs) (sym (c .before .before .before .in-word .ensures) ∙ c .before .before .if2 .left))
+returns-3 c = subst (λ (k : ℕ). TokenAt (c .before .before .before .before .before .before .before .before .args .text .now)
+    (c .before .before .before .before .before .before .before .before .args .at) k (c .before .before .before .before .before .before .skip-white .result)
+    (c .before .before .before .before .before .before .skip-white .result + 1))
+    (sym (c .sign-code .ensures ∙ ap (λ (k : ℕ). cond (leb 15 k) 16 k) (c .before .class .ensures)))
+    (at-sign _ _ _ (c .before .before .before .before .before .before .skip-white .ensures) (search needs)
+    (sym (c .before .before .before .in-word .ensures) ∙ c .before .before .if2 .left))
 
 pub next-spec : {M : Type 1} → statement M
 next-spec =

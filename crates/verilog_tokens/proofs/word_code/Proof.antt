@@ -40,7 +40,11 @@ same-requires-3 c κs = search needs
 
 returns-3 : tie.Need-returns-3
 unfolding wordCode
-returns-3 c = rw (sym (c .before .before .before .before .before .before .before .same .ensures) ∙ c .before .before .before .before .before .before .if1 .left, sym (c .before .before .before .before .same2 .ensures) ∙ c .before .before .before .if2 .left, sym (c .before .same3 .ensures) ∙ c .if3 .taken)
+returns-3 c = rw (
+  sym (c .before .before .before .before .before .before .before .same .ensures) ∙ c .before .before .before .before .before .before .if1 .left,
+  sym (c .before .before .before .before .same2 .ensures) ∙ c .before .before .before .if2 .left,
+  sym (c .before .same3 .ensures) ∙ c .if3 .taken,
+)
 
 slice-aggregate-same-4 : tie.Need-slice-aggregate-same-4
 slice-aggregate-same-4 c = search needs
@@ -50,7 +54,15 @@ same-requires-4 c κs = search needs
 
 returns-4 : tie.Need-returns-4
 unfolding wordCode
-returns-4 c = rw (sym (c .before .before .before .before .before .before .before .before .before .before .same .ensures) ∙ c .before .before .before .before .before .before .before .before .before .if1 .left, sym (c .before .before .before .before .before .before .before .same2 .ensures) ∙ c .before .before .before .before .before .before .if2 .left, sym (c .before .before .before .before .same3 .ensures) ∙ c .before .before .before .if3 .left, sym (c .before .same4 .ensures) ∙ c .if4 .taken)
+returns-4 c = rw (
+  sym (c .before .before .before .before .before .before .before .before .before .before .same .ensures) ∙
+      c .before .before .before .before .before .before .before .before .before .if1 .left,
+  sym
+      (c .before .before .before .before .before .before .before .same2 .ensures) ∙ c .before .before .before .before .before .before .if2 .left,
+  sym
+      (c .before .before .before .before .same3 .ensures) ∙ c .before .before .before .if3 .left,
+  sym (c .before .same4 .ensures) ∙ c .if4 .taken,
+)
 
 slice-aggregate-same-5 : tie.Need-slice-aggregate-same-5
 slice-aggregate-same-5 c = search needs
@@ -60,7 +72,18 @@ same-requires-5 c κs = search needs
 
 returns-5 : tie.Need-returns-5
 unfolding wordCode
-returns-5 c = rw (sym (c .before .before .before .before .before .before .before .before .before .before .before .before .before .same .ensures) ∙ c .before .before .before .before .before .before .before .before .before .before .before .before .if1 .left, sym (c .before .before .before .before .before .before .before .before .before .before .same2 .ensures) ∙ c .before .before .before .before .before .before .before .before .before .if2 .left, sym (c .before .before .before .before .before .before .before .same3 .ensures) ∙ c .before .before .before .before .before .before .if3 .left, sym (c .before .before .before .before .same4 .ensures) ∙ c .before .before .before .if4 .left, sym (c .before .same5 .ensures) ∙ c .if5 .taken)
+returns-5 c = rw (
+  sym (c .before .before .before .before .before .before .before .before .before .before .before .before .before .same .ensures) ∙
+      c .before .before .before .before .before .before .before .before .before .before .before .before .if1 .left,
+  sym
+      (c .before .before .before .before .before .before .before .before .before .before .same2 .ensures) ∙
+      c .before .before .before .before .before .before .before .before .before .if2 .left,
+  sym
+      (c .before .before .before .before .before .before .before .same3 .ensures) ∙ c .before .before .before .before .before .before .if3 .left,
+  sym
+      (c .before .before .before .before .same4 .ensures) ∙ c .before .before .before .if4 .left,
+  sym (c .before .same5 .ensures) ∙ c .if5 .taken,
+)
 
 slice-aggregate-same-6 : tie.Need-slice-aggregate-same-6
 slice-aggregate-same-6 c = search needs
@@ -70,10 +93,34 @@ same-requires-6 c κs = search needs
 
 returns-6 : tie.Need-returns-6
 unfolding wordCode
-returns-6 c = rw (sym (c .before .before .before .before .before .before .before .before .before .before .before .before .before .before .before .before .same .ensures) ∙ c .before .before .before .before .before .before .before .before .before .before .before .before .before .before .before .if1 .left, sym (c .before .before .before .before .before .before .before .before .before .before .before .before .before .same2 .ensures) ∙ c .before .before .before .before .before .before .before .before .before .before .before .before .if2 .left, sym (c .before .before .before .before .before .before .before .before .before .before .same3 .ensures) ∙ c .before .before .before .before .before .before .before .before .before .if3 .left, sym (c .before .before .before .before .before .before .before .same4 .ensures) ∙ c .before .before .before .before .before .before .if4 .left, sym (c .before .before .before .before .same5 .ensures) ∙ c .before .before .before .if5 .left, sym (c .before .same6 .ensures) ∙ c .if6 .taken)
+returns-6 c = rw (
+  sym
+      (c .before .before .before .before .before .before .before .before .before .before .before .before .before .before .before .before .same .ensures) ∙
+      c .before .before .before .before .before .before .before .before .before .before .before .before .before .before .before .if1 .left,
+  sym
+      (c .before .before .before .before .before .before .before .before .before .before .before .before .before .same2 .ensures) ∙
+      c .before .before .before .before .before .before .before .before .before .before .before .before .if2 .left,
+  sym
+      (c .before .before .before .before .before .before .before .before .before .before .same3 .ensures) ∙
+      c .before .before .before .before .before .before .before .before .before .if3 .left,
+  sym
+      (c .before .before .before .before .before .before .before .same4 .ensures) ∙ c .before .before .before .before .before .before .if4 .left,
+  sym
+      (c .before .before .before .before .same5 .ensures) ∙ c .before .before .before .if5 .left,
+  sym (c .before .same6 .ensures) ∙ c .if6 .taken,
+)
 
 returns-7 : tie.Need-returns-7
-returns-7 c = long-coded _ (sym (c .before .before .before .before .before .before .before .before .before .before .before .before .before .before .before .before .before .same .ensures) ∙ c .before .before .before .before .before .before .before .before .before .before .before .before .before .before .before .before .if1 .left) (sym (c .before .before .before .before .before .before .before .before .before .before .before .before .before .before .same2 .ensures) ∙ c .before .before .before .before .before .before .before .before .before .before .before .before .before .if2 .left) (sym (c .before .before .before .before .before .before .before .before .before .before .before .same3 .ensures) ∙ c .before .before .before .before .before .before .before .before .before .before .if3 .left) (sym (c .before .before .before .before .before .before .before .before .same4 .ensures) ∙ c .before .before .before .before .before .before .before .if4 .left) (sym (c .before .before .before .before .before .same5 .ensures) ∙ c .before .before .before .before .if5 .left) (sym (c .before .before .same6 .ensures) ∙ c .before .if6 .left) (search needs)
+returns-7 c = long-coded _
+    (sym (c .before .before .before .before .before .before .before .before .before .before .before .before .before .before .before .before .before .same
+    .ensures) ∙ c .before .before .before .before .before .before .before .before .before .before .before .before .before .before .before .before .if1 .left)
+    (sym (c .before .before .before .before .before .before .before .before .before .before .before .before .before .before .same2 .ensures) ∙
+    c .before .before .before .before .before .before .before .before .before .before .before .before .before .if2 .left)
+    (sym (c .before .before .before .before .before .before .before .before .before .before .before .same3 .ensures) ∙
+    c .before .before .before .before .before .before .before .before .before .before .if3 .left)
+    (sym (c .before .before .before .before .before .before .before .before .same4 .ensures) ∙
+    c .before .before .before .before .before .before .before .if4 .left) (sym (c .before .before .before .before .before .same5 .ensures) ∙
+    c .before .before .before .before .if5 .left) (sym (c .before .before .same6 .ensures) ∙ c .before .if6 .left) (search needs)
 
 shared-slice-read-class : tie.Need-shared-slice-read-class
 shared-slice-read-class c = search needs
@@ -82,10 +129,34 @@ class-requires : tie.Need-class-requires
 class-requires c κs = search needs
 
 returns-8 : tie.Need-returns-8
-returns-8 c = letter-coded _ (sym (c .before .before .before .before .before .before .before .before .before .before .before .before .before .before .before .before .before .before .before .before .same .ensures) ∙ c .before .before .before .before .before .before .before .before .before .before .before .before .before .before .before .before .before .before .before .if1 .left) (sym (c .before .before .before .before .before .before .before .before .before .before .before .before .before .before .before .before .before .same2 .ensures) ∙ c .before .before .before .before .before .before .before .before .before .before .before .before .before .before .before .before .if2 .left) (sym (c .before .before .before .before .before .before .before .before .before .before .before .before .before .before .same3 .ensures) ∙ c .before .before .before .before .before .before .before .before .before .before .before .before .before .if3 .left) (sym (c .before .before .before .before .before .before .before .before .before .before .before .same4 .ensures) ∙ c .before .before .before .before .before .before .before .before .before .before .if4 .left) (sym (c .before .before .before .before .before .before .before .before .same5 .ensures) ∙ c .before .before .before .before .before .before .before .if5 .left) (sym (c .before .before .before .before .before .same6 .ensures) ∙ c .before .before .before .before .if6 .left) (search needs) (search needs) (sym (c .before .class .ensures) ∙ c .if8 .taken)
+returns-8 c = letter-coded _
+    (sym (c .before .before .before .before .before .before .before .before .before .before .before .before .before .before .before .before .before .before
+    .before .before .same .ensures) ∙
+    c .before .before .before .before .before .before .before .before .before .before .before .before .before .before .before .before .before .before .before
+    .if1 .left) (sym (c .before .before .before .before .before .before .before .before .before .before .before .before .before .before .before .before .before
+    .same2 .ensures) ∙ c .before .before .before .before .before .before .before .before .before .before .before .before .before .before .before .before .if2
+    .left) (sym (c .before .before .before .before .before .before .before .before .before .before .before .before .before .before .same3 .ensures) ∙
+    c .before .before .before .before .before .before .before .before .before .before .before .before .before .if3 .left)
+    (sym (c .before .before .before .before .before .before .before .before .before .before .before .same4 .ensures) ∙
+    c .before .before .before .before .before .before .before .before .before .before .if4 .left)
+    (sym (c .before .before .before .before .before .before .before .before .same5 .ensures) ∙
+    c .before .before .before .before .before .before .before .if5 .left) (sym (c .before .before .before .before .before .same6 .ensures) ∙
+    c .before .before .before .before .if6 .left) (search needs) (search needs) (sym (c .before .class .ensures) ∙ c .if8 .taken)
 
 returns-9 : tie.Need-returns-9
-returns-9 c = other-coded _ (sym (c .before .before .before .before .before .before .before .before .before .before .before .before .before .before .before .before .before .before .before .before .same .ensures) ∙ c .before .before .before .before .before .before .before .before .before .before .before .before .before .before .before .before .before .before .before .if1 .left) (sym (c .before .before .before .before .before .before .before .before .before .before .before .before .before .before .before .before .before .same2 .ensures) ∙ c .before .before .before .before .before .before .before .before .before .before .before .before .before .before .before .before .if2 .left) (sym (c .before .before .before .before .before .before .before .before .before .before .before .before .before .before .same3 .ensures) ∙ c .before .before .before .before .before .before .before .before .before .before .before .before .before .if3 .left) (sym (c .before .before .before .before .before .before .before .before .before .before .before .same4 .ensures) ∙ c .before .before .before .before .before .before .before .before .before .before .if4 .left) (sym (c .before .before .before .before .before .before .before .before .same5 .ensures) ∙ c .before .before .before .before .before .before .before .if5 .left) (sym (c .before .before .before .before .before .same6 .ensures) ∙ c .before .before .before .before .if6 .left) (search needs) (search needs) (λ e. c .if8 .left (c .before .class .ensures ∙ e))
+returns-9 c = other-coded _
+    (sym (c .before .before .before .before .before .before .before .before .before .before .before .before .before .before .before .before .before .before
+    .before .before .same .ensures) ∙
+    c .before .before .before .before .before .before .before .before .before .before .before .before .before .before .before .before .before .before .before
+    .if1 .left) (sym (c .before .before .before .before .before .before .before .before .before .before .before .before .before .before .before .before .before
+    .same2 .ensures) ∙ c .before .before .before .before .before .before .before .before .before .before .before .before .before .before .before .before .if2
+    .left) (sym (c .before .before .before .before .before .before .before .before .before .before .before .before .before .before .same3 .ensures) ∙
+    c .before .before .before .before .before .before .before .before .before .before .before .before .before .if3 .left)
+    (sym (c .before .before .before .before .before .before .before .before .before .before .before .same4 .ensures) ∙
+    c .before .before .before .before .before .before .before .before .before .before .if4 .left)
+    (sym (c .before .before .before .before .before .before .before .before .same5 .ensures) ∙
+    c .before .before .before .before .before .before .before .if5 .left) (sym (c .before .before .before .before .before .same6 .ensures) ∙
+    c .before .before .before .before .if6 .left) (search needs) (search needs) (λ e. c .if8 .left (c .before .class .ensures ∙ e))
 
 pub word-code-spec : {M : Type 1} → statement M
 word-code-spec =

@@ -3,7 +3,7 @@ use Prim.Native.Nat.{_-_}
 use mathlib.Core.Path.{sym, ap, _∙_}
 use lib.ListN.{length}
 use Rattle.verilog.specs.Tokens.{inWord}
-use Rattle.read_text.proofs.ScanLaws.{Scanning, scan-start, scan-on, scan-stop, scan-end}
+use Rattle.read_text.proofs.Scans.{Scanning, scan-start, scan-on, scan-stop, scan-end}
 use borrow.Author.Needs.{needs}
 use borrow.Author.Tests.{not-true, not-false}
 use native.Mathlib.Omega.{arith}

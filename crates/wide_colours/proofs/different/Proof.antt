@@ -65,8 +65,11 @@ loop-again c = let s = c .before .before .before .before .before .before .before
     let at = c .before .before .before .before .before .loop in
     let l = c .before .before .before .before .loop-test .taken in
     let n = length-take-le (m .count) (m .items) (omega (arith, s .pre .0, s .pre .1 .long)) in
-    let e = ap (λ (i : ℕ). colourOf (getD (s .args .paints .now) i 0)) (sym (getD-take (m .count) (m .items) (at .a) 0 l)) in
-    (telling-more _ (at .inv .0) (omega arith) (ap colourOf (c .before .before .before .at .ensures) ∙ e) (c .before .before .if1 .left) (c .before .if2 .left) (omega (arith, c .if3 .left)), omega arith)
+    let e = ap (λ (i : ℕ). colourOf (getD (s .args .paints .now) i 0)) (sym (getD-take (m .count) (m .items) (at .a) 0 l)) in (
+      telling-more _ (at .inv .0) (omega arith) (ap colourOf (c .before .before .before .at .ensures) ∙ e) (c .before .before .if1 .left) (c .before .if2 .left)
+          (omega (arith, c .if3 .left)),
+      omega arith,
+    )
 
 returns-4 : tie.Need-returns-4 Inv-loop μ-loop
 returns-4 c = let s = c .before .before .before .before in

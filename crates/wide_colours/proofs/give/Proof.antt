@@ -48,7 +48,11 @@ next-requires : tie.Need-next-requires Inv-loop μ-loop
 next-requires c κs = c .before .before .loop .inv .1
 
 add-a : tie.Need-add-a Inv-loop μ-loop
-add-a c = omega (arith, c .before .before .before .before .before .before .before .before .before .before .before .before .pre, c .before .before .before .before .loop-test .taken)
+add-a c = omega (
+  arith,
+  c .before .before .before .before .before .before .before .before .before .before .before .before .pre,
+  c .before .before .before .before .loop-test .taken,
+)
 
 loop-less : tie.Need-loop-less Inv-loop μ-loop
 loop-less c = omega (arith, c .before .before .before .before .loop-test .taken)

@@ -33,7 +33,8 @@ loop-less : tie.Need-loop-less Inv-loop μ-loop
 loop-less c = omega arith
 
 loop-again : tie.Need-loop-again Inv-loop μ-loop
-loop-again c = laid-more _ (c .before .before .loop .inv) (c .before .loop-test .taken) (omega (arith, c .before .before .loop .inv .long, c .before .before .before .pre, c .before .loop-test .taken)) refl
+loop-again c = laid-more _ (c .before .before .loop .inv) (c .before .loop-test .taken)
+    (omega (arith, c .before .before .loop .inv .long, c .before .before .before .pre, c .before .loop-test .taken)) refl
 
 same-length : tie.Need-same-length Inv-loop μ-loop
 same-length c = c .before .loop .inv .long

@@ -41,8 +41,12 @@ loop-less c = omega arith
 
 loop-again : tie.Need-loop-again Inv-loop μ-loop
 loop-again c = let l = c .larger .ensures in
-    let at = c .before .before .before .loop in
-    (omega (arith, c .before .before .loop-test .taken), l .2 12 (at .inv .1) (c .before .before .before .before .before .pre (at .i)), below-more _ _ (λ j k. omega (arith, at .inv .2 j k, l .0)) (l .1))
+    let at = c .before .before .before .loop in (
+      omega (arith, c .before .before .loop-test .taken),
+      l .2 12 (at .inv .1) (c .before .before .before .before .before .pre (at .i)),
+      below-more _ _
+          (λ j k. omega (arith, at .inv .2 j k, l .0)) (l .1),
+    )
 
 returns : tie.Need-returns Inv-loop μ-loop
 returns c = let at = c .before .loop in

@@ -49,7 +49,12 @@ returns-3 c = let a = c .before .before .before .before .before .before .before 
     let l = c .before .before .before .before .if2 .left in (
       omega (arith, l),
       subst (Kept (a .paints .now)) (sym (c .before .before .put .ensures))
-          (kept-one (a .paints .now) (a .i) (c .before .before .before .before .before .free .result) (omega (arith, c .before .before .before .before .before .before .if1 .left, c .before .before .before .before .before .before .before .at .ensures)) l),
+          (kept-one (a .paints .now) (a .i) (c .before .before .before .before .before .free .result)
+          (omega (
+            arith,
+            c .before .before .before .before .before .before .if1 .left,
+            c .before .before .before .before .before .before .before .at .ensures,
+          )) l),
     )
 
 pub next-spec : {M : Type 1} → statement M

@@ -54,7 +54,8 @@ loop-again c = let s = c .before .before .before .before .before .before .before
     let n = length-take-le (m .count) (m .items) (omega (arith, s .pre .0, s .pre .1 .long)) in
     let is = take (m .count) (m .items) in (
       subst (λ (ps : List ℕ). Seeding is (s .args .paints .now) ps (at .a + 1)) (sym (c .before .before .put .ensures))
-          (seeding-more (getD (m .items) (at .a) 0) (at .a + 1) (at .inv .0) (omega arith) (sym (getD-take (m .count) (m .items) (at .a) 0 l)) refl (omega (arith, s .pre .0))),
+          (seeding-more (getD (m .items) (at .a) 0) (at .a + 1) (at .inv .0) (omega arith) (sym (getD-take (m .count) (m .items) (at .a) 0 l)) refl
+          (omega (arith, s .pre .0))),
       omega arith,
     )
 

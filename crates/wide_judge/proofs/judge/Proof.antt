@@ -39,9 +39,11 @@ refuse-requires-2 : tie.Need-refuse-requires-2
 refuse-requires-2 c κs = search needs
 
 returns : tie.Need-returns
-returns c = let a = c .before .before .before .before .before .before .before .before .before .before .before .before .before .before .before .before .before .before .before .before .args in
+returns c = let a = c .before .before .before .before .before .before .before .before .before .before .before .before .before .before .before .before .before
+    .before .before .before .args in
     λ N H F e. c .refuse2 .ensures ∙ refused-pairs N (a .codes .now) (a .pairs .now) (take (a .h .«input_values») (a .widths)) e
-    (sym (ap askedOf (c .before .before .before .before .enum-told .given .1)) ∙ c .before .before .before .before .before .before .ask-codes .ensures) (H .wires) (sym (c .before .before .pairs-good .ensures) ∙ not-true _ (c .before .if1 .taken))
+    (sym (ap askedOf (c .before .before .before .before .enum-told .given .1)) ∙ c .before .before .before .before .before .before .ask-codes .ensures)
+    (H .wires) (sym (c .before .before .pairs-good .ensures) ∙ not-true _ (c .before .if1 .taken))
 
 cast-within : tie.Need-cast-within
 cast-within c = search needs
@@ -50,62 +52,90 @@ slice-relend-prefix-within : tie.Need-slice-relend-prefix-within
 slice-relend-prefix-within c = search needs
 
 slice-aggregate-within : tie.Need-slice-aggregate-within
-slice-aggregate-within c = sym (length-take-le _ _ (c .before .before .before .before .before .before .before .before .before .before .before .before .before .before .before .before .before .before .before .before .before .before .pre .1 .3))
+slice-aggregate-within c = sym
+    (length-take-le _ _ (c .before .before .before .before .before .before .before .before .before .before .before .before .before .before .before .before
+    .before .before .before .before .before .before .pre .1 .3))
 
 slice-relend-prefix-within-2 : tie.Need-slice-relend-prefix-within-2
 slice-relend-prefix-within-2 c = search needs
 
 slice-aggregate-within-2 : tie.Need-slice-aggregate-within-2
-slice-aggregate-within-2 c = sym (length-take-le _ _ (c .before .before .before .before .before .before .before .before .before .before .before .before .before .before .before .before .before .before .before .before .before .before .before .pre .1 .4))
+slice-aggregate-within-2 c = sym
+    (length-take-le _ _ (c .before .before .before .before .before .before .before .before .before .before .before .before .before .before .before .before
+    .before .before .before .before .before .before .before .pre .1 .4))
 
 slice-relend-prefix-within-3 : tie.Need-slice-relend-prefix-within-3
 slice-relend-prefix-within-3 c = search needs
 
 slice-aggregate-within-3 : tie.Need-slice-aggregate-within-3
-slice-aggregate-within-3 c = sym (length-take-le _ _ (c .before .before .before .before .before .before .before .before .before .before .before .before .before .before .before .before .before .before .before .before .before .before .before .before .pre .1 .5))
+slice-aggregate-within-3 c = sym
+    (length-take-le _ _ (c .before .before .before .before .before .before .before .before .before .before .before .before .before .before .before .before
+    .before .before .before .before .before .before .before .before .pre .1 .5))
 
 slice-relend-prefix-within-4 : tie.Need-slice-relend-prefix-within-4
 slice-relend-prefix-within-4 c = search needs
 
 slice-aggregate-within-4 : tie.Need-slice-aggregate-within-4
-slice-aggregate-within-4 c = sym (length-take-le _ _ (c .before .before .before .before .before .before .before .before .before .before .before .before .before .before .before .before .before .before .before .before .before .before .before .before .before .pre .1 .6))
+slice-aggregate-within-4 c = sym
+    (length-take-le _ _ (c .before .before .before .before .before .before .before .before .before .before .before .before .before .before .before .before
+    .before .before .before .before .before .before .before .before .before .pre .1 .6))
 
 slice-relend-prefix-within-5 : tie.Need-slice-relend-prefix-within-5
 slice-relend-prefix-within-5 c = search needs
 
 slice-aggregate-within-5 : tie.Need-slice-aggregate-within-5
-slice-aggregate-within-5 c = sym (length-take-le _ _ (c .before .before .before .before .before .before .before .before .before .before .before .before .before .before .before .before .before .before .before .before .before .before .before .before .before .before .pre .1 .7))
+slice-aggregate-within-5 c = sym
+    (length-take-le _ _ (c .before .before .before .before .before .before .before .before .before .before .before .before .before .before .before .before
+    .before .before .before .before .before .before .before .before .before .before .pre .1 .7))
 
 slice-relend-prefix-within-6 : tie.Need-slice-relend-prefix-within-6
 slice-relend-prefix-within-6 c = search needs
 
 slice-aggregate-within-6 : tie.Need-slice-aggregate-within-6
-slice-aggregate-within-6 c = sym (length-take-le _ _ (c .before .before .before .before .before .before .before .before .before .before .before .before .before .before .before .before .before .before .before .before .before .before .before .before .before .before .before .pre .1 .8))
+slice-aggregate-within-6 c = sym
+    (length-take-le _ _ (c .before .before .before .before .before .before .before .before .before .before .before .before .before .before .before .before
+    .before .before .before .before .before .before .before .before .before .before .before .pre .1 .8))
 
 slice-relend-prefix-within-7 : tie.Need-slice-relend-prefix-within-7
 slice-relend-prefix-within-7 c = search needs
 
 slice-aggregate-within-7 : tie.Need-slice-aggregate-within-7
-slice-aggregate-within-7 c = sym (length-take-le _ _ (c .before .before .before .before .before .before .before .before .before .before .before .before .before .before .before .before .before .before .before .before .before .before .before .before .before .before .before .before .pre .1 .9))
+slice-aggregate-within-7 c = sym
+    (length-take-le _ _ (c .before .before .before .before .before .before .before .before .before .before .before .before .before .before .before .before
+    .before .before .before .before .before .before .before .before .before .before .before .before .pre .1 .9))
 
 slice-relend-prefix-within-8 : tie.Need-slice-relend-prefix-within-8
-slice-relend-prefix-within-8 c = let s = c .before .before .before .before .before .before .before .before .before .before .before .before .before .before .before .before .before .before .before .before .before .before .before .before .before .before .before .before in
-    let bits = asked-bits (take (s .args .h .«input_values») (s .args .widths)) (s .args .codes .now) (sym (c .before .before .before .before .before .before .before .before .before .before .before .before .before .before .ask-codes .ensures) ∙ ap askedOf (c .before .before .before .before .before .before .before .before .before .before .before .before .enum-told .given .1)) in
+slice-relend-prefix-within-8 c = let s =
+    c .before .before .before .before .before .before .before .before .before .before .before .before .before .before .before .before .before .before .before
+    .before .before .before .before .before .before .before .before .before in
+    let bits = asked-bits (take (s .args .h .«input_values») (s .args .widths)) (s .args .codes .now)
+    (sym (c .before .before .before .before .before .before .before .before .before .before .before .before .before .before .ask-codes .ensures) ∙ ap
+    askedOf (c .before .before .before .before .before .before .before .before .before .before .before .before .enum-told .given .1)) in
     omega (arith, bits, s .pre .1 .1, s .pre .1 .2, s .pre .1 .10)
 
 slice-aggregate-within-8 : tie.Need-slice-aggregate-within-8
-slice-aggregate-within-8 c = let s = c .before .before .before .before .before .before .before .before .before .before .before .before .before .before .before .before .before .before .before .before .before .before .before .before .before .before .before .before .before in
-    let bits = asked-bits (take (s .args .h .«input_values») (s .args .widths)) (s .args .codes .now) (sym (c .before .before .before .before .before .before .before .before .before .before .before .before .before .before .before .ask-codes .ensures) ∙ ap askedOf (c .before .before .before .before .before .before .before .before .before .before .before .before .before .enum-told .given .1)) in
+slice-aggregate-within-8 c = let s =
+    c .before .before .before .before .before .before .before .before .before .before .before .before .before .before .before .before .before .before .before
+    .before .before .before .before .before .before .before .before .before .before in
+    let bits = asked-bits (take (s .args .h .«input_values») (s .args .widths)) (s .args .codes .now)
+    (sym (c .before .before .before .before .before .before .before .before .before .before .before .before .before .before .before .ask-codes .ensures) ∙
+    ap askedOf (c .before .before .before .before .before .before .before .before .before .before .before .before .before .enum-told .given .1)) in
     sym (length-take-le _ _ (omega (arith, bits, s .pre .1 .1, s .pre .1 .2, s .pre .1 .10)))
 
 within-requires : tie.Need-within-requires
-within-requires c κs = let s = c .before .before .before .before .before .before .before .before .before .before .before .before .before .before .before .before .before .before .before .before .before .before .before .before .before .before .before .before .before in
+within-requires c κs = let s =
+    c .before .before .before .before .before .before .before .before .before .before .before .before .before .before .before .before .before .before .before
+    .before .before .before .before .before .before .before .before .before .before in
     let a = s .args in
     let p = s .pre .1 in
     let vs = take (a .h .«input_values») (a .widths) in
-    let asked = sym (c .before .before .before .before .before .before .before .before .before .before .before .before .before .before .before .ask-codes .ensures) ∙ ap askedOf (c .before .before .before .before .before .before .before .before .before .before .before .before .before .enum-told .given .1) in
+    let asked = sym (c .before .before .before .before .before .before .before .before .before .before .before .before .before .before .before .ask-codes
+    .ensures) ∙ ap askedOf (c .before .before .before .before .before .before .before .before .before .before .before .before .before .enum-told .given .1)
+    in
     let bits = asked-bits vs (a .codes .now) asked in
-    let good : pairsGood (a .h .wires) (a .pairs .now) ≡ true = sym (c .before .before .before .before .before .before .before .before .before .before .before .pairs-good .ensures) ∙ not-false _ (c .before .before .before .before .before .before .before .before .before .before .if1 .left) in
+    let good : pairsGood (a .h .wires) (a .pairs .now) ≡ true = sym
+    (c .before .before .before .before .before .before .before .before .before .before .before .pairs-good .ensures) ∙ not-false _
+    (c .before .before .before .before .before .before .before .before .before .before .if1 .left) in
     let L : (l : List ℕ) → a .h .wires ≤ length l → length (take (a .h .wires) l) ≡ a .h .wires = λ l h. length-take-le (a .h .wires) l h in
     let w = L (a .words .now) (p .3) in
     let n = length-take-le (length (a .codes .now)) (a .paints .now) (omega (arith, bits, p .1, p .2, p .10)) in (
@@ -124,7 +154,8 @@ within-requires c κs = let s = c .before .before .before .before .before .befor
     )
 
 returns-2 : tie.Need-returns-2
-returns-2 c = let a = c .before .before .before .before .before .before .before .before .before .before .before .before .before .before .before .before .before .before .args in
+returns-2 c = let a =
+    c .before .before .before .before .before .before .before .before .before .before .before .before .before .before .before .before .before .before .args in
     λ N H F e. c .refuse .ensures ∙ refused-asked N (a .codes .now) (a .pairs .now) (take (a .h .«input_values») (a .widths)) e
     (sym (ap askedOf (c .before .before .question .given .1)) ∙ c .before .before .before .before .ask-codes .ensures)
 
@@ -156,18 +187,30 @@ same-length-9 : tie.Need-same-length-9
 same-length-9 c = search needs
 
 returns-3 : tie.Need-returns-3
-returns-3 c = let s = c .before .before .before .before .before .before .before .before .before .before .before .before .before .before .before .before .before .before .before .before .before .before .before .before .before .before .before .before .before .before .before .before .before .before .before .before .before .before .before .before .before .before .before .before .before .before .before .before in
+returns-3 c = let s =
+    c .before .before .before .before .before .before .before .before .before .before .before .before .before .before .before .before .before .before .before
+    .before .before .before .before .before .before .before .before .before .before .before .before .before .before .before .before .before .before .before
+    .before .before .before .before .before .before .before .before .before .before in
     let a = s .args in
     let p = s .pre .1 in
     let vs = take (a .h .«input_values») (a .widths) in
-    let asked = sym (ap askedOf (c .before .before .before .before .before .before .before .before .before .before .before .before .before .before .before .before .before .before .before .before .before .before .before .before .before .before .before .before .before .before .before .before .enum-told .given .1)) ∙ c .before .before .before .before .before .before .before .before .before .before .before .before .before .before .before .before .before .before .before .before .before .before .before .before .before .before .before .before .before .before .before .before .before .before .ask-codes .ensures in
+    let asked = sym (ap askedOf
+    (c .before .before .before .before .before .before .before .before .before .before .before .before .before .before .before .before .before .before
+    .before .before .before .before .before .before .before .before .before .before .before .before .before .before .enum-told .given .1)) ∙
+    c .before .before .before .before .before .before .before .before .before .before .before .before .before .before .before .before .before .before
+    .before .before .before .before .before .before .before .before .before .before .before .before .before .before .before .before .ask-codes .ensures in
     let bits = asked-bits vs (a .codes .now) (sym asked) in
-    let good : pairsGood (a .h .wires) (a .pairs .now) ≡ true = sym (c .before .before .before .before .before .before .before .before .before .before .before .before .before .before .before .before .before .before .before .before .before .before .before .before .before .before .before .before .before .before .pairs-good .ensures) ∙ not-false _ (c .before .before .before .before .before .before .before .before .before .before .before .before .before .before .before .before .before .before .before .before .before .before .before .before .before .before .before .before .before .if1 .left) in
+    let good : pairsGood (a .h .wires) (a .pairs .now) ≡ true = sym
+    (c .before .before .before .before .before .before .before .before .before .before .before .before .before .before .before .before .before .before
+    .before .before .before .before .before .before .before .before .before .before .before .before .pairs-good .ensures) ∙ not-false _
+    (c .before .before .before .before .before .before .before .before .before .before .before .before .before .before .before .before .before .before
+    .before .before .before .before .before .before .before .before .before .before .before .if1 .left) in
     let t = tables (a .operands .now) (a .results .now) in
     let w = length-take-le (a .h .wires) (a .words .now) (p .3) in
     let n : a .h .«input_bits» ≡ length (a .codes .now) + 2 = p .1 ∙ sym bits in
     λ N H F e. answered N (a .codes .now) (a .pairs .now) vs e asked (H .wires) good
-    (c .before .before .before .before .before .before .before .before .before .before .before .before .before .before .before .before .before .before .within .ensures (a .h .«output_bits») N (subst (λ (Y : ℕ). Holds t (a .h .gates) Y (length (a .codes .now) + 2) (a .h .«output_bits») N) (sym w)
+    (c .before .before .before .before .before .before .before .before .before .before .before .before .before .before .before .before .before .before .within
+    .ensures (a .h .«output_bits») N (subst (λ (Y : ℕ). Holds t (a .h .gates) Y (length (a .codes .now) + 2) (a .h .«output_bits») N) (sym w)
     (subst (λ (Y : ℕ). Holds t (a .h .gates) (a .h .wires) Y (a .h .«output_bits») N) n H)) F)
 
 pub judge-spec : {M : Type 1} → statement M

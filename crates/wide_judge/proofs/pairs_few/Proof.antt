@@ -31,7 +31,8 @@ shared-slice-read-u : tie.Need-shared-slice-read-u Inv-loop μ-loop
 shared-slice-read-u c = omega (arith, c .before .loop-test .taken)
 
 cast-u : tie.Need-cast-u Inv-loop μ-loop
-cast-u c = let s = c .before .before .before .before .before .before .before .before in omega (arith, s .pre .1 (2 * c .before .before .loop .j) (omega (arith, c .before .loop-test .taken)))
+cast-u c = let s = c .before .before .before .before .before .before .before .before in
+    omega (arith, s .pre .1 (2 * c .before .before .loop .j) (omega (arith, c .before .loop-test .taken)))
 
 mul-v : tie.Need-mul-v Inv-loop μ-loop
 mul-v c = omega (arith, c .before .loop-test .taken)
@@ -46,7 +47,8 @@ shared-slice-read-v : tie.Need-shared-slice-read-v Inv-loop μ-loop
 shared-slice-read-v c = omega (arith, c .before .before .loop-test .taken)
 
 cast-v : tie.Need-cast-v Inv-loop μ-loop
-cast-v c = let s = c .before .before .before .before .before .before .before .before .before in omega (arith, s .pre .1 (2 * c .before .before .before .loop .j + 1) (omega (arith, c .before .before .loop-test .taken)))
+cast-v c = let s = c .before .before .before .before .before .before .before .before .before in
+    omega (arith, s .pre .1 (2 * c .before .before .before .loop .j + 1) (omega (arith, c .before .before .loop-test .taken)))
 
 get-requires : tie.Need-get-requires Inv-loop μ-loop
 get-requires c κs = let s = c .before .before .before .before .before .before .before .before .before in
@@ -73,7 +75,8 @@ returns c = let a = c .before .before .before .before .before .before .before .b
     let S = sets (a .set0 .now) (a .set1 .now) (a .set2 .now) (a .set3 .now) in
     let j = c .before .before .before .before .before .before .before .before .loop .j in (
       λ e. absurd (subst T (sym e) tt),
-      λ _ P. let k = pair-many S (a .pairs .now) j (c .before .before .before .before .get .ensures .0) (c .before .before .before .get2 .ensures .0) (c .before .before .both .ensures) (c .if1 .taken) in
+      λ _ P. let k = pair-many S (a .pairs .now) j (c .before .before .before .before .get .ensures .0) (c .before .before .before .get2 .ensures .0)
+          (c .before .before .both .ensures) (c .if1 .taken) in
           let h = P j (c .before .before .before .before .before .before .before .loop-test .taken) in omega (arith, k, h),
     )
 
@@ -86,8 +89,12 @@ loop-less c = omega (arith, c .before .before .before .before .before .before .b
 loop-again : tie.Need-loop-again Inv-loop μ-loop
 loop-again c = let a = c .before .before .before .before .before .before .before .before .before .before .before .before .before .before .args in
     let S = sets (a .set0 .now) (a .set1 .now) (a .set2 .now) (a .set3 .now) in
-    let at = c .before .before .before .before .before .before .before .before .loop in
-    (omega (arith, c .before .before .before .before .before .before .before .loop-test .taken), below-more _ _ (at .inv .1) (pair-few S (a .pairs .now) (at .j) (c .before .before .before .before .get .ensures .0) (c .before .before .before .get2 .ensures .0) (c .before .before .both .ensures) (c .if1 .left)))
+    let at = c .before .before .before .before .before .before .before .before .loop in (
+      omega (arith, c .before .before .before .before .before .before .before .loop-test .taken),
+      below-more _ _ (at .inv .1)
+          (pair-few S (a .pairs .now) (at .j) (c .before .before .before .before .get .ensures .0) (c .before .before .before .get2 .ensures .0)
+          (c .before .before .both .ensures) (c .if1 .left)),
+    )
 
 returns-2 : tie.Need-returns-2 Inv-loop μ-loop
 returns-2 c = (λ _ j l. c .before .loop .inv .1 j (omega (arith, l, c .loop-test .left)), λ e. absurd (subst T e tt))

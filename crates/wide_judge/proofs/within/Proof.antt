@@ -36,7 +36,8 @@ same-length-4 : tie.Need-same-length-4
 same-length-4 c = search needs
 
 returns : tie.Need-returns
-returns c = let s = c .before .before .before .before .before .before .before .before .before .before .before .before .before .before .before .before .before .before .before .before .before .before .before .before .before .before .before .before in
+returns c = let s = c .before .before .before .before .before .before .before .before .before .before .before .before .before .before .before .before .before
+    .before .before .before .before .before .before .before .before .before .before .before in
     let a = s .args in
     let r = c .before .before .before .before .before .before .before .before .before .before .reach in
     let k = r .last .1 .1 .1 .1 in
@@ -46,7 +47,9 @@ returns c = let s = c .before .before .before .before .before .before .before .b
     (r .ensures .1 o N (subst (λ (Y : ℕ). Holds t (a .count) Y (length (a .codes .now) + 2) o N) (sym (s .pre .1 .5)) H) F)
 
 pairs-few-requires : tie.Need-pairs-few-requires
-pairs-few-requires c κs = let s = c .before .before .before .before .before .before .before .before .before .before .before .before .before .before .before .before .before .before .before .before .before .before .before .before .before .before .before .before .before .before .before in
+pairs-few-requires c κs = let s =
+    c .before .before .before .before .before .before .before .before .before .before .before .before .before .before .before .before .before .before .before
+    .before .before .before .before .before .before .before .before .before .before .before .before in
     let r = c .before .before .before .before .before .before .before .before .before .before .before .before .before .reach in
     let k = r .last .1 .1 .1 .1 in
     let S = sets (k .0) (k .1 .0) (k .1 .1 .0) (k .1 .1 .1 .0) in
@@ -69,25 +72,41 @@ same-length-8 : tie.Need-same-length-8
 same-length-8 c = search needs
 
 returns-2 : tie.Need-returns-2
-returns-2 c = let s = c .before .before .before .before .before .before .before .before .before .before .before .before .before .before .before .before .before .before .before .before .before .before .before .before .before .before .before .before .before .before .before .before .before .before in
+returns-2 c = let s =
+    c .before .before .before .before .before .before .before .before .before .before .before .before .before .before .before .before .before .before .before
+    .before .before .before .before .before .before .before .before .before .before .before .before .before .before .before in
     let a = s .args in
     let r = c .before .before .before .before .before .before .before .before .before .before .before .before .before .before .before .before .reach in
     let k = r .last .1 .1 .1 .1 in
     let S = sets (k .0) (k .1 .0) (k .1 .1 .0) (k .1 .1 .1 .0) in
     let t = tables (a .operands .now) (a .results .now) in
-    λ o N H F. c .refuse2 .ensures ∙ pairs-many S (a .codes .now) (a .pairs .now) H (s .pre .0 .1) (not-false _ (c .before .before .before .before .before .before .before .if1 .left))
+    λ o N H F. c .refuse2 .ensures ∙ pairs-many S (a .codes .now) (a .pairs .now) H (s .pre .0 .1)
+    (not-false _ (c .before .before .before .before .before .before .before .if1 .left))
     (r .ensures .1 o N (subst (λ (Y : ℕ). Holds t (a .count) Y (length (a .codes .now) + 2) o N) (sym (s .pre .1 .5)) H) F)
     (c .before .before .pairs-few .ensures .1 (not-true _ (c .before .if2 .taken)))
 
 search-requires : tie.Need-search-requires
-search-requires c κs = let s = c .before .before .before .before .before .before .before .before .before .before .before .before .before .before .before .before .before .before .before .before .before .before .before .before .before .before .before .before .before .before .before .before .before .before .before .before .before .before .before .before .before .before in
+search-requires c κs = let s =
+    c .before .before .before .before .before .before .before .before .before .before .before .before .before .before .before .before .before .before .before
+    .before .before .before .before .before .before .before .before .before .before .before .before .before .before .before .before .before .before .before
+    .before .before .before .before in
     let p = s .pre .0 in
     let q = s .pre .1 in
-    let r = c .before .before .before .before .before .before .before .before .before .before .before .before .before .before .before .before .before .before .before .before .before .before .before .before .reach in
+    let r = c .before .before .before .before .before .before .before .before .before .before .before .before .before .before .before .before .before .before
+    .before .before .before .before .before .before .reach in
     let k = r .last .1 .1 .1 .1 in
     let S = sets (k .0) (k .1 .0) (k .1 .1 .0) (k .1 .1 .1 .0) in
     let e = r .kept .1 .1 .1 .1 .0 in (
-      (p .0, subst (Sized S) (sym e) (r .ensures .0 (not-false _ (c .before .before .before .before .before .before .before .before .before .before .before .before .before .before .before .if1 .left))), λ i l. omega (arith, p .1 i l, q .5, e), c .before .before .before .before .before .before .before .before .before .before .pairs-few .ensures .0 (not-false _ (c .before .before .before .before .before .before .before .before .before .if2 .left))),
+      (
+        p .0,
+        subst (Sized S) (sym e)
+            (r .ensures .0 (not-false _
+            (c .before .before .before .before .before .before .before .before .before .before .before .before .before .before .before .if1 .left))),
+        λ i l. omega
+            (arith, p .1 i l, q .5, e),
+        c .before .before .before .before .before .before .before .before .before .before .pairs-few .ensures .0
+            (not-false _ (c .before .before .before .before .before .before .before .before .before .if2 .left)),
+      ),
       (q .0, e ∙ q .5, q .1, q .2, q .3, q .4),
     )
 
@@ -104,33 +123,52 @@ same-length-12 : tie.Need-same-length-12
 same-length-12 c = search needs
 
 same-length-13 : tie.Need-same-length-13
-same-length-13 c = c .before .before .before .before .before .before .before .before .before .before .before .before .before .before .before .before .before .before .before .before .before .before .before .before .before .before .before .before .before .before .before .before .before .before .before .before .reach .kept .1 .1 .1 .1 .0
+same-length-13 c = c .before .before .before .before .before .before .before .before .before .before .before .before .before .before .before .before .before
+    .before .before .before .before .before .before .before .before .before .before .before .before .before .before .before .before .before .before .before
+    .reach .kept .1 .1 .1 .1 .0
 
 same-length-14 : tie.Need-same-length-14
-same-length-14 c = c .before .before .before .before .before .before .before .before .before .before .before .before .before .before .before .before .before .before .before .before .before .before .before .before .before .before .before .before .before .before .before .before .before .before .before .before .reach .kept .1 .1 .1 .1 .1 .0
+same-length-14 c = c .before .before .before .before .before .before .before .before .before .before .before .before .before .before .before .before .before
+    .before .before .before .before .before .before .before .before .before .before .before .before .before .before .before .before .before .before .before
+    .reach .kept .1 .1 .1 .1 .1 .0
 
 same-length-15 : tie.Need-same-length-15
-same-length-15 c = c .before .before .before .before .before .before .before .before .before .before .before .before .before .before .before .before .before .before .before .before .before .before .before .before .before .before .before .before .before .before .before .before .before .before .before .before .reach .kept .1 .1 .1 .1 .1 .1 .0
+same-length-15 c = c .before .before .before .before .before .before .before .before .before .before .before .before .before .before .before .before .before
+    .before .before .before .before .before .before .before .before .before .before .before .before .before .before .before .before .before .before .before
+    .reach .kept .1 .1 .1 .1 .1 .1 .0
 
 same-length-16 : tie.Need-same-length-16
-same-length-16 c = c .before .before .before .before .before .before .before .before .before .before .before .before .before .before .before .before .before .before .before .before .before .before .before .before .before .before .before .before .before .before .before .before .before .before .before .before .reach .kept .1 .1 .1 .1 .1 .1 .1 .0
+same-length-16 c = c .before .before .before .before .before .before .before .before .before .before .before .before .before .before .before .before .before
+    .before .before .before .before .before .before .before .before .before .before .before .before .before .before .before .before .before .before .before
+    .reach .kept .1 .1 .1 .1 .1 .1 .1 .0
 
 same-length-17 : tie.Need-same-length-17
 same-length-17 c = search needs
 
 returns-3 : tie.Need-returns-3
-returns-3 c = let s = c .before .before .before .before .before .before .before .before .before .before .before .before .before .before .before .before .before .before .before .before .before .before .before .before .before .before .before .before .before .before .before .before .before .before .before .before .before .before .before .before .before .before .before .before .before .before .before .before .before .before .before .before .before .before in
+returns-3 c = let s =
+    c .before .before .before .before .before .before .before .before .before .before .before .before .before .before .before .before .before .before .before
+    .before .before .before .before .before .before .before .before .before .before .before .before .before .before .before .before .before .before .before
+    .before .before .before .before .before .before .before .before .before .before .before .before .before .before .before .before in
     let a = s .args in
     let q = s .pre .1 in
-    let r = c .before .before .before .before .before .before .before .before .before .before .before .before .before .before .before .before .before .before .before .before .before .before .before .before .before .before .before .before .before .before .before .before .before .before .before .before .reach in
+    let r = c .before .before .before .before .before .before .before .before .before .before .before .before .before .before .before .before .before .before
+    .before .before .before .before .before .before .before .before .before .before .before .before .before .before .before .before .before .before .reach
+    in
     let k = r .last .1 .1 .1 .1 in
     let S = sets (k .0) (k .1 .0) (k .1 .1 .0) (k .1 .1 .1 .0) in
     let t = tables (a .operands .now) (a .results .now) in
-    let y = not-false _ (c .before .before .before .before .before .before .before .before .before .before .before .before .before .before .before .before .before .before .before .before .before .before .before .before .before .before .before .if1 .left) in
+    let y = not-false _ (c .before .before .before .before .before .before .before .before .before .before .before .before .before .before .before .before
+    .before .before .before .before .before .before .before .before .before .before .before .if1 .left) in
     λ o N H F.
     let R = r .ensures .1 o N (subst (λ (Y : ℕ). Holds t (a .count) Y (length (a .codes .now) + 2) o N) (sym (q .5)) H) F in
-    let g = c .before .before .before .before .before .before .before .before .before .before .before .search .ensures o N (given S (a .codes .now) (a .pairs .now) H (s .pre .0 .1) y R) in
-    all-few S (a .codes .now) (a .pairs .now) H (s .pre .0 .1) y R (subst (Sized S) (q .5) (r .ensures .0 y)) (c .before .before .before .before .before .before .before .before .before .before .before .before .before .before .before .before .before .before .before .before .before .before .pairs-few .ensures .0 (not-false _ (c .before .before .before .before .before .before .before .before .before .before .before .before .before .before .before .before .before .before .before .before .before .if2 .left)))
+    let g = c .before .before .before .before .before .before .before .before .before .before .before .search .ensures o N
+    (given S (a .codes .now) (a .pairs .now) H (s .pre .0 .1) y R) in
+    all-few S (a .codes .now) (a .pairs .now) H (s .pre .0 .1) y R (subst (Sized S) (q .5) (r .ensures .0 y))
+    (c .before .before .before .before .before .before .before .before .before .before .before .before .before .before .before .before .before .before
+    .before .before .before .before .pairs-few .ensures .0
+    (not-false _ (c .before .before .before .before .before .before .before .before .before .before .before .before .before .before .before .before .before
+    .before .before .before .before .if2 .left)))
     (told-both (g .0) (g .1))
 
 pub within-spec : {M : Type 1} → statement M

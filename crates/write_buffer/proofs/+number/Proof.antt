@@ -1,6 +1,6 @@
 -- `number`: all digits but the last, and then the last.
 use mathlib.Core.Path.{sym}
-use Rattle.write_buffer.proofs.Wrote.{wrote-as, wrote-then}
+use Rattle.write_buffer.proofs.Writing.{wrote-as, wrote-then}
 use Rattle.write_buffer.proofs.Decimals.{decimal-one, decimal-last}
 use borrow.Author.Needs.{needs}
 use native.Mathlib.Omega.{arith}

@@ -3,7 +3,7 @@ use Prim.Native.Nat.{_-_}
 use borrow.Author.Needs.{needs}
 use native.Mathlib.Omega.{arith}
 use lib.ListN.{length}
-use Rattle.write_buffer.proofs.Wrote.{Copied, copied-none, copied-more, copied-all, wrote-length}
+use Rattle.write_buffer.proofs.Writing.{Copied, copied-none, copied-more, copied-all, wrote-length}
 use Rattle.write_buffer.proofs.bytes.Statement.{statement}
 use Rattle.write_buffer.proofs.bytes.Tie as tie
 

@@ -1,5 +1,5 @@
 -- `put`: a byte past the end only moves the place.
-use Rattle.write_buffer.proofs.Wrote.{wrote-out}
+use Rattle.write_buffer.proofs.Writing.{wrote-out}
 use native.Mathlib.Omega.{arith}
 use borrow.Author.Needs.{needs}
 use Rattle.write_buffer.proofs.put.Statement.{statement}

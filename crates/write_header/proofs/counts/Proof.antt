@@ -1,5 +1,5 @@
 -- `counts`: two numbers.
-use Rattle.write_buffer.proofs.Wrote.{wrote-then}
+use Rattle.write_buffer.proofs.Writing.{wrote-then}
 use borrow.Author.Needs.{needs}
 use Rattle.write_header.proofs.counts.Statement.{statement}
 use Rattle.write_header.proofs.counts.Tie as tie

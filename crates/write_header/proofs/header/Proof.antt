@@ -1,5 +1,5 @@
 -- `header`: three lines and a blank one.
-use Rattle.write_buffer.proofs.Wrote.{wrote-then}
+use Rattle.write_buffer.proofs.Writing.{wrote-then}
 use borrow.Author.Needs.{needs}
 use Rattle.write_header.proofs.header.Statement.{statement}
 use Rattle.write_header.proofs.header.Tie as tie

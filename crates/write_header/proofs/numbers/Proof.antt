@@ -1,5 +1,5 @@
 -- `numbers`: the first, the others, and LF.
-use Rattle.write_buffer.proofs.Wrote.{wrote-then, wrote-as}
+use Rattle.write_buffer.proofs.Writing.{wrote-then, wrote-as}
 use Rattle.write_header.proofs.Headers.{line-spaced}
 use borrow.Author.Needs.{needs}
 use Rattle.write_header.proofs.numbers.Statement.{statement}

@@ -1,5 +1,5 @@
 -- `old_header`: two lines and a blank one.
-use Rattle.write_buffer.proofs.Wrote.{wrote-then}
+use Rattle.write_buffer.proofs.Writing.{wrote-then}
 use Rattle.write_header.proofs.Headers.{wrote-parties}
 use borrow.Author.Needs.{needs}
 use Rattle.write_header.proofs.old_header.Statement.{statement}
@@ -34,10 +34,14 @@ same-length c = search needs
 
 returns : tie.Need-returns
 returns c =
-    let s = c .before .before .before .before .before .before .before .before .before .before .before .before .before .before .before .before .before .before .before .args in
+    let s = c .before .before .before .before .before .before .before .before .before .before .before .before .before .before .before .before .before .before
+    .before .args in
     wrote-then (c .before .before .before .before .before .before .before .before .before .before .before .before .before .before .counts .ensures)
     (wrote-then
-    (wrote-parties (s .ins .now) (s .outs .now) (c .before .before .before .before .before .before .before .before .width-at3 .ensures) (c .before .before .before .before .before .before .before .before .before .before .before .width-at .ensures) (c .before .before .before .before .before .before .before .before .before .before .width-at2 .ensures) (c .before .before .before .before .before .before .numbers .ensures))
+    (wrote-parties (s .ins .now) (s .outs .now) (c .before .before .before .before .before .before .before .before .width-at3 .ensures)
+    (c .before .before .before .before .before .before .before .before .before .before .before .width-at .ensures)
+    (c .before .before .before .before .before .before .before .before .before .before .width-at2 .ensures)
+    (c .before .before .before .before .before .before .numbers .ensures))
     (c .before .before .put .ensures))
 
 pub old-header-spec : {M : Type 1} → statement M

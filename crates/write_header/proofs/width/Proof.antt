@@ -1,5 +1,5 @@
 -- `width`: a space, and then the number.
-use Rattle.write_buffer.proofs.Wrote.{wrote-then}
+use Rattle.write_buffer.proofs.Writing.{wrote-then}
 use Rattle.write_header.proofs.Headers.{wrote-width}
 use borrow.Author.Needs.{needs}
 use Rattle.write_header.proofs.width.Statement.{statement}

@@ -1,6 +1,6 @@
 -- `widths`: the first i widths are written.
 use Prim.Native.Nat.{_-_}
-use Rattle.write_buffer.proofs.Wrote.{wrote-length}
+use Rattle.write_buffer.proofs.Writing.{wrote-length}
 use lib.ListN.{length}
 use Rattle.write_header.proofs.Headers.{Spaced, spaced-none, spaced-more, spaced-all}
 use borrow.Author.Needs.{needs}

@@ -21,7 +21,8 @@ same-length : tie.Need-same-length
 same-length c = search needs
 
 returns-2 : tie.Need-returns-2
-returns-2 c = deliver-done (sym (c .before .before .before .before .before .holds .ensures) ∙ not-false _ (c .before .before .before .before .if1 .left)) (omega arith) (c .before .before .write .ensures)
+returns-2 c = deliver-done (sym (c .before .before .before .before .before .holds .ensures) ∙ not-false _ (c .before .before .before .before .if1 .left))
+    (omega arith) (c .before .before .write .ensures)
 
 pub answer-spec : {M : Type 1} → statement M
 answer-spec = tie.close (tie.spec holds-requires returns write-requires same-length returns-2)

@@ -7,10 +7,15 @@ use Rattle.write_netlist.proofs.answer_on.Statement.{statement}
 use Rattle.write_netlist.proofs.answer_on.Tie as tie
 
 slice-aggregate-answer : tie.Need-slice-aggregate-answer
-slice-aggregate-answer c = sym (length-take-le (c .before .before .before .before .before .before .before .args .k) (c .before .before .before .before .before .before .before .args .d .now) (c .before .before .before .before .before .before .before .pre .0 .long))
+slice-aggregate-answer c = sym (length-take-le (c .before .before .before .before .before .before .before .args .k)
+    (c .before .before .before .before .before .before .before .args .d .now) (c .before .before .before .before .before .before .before .pre .0 .long))
 
 answer-requires : tie.Need-answer-requires
-answer-requires c κs = (low-table (c .before .before .before .before .before .before .before .before .args .d .now) (c .before .before .before .before .before .before .before .before .args .k) (c .before .before .before .before .before .before .before .before .pre .0), c .before .before .before .before .before .before .before .before .pre .1)
+answer-requires c κs = (
+  low-table (c .before .before .before .before .before .before .before .before .args .d .now)
+      (c .before .before .before .before .before .before .before .before .args .k) (c .before .before .before .before .before .before .before .before .pre .0),
+  c .before .before .before .before .before .before .before .before .pre .1,
+)
 
 same-length : tie.Need-same-length
 same-length c = search needs

@@ -33,7 +33,10 @@ mul-answer-on : tie.Need-mul-answer-on
 mul-answer-on c = search needs
 
 answer-on-requires-2 : tie.Need-answer-on-requires-2
-answer-on-requires-2 c κs = (filled-low (c .before .before .before .fill .ensures) (omega arith), c .before .before .before .before .before .before .before .before .before .before .before .before .pre)
+answer-on-requires-2 c κs = (
+  filled-low (c .before .before .before .fill .ensures) (omega arith),
+  c .before .before .before .before .before .before .before .before .before .before .before .before .pre,
+)
 
 same-length-2 : tie.Need-same-length-2
 same-length-2 c = search needs

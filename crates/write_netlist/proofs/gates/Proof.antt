@@ -2,7 +2,7 @@
 use Prim.Native.Nat.{_-_}
 use Rattle.netlist.specs.Table.{tables}
 use Rattle.write_netlist.proofs.Forms.{Forming, forming-none, forming-more, forming-all}
-use Rattle.write_buffer.proofs.Wrote.{wrote-length}
+use Rattle.write_buffer.proofs.Writing.{wrote-length}
 use borrow.Author.Needs.{needs}
 use native.Mathlib.Omega.{arith}
 use Rattle.write_netlist.proofs.gates.Statement.{statement}

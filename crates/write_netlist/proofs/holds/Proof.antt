@@ -30,7 +30,8 @@ write-requires : tie.Need-write-requires
 write-requires c κs = search needs
 
 returns-2 : tie.Need-returns-2
-returns-2 c = measured-holds (c .before .write .ensures) (c .before .before .before .before .before .before .before .before .before .before .before .before .before .pre .1 .1)
+returns-2 c = measured-holds (c .before .write .ensures)
+    (c .before .before .before .before .before .before .before .before .before .before .before .before .before .pre .1 .1)
 
 pub holds-spec : {M : Type 1} → statement M
 holds-spec =

@@ -1,5 +1,5 @@
 -- `write`: the header, and behind it the gate lines.
-use Rattle.write_buffer.proofs.Wrote.{wrote-then}
+use Rattle.write_buffer.proofs.Writing.{wrote-then}
 use borrow.Author.Needs.{needs}
 use Rattle.write_netlist.proofs.write.Statement.{statement}
 use Rattle.write_netlist.proofs.write.Tie as tie

@@ -23,7 +23,8 @@ returns c = let a = c .before .before .before .before .before .before .before .b
     let p = c .before .before .before .before .before .before .before .before .before .before .before .before .before .before .pre .1 in
     spilt-as (front1 (a .a) (a .c))
     (spilt-result _ (p .least) (p .result .six)
-    (spilt-operand _ (p .operand .six) (spilt-none (c .before .before .before .before .before .before .before .before .before .before .four .ensures) (omega arith)) (c .before .before .before .before .before .before .wire .ensures) (omega arith))
+    (spilt-operand _ (p .operand .six) (spilt-none (c .before .before .before .before .before .before .before .before .before .before .four .ensures)
+    (omega arith)) (c .before .before .before .before .before .before .wire .ensures) (omega arith))
     (c .before .before .wire2 .ensures) (omega arith))
 
 pub front1-spec : {M : Type 1} → statement M

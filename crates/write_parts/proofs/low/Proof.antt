@@ -1,5 +1,5 @@
 -- `low`: one digit, or two.
-use Rattle.write_buffer.proofs.Wrote.{wrote-then, wrote-as}
+use Rattle.write_buffer.proofs.Writing.{wrote-then, wrote-as}
 use Rattle.write_parts.proofs.Lines.{low-one, low-two}
 use native.Mathlib.Omega.{arith}
 use borrow.Author.Needs.{needs}
@@ -43,7 +43,13 @@ same-length-2 : tie.Need-same-length-2
 same-length-2 c = search needs
 
 returns-2 : tie.Need-returns-2
-returns-2 c = (wrote-as (low-two _ (c .before .before .before .before .before .before .before .before .if1 .left) (c .before .before .before .before .before .before .before .before .before .before .pre .0)) (wrote-then (c .before .before .before .before .before .before .two2 .ensures) (c .before .before .one .ensures)), omega (arith, c .before .before .one .ensures .next, c .before .before .before .before .before .before .two2 .ensures .next))
+returns-2 c = (
+  wrote-as (low-two _ (c .before .before .before .before .before .before .before .before .if1 .left)
+      (c .before .before .before .before .before .before .before .before .before .before .pre .0))
+      (wrote-then (c .before .before .before .before .before .before .two2 .ensures) (c .before .before .one .ensures)),
+  omega
+      (arith, c .before .before .one .ensures .next, c .before .before .before .before .before .before .two2 .ensures .next),
+)
 
 pub low-spec : {M : Type 1} → statement M
 low-spec =

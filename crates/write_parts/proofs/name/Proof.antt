@@ -1,5 +1,5 @@
 -- `name`: byte by byte.
-use Rattle.write_buffer.proofs.Wrote.{wrote-then}
+use Rattle.write_buffer.proofs.Writing.{wrote-then}
 use borrow.Author.Needs.{needs}
 use Rattle.write_parts.proofs.name.Statement.{statement}
 use Rattle.write_parts.proofs.name.Tie as tie

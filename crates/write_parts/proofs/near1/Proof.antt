@@ -1,6 +1,6 @@
 -- `near1`: the parts of a line in order.
 use mathlib.Core.List.{[], _∷_}
-use Rattle.write_buffer.proofs.Wrote.{wrote-then, wrote-as}
+use Rattle.write_buffer.proofs.Writing.{wrote-then, wrote-as}
 use Rattle.write_parts.proofs.Lines.{line1}
 use borrow.Author.Needs.{needs}
 use Rattle.write_parts.proofs.near1.Statement.{statement}
@@ -25,7 +25,8 @@ same-length : tie.Need-same-length
 same-length c = search needs
 
 returns : tie.Need-returns
-returns c = let a = c .before .before .before .before .before .before .before .before .before .before .before .before .before .before .before .before .before .before .args in
+returns c = let a = c .before .before .before .before .before .before .before .before .before .before .before .before .before .before .before .before .before
+    .before .args in
     wrote-as (line1 _ _ (a .x ∷ a .y ∷ a .z ∷ []))
     (wrote-then
     (wrote-then (c .before .before .before .before .before .before .before .before .before .before .before .before .before .before .bytes .ensures)

@@ -1,6 +1,6 @@
 -- `near2`: the parts of a line in order.
 use mathlib.Core.List.{[], _∷_}
-use Rattle.write_buffer.proofs.Wrote.{wrote-then, wrote-as}
+use Rattle.write_buffer.proofs.Writing.{wrote-then, wrote-as}
 use Rattle.write_parts.proofs.Lines.{line2}
 use borrow.Author.Needs.{needs}
 use Rattle.write_parts.proofs.near2.Statement.{statement}
@@ -28,7 +28,8 @@ same-length : tie.Need-same-length
 same-length c = search needs
 
 returns : tie.Need-returns
-returns c = let a = c .before .before .before .before .before .before .before .before .before .before .before .before .before .before .before .before .before .before .before .before .before .before .args in
+returns c = let a = c .before .before .before .before .before .before .before .before .before .before .before .before .before .before .before .before .before
+    .before .before .before .before .before .args in
     wrote-as (line2 _ _ _ (a .x ∷ a .y ∷ a .z ∷ []))
     (wrote-then
     (wrote-then

@@ -1,5 +1,5 @@
 -- `spaced`: the number and a space.
-use Rattle.write_buffer.proofs.Wrote.{wrote-then}
+use Rattle.write_buffer.proofs.Writing.{wrote-then}
 use borrow.Author.Needs.{needs}
 use Rattle.write_parts.proofs.spaced.Statement.{statement}
 use Rattle.write_parts.proofs.spaced.Tie as tie

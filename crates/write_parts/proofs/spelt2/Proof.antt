@@ -19,7 +19,12 @@ returns-3 : tie.Need-returns-3
 returns-3 c = λ e. untrue e
 
 returns-4 : tie.Need-returns-4
-returns-4 c = λ e. record { left = c .before .before .before .reach .ensures _ (omega arith); right = c .before .before .before .reach .ensures _ (omega arith); result = c .before .before .before .reach .ensures _ (leb-false _ _ e); least = omega arith }
+returns-4 c = λ e. record {
+  left = c .before .before .before .reach .ensures _ (omega arith);
+  right = c .before .before .before .reach .ensures _ (omega arith);
+  result = c .before .before .before .reach .ensures _ (leb-false _ _ e);
+  least = omega arith;
+}
 
 pub spelt2-spec : {M : Type 1} → statement M
 spelt2-spec = tie.close (tie.spec reach-requires returns returns-2 returns-3 returns-4)

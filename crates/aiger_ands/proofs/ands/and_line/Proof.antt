@@ -23,7 +23,12 @@ enum-told : tie.Need-enum-told
 enum-told c = search needs
 
 returns : tie.Need-returns
-returns c = (λ given wires gs l S. and-none _ given (line-not _ _ _ _ _ (c .enum-told .given .1) (c .before .before .before .next-numbers .ensures)), omega arith, omega arith)
+returns c = (
+  λ given wires gs l S. and-none _ given (line-not _ _ _ _ _ (c .enum-told .given .1) (c .before .before .before .next-numbers .ensures)),
+  omega
+      arith,
+  omega arith,
+)
 
 array-read-left : tie.Need-array-read-left
 array-read-left c = search needs
@@ -41,7 +46,13 @@ same-length : tie.Need-same-length
 same-length c = search needs
 
 returns-2 : tie.Need-returns-2
-returns-2 c = (λ given wires gs l S. and-no (line-is _ _ _ _ _ _ (c .before .before .before .before .next .given .1) (c .before .before .before .before .before .before .before .next-numbers .ensures)) _ given (λ h. not-so (sym (not-true _ (c .if1 .taken)) ∙ c .before .is-readable .ensures .0 given wires (S .places) ∙ h .0)), omega arith, omega arith)
+returns-2 c = (
+  λ given wires gs l S. and-no (line-is _ _ _ _ _ _ (c .before .before .before .before .next .given .1)
+      (c .before .before .before .before .before .before .before .next-numbers .ensures)) _ given
+      (λ h. not-so (sym (not-true _ (c .if1 .taken)) ∙ c .before .is-readable .ensures .0 given wires (S .places) ∙ h .0)),
+  omega arith,
+  omega arith,
+)
 
 is-readable-requires-2 : tie.Need-is-readable-requires-2
 is-readable-requires-2 c κs = search needs
@@ -50,7 +61,13 @@ same-length-2 : tie.Need-same-length-2
 same-length-2 c = search needs
 
 returns-3 : tie.Need-returns-3
-returns-3 c = (λ given wires gs l S. and-no (line-is _ _ _ _ _ _ (c .before .before .before .before .before .before .before .next .given .1) (c .before .before .before .before .before .before .before .before .before .before .next-numbers .ensures)) _ given (λ h. not-so (sym (not-true _ (c .if2 .taken)) ∙ c .before .is-readable2 .ensures .0 given wires (S .places) ∙ h .1)), omega arith, omega arith)
+returns-3 c = (
+  λ given wires gs l S. and-no (line-is _ _ _ _ _ _ (c .before .before .before .before .before .before .before .next .given .1)
+      (c .before .before .before .before .before .before .before .before .before .before .next-numbers .ensures)) _ given
+      (λ h. not-so (sym (not-true _ (c .if2 .taken)) ∙ c .before .is-readable2 .ensures .0 given wires (S .places) ∙ h .1)),
+  omega arith,
+  omega arith,
+)
 
 can-give-requires : tie.Need-can-give-requires
 can-give-requires c κs = search needs
@@ -59,13 +76,44 @@ same-length-3 : tie.Need-same-length-3
 same-length-3 c = search needs
 
 returns-4 : tie.Need-returns-4
-returns-4 c = (λ given wires gs l S. and-no (line-is _ _ _ _ _ _ (c .before .before .before .before .before .before .before .before .before .before .next .given .1) (c .before .before .before .before .before .before .before .before .before .before .before .before .before .next-numbers .ensures)) _ given (λ h. not-so (sym (not-true _ (c .if3 .taken)) ∙ c .before .can-give .ensures .0 given wires (S .places) ∙ h .2)), omega arith, omega arith)
+returns-4 c = (
+  λ given wires gs l S. and-no
+      (line-is _ _ _ _ _ _ (c .before .before .before .before .before .before .before .before .before .before .next .given .1)
+      (c .before .before .before .before .before .before .before .before .before .before .before .before .before .next-numbers .ensures)) _ given
+      (λ h. not-so (sym (not-true _ (c .if3 .taken)) ∙ c .before .can-give .ensures .0 given wires (S .places) ∙ h .2)),
+  omega arith,
+  omega arith,
+)
 
 and-gates-requires : tie.Need-and-gates-requires
-and-gates-requires c κs = (omega (arith, c .before .before .before .before .before .before .before .before .before .before .before .before .before .before .before .before .before .before .before .before .before .before .pre .2), c .before .before .before .before .before .before .before .before .before .before .is-readable .ensures .1 (not-false _ (c .before .before .before .before .before .before .before .before .before .if1 .left)), c .before .before .before .before .before .before .before .is-readable2 .ensures .1 (not-false _ (c .before .before .before .before .before .before .if2 .left)))
+and-gates-requires c κs = (
+  omega (
+    arith,
+    c .before .before .before .before .before .before .before .before .before .before .before .before .before .before .before .before .before
+        .before .before .before .before .before .pre .2,
+  ),
+  c .before .before .before .before .before .before .before .before .before .before .is-readable .ensures .1
+      (not-false _ (c .before .before .before .before .before .before .before .before .before .if1 .left)),
+  c .before .before .before .before .before .before .before .is-readable2 .ensures .1
+      (not-false _ (c .before .before .before .before .before .before .if2 .left)),
+)
 
 give-requires : tie.Need-give-requires
-give-requires c κs = (omega (arith, c .before .before .before .before .before .before .before .before .before .before .can-give .ensures .1 (not-false _ (c .before .before .before .before .before .before .before .before .before .if3 .left)), c .before .before .before .before .before .before .before .before .before .before .before .before .before .before .before .before .before .before .before .before .before .before .before .before .before .before .before .before .pre .1), omega (arith, c .before .before .before .before .before .and-gates .ensures .2, c .before .before .before .before .before .before .before .before .before .before .before .before .before .before .before .before .before .before .before .before .before .before .before .before .before .before .before .before .pre .2))
+give-requires c κs = (
+  omega (
+    arith,
+    c .before .before .before .before .before .before .before .before .before .before .can-give .ensures .1
+        (not-false _ (c .before .before .before .before .before .before .before .before .before .if3 .left)),
+    c .before .before .before .before .before .before .before .before .before .before .before .before .before .before .before .before .before .before .before
+        .before .before .before .before .before .before .before .before .before .pre .1,
+  ),
+  omega (
+    arith,
+    c .before .before .before .before .before .and-gates .ensures .2,
+    c .before .before .before .before .before .before .before .before .before .before .before .before .before .before .before .before .before .before .before
+        .before .before .before .before .before .before .before .before .before .pre .2,
+  ),
+)
 
 same-length-4 : tie.Need-same-length-4
 same-length-4 c = search needs
@@ -78,13 +126,28 @@ same-length-6 c = search needs
 
 returns-5 : tie.Need-returns-5
 returns-5 c = (
-  λ given wires gs l S. and-on (line-is _ _ _ _ _ _ (c .before .before .before .before .before .before .before .before .before .before .before .before .before .before .before .before .before .before .before .before .before .before .next .given .1) (c .before .before .before .before .before .before .before .before .before .before .before .before .before .before .before .before .before .before .before .before .before .before .before .before .before .next-numbers .ensures)) _ given (c .before .before .before .before .before .before .before .before .before .before .before .before .before .before .before .before .before .before .before .before .before .before .before .before .before .before .before .before .before .before .before .pre .1) l S
-      (sym (c .before .before .before .before .before .before .before .before .before .before .before .before .before .before .before .before .before .before .before .is-readable .ensures .0 given wires (S .places)) ∙ not-false _ (c .before .before .before .before .before .before .before .before .before .before .before .before .before .before .before .before .before .before .if1 .left))
-      (sym (c .before .before .before .before .before .before .before .before .before .before .before .before .before .before .before .before .is-readable2 .ensures .0 given wires (S .places)) ∙ not-false _ (c .before .before .before .before .before .before .before .before .before .before .before .before .before .before .before .if2 .left))
-      (sym (c .before .before .before .before .before .before .before .before .before .before .before .before .before .can-give .ensures .0 given wires (S .places)) ∙ not-false _ (c .before .before .before .before .before .before .before .before .before .before .before .before .if3 .left))
+  λ given wires gs l S. and-on
+      (line-is _ _ _ _ _ _ (c .before .before .before .before .before .before .before .before .before .before .before .before .before .before .before .before
+      .before .before .before .before .before .before .next .given .1)
+      (c .before .before .before .before .before .before .before .before .before .before .before .before .before .before .before .before .before .before .before
+      .before .before .before .before .before .before .next-numbers .ensures)) _ given
+      (c .before .before .before .before .before .before .before .before .before .before .before .before .before .before .before .before .before .before .before
+      .before .before .before .before .before .before .before .before .before .before .before .before .pre .1) l S
+      (sym (c .before .before .before .before .before .before .before .before .before .before .before .before .before .before .before .before .before .before
+      .before .is-readable .ensures .0 given wires (S .places)) ∙ not-false _
+      (c .before .before .before .before .before .before .before .before .before .before .before .before .before .before .before .before .before .before
+      .if1 .left))
+      (sym (c .before .before .before .before .before .before .before .before .before .before .before .before .before .before .before .before .is-readable2
+      .ensures .0 given wires (S .places)) ∙ not-false _
+      (c .before .before .before .before .before .before .before .before .before .before .before .before .before .before .before .if2 .left))
+      (sym (c .before .before .before .before .before .before .before .before .before .before .before .before .before .can-give .ensures .0 given wires
+      (S .places)) ∙ not-false _ (c .before .before .before .before .before .before .before .before .before .before .before .before .if3 .left))
       (c .before .before .before .before .before .before .before .before .and-gates .ensures .0) (c .before .before .give .ensures),
   c .before .before .before .before .before .before .before .before .and-gates .ensures .1,
-  line-is _ _ _ _ _ _ (c .before .before .before .before .before .before .before .before .before .before .before .before .before .before .before .before .before .before .before .before .before .before .next .given .1) (c .before .before .before .before .before .before .before .before .before .before .before .before .before .before .before .before .before .before .before .before .before .before .before .before .before .next-numbers .ensures) .within,
+  line-is _ _ _ _ _ _ (c .before .before .before .before .before .before .before .before .before .before .before .before .before .before .before .before .before
+      .before .before .before .before .before .next .given .1)
+      (c .before .before .before .before .before .before .before .before .before .before .before .before .before .before .before .before .before .before .before
+      .before .before .before .before .before .before .next-numbers .ensures) .within,
 )
 
 pub and-line-spec : {M : Type 1} → statement M

@@ -22,26 +22,48 @@ abbrev μ-loop : tie.MeasureT-loop
 μ-loop text lines most n table₀ operands₀ results₀ at₀ count₀ i₀ table operands results at count i = lines - i
 
 loop-holds : tie.Need-loop-holds Inv-loop μ-loop
-loop-holds c = (building-start _ _ _ _ _ _ (c .before .before .before .before .pre .0), omega arith, omega arith, c .before .before .before .before .pre .0, search needs, search needs, search needs)
+loop-holds c = (
+  building-start _ _ _ _ _ _ (c .before .before .before .before .pre .0),
+  omega arith,
+  omega arith,
+  c .before .before .before .before .pre .0,
+  search needs,
+  search needs,
+  search needs,
+)
 
 and-line-requires : tie.Need-and-line-requires Inv-loop μ-loop
-and-line-requires c κs = let v = c .before .before .before .before .loop .inv in (v .3, omega (arith, v .4, c .before .before .before .before .before .before .before .before .before .pre .1), omega (arith, v .2, c .before .before .before .before .before .before .before .before .before .pre .2, c .before .before .before .loop-test .taken))
+and-line-requires c κs = let v = c .before .before .before .before .loop .inv in (
+  v .3,
+  omega (arith, v .4, c .before .before .before .before .before .before .before .before .before .pre .1),
+  omega
+      (arith, v .2, c .before .before .before .before .before .before .before .before .before .pre .2, c .before .before .before .loop-test .taken),
+)
 
 enum-told : tie.Need-enum-told Inv-loop μ-loop
 enum-told c = search needs
 
 same-length : tie.Need-same-length Inv-loop μ-loop
-same-length c = c .before .before .before .before .before .before .before .before .and-line .kept .1 .1 .1 .1 .1 .0 ∙ c .before .before .before .before .before .before .before .before .before .before .before .before .before .loop .inv .4
+same-length c = c .before .before .before .before .before .before .before .before .and-line .kept .1 .1 .1 .1 .1 .0 ∙
+    c .before .before .before .before .before .before .before .before .before .before .before .before .before .loop .inv .4
 
 same-length-2 : tie.Need-same-length-2 Inv-loop μ-loop
-same-length-2 c = c .before .before .before .before .before .before .before .before .and-line .kept .1 .1 .1 .1 .1 .1 .0 ∙ c .before .before .before .before .before .before .before .before .before .before .before .before .before .loop .inv .5
+same-length-2 c = c .before .before .before .before .before .before .before .before .and-line .kept .1 .1 .1 .1 .1 .1 .0 ∙
+    c .before .before .before .before .before .before .before .before .before .before .before .before .before .loop .inv .5
 
 same-length-3 : tie.Need-same-length-3 Inv-loop μ-loop
-same-length-3 c = c .before .before .before .before .before .before .before .before .and-line .kept .1 .1 .1 .1 .1 .1 .1 .0 ∙ c .before .before .before .before .before .before .before .before .before .before .before .before .before .loop .inv .6
+same-length-3 c = c .before .before .before .before .before .before .before .before .and-line .kept .1 .1 .1 .1 .1 .1 .1 .0 ∙
+    c .before .before .before .before .before .before .before .before .before .before .before .before .before .loop .inv .6
 
 returns : tie.Need-returns Inv-loop μ-loop
-returns c = let v = c .before .before .before .before .before .before .before .before .before .before .before .before .before .loop .inv in
-    (building-no (v .0) _ (c .before .before .before .before .before .before .before .before .before .before .before .before .loop-test .taken) (λ given wires gs l S. and-not _ _ _ _ _ _ _ _ (c .before .before .before .before .before .before .before .before .and-line .last .1 .1 .1 .1 .1 .0) (tables (c .before .before .before .before .before .before .before .before .and-line .last .1 .1 .1 .1 .1 .1 .0) (c .before .before .before .before .before .before .before .before .and-line .last .1 .1 .1 .1 .1 .1 .1 .0)) _ (c .enum-told .given .1) (c .before .before .before .before .before .before .before .before .and-line .ensures .0 given wires gs l S)), omega arith)
+returns c = let v = c .before .before .before .before .before .before .before .before .before .before .before .before .before .loop .inv in (
+  building-no (v .0) _ (c .before .before .before .before .before .before .before .before .before .before .before .before .loop-test .taken)
+      (λ given wires gs l S. and-not _ _ _ _ _ _ _ _ (c .before .before .before .before .before .before .before .before .and-line .last .1 .1 .1 .1 .1 .0)
+      (tables (c .before .before .before .before .before .before .before .before .and-line .last .1 .1 .1 .1 .1 .1 .0)
+      (c .before .before .before .before .before .before .before .before .and-line .last .1 .1 .1 .1 .1 .1 .1 .0)) _ (c .enum-told .given .1)
+      (c .before .before .before .before .before .before .before .before .and-line .ensures .0 given wires gs l S)),
+  omega arith,
+)
 
 enum-known-k : tie.Need-enum-known-k Inv-loop μ-loop
 enum-known-k c = search needs
@@ -56,7 +78,11 @@ loop-again : tie.Need-loop-again Inv-loop μ-loop
 loop-again c = let v = c .before .before .before .before .before .before .before .before .before .before .before .before .before .before .loop .inv in
     let m = c .before .before .before .before .before .before .before .before .before .and-line .ensures in
     let s = said-is _ _ _ (c .before .k .given .1) in (
-      building-more (v .0) (λ given wires gs l S. and-is _ _ _ _ _ _ _ _ (c .before .before .before .before .before .before .before .before .before .and-line .last .1 .1 .1 .1 .1 .0) (tables (c .before .before .before .before .before .before .before .before .before .and-line .last .1 .1 .1 .1 .1 .1 .0) (c .before .before .before .before .before .before .before .before .before .and-line .last .1 .1 .1 .1 .1 .1 .1 .0)) _ _ _ (c .before .k .given .1) (m .0 given wires gs l S)),
+      building-more (v .0) (λ given wires gs l S. and-is _ _ _ _ _ _ _ _
+          (c .before .before .before .before .before .before .before .before .before .and-line .last .1 .1 .1 .1 .1 .0)
+          (tables (c .before .before .before .before .before .before .before .before .before .and-line .last .1 .1 .1 .1 .1 .1 .0)
+          (c .before .before .before .before .before .before .before .before .before .and-line .last .1 .1 .1 .1 .1 .1 .1 .0)) _ _ _ (c .before .k .given .1)
+          (m .0 given wires gs l S)),
       omega (arith, c .before .before .before .before .before .before .before .before .before .before .before .before .before .loop-test .taken),
       omega (arith, v .2, m .1, s .0),
       omega (arith, m .2, s .1),

@@ -34,16 +34,28 @@ same-length : tie.Need-same-length
 same-length c = search needs
 
 returns-2 : tie.Need-returns-2
-returns-2 c = λ given wires P. input-no (line-is _ _ _ _ _ _ (c .before .before .before .before .next .given .1) (c .before .before .before .before .before .before .before .next-numbers .ensures)) _ given (sym (c .before .can-give .ensures .0 given wires P) ∙ not-true _ (c .if1 .taken))
+returns-2 c = λ given wires P. input-no (line-is _ _ _ _ _ _ (c .before .before .before .before .next .given .1)
+    (c .before .before .before .before .before .before .before .next-numbers .ensures)) _ given
+    (sym (c .before .can-give .ensures .0 given wires P) ∙ not-true _ (c .if1 .taken))
 
 give-requires : tie.Need-give-requires
-give-requires c κs = (omega (arith, c .before .before .can-give .ensures .1 (not-false _ (c .before .if1 .left)), c .before .before .before .before .before .before .before .before .before .before .before .before .pre .1), c .before .before .before .before .before .before .before .before .before .before .before .before .pre .2)
+give-requires c κs = (
+  omega (
+    arith,
+    c .before .before .can-give .ensures .1 (not-false _ (c .before .if1 .left)),
+    c .before .before .before .before .before .before .before .before .before .before .before .before .pre .1,
+  ),
+  c .before .before .before .before .before .before .before .before .before .before .before .before .pre .2,
+)
 
 same-length-2 : tie.Need-same-length-2
 same-length-2 c = search needs
 
 returns-3 : tie.Need-returns-3
-returns-3 c = λ given wires P. input-on (line-is _ _ _ _ _ _ (c .before .before .before .before .before .before .before .before .next .given .1) (c .before .before .before .before .before .before .before .before .before .before .before .next-numbers .ensures)) _ given _ _ _ (sym (c .before .before .before .before .before .can-give .ensures .0 given wires P) ∙ not-false _ (c .before .before .before .before .if1 .left)) (c .before .before .give .ensures)
+returns-3 c = λ given wires P. input-on (line-is _ _ _ _ _ _ (c .before .before .before .before .before .before .before .before .next .given .1)
+    (c .before .before .before .before .before .before .before .before .before .before .before .next-numbers .ensures)) _ given _ _ _
+    (sym (c .before .before .before .before .before .can-give .ensures .0 given wires P) ∙ not-false _ (c .before .before .before .before .if1 .left))
+    (c .before .before .give .ensures)
 
 pub input-spec : {M : Type 1} → statement M
 input-spec =

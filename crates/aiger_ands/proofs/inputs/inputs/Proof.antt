@@ -19,7 +19,12 @@ loop-holds : tie.Need-loop-holds Inv-loop μ-loop
 loop-holds c = (entering-start _ _ _ _ (c .before .before .pre .0) (c .before .before .pre .2), omega arith)
 
 input-requires : tie.Need-input-requires Inv-loop μ-loop
-input-requires c κs = let E = c .before .before .loop .inv .0 in (E .within, omega (arith, E .long, c .before .before .before .before .before .pre .1), omega (arith, c .before .loop-test .taken))
+input-requires c κs = let E = c .before .before .loop .inv .0 in (
+  E .within,
+  omega (arith, E .long, c .before .before .before .before .before .pre .1),
+  omega
+      (arith, c .before .loop-test .taken),
+)
 
 enum-known-next : tie.Need-enum-known-next Inv-loop μ-loop
 enum-known-next c = search needs
@@ -31,7 +36,10 @@ same-length : tie.Need-same-length Inv-loop μ-loop
 same-length c = search needs
 
 returns : tie.Need-returns Inv-loop μ-loop
-returns c = let E = c .before .before .before .before .before .before .before .loop .inv .0 in entering-no E _ (c .before .before .before .before .before .before .loop-test .taken) (input-not _ _ _ _ _ _ (c .before .before .before .before .input .last .1 .1 .1 .1 .0) _ (c .enum-told .given .1) (c .before .before .before .before .input .ensures _ _ (E .places)))
+returns c = let E = c .before .before .before .before .before .before .before .loop .inv .0 in
+    entering-no E _ (c .before .before .before .before .before .before .loop-test .taken)
+    (input-not _ _ _ _ _ _ (c .before .before .before .before .input .last .1 .1 .1 .1 .0) _ (c .enum-told .given .1)
+    (c .before .before .before .before .input .ensures _ _ (E .places)))
 
 add-i : tie.Need-add-i Inv-loop μ-loop
 add-i c = search needs
@@ -40,7 +48,14 @@ loop-less : tie.Need-loop-less Inv-loop μ-loop
 loop-less c = search needs
 
 loop-again : tie.Need-loop-again Inv-loop μ-loop
-loop-again c = let E = c .before .before .before .before .before .before .before .before .loop .inv .0 in (entering-more E (c .before .before .before .before .before .input .last .1 .1 .1 .1 .0) _ (c .before .before .before .before .before .before .before .before .before .before .before .pre .1) (input-is _ _ _ _ _ _ (c .before .before .before .before .before .input .last .1 .1 .1 .1 .0) _ _ (c .before .next .given .1) (c .before .before .before .before .before .input .ensures _ _ (E .places))), omega (arith, c .before .before .before .before .before .before .before .loop-test .taken))
+loop-again c = let E = c .before .before .before .before .before .before .before .before .loop .inv .0 in (
+  entering-more E (c .before .before .before .before .before .input .last .1 .1 .1 .1 .0) _
+      (c .before .before .before .before .before .before .before .before .before .before .before .pre .1)
+      (input-is _ _ _ _ _ _ (c .before .before .before .before .before .input .last .1 .1 .1 .1 .0) _ _ (c .before .next .given .1)
+      (c .before .before .before .before .before .input .ensures _ _ (E .places))),
+  omega
+      (arith, c .before .before .before .before .before .before .before .loop-test .taken),
+)
 
 same-length-2 : tie.Need-same-length-2 Inv-loop μ-loop
 same-length-2 c = c .before .loop .inv .0 .long

@@ -31,9 +31,25 @@ same-length-2 c = search needs
 
 returns : tie.Need-returns
 returns c = (
-  and-added (c .before .before .before .before .before .before .before .before .before .before .before .before .before .before .before .before .before .before .before .before .before .before .before .before .args .first) (c .before .before .before .before .before .before .before .before .before .before .before .before .before .before .before .before .before .before .before .before .before .before .before .before .args .second) (c .before .before .before .before .before .before .before .before .before .before .before .before .before .before .before .before .before .before .operand .ensures .0) (c .before .before .before .before .before .before .before .before .before .before .before .operand2 .ensures .0) (c .before .before .before .before .and-gate .ensures),
-  omega (arith, c .before .before .before .before .before .before .before .before .before .before .before .before .before .before .before .before .before .before .operand .ensures .1, c .before .before .before .before .before .before .before .before .before .before .before .operand2 .ensures .1),
-  omega (arith, c .before .before .before .before .before .before .before .before .before .before .before .before .before .before .before .before .before .before .operand .ensures .1, c .before .before .before .before .before .before .before .before .before .before .before .operand2 .ensures .1),
+  and-added (c .before .before .before .before .before .before .before .before .before .before .before .before .before .before .before .before .before .before
+      .before .before .before .before .before .before .args .first)
+      (c .before .before .before .before .before .before .before .before .before .before .before .before .before .before .before .before .before .before .before
+      .before .before .before .before .before .args .second)
+      (c .before .before .before .before .before .before .before .before .before .before .before .before .before .before .before .before .before .before
+      .operand .ensures .0) (c .before .before .before .before .before .before .before .before .before .before .before .operand2 .ensures .0)
+      (c .before .before .before .before .and-gate .ensures),
+  omega (
+    arith,
+    c .before .before .before .before .before .before .before .before .before .before .before .before .before .before .before .before .before
+        .before .operand .ensures .1,
+    c .before .before .before .before .before .before .before .before .before .before .before .operand2 .ensures .1,
+  ),
+  omega (
+    arith,
+    c .before .before .before .before .before .before .before .before .before .before .before .before .before .before .before .before .before
+        .before .operand .ensures .1,
+    c .before .before .before .before .before .before .before .before .before .before .before .operand2 .ensures .1,
+  ),
 )
 
 pub and-gates-spec : {M : Type 1} → statement M

@@ -26,7 +26,11 @@ same-length-2 : tie.Need-same-length-2
 same-length-2 c = search needs
 
 returns : tie.Need-returns
-returns c = (operand-constant _ _ _ _ _ _ refl _ (c .before .before .before .before .before .before .before .if1 .taken) (c .before .before .before .before .keep .ensures), omega arith)
+returns c = (
+  operand-constant _ _ _ _ _ _ refl _ (c .before .before .before .before .before .before .before .if1 .taken)
+      (c .before .before .before .before .keep .ensures),
+  omega arith,
+)
 
 entry-requires : tie.Need-entry-requires
 entry-requires c κs = search needs
@@ -50,7 +54,12 @@ same-length-4 : tie.Need-same-length-4
 same-length-4 c = search needs
 
 returns-3 : tie.Need-returns-3
-returns-3 c = (operand-inverse _ _ _ _ _ _ refl _ (c .before .before .before .before .before .before .before .before .before .if1 .left) (ap (λ (z : ℕ). z - 1) (c .before .before .before .before .before .before .before .before .entry .ensures)) _ (c .before .before .before .before .before .before .before .if2 .left) (c .before .before .before .before .keep2 .ensures), omega arith)
+returns-3 c = (
+  operand-inverse _ _ _ _ _ _ refl _ (c .before .before .before .before .before .before .before .before .before .if1 .left)
+      (ap (λ (z : ℕ). z - 1) (c .before .before .before .before .before .before .before .before .entry .ensures)) _
+      (c .before .before .before .before .before .before .before .if2 .left) (c .before .before .before .before .keep2 .ensures),
+  omega arith,
+)
 
 pub operand-spec : {M : Type 1} → statement M
 operand-spec =

@@ -44,7 +44,9 @@ same-length-4 : tie.Need-same-length-4
 same-length-4 c = search needs
 
 returns-2 : tie.Need-returns-2
-returns-2 c = out-other _ _ _ _ _ _ _ refl _ _ (c .before .before .before .before .before .before .before .before .before .if1 .left) (ap (λ (z : ℕ). z - 1) (c .before .before .before .before .before .before .before .before .entry .ensures)) (c .before .before .before .before .before .out-kind .ensures) (c .before .before .before .before .keep2 .ensures)
+returns-2 c = out-other _ _ _ _ _ _ _ refl _ _ (c .before .before .before .before .before .before .before .before .before .if1 .left)
+    (ap (λ (z : ℕ). z - 1) (c .before .before .before .before .before .before .before .before .entry .ensures))
+    (c .before .before .before .before .before .out-kind .ensures) (c .before .before .before .before .keep2 .ensures)
 
 pub out-gate-spec : {M : Type 1} → statement M
 out-gate-spec =

@@ -19,7 +19,13 @@ same-length-2 : tie.Need-same-length-2
 same-length-2 c = search needs
 
 returns : tie.Need-returns
-returns c = λ n gs e m k. kept-on gs e (record { operands = c .before .before .before .before .before .before .before .before .before .if1 .taken; results = c .before .before .before .before .before .before .before .before .if2 .taken }) (gate-entered (c .before .before .before .before .before .before .before .before .before .before .before .before .args .g) (omega arith) (omega arith) n (c .before .before .before .before .before .entry-of .ensures) m) (c .before .before .before .before .put .ensures) k
+returns c = λ n gs e m k. kept-on gs e (record {
+  operands = c .before .before .before .before .before .before .before .before .before .if1 .taken;
+  results =
+      c .before .before .before .before .before .before .before .before .if2 .taken;
+})
+    (gate-entered (c .before .before .before .before .before .before .before .before .before .before .before .before .args .g) (omega arith) (omega arith) n
+    (c .before .before .before .before .before .entry-of .ensures) m) (c .before .before .before .before .put .ensures) k
 
 returns-2 : tie.Need-returns-2
 returns-2 c = λ n gs e m k. kept-out gs _ e (λ a b. omega (arith, c .if2 .left))

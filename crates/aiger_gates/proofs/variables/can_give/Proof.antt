@@ -19,7 +19,11 @@ entry-requires : tie.Need-entry-requires
 entry-requires c κs = search needs
 
 returns-4 : tie.Need-returns-4
-returns-4 c = (λ given wires P. give-place P _ _ (c .before .before .before .if1 .left) (c .entry .ensures) _ (search needs) (c .before .if3 .left), λ e. c .before .if3 .left)
+returns-4 c = (
+  λ given wires P. give-place P _ _ (c .before .before .before .if1 .left) (c .entry .ensures) _ (search needs) (c .before .if3 .left),
+  λ e.
+      c .before .if3 .left,
+)
 
 pub can-give-spec : {M : Type 1} → statement M
 can-give-spec = tie.close (tie.spec returns returns-2 returns-3 entry-requires returns-4)

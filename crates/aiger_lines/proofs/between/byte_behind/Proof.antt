@@ -1,5 +1,5 @@
 -- Past the text's end the byte is 0.
-use Rattle.aiger_lines.proofs.StrayLaws.{past-end}
+use Rattle.aiger_lines.proofs.Strays.{past-end}
 use native.Mathlib.Omega.{arith}
 use borrow.Author.Needs.{needs}
 use Rattle.aiger_lines.proofs.between.byte_behind.Statement.{statement}

@@ -2,7 +2,7 @@
 use mathlib.Core.Path.{sym, ap, _∙_}
 use mathlib.Core.Bool.{not, _&&_}
 use borrow.Author.Tests.{not-true, not-false}
-use Rattle.aiger_lines.proofs.StrayLaws.{stray-past, stray-other, stray-cr}
+use Rattle.aiger_lines.proofs.Strays.{stray-past, stray-other, stray-cr}
 use borrow.Author.Needs.{needs}
 use native.Mathlib.Omega.{arith}
 use Rattle.aiger_lines.proofs.between.is_stray.Statement.{statement}
@@ -18,7 +18,8 @@ is-cr-requires : tie.Need-is-cr-requires
 is-cr-requires c κs = search needs
 
 returns-2 : tie.Need-returns-2
-returns-2 c = stray-other (c .before .before .before .before .before .args .text .now) (c .before .before .before .before .before .args .i) (search needs) (sym (c .before .is-cr .ensures) ∙ not-true _ (c .if2 .taken))
+returns-2 c = stray-other (c .before .before .before .before .before .args .text .now) (c .before .before .before .before .before .args .i) (search needs)
+    (sym (c .before .is-cr .ensures) ∙ not-true _ (c .if2 .taken))
 
 byte-behind-requires : tie.Need-byte-behind-requires
 byte-behind-requires c κs = search needs
@@ -27,7 +28,9 @@ is-line-end-requires : tie.Need-is-line-end-requires
 is-line-end-requires c κs = search needs
 
 returns-3 : tie.Need-returns-3
-returns-3 c = stray-cr (c .before .before .before .before .before .before .before .args .text .now) (c .before .before .before .before .before .before .before .args .i) _ _ (search needs) (sym (c .before .before .before .is-cr .ensures) ∙ not-false _ (c .before .before .if2 .left)) (c .before .byte-behind .ensures) (c .is-line-end .ensures)
+returns-3 c = stray-cr (c .before .before .before .before .before .before .before .args .text .now)
+    (c .before .before .before .before .before .before .before .args .i) _ _ (search needs)
+    (sym (c .before .before .before .is-cr .ensures) ∙ not-false _ (c .before .before .if2 .left)) (c .before .byte-behind .ensures) (c .is-line-end .ensures)
 
 pub is-stray-spec : {M : Type 1} → statement M
 is-stray-spec =

@@ -3,7 +3,7 @@ use Prim.Native.Nat.{_-_}
 use mathlib.Core.Path.{sym, _∙_}
 use lib.ListN.{length}
 use borrow.Author.Tests.{not-true, not-false}
-use Rattle.aiger_lines.proofs.StrayLaws.{Passing, passing-start, passing-on, passing-stop, passing-end, stray-within}
+use Rattle.aiger_lines.proofs.Strays.{Passing, passing-start, passing-on, passing-stop, passing-end, stray-within}
 use borrow.Author.Needs.{needs}
 use native.Mathlib.Omega.{arith}
 use Rattle.aiger_lines.proofs.between.to_word.Statement.{statement}

@@ -15,7 +15,8 @@ same-length : tie.Need-same-length
 same-length c = search needs
 
 returns : tie.Need-returns
-returns c = next-line _ _ _ (c .before .before .before .before .to-word .ensures) _ (c .before .before .line-numbers .last .1 .1 .0) (c .before .before .line-numbers .result) (c .before .before .before .before .before .before .before .pre .1) (c .before .before .line-numbers .ensures)
+returns c = next-line _ _ _ (c .before .before .before .before .to-word .ensures) _ (c .before .before .line-numbers .last .1 .1 .0)
+    (c .before .before .line-numbers .result) (c .before .before .before .before .before .before .before .pre .1) (c .before .before .line-numbers .ensures)
 
 pub next-numbers-spec : {M : Type 1} → statement M
 next-numbers-spec =

@@ -22,7 +22,8 @@ part-are-readable-end : tie.Need-part-are-readable-end
 part-are-readable-end c = search needs
 
 are-readable-requires : tie.Need-are-readable-requires
-are-readable-requires c κs = let a = c .before .before .before .before .before .args in rw (part-end (a .room) (a .results .now)) (c .before .before .before .before .before .pre .2)
+are-readable-requires c κs = let a = c .before .before .before .before .before .args in
+    rw (part-end (a .room) (a .results .now)) (c .before .before .before .before .before .pre .2)
 
 same-length : tie.Need-same-length
 same-length c = search needs
@@ -43,14 +44,20 @@ returns-2 c =
     let a = c .before .before .before .before .before .before .before .before .args in
     record {
       read = read-end (a .table .now) (a .results .now) (a .room) _ true (not-false _ (c .before .if1 .left)) (c .before .before .are-readable .ensures .0);
-      keeps = λ e. outputs-large (a .results .now) (a .room) (a .n) (a .count) (c .before .before .before .before .before .before .before .before .pre .0) (c .if2 .taken) refl;
+      keeps = λ e. outputs-large (a .results .now) (a .room) (a .n) (a .count) (c .before .before .before .before .before .before .before .before .pre .0)
+          (c .if2 .taken) refl;
     }
 
 put-outputs-requires : tie.Need-put-outputs-requires
 put-outputs-requires c κs =
     let a = c .before .before .before .before .before .before .before .before .before .before .args in
-    let w = c .before .before .before .before .are-readable .ensures .1 (not-false _ (c .before .before .before .if1 .left)) in
-    (c .before .before .if2 .left, c .before .before .before .before .before .before .before .before .before .before .pre .0, c .before .before .before .before .before .before .before .before .before .before .pre .1, c .before .before .before .before .before .before .before .before .before .before .pre .2, rw (part-end (a .room) (a .results .now)) at w)
+    let w = c .before .before .before .before .are-readable .ensures .1 (not-false _ (c .before .before .before .if1 .left)) in (
+      c .before .before .if2 .left,
+      c .before .before .before .before .before .before .before .before .before .before .pre .0,
+      c .before .before .before .before .before .before .before .before .before .before .pre .1,
+      c .before .before .before .before .before .before .before .before .before .before .pre .2,
+      rw (part-end (a .room) (a .results .now)) at w,
+    )
 
 same-length-3 : tie.Need-same-length-3
 same-length-3 c = search needs
@@ -61,10 +68,14 @@ same-length-4 c = search needs
 returns-3 : tie.Need-returns-3
 returns-3 c =
     let a = c .before .before .before .before .before .before .before .before .before .before .before .before .before .before .before .args in
-    let read = read-end (a .table .now) (a .results .now) (a .room) _ true (not-false _ (c .before .before .before .before .before .before .before .before .if1 .left)) (c .before .before .before .before .before .before .before .before .before .are-readable .ensures .0) in
+    let read = read-end (a .table .now) (a .results .now) (a .room) _ true (not-false _
+    (c .before .before .before .before .before .before .before .before .if1 .left))
+    (c .before .before .before .before .before .before .before .before .before .are-readable .ensures .0) in
     record {
       read = read;
-      keeps = λ e. outputs-put (a .results .now) (a .room) (a .n) (a .count) (c .before .before .before .before .before .before .before .before .before .before .before .before .before .before .before .pre .0) (c .before .before .before .before .before .before .before .if2 .left) (c .before .before .before .before .put-outputs .ensures) read;
+      keeps = λ e. outputs-put (a .results .now) (a .room) (a .n) (a .count)
+          (c .before .before .before .before .before .before .before .before .before .before .before .before .before .before .before .pre .0)
+          (c .before .before .before .before .before .before .before .if2 .left) (c .before .before .before .before .put-outputs .ensures) read;
     }
 
 pub outputs-spec : {M : Type 1} → statement M

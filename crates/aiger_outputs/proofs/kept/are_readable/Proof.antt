@@ -32,7 +32,11 @@ is-readable-requires : tie.Need-is-readable-requires Inv-loop μ-loop
 is-readable-requires c κs = search needs
 
 returns : tie.Need-returns Inv-loop μ-loop
-returns c = (looking-no (c .before .before .before .before .loop .inv) (c .before .before .before .loop-test .taken) (λ given wires P. sym (not-true _ (c .if1 .taken)) ∙ c .before .is-readable .ensures .0 given wires P), λ e. not-so e)
+returns c = (
+  looking-no (c .before .before .before .before .loop .inv) (c .before .before .before .loop-test .taken)
+      (λ given wires P. sym (not-true _ (c .if1 .taken)) ∙ c .before .is-readable .ensures .0 given wires P),
+  λ e. not-so e,
+)
 
 add-i : tie.Need-add-i Inv-loop μ-loop
 add-i c = search needs
@@ -41,7 +45,9 @@ loop-less : tie.Need-loop-less Inv-loop μ-loop
 loop-less c = search needs
 
 loop-again : tie.Need-loop-again Inv-loop μ-loop
-loop-again c = looking-more (c .before .before .before .before .loop .inv) (c .before .before .before .loop-test .taken) (λ given wires P. sym (not-false _ (c .if1 .left)) ∙ c .before .is-readable .ensures .0 given wires P) (c .before .is-readable .ensures .1 (not-false _ (c .if1 .left)))
+loop-again c = looking-more (c .before .before .before .before .loop .inv) (c .before .before .before .loop-test .taken)
+    (λ given wires P. sym (not-false _ (c .if1 .left)) ∙ c .before .is-readable .ensures .0 given wires P)
+    (c .before .is-readable .ensures .1 (not-false _ (c .if1 .left)))
 
 returns-2 : tie.Need-returns-2 Inv-loop μ-loop
 returns-2 c = let k = looking-all (c .before .loop .inv) (c .loop-test .left) in (k .0, λ e. k .1)

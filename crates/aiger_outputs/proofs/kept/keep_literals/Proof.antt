@@ -32,7 +32,8 @@ same-length : tie.Need-same-length Inv-loop μ-loop
 same-length c = c .before .before .before .before .loop .inv .1
 
 returns : tie.Need-returns Inv-loop μ-loop
-returns c = keeping-no (c .before .before .before .before .loop .inv .0) (c .before .before .before .loop-test .taken) (one-not _ _ _ (c .enum-told .given .1) (c .before .before .one-number .ensures))
+returns c = keeping-no (c .before .before .before .before .loop .inv .0) (c .before .before .before .loop-test .taken)
+    (one-not _ _ _ (c .enum-told .given .1) (c .before .before .one-number .ensures))
 
 cast-kept : tie.Need-cast-kept Inv-loop μ-loop
 cast-kept c = search needs
@@ -47,10 +48,17 @@ add-i : tie.Need-add-i Inv-loop μ-loop
 add-i c = search needs
 
 loop-less : tie.Need-loop-less Inv-loop μ-loop
-loop-less c = let z = length-set (c .before .before .before .before .before .loop .kept) (c .before .before .before .before .before .loop .i) (c .before .x .given .0 .0) in omega (arith, c .before .before .before .before .loop-test .taken)
+loop-less c = let z = length-set (c .before .before .before .before .before .loop .kept) (c .before .before .before .before .before .loop .i)
+    (c .before .x .given .0 .0) in omega (arith, c .before .before .before .before .loop-test .taken)
 
 loop-again : tie.Need-loop-again Inv-loop μ-loop
-loop-again c = (keeping-more (c .before .before .before .before .before .loop .inv .0) (c .before .before .before .before .loop-test .taken) (omega (arith, c .known-told .given)) (one-is _ _ _ _ _ (c .before .x .given .1) (c .before .before .before .one-number .ensures)), length-set (c .before .before .before .before .before .loop .kept) (c .before .before .before .before .before .loop .i) (c .before .x .given .0 .0) ∙ c .before .before .before .before .before .loop .inv .1)
+loop-again c = (
+  keeping-more (c .before .before .before .before .before .loop .inv .0) (c .before .before .before .before .loop-test .taken)
+      (omega (arith, c .known-told .given)) (one-is _ _ _ _ _ (c .before .x .given .1) (c .before .before .before .one-number .ensures)),
+  length-set
+      (c .before .before .before .before .before .loop .kept) (c .before .before .before .before .before .loop .i) (c .before .x .given .0 .0) ∙
+      c .before .before .before .before .before .loop .inv .1,
+)
 
 same-length-2 : tie.Need-same-length-2 Inv-loop μ-loop
 same-length-2 c = c .before .loop .inv .1

@@ -33,16 +33,19 @@ same-length : tie.Need-same-length Inv-loop μ-loop
 same-length c = c .before .before .before .before .loop .inv .2
 
 returns : tie.Need-returns Inv-loop μ-loop
-returns c = marks-no (c .before .before .before .before .loop .inv .0) _ (c .before .before .before .loop-test .taken) (one-not _ _ _ (c .enum-told .given .1) (c .before .before .one-number .ensures))
+returns c = marks-no (c .before .before .before .before .loop .inv .0) _ (c .before .before .before .loop-test .taken)
+    (one-not _ _ _ (c .enum-told .given .1) (c .before .before .one-number .ensures))
 
 same-length-2 : tie.Need-same-length-2 Inv-loop μ-loop
 same-length-2 c = c .before .before .before .before .before .before .loop .inv .2
 
 returns-2 : tie.Need-returns-2 Inv-loop μ-loop
-returns-2 c = marks-high (c .before .before .before .before .before .before .loop .inv .0) _ (c .before .before .before .before .before .loop-test .taken) (one-is _ _ _ _ _ (c .before .before .x .given .1) (c .before .before .before .before .one-number .ensures)) (c .if1 .taken)
+returns-2 c = marks-high (c .before .before .before .before .before .before .loop .inv .0) _ (c .before .before .before .before .before .loop-test .taken)
+    (one-is _ _ _ _ _ (c .before .before .x .given .1) (c .before .before .before .before .one-number .ensures)) (c .if1 .taken)
 
 mark-requires : tie.Need-mark-requires Inv-loop μ-loop
-mark-requires c κs = let y = c .before .before .before .before .before .before .before .loop .inv .2 in omega (arith, y, c .before .before .before .before .before .before .before .before .before .before .pre .1, c .before .if1 .left)
+mark-requires c κs = let y = c .before .before .before .before .before .before .before .loop .inv .2 in
+    omega (arith, y, c .before .before .before .before .before .before .before .before .before .before .pre .1, c .before .if1 .left)
 
 add-i : tie.Need-add-i Inv-loop μ-loop
 add-i c = search needs
@@ -52,7 +55,16 @@ loop-less c = search needs
 
 loop-again : tie.Need-loop-again Inv-loop μ-loop
 loop-again c = (
-  rw (c .before .before .mark .ensures) (marks-more (c .before .before .before .before .before .before .before .before .before .before .loop .inv .0) (one-is _ _ _ _ _ (c .before .before .before .before .before .before .x .given .1) (c .before .before .before .before .before .before .before .before .one-number .ensures)) (c .before .before .before .before .if1 .left) (let y = c .before .before .before .before .before .before .before .before .before .before .loop .inv .2 in omega (arith, y, c .before .before .before .before .before .before .before .before .before .before .before .before .before .pre .1, c .before .before .before .before .if1 .left))),
+  rw (c .before .before .mark .ensures) (marks-more (c .before .before .before .before .before .before .before .before .before .before .loop .inv .0)
+      (one-is _ _ _ _ _ (c .before .before .before .before .before .before .x .given .1)
+      (c .before .before .before .before .before .before .before .before .one-number .ensures)) (c .before .before .before .before .if1 .left)
+      (let y = c .before .before .before .before .before .before .before .before .before .before .loop .inv .2 in
+      omega (
+        arith,
+        y,
+        c .before .before .before .before .before .before .before .before .before .before .before .before .before .pre .1,
+        c .before .before .before .before .if1 .left,
+      ))),
   omega (arith, c .before .before .before .before .before .before .before .before .before .loop-test .taken),
   c .before .before .mark .kept .0 ∙ c .before .before .before .before .before .before .before .before .before .before .loop .inv .2,
 )

@@ -13,8 +13,14 @@ mask-fewest-requires c κs = search needs
 
 number-requires : tie.Need-number-requires
 number-requires c κs =
-    let at-mask = c .before .before .before .before .before .before .before .before .before .before .before .before .before .before .before .before .before .before .before .before .before .before in
-    countable (at-mask .mask-fewest .ensures .answers .text) (omega (arith, at-mask .before .before .before .before .before .before .before .before .before .before .before .before .before .before .before .before .before .before .before .before .before .before .before .before .before .before .before .good .1 .1 .1 .1 .0))
+    let at-mask = c .before .before .before .before .before .before .before .before .before .before .before .before .before .before .before .before .before
+    .before .before .before .before .before in
+    countable (at-mask .mask-fewest .ensures .answers .text)
+    (omega (
+      arith,
+      at-mask .before .before .before .before .before .before .before .before .before .before .before .before .before .before .before .before
+          .before .before .before .before .before .before .before .before .before .before .before .good .1 .1 .1 .1 .0,
+    ))
 
 same-length : tie.Need-same-length
 same-length c = search needs
@@ -51,7 +57,8 @@ same-length-11 c = search needs
 
 returns : tie.Need-returns
 returns c =
-    let a = c .before .before .before .before .before .before .before .before .before .before .before .before .before .before .before .before .before .before .before .before .before .before .before in
+    let a = c .before .before .before .before .before .before .before .before .before .before .before .before .before .before .before .before .before .before
+    .before .before .before .before .before in
     record { answer = a .mask-fewest .result; promise = rw (a .before .sizes .ensures) at (a .mask-fewest .ensures); told = search needs }
 
 pub fidrovelj-mask-fewest-spec : {M : Type 1} → statement M

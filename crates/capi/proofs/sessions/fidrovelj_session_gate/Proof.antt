@@ -89,7 +89,8 @@ module _ {M : Type 1} (𝓤 : URA M) (H : Heap 𝓤) (A : Atoms 𝓤) (mem : Mem
   Blank = tripleOf 𝓤 H A blank.signature (blank.spec 𝓤 H A mem run)
 
 module _ {M : Type 1} (𝓤 : URA M) (H : Heap 𝓤) (A : Atoms 𝓤) (W : Given 𝓤 H A) (mem : Memory → SProp 𝓤) (run : Routine → Fun 𝓤) (κ : Lft) (q : Share)
-    (s : Session) (k : ℕ) (src : RefT (List SourceRecord)) (is : Is S.the-row s (LL.vals S.the-type S′.the-laws s)) (k-fits : k < 2 ^ 32) (rs : Room Q.the-row (length (src .now))) where
+    (s : Session) (k : ℕ) (src : RefT (List SourceRecord)) (is : Is S.the-row s (LL.vals S.the-type S′.the-laws s)) (k-fits : k < 2 ^ 32)
+    (rs : Room Q.the-row (length (src .now))) where
   abbrev sv : Val
   sv = LL.val S.the-type S′.the-laws s
 
@@ -143,17 +144,22 @@ module _ {M : Type 1} (𝓤 : URA M) (H : Heap 𝓤) (A : Atoms 𝓤) (W : Given
   blanked : (r : SourceRecord) → ent 𝓤 (ensured 𝓤 H A blank.ended (blank.clauses 𝓤 H A mem run) tt tt tt r) (fact 𝓤 (r ≡ blankSource))
   blanked r = exE 𝓤 _ (λ ws. snd∗ 𝓤 (sem 𝓤 H A (lasts blank.ended tt tt ws)) (fact 𝓤 (r ≡ blankSource)))
 
-  exits : (r : SourceRecord) → Is Q.the-row r (LL.vals Q.the-type Q′.the-laws r) → r ≡ gateShown s k (src .now) → ent 𝓤 (⋆ 𝓤 H A (‵ Src ∷ ‵ (flft κ q) ∷ [])) (Post (LL.val Q.the-type Q′.the-laws r))
+  exits : (r : SourceRecord) → Is Q.the-row r (LL.vals Q.the-type Q′.the-laws r) → r ≡ gateShown s k (src .now) → ent 𝓤 (⋆ 𝓤 H A (‵ Src ∷ ‵ (flft κ q) ∷ []))
+      (Post (LL.val Q.the-type Q′.the-laws r))
   exits r ir shown =
       qed W (‵ Src ∷ ‵ (flft κ q) ∷ []) ∵
-      suffices ! _ (ends-at 𝓤 H A self.ended stayed (self.clauses 𝓤 H A mem run) W (((κ, tt), (q, tt), tt, a, vals), tt) (LL.val Q.the-type Q′.the-laws r) r (tt, (tt, (tt, tt))) (tt, (tt, (tt, tt)))) $ says ! shown $
-      nothing ! $ move ! (2 ∷ 0 ∷ []) $ join ! $ frame ! $ nothing ! $ move ! (1 ∷ 0 ∷ []) $ fjoin ! $ owned ! u32 (Is u32) (uint-makes 𝓤 H A W w32) k _ (refl, k-fits) $ fjoin ! $
-      owned ! S.the-row (Is S.the-row) (LL.makes S.the-type S′.the-plain 𝓤 H A) s _ is $ fjoin ! $ frame ! $ owned ! Q.the-row (Is Q.the-row) (LL.makes Q.the-type Q′.the-plain 𝓤 H A) r _ ir $ done !
+      suffices ! _ (ends-at 𝓤 H A self.ended stayed (self.clauses 𝓤 H A mem run) W (((κ, tt), (q, tt), tt, a, vals), tt) (LL.val Q.the-type Q′.the-laws r) r
+      (tt, (tt, (tt, tt))) (tt, (tt, (tt, tt)))) $ says ! shown $
+      nothing ! $ move ! (2 ∷ 0 ∷ []) $ join ! $ frame ! $ nothing ! $ move ! (1 ∷ 0 ∷ []) $ fjoin ! $ owned ! u32 (Is u32) (uint-makes 𝓤 H A W w32) k _
+      (refl, k-fits) $ fjoin ! $
+      owned ! S.the-row (Is S.the-row) (LL.makes S.the-type S′.the-plain 𝓤 H A) s _ is $ fjoin ! $ frame ! $ owned ! Q.the-row (Is Q.the-row)
+      (LL.makes Q.the-type Q′.the-plain 𝓤 H A) r _ ir $ done !
 
   typed : (r : SourceRecord) (u : Val) → Is Q.the-row r (u ∷ []) → Holds (hasTy Q′.mir u) × WT u
   typed r u ir = LL.lawful Q.the-type Q′.the-laws 𝓤 H A W .typed r (u ∷ []) ir .0
 
-  module _ (𝓣 : Tables 𝓤 H) (known-place : Triple 𝓤 (𝓣 .C #capi·shown·place) (Place 𝓤 H A mem run)) (known-blank : Triple 𝓤 (𝓣 .C #capi·shown·blank) (Blank 𝓤 H A mem run)) where
+  module _ (𝓣 : Tables 𝓤 H) (known-place : Triple 𝓤 (𝓣 .C #capi·shown·place) (Place 𝓤 H A mem run))
+      (known-blank : Triple 𝓤 (𝓣 .C #capi·shown·blank) (Blank 𝓤 H A mem run)) where
     abbrev C : Calls 𝓤 H
     C = 𝓣 .C
 
@@ -187,58 +193,89 @@ module _ {M : Type 1} (𝓤 : URA M) (H : Heap 𝓤) (A : Atoms 𝓤) (W : Given
           first ! $ branches ! (load ! (from ! (stop !)) (look ! 8 refl))
           (λ yes.
           use1 W (‵ Src ⊛ ‵ Src) (shr-slice-copy 𝓤 H A W (named 0) κ Q.the-row .twice src (av ∷ [])) $ split ! $
-          assigns ! (bin ! (load ! (from ! (stop !)) (look ! 13 refl)) (lit ! tt) (record { fits = source-fits (length (src .now)) i (ltb→lt i (length (src .now)) yes) (rs .1) })) (from ! (stop !)) (init ! 7 refl (tt, record { fits = source-fits (length (src .now)) i (ltb→lt i (length (src .now)) yes) (rs .1) })) $
-          assigns ! (bin ! (load ! (from ! (fld ! refl (stop !))) (look-in ! 15 (sub ! 0 refl (whole !)))) (load ! (from ! (stop !)) (look ! 7 refl)) tt) (from ! (stop !)) (init ! 5 refl (tt, tt)) $
+          assigns ! (bin ! (load ! (from ! (stop !)) (look ! 13 refl)) (lit ! tt)
+          (record { fits = source-fits (length (src .now)) i (ltb→lt i (length (src .now)) yes) (rs .1) })) (from ! (stop !))
+          (init ! 7 refl (tt, record { fits = source-fits (length (src .now)) i (ltb→lt i (length (src .now)) yes) (rs .1) })) $
+          assigns ! (bin ! (load ! (from ! (fld ! refl (stop !))) (look-in ! 15 (sub ! 0 refl (whole !)))) (load ! (from ! (stop !)) (look ! 7 refl)) tt)
+          (from ! (stop !)) (init ! 5 refl (tt, tt)) $
           rewrite ! 5 (λ (x : ℕ). ‵ (fat fullShare tyPtr l₈ 0 (vptr (src .ptr .0) x))) (sym (place-is 28 (src .ptr .1) i)) refl $
           fsplit ! $ drop ! $ fsplit ! $ move ! (1 ∷ 3 ∷ []) $
-          looks-slice ! tt Q.the-row (Is Q.the-row) (shows 𝓤 H A Q.the-row) (LL.vals Q.the-type Q′.the-laws) (LL.tells Q.the-type Q′.the-laws) (LL.copy Q.the-type Q′.the-copy 𝓤 H A W) (src .now) (src .ptr .0) (src .ptr .1) (λ q′.
-          elem-out ! Q.the-row (Is Q.the-row) (shows 𝓤 H A Q.the-row) (LL.vals Q.the-type Q′.the-laws) (LL.tells Q.the-type Q′.the-laws) q′ (src .now) i blankSource (src .ptr .0) (src .ptr .1) (ltb→lt i (length (src .now)) yes) (λ ir.
-          assigns ! (of-opd ! (load ! (from ! (hop ! (look ! 9 refl) (stop !))) (look-raw ! 0 refl))) (from ! (stop !)) (init ! 7 refl (LL.lawful Q.the-type Q′.the-laws 𝓤 H A W .typed (getD (src .now) i blankSource) _ ir .0)) $
-          assigns ! (of-opd ! (load ! (from ! (stop !)) (look ! 7 refl))) (from ! (stop !)) (init ! 25 refl (LL.lawful Q.the-type Q′.the-laws 𝓤 H A W .typed (getD (src .now) i blankSource) _ ir .0)) $
-          elem-back ! Q.the-row q′ (src .now) i blankSource (LL.vals Q.the-type Q′.the-laws (getD (src .now) i blankSource)) (src .ptr .0) (src .ptr .1) (ltb→lt i (length (src .now)) yes) $ shuts-slice ! tt Q.the-row q′ (src .now) (src .ptr .0) (src .ptr .1) $
-          returns-within ! Post refl (look ! 22 refl) $ forget ! 4 refl $ forget ! 6 refl $ forget ! 8 refl $ forget ! 10 refl $ forget ! 12 refl $ forget ! 14 refl $ forget ! 16 refl $ forget ! 18 refl $ forget ! 20 refl $ forget ! 22 refl $
-          move ! (22 ∷ 23 ∷ []) $ free1 ! $ move ! (20 ∷ 21 ∷ []) $ free1 ! $ move ! (18 ∷ 19 ∷ []) $ free1 ! $ move ! (16 ∷ 17 ∷ []) $ free1 ! $ move ! (14 ∷ 15 ∷ []) $ free1 ! $ move ! (12 ∷ 13 ∷ []) $ free1 ! $ move ! (10 ∷ 11 ∷ []) $ free1 ! $ move ! (8 ∷ 9 ∷ []) $ free1 ! $ move ! (6 ∷ 7 ∷ []) $ free1 ! $ move ! (4 ∷ 5 ∷ []) $ free1 ! $ free0 ! $
+          looks-slice ! tt Q.the-row (Is Q.the-row) (shows 𝓤 H A Q.the-row) (LL.vals Q.the-type Q′.the-laws) (LL.tells Q.the-type Q′.the-laws)
+          (LL.copy Q.the-type Q′.the-copy 𝓤 H A W) (src .now) (src .ptr .0) (src .ptr .1) (λ q′.
+          elem-out ! Q.the-row (Is Q.the-row) (shows 𝓤 H A Q.the-row) (LL.vals Q.the-type Q′.the-laws) (LL.tells Q.the-type Q′.the-laws) q′ (src .now) i
+          blankSource (src .ptr .0) (src .ptr .1) (ltb→lt i (length (src .now)) yes) (λ ir.
+          assigns ! (of-opd ! (load ! (from ! (hop ! (look ! 9 refl) (stop !))) (look-raw ! 0 refl))) (from ! (stop !))
+          (init ! 7 refl (LL.lawful Q.the-type Q′.the-laws 𝓤 H A W .typed (getD (src .now) i blankSource) _ ir .0)) $
+          assigns ! (of-opd ! (load ! (from ! (stop !)) (look ! 7 refl))) (from ! (stop !))
+          (init ! 25 refl (LL.lawful Q.the-type Q′.the-laws 𝓤 H A W .typed (getD (src .now) i blankSource) _ ir .0)) $
+          elem-back ! Q.the-row q′ (src .now) i blankSource (LL.vals Q.the-type Q′.the-laws (getD (src .now) i blankSource)) (src .ptr .0) (src .ptr .1)
+          (ltb→lt i (length (src .now)) yes) $ shuts-slice ! tt Q.the-row q′ (src .now) (src .ptr .0) (src .ptr .1) $
+          returns-within ! Post refl (look ! 22 refl) $ forget ! 4 refl $ forget ! 6 refl $ forget ! 8 refl $ forget ! 10 refl $ forget ! 12 refl $ forget ! 14
+          refl $ forget ! 16 refl $ forget ! 18 refl $ forget ! 20 refl $ forget ! 22 refl $
+          move ! (22 ∷ 23 ∷ []) $ free1 ! $ move ! (20 ∷ 21 ∷ []) $ free1 ! $ move ! (18 ∷ 19 ∷ []) $ free1 ! $ move ! (16 ∷ 17 ∷ []) $ free1 ! $ move !
+          (14 ∷ 15 ∷ []) $ free1 ! $ move ! (12 ∷ 13 ∷ []) $ free1 ! $ move ! (10 ∷ 11 ∷ []) $ free1 ! $ move ! (8 ∷ 9 ∷ []) $ free1 ! $ move ! (6 ∷ 7 ∷ [])
+          $ free1 ! $ move ! (4 ∷ 5 ∷ []) $ free1 ! $ free0 ! $
           keep ! (3 ∷ 0 ∷ []) $ by ! (exits (getD (src .now) i blankSource) ir (gate-there s k (src .now) ei (ltb→lt i (length (src .now)) yes))))))
           (λ no.
           skips ! $ exec ! C Λ En mir-of.t-6 (atRet En Post) $
           nothing ! $ nothing ! $ use2 W (raw (Blank 𝓤 H A mem run .pre to-blank)) goes-blank $
           calls-at ! fm (Blank 𝓤 H A mem run) known-blank to-blank (no-more !) (λ u.
-          use1 W (later (some (λ (r : SourceRecord). (‵ ftrue ⊛ ‵ (Q.the-row .own r (u ∷ []))) ⊛ raw (ensured 𝓤 H A blank.ended (blank.clauses 𝓤 H A mem run) tt tt tt r)))) (id⊢ 𝓤 _) $ await ! tt $ pick ! (λ r.
+          use1 W (later (some (λ (r : SourceRecord). (‵ ftrue ⊛ ‵ (Q.the-row .own r (u ∷ []))) ⊛ raw
+          (ensured 𝓤 H A blank.ended (blank.clauses 𝓤 H A mem run) tt tt tt r)))) (id⊢ 𝓤 _) $ await ! tt $ pick ! (λ r.
           split ! $ move ! (1 ∷ []) $ use1 W (raw (fact 𝓤 (r ≡ blankSource))) (blanked r) $ heard ! (r ≡ blankSource) (λ er. split ! $ drop ! $
           peeks ! Q.the-row (Is Q.the-row) (shows 𝓤 H A Q.the-row) r (u ∷ []) (λ ir.
-          land ! (from ! (stop !)) (init ! 21 refl (typed r u ir)) $ rewrite ! 21 (λ (y : Val). ‵ (fat fullShare Q′.mir l₀ 0 y)) (ap only (LL.tells Q.the-type Q′.the-laws r _ ir)) refl $ drop ! $
+          land ! (from ! (stop !)) (init ! 21 refl (typed r u ir)) $ rewrite ! 21 (λ (y : Val). ‵ (fat fullShare Q′.mir l₀ 0 y))
+          (ap only (LL.tells Q.the-type Q′.the-laws r _ ir)) refl $ drop ! $
           returns ! (look ! 20 refl) $ forget ! 8 refl $ forget ! 10 refl $ forget ! 12 refl $ forget ! 14 refl $ forget ! 16 refl $ forget ! 18 refl $ forget ! 20 refl $
-          move ! (20 ∷ 21 ∷ []) $ free1 ! $ move ! (18 ∷ 19 ∷ []) $ free1 ! $ move ! (16 ∷ 17 ∷ []) $ free1 ! $ move ! (14 ∷ 15 ∷ []) $ free1 ! $ move ! (12 ∷ 13 ∷ []) $ free1 ! $ move ! (10 ∷ 11 ∷ []) $ free1 ! $ move ! (8 ∷ 9 ∷ []) $ free1 ! $ move ! (6 ∷ 7 ∷ []) $ free1 ! $ move ! (4 ∷ 5 ∷ []) $ free1 ! $ move ! (2 ∷ 3 ∷ []) $ free1 ! $ free0 ! $
+          move ! (20 ∷ 21 ∷ []) $ free1 ! $ move ! (18 ∷ 19 ∷ []) $ free1 ! $ move ! (16 ∷ 17 ∷ []) $ free1 ! $ move ! (14 ∷ 15 ∷ []) $ free1 ! $ move !
+          (12 ∷ 13 ∷ []) $ free1 ! $ move ! (10 ∷ 11 ∷ []) $ free1 ! $ move ! (8 ∷ 9 ∷ []) $ free1 ! $ move ! (6 ∷ 7 ∷ []) $ free1 ! $ move ! (4 ∷ 5 ∷ []) $
+          free1 ! $ move ! (2 ∷ 3 ∷ []) $ free1 ! $ free0 ! $
           by ! (exits r (subst (Is Q.the-row r) (LL.tells Q.the-type Q′.the-laws r _ ir) ir) (er ∙ gate-none s k (src .now) ei (nltb→le i (length (src .now)) no))))))))
 
     walk : ent 𝓤 (onEntry 𝓤 H A self.signature (κ, tt) (q, tt) a vals) (WpFn 𝓤 H C Λ code.function (sv ∷ vint w32 k ∷ av ∷ []) Post)
     walk =
         qed W ((‵ (flft κ q) ⊛ ‵ ftrue) ∷ ‵ (owns (S.the-row ∷ u32 ∷ ShrSlice (named 0) κ Q.the-row ∷ []) a vals) ∷ []) ∵
         split ! $ move ! (2 ∷ []) $ fsplit ! $ drop ! $ fsplit ! $ drop ! $ fsplit ! $ keep ! (0 ∷ 2 ∷ []) $ enter ! C Λ code.function (sv ∷ vint w32 k ∷ av ∷ []) _ $
-        alloc1 ! (λ l₀. alloc1 ! (λ l₁. alloc1 ! (λ l₂. alloc1 ! (λ l₃. alloc1 ! (λ l₄. alloc1 ! (λ l₅. alloc1 ! (λ l₆. alloc1 ! (λ l₇. alloc1 ! (λ l₈. alloc1 ! (λ l₉. alloc0 ! $ params1 ! $
-        pass1 ! (init ! 16 refl (LL.lawful S.the-type S′.the-laws 𝓤 H A W .typed s _ is .0)) $ pass1 ! (init ! 14 refl (tt, record { fits = k-fits })) $ pass1 ! (init ! 12 refl (tt, (tt, (record { fits = rs .0 }, tt)))) $ pass0 ! $
-        assigns ! (of-opd ! (load ! (from ! (fld ! refl (stop !))) (look-in ! 12 (sub ! 1 refl (whole !))))) (from ! (stop !)) (init ! 8 refl (tt, record { fits = rs .0 })) $
-        nothing ! $ owned ! usize (Is usize) (uint-makes 𝓤 H A W w64) (length (src .now)) _ (refl, rs .0) $ fjoin ! $ owned ! u32 (Is u32) (uint-makes 𝓤 H A W w32) k _ (refl, k-fits) $ fjoin ! $ owned ! S.the-row (Is S.the-row) (LL.makes S.the-type S′.the-plain 𝓤 H A) s _ is $ fjoin ! $
+        alloc1 ! (λ l₀. alloc1 ! (λ l₁. alloc1 ! (λ l₂. alloc1 ! (λ l₃. alloc1 !
+        (λ l₄. alloc1 ! (λ l₅. alloc1 ! (λ l₆. alloc1 ! (λ l₇. alloc1 ! (λ l₈. alloc1 ! (λ l₉. alloc0 ! $ params1 ! $
+        pass1 ! (init ! 16 refl (LL.lawful S.the-type S′.the-laws 𝓤 H A W .typed s _ is .0)) $ pass1 ! (init ! 14 refl (tt, record { fits = k-fits })) $ pass1 !
+        (init ! 12 refl (tt, (tt, (record { fits = rs .0 }, tt)))) $ pass0 ! $
+        assigns ! (of-opd ! (load ! (from ! (fld ! refl (stop !))) (look-in ! 12 (sub ! 1 refl (whole !))))) (from ! (stop !))
+        (init ! 8 refl (tt, record { fits = rs .0 })) $
+        nothing ! $ owned ! usize (Is usize) (uint-makes 𝓤 H A W w64) (length (src .now)) _ (refl, rs .0) $ fjoin ! $ owned ! u32 (Is u32)
+        (uint-makes 𝓤 H A W w32) k _ (refl, k-fits) $ fjoin ! $ owned ! S.the-row (Is S.the-row) (LL.makes S.the-type S′.the-plain 𝓤 H A) s _ is $ fjoin ! $
         nothing ! $ use2 W (raw (Place 𝓤 H A mem run .pre to-place)) goes-place $
-        calls-at ! fm (Place 𝓤 H A mem run) known-place to-place (and-then ! (load ! (from ! (stop !)) (look ! 17 refl)) (and-then ! (load ! (from ! (stop !)) (look ! 15 refl)) (and-then ! (load ! (from ! (stop !)) (look ! 9 refl)) (no-more !)))) (λ u.
-        use1 W (later (some (λ (i : ℕ). (‵ ftrue ⊛ ‵ (usize .own i (u ∷ []))) ⊛ raw (ensured 𝓤 H A place.ended (place.clauses 𝓤 H A mem run) tt place-args tt i)))) (id⊢ 𝓤 _) $ await ! tt $ pick ! (λ i.
+        calls-at ! fm (Place 𝓤 H A mem run) known-place to-place (and-then ! (load ! (from ! (stop !)) (look ! 17 refl))
+        (and-then ! (load ! (from ! (stop !)) (look ! 15 refl)) (and-then ! (load ! (from ! (stop !)) (look ! 9 refl)) (no-more !)))) (λ u.
+        use1 W (later (some (λ (i : ℕ). (‵ ftrue ⊛ ‵ (usize .own i (u ∷ []))) ⊛ raw
+        (ensured 𝓤 H A place.ended (place.clauses 𝓤 H A mem run) tt place-args tt i)))) (id⊢ 𝓤 _) $ await ! tt $ pick ! (λ i.
         split ! $ move ! (1 ∷ []) $ use1 W (raw (fact 𝓤 (PlaceIs i))) (placed i) $ heard ! (PlaceIs i) (λ ei. split ! $ drop ! $
         peeks ! usize (Is usize) (shows 𝓤 H A usize) i (u ∷ []) (λ ii.
-        land ! (from ! (stop !)) (init ! 11 refl (uint-lawful 𝓤 H A W w64 .typed i (u ∷ []) ii .0)) $ rewrite ! 11 (λ (y : Val). ‵ (fat fullShare word l₄ 0 y)) (ap only (uint-tells w64 i _ ii)) refl $ drop ! $
-        assigns ! (of-opd ! (load ! (from ! (fld ! refl (stop !))) (look-in ! 12 (sub ! 1 refl (whole !))))) (from ! (stop !)) (store ! 8 refl (tt, record { fits = rs .0 })) $
+        land ! (from ! (stop !)) (init ! 11 refl (uint-lawful 𝓤 H A W w64 .typed i (u ∷ []) ii .0)) $ rewrite ! 11 (λ (y : Val). ‵ (fat fullShare word l₄ 0 y))
+        (ap only (uint-tells w64 i _ ii)) refl $ drop ! $
+        assigns ! (of-opd ! (load ! (from ! (fld ! refl (stop !))) (look-in ! 12 (sub ! 1 refl (whole !))))) (from ! (stop !))
+        (store ! 8 refl (tt, record { fits = rs .0 })) $
         assigns ! (bin ! (load ! (from ! (stop !)) (look ! 10 refl)) (load ! (from ! (stop !)) (look ! 8 refl)) tt) (from ! (stop !)) (init ! 6 refl (tt, tt)) $
         keep ! (20 ∷ 21 ∷ 0 ∷ 1 ∷ 2 ∷ 3 ∷ 4 ∷ 5 ∷ 6 ∷ 7 ∷ 8 ∷ 9 ∷ 10 ∷ 11 ∷ 12 ∷ 13 ∷ 14 ∷ 15 ∷ 16 ∷ 17 ∷ 18 ∷ 19 ∷ []) $
         behind l₀ l₁ l₂ l₃ l₄ l₅ l₆ l₇ l₈ l₉ i ei))))))))))))))
 
-module _ {M : Type 1} (𝓤 : URA M) (H : Heap 𝓤) (A : Atoms 𝓤) (W : Given 𝓤 H A) (mem : Memory → SProp 𝓤) (run : Routine → Fun 𝓤) (𝓣 : Tables 𝓤 H) (known-place : Triple 𝓤 (𝓣 .C #capi·shown·place) (Place 𝓤 H A mem run)) (known-blank : Triple 𝓤 (𝓣 .C #capi·shown·blank) (Blank 𝓤 H A mem run)) where
+module _ {M : Type 1} (𝓤 : URA M) (H : Heap 𝓤) (A : Atoms 𝓤) (W : Given 𝓤 H A) (mem : Memory → SProp 𝓤) (run : Routine → Fun 𝓤) (𝓣 : Tables 𝓤 H)
+    (known-place : Triple 𝓤 (𝓣 .C #capi·shown·place) (Place 𝓤 H A mem run)) (known-blank : Triple 𝓤 (𝓣 .C #capi·shown·blank) (Blank 𝓤 H A mem run)) where
   self-walks : Walks 𝓤 H A self.ended stayed (WpFn 𝓤 H (𝓣 .C) (𝓣 .Λ) code.function) (self.clauses 𝓤 H A mem run)
   self-walks = walked 𝓤 H A self.ended stayed (self.clauses 𝓤 H A mem run) (WpFn 𝓤 H (𝓣 .C) (𝓣 .Λ) code.function)
-      (λ κs. (LL.vals S.the-type S′.the-laws, (uint-vals w32, (slice-vals, tt)))) (λ κs. (LL.tells S.the-type S′.the-laws, (uint-tells w32, (shr-slice-tells (named 0) (κs .0) Q.the-row, tt))))
-      (λ κs qs bounds a g are. via 𝓤 _ (fst∗ 𝓤 _ (emp 𝓤)) (walk 𝓤 H A W mem run (κs .0) (qs .0) (a .0) (a .1 .0) (a .1 .1 .0) (are .0) (are .1 .0 .1) (are .1 .1 .0 .0 .1) 𝓣 known-place known-blank))
+      (λ κs. (LL.vals S.the-type S′.the-laws, (uint-vals w32, (slice-vals, tt))))
+      (λ κs. (LL.tells S.the-type S′.the-laws, (uint-tells w32, (shr-slice-tells (named 0) (κs .0) Q.the-row, tt))))
+      (λ κs qs bounds a g are. via 𝓤 _ (fst∗ 𝓤 _ (emp 𝓤)) (walk 𝓤 H A W mem run (κs .0) (qs .0) (a .0) (a .1 .0) (a .1 .1 .0) (are .0) (are .1 .0 .1)
+      (are .1 .1 .0 .0 .1) 𝓣 known-place known-blank))
 
   self-meets : Meets 𝓤 H A self.signature (WpFn 𝓤 H (𝓣 .C) (𝓣 .Λ) code.function) (self.spec 𝓤 H A mem run)
-  self-meets = walk-meets 𝓤 H A self.ended stayed W
-      (goes-none 𝓤 H A W 1 (λ _. S.the-row) yes (λ κs x f. refl), (goes-none 𝓤 H A W 1 (λ _. u32) yes (λ κs x f. refl), (goes-none-slice 𝓤 H A W 1 (0 ∷ []) tt (plain (λ _. Q.the-row)) yes, tt)))
+  self-meets = walk-meets 𝓤 H A self.ended stayed W (
+    goes-none 𝓤 H A W 1 (λ _. S.the-row) yes (λ κs x f. refl),
+    (
+      goes-none 𝓤 H A W 1 (λ _. u32) yes (λ κs x f. refl),
+      (goes-none-slice 𝓤 H A W 1 (0 ∷ []) tt (plain (λ _. Q.the-row)) yes, tt),
+    ),
+  )
       (self.clauses 𝓤 H A mem run) (WpFn 𝓤 H (𝓣 .C) (𝓣 .Λ) code.function) (WpFn-mono 𝓤 H (W .laws) 𝓣 code.function) self-walks
 
 pub fidrovelj-session-gate-spec : {M : Type 1} → stated.statement M

@@ -76,7 +76,13 @@ use Rattle.capi.proofs.sessions.fidrovelj_session_open.Statement as sta
 use Rattle.capi.proofs.sessions.fidrovelj_session_open.Code as code
 
 abbrev stayed : Stays (self.ended .signature .params) (self.ended .kept)
-stayed = (stay-none-slice (0 ∷ []) tt (plain (λ _. u32)) yes, (stay-none-slice (1 ∷ []) tt (plain (λ _. u8)) yes, (gave-slice (2 ∷ []) tt (plain (λ _. R.the-row)), (stay-none (λ _. u8) yes, tt))))
+stayed = (
+  stay-none-slice (0 ∷ []) tt (plain (λ _. u32)) yes,
+  (
+    stay-none-slice (1 ∷ []) tt (plain (λ _. u8)) yes,
+    (gave-slice (2 ∷ []) tt (plain (λ _. R.the-row)), (stay-none (λ _. u8) yes, tt)),
+  ),
+)
 
 module _ {M : Type 1} (𝓤 : URA M) (H : Heap 𝓤) (A : Atoms 𝓤) (mem : Memory → SProp 𝓤) (run : Routine → Fun 𝓤) where
   -- the contracts that the proof cites
@@ -142,17 +148,23 @@ module _ {M : Type 1} (𝓤 : URA M) (H : Heap 𝓤) (A : Atoms 𝓤) (W : Given
   abbrev to-call : (z : Sizes) → Call 𝓤 H A mem run .Ghost
   to-call z = (((κ₀, (κ₁, (κ₂, tt))), (q₀, (q₁, (q₂, tt))), tt, call-args z, call-vals z), tt)
 
-  goes-call : (z : Sizes) → ent 𝓤 (onEntry 𝓤 H A callee.signature (κ₀, (κ₁, (κ₂, tt))) (q₀, (q₁, (q₂, tt))) (call-args z) (call-vals z)) (Call 𝓤 H A mem run .pre (to-call z))
-  goes-call z = qed W ((‵ (flft κ₀ q₀) ⊛ (‵ (flft κ₁ q₁) ⊛ (‵ (flft κ₂ q₂) ⊛ ‵ ftrue))) ∷ ‵ (owns (ShrSlice (named 0) κ₀ u32 ∷ ShrSlice (named 1) κ₁ u8 ∷ MutSlice (named 2) κ₂ R.the-row ∷ Z.the-row ∷ []) (call-args z) (call-vals z)) ∷ []) ∵ join ! $ frame ! $ done !
+  goes-call : (z : Sizes) → ent 𝓤 (onEntry 𝓤 H A callee.signature (κ₀, (κ₁, (κ₂, tt))) (q₀, (q₁, (q₂, tt))) (call-args z) (call-vals z))
+      (Call 𝓤 H A mem run .pre (to-call z))
+  goes-call z = qed W ((‵ (flft κ₀ q₀) ⊛ (‵ (flft κ₁ q₁) ⊛ (‵ (flft κ₂ q₂) ⊛ ‵ ftrue))) ∷ ‵
+      (owns (ShrSlice (named 0) κ₀ u32 ∷ ShrSlice (named 1) κ₁ u8 ∷ MutSlice (named 2) κ₂ R.the-row ∷ Z.the-row ∷ []) (call-args z) (call-vals z)) ∷ []) ∵ join
+      ! $ frame ! $ done !
 
   abbrev Zs : Type 0
   Zs = Unit {0} × (Unit {0} × (List GateRecord × (Unit {0} × Unit {0})))
 
   exits : (r : Step) (u : Val) (msk′ : List GateRecord) → length msk′ ≡ length (msk .now) → OpenIs (sizesOf w) (wid .now) (cod .now) (msk .now) msk′ r
-      → ent 𝓤 (⋆ 𝓤 H A (‵ (E.the-row .own r (u ∷ [])) ∷ (‵ (flft κ₀ q₀) ⊛ (‵ (flft κ₁ q₁) ⊛ (‵ (flft κ₂ q₂) ⊛ ‵ ftrue))) ∷ ‵ Wid ∷ ‵ Cod ∷ ‵ (finally R.the-row (msk .name) msk′) ∷ [])) (Post u)
+      → ent 𝓤 (⋆ 𝓤 H A (‵ (E.the-row .own r (u ∷ [])) ∷ (‵ (flft κ₀ q₀) ⊛ (‵ (flft κ₁ q₁) ⊛ (‵ (flft κ₂ q₂) ⊛ ‵ ftrue))) ∷ ‵ Wid ∷ ‵ Cod ∷ ‵
+      (finally R.the-row (msk .name) msk′) ∷ [])) (Post u)
   exits r u msk′ lmsk said′ =
-      qed W (‵ (E.the-row .own r (u ∷ [])) ∷ (‵ (flft κ₀ q₀) ⊛ (‵ (flft κ₁ q₁) ⊛ (‵ (flft κ₂ q₂) ⊛ ‵ ftrue))) ∷ ‵ Wid ∷ ‵ Cod ∷ ‵ (finally R.the-row (msk .name) msk′) ∷ []) ∵
-      suffices ! _ (ends-at 𝓤 H A self.ended stayed (self.clauses 𝓤 H A mem run) W (((κ₀, (κ₁, (κ₂, tt))), (q₀, (q₁, (q₂, tt))), tt, a, vals), tt) u r (tt, (tt, (msk′, (tt, tt)))) (tt, (tt, (lmsk, (tt, tt))))) $ says ! said′ $
+      qed W (‵ (E.the-row .own r (u ∷ [])) ∷ (‵ (flft κ₀ q₀) ⊛ (‵ (flft κ₁ q₁) ⊛ (‵ (flft κ₂ q₂) ⊛ ‵ ftrue))) ∷ ‵ Wid ∷ ‵ Cod ∷ ‵
+      (finally R.the-row (msk .name) msk′) ∷ []) ∵
+      suffices ! _ (ends-at 𝓤 H A self.ended stayed (self.clauses 𝓤 H A mem run) W (((κ₀, (κ₁, (κ₂, tt))), (q₀, (q₁, (q₂, tt))), tt, a, vals), tt) u r
+      (tt, (tt, (msk′, (tt, tt)))) (tt, (tt, (lmsk, (tt, tt))))) $ says ! said′ $
       move ! (1 ∷ []) $
       frame ! $
       nothing ! $
@@ -166,7 +178,8 @@ module _ {M : Type 1} (𝓤 : URA M) (H : Heap 𝓤) (A : Atoms 𝓤) (W : Given
       fjoin ! $
       done !
 
-  module _ (𝓣 : Tables 𝓤 H) (known-sizes : Triple 𝓤 (𝓣 .C #capi-answers·sizes) (Sized 𝓤 H A mem run)) (known-call : Triple 𝓤 (𝓣 .C #session-steps·open) (Call 𝓤 H A mem run)) where
+  module _ (𝓣 : Tables 𝓤 H) (known-sizes : Triple 𝓤 (𝓣 .C #capi-answers·sizes) (Sized 𝓤 H A mem run))
+      (known-call : Triple 𝓤 (𝓣 .C #session-steps·open) (Call 𝓤 H A mem run)) where
     abbrev C : Calls 𝓤 H
     C = 𝓣 .C
 
@@ -178,26 +191,33 @@ module _ {M : Type 1} (𝓤 : URA M) (H : Heap 𝓤) (A : Atoms 𝓤) (W : Given
 
     walk : ent 𝓤 (onEntry 𝓤 H A self.signature (κ₀, (κ₁, (κ₂, tt))) (q₀, (q₁, (q₂, tt))) a vals) (WpFn 𝓤 H C Λ code.function (widv ∷ codv ∷ mskv ∷ vint w8 w ∷ []) Post)
     walk =
-        qed W ((‵ (flft κ₀ q₀) ⊛ (‵ (flft κ₁ q₁) ⊛ (‵ (flft κ₂ q₂) ⊛ ‵ ftrue))) ∷ ‵ (owns (ShrSlice (named 0) κ₀ u32 ∷ ShrSlice (named 1) κ₁ u8 ∷ MutSlice (named 2) κ₂ R.the-row ∷ u8 ∷ []) a vals) ∷ []) ∵
-        split ! $ move ! (1 ∷ []) $ split ! $ move ! (1 ∷ []) $ split ! $ move ! (4 ∷ []) $ fsplit ! $ move ! (1 ∷ []) $ fsplit ! $ move ! (1 ∷ []) $ fsplit ! $ move ! (1 ∷ []) $ fsplit ! $ keep ! (4 ∷ 3 ∷ 2 ∷ 8 ∷ 7 ∷ 5 ∷ []) $ enter ! C Λ code.function (widv ∷ codv ∷ mskv ∷ vint w8 w ∷ []) _ $
+        qed W ((‵ (flft κ₀ q₀) ⊛ (‵ (flft κ₁ q₁) ⊛ (‵ (flft κ₂ q₂) ⊛ ‵ ftrue))) ∷ ‵
+        (owns (ShrSlice (named 0) κ₀ u32 ∷ ShrSlice (named 1) κ₁ u8 ∷ MutSlice (named 2) κ₂ R.the-row ∷ u8 ∷ []) a vals) ∷ []) ∵
+        split ! $ move ! (1 ∷ []) $ split ! $ move ! (1 ∷ []) $ split ! $ move ! (4 ∷ []) $ fsplit ! $ move ! (1 ∷ []) $ fsplit ! $ move ! (1 ∷ []) $ fsplit ! $
+        move ! (1 ∷ []) $ fsplit ! $ keep ! (4 ∷ 3 ∷ 2 ∷ 8 ∷ 7 ∷ 5 ∷ []) $ enter ! C Λ code.function (widv ∷ codv ∷ mskv ∷ vint w8 w ∷ []) _ $
         alloc1 ! (λ l₀. alloc1 ! (λ l₁. alloc1 ! (λ l₂. alloc1 ! (λ l₃. alloc1 ! (λ l₄. alloc1 ! (λ l₅. alloc1 ! (λ l₆. alloc1 ! (λ l₇. alloc0 ! $ params1 ! $
-        pass1 ! (init ! 12 refl (tt, (tt, (record { fits = rwid .0 }, tt)))) $ pass1 ! (init ! 10 refl (tt, (tt, (record { fits = rcod .0 }, tt)))) $ pass1 ! (init ! 8 refl (tt, (tt, (record { fits = rmsk .0 }, tt)))) $ pass1 ! (init ! 6 refl (tt, record { fits = w-fits })) $ pass0 ! $
+        pass1 ! (init ! 12 refl (tt, (tt, (record { fits = rwid .0 }, tt)))) $ pass1 ! (init ! 10 refl (tt, (tt, (record { fits = rcod .0 }, tt)))) $ pass1 !
+        (init ! 8 refl (tt, (tt, (record { fits = rmsk .0 }, tt)))) $ pass1 ! (init ! 6 refl (tt, record { fits = w-fits })) $ pass0 ! $
         assigns ! (addr ! (from ! (fld ! refl (hop ! (look-in ! 8 (sub ! 0 refl (whole !))) (stop !))))) (from ! (stop !)) (init ! 4 refl (tt, tt)) $
-        assigns ! (agg ! (and-then ! (load ! (from ! (stop !)) (look ! 4 refl)) (and-then ! (load ! (from ! (fld ! refl (stop !))) (look-in ! 8 (sub ! 1 refl (whole !)))) (no-more !)))) (from ! (stop !)) (init ! 2 refl (tt, (tt, (record { fits = rmsk .0 }, tt)))) $
+        assigns ! (agg ! (and-then ! (load ! (from ! (stop !)) (look ! 4 refl)) (and-then !
+        (load ! (from ! (fld ! refl (stop !))) (look-in ! 8 (sub ! 1 refl (whole !)))) (no-more !)))) (from ! (stop !))
+        (init ! 2 refl (tt, (tt, (record { fits = rmsk .0 }, tt)))) $
         nothing ! $
         owned ! u8 (Is u8) (uint-makes 𝓤 H A W w8) w _ (refl, w-fits) $
         fjoin ! $
         nothing ! $
         use2 W (raw (Sized 𝓤 H A mem run .pre to-sizes)) goes-sizes $
         calls-at ! fm (Sized 𝓤 H A mem run) known-sizes to-sizes (and-then ! (load ! (from ! (stop !)) (look ! 7 refl)) (no-more !)) (λ u.
-        use1 W (later (some (λ (z : Sizes). (‵ ftrue ⊛ ‵ (Z.the-row .own z (u ∷ []))) ⊛ raw (ensured 𝓤 H A sizes.ended (sizes.clauses 𝓤 H A mem run) tt (w, tt) tt z)))) (id⊢ 𝓤 _) $ await ! tt $ pick ! (λ z.
+        use1 W (later (some (λ (z : Sizes). (‵ ftrue ⊛ ‵ (Z.the-row .own z (u ∷ []))) ⊛ raw
+        (ensured 𝓤 H A sizes.ended (sizes.clauses 𝓤 H A mem run) tt (w, tt) tt z)))) (id⊢ 𝓤 _) $ await ! tt $ pick ! (λ z.
         split ! $
         move ! (1 ∷ []) $
         use1 W (raw (fact 𝓤 (z ≡ sizesOf w))) (sized z) $ heard ! (z ≡ sizesOf w) (λ ez.
         split ! $
         drop ! $
         peeks ! Z.the-row (Is Z.the-row) (shows 𝓤 H A Z.the-row) z (u ∷ []) (λ iz.
-        land ! (from ! (stop !)) (init ! 1 refl (EL.lawful Z.the-type Z′.the-laws 𝓤 H A W tt .typed z (u ∷ []) iz .0)) $ rewrite ! 1 (λ (y : Val). ‵ (fat fullShare Z′.mir l₇ 0 y)) (ap only (EL.tells Z.the-type Z′.the-laws z _ iz)) refl $
+        land ! (from ! (stop !)) (init ! 1 refl (EL.lawful Z.the-type Z′.the-laws 𝓤 H A W tt .typed z (u ∷ []) iz .0)) $ rewrite ! 1
+        (λ (y : Val). ‵ (fat fullShare Z′.mir l₇ 0 y)) (ap only (EL.tells Z.the-type Z′.the-laws z _ iz)) refl $
         drop ! $
         move ! (16 ∷ []) $
         use1 W (‵ Wid ⊛ ‵ Wid) (shr-slice-copy 𝓤 H A W (named 0) κ₀ u32 .twice wid (widv ∷ [])) $
@@ -222,11 +242,15 @@ module _ {M : Type 1} (𝓤 : URA M) (H : Heap 𝓤) (A : Atoms 𝓤) (W : Given
         move ! (20 ∷ 0 ∷ []) $
         join ! $
         use2 W (raw (Call 𝓤 H A mem run .pre (to-call z))) (goes-call z) $
-        calls-at ! fm (Call 𝓤 H A mem run) known-call (to-call z) (and-then ! (load ! (from ! (stop !)) (look ! 15 refl)) (and-then ! (load ! (from ! (stop !)) (look ! 13 refl)) (and-then ! (load ! (from ! (stop !)) (look ! 5 refl)) (and-then ! (load ! (from ! (stop !)) (look ! 3 refl)) (no-more !))))) (λ w′.
-        use1 W (later (some (λ (r : Step). ((‵ (flft κ₀ q₀) ⊛ (‵ (flft κ₁ q₁) ⊛ (‵ (flft κ₂ q₂) ⊛ ‵ ftrue))) ⊛ ‵ (E.the-row .own r (w′ ∷ []))) ⊛ raw (ensured 𝓤 H A callee.ended (callee.clauses 𝓤 H A mem run) (κ₀, (κ₁, (κ₂, tt))) (call-args z) tt r)))) (id⊢ 𝓤 _) $ await ! tt $ pick ! (λ r.
+        calls-at ! fm (Call 𝓤 H A mem run) known-call (to-call z) (and-then ! (load ! (from ! (stop !)) (look ! 15 refl))
+        (and-then ! (load ! (from ! (stop !)) (look ! 13 refl)) (and-then ! (load ! (from ! (stop !)) (look ! 5 refl))
+        (and-then ! (load ! (from ! (stop !)) (look ! 3 refl)) (no-more !))))) (λ w′.
+        use1 W (later (some (λ (r : Step). ((‵ (flft κ₀ q₀) ⊛ (‵ (flft κ₁ q₁) ⊛ (‵ (flft κ₂ q₂) ⊛ ‵ ftrue))) ⊛ ‵ (E.the-row .own r (w′ ∷ []))) ⊛ raw
+        (ensured 𝓤 H A callee.ended (callee.clauses 𝓤 H A mem run) (κ₀, (κ₁, (κ₂, tt))) (call-args z) tt r)))) (id⊢ 𝓤 _) $ await ! tt $ pick ! (λ r.
         split ! $
         move ! (1 ∷ []) $
-        use1 W (some (λ (zs : Zs). ‵ (lasts callee.ended (κ₀, (κ₁, (κ₂, tt))) (call-args z) zs) ⊛ raw (fact 𝓤 (OpenIs z (wid .now) (cod .now) (msk .now) (zs .1 .1 .0) r)))) (id⊢ 𝓤 _) $ pick ! (λ zs.
+        use1 W (some (λ (zs : Zs). ‵ (lasts callee.ended (κ₀, (κ₁, (κ₂, tt))) (call-args z) zs) ⊛ raw
+        (fact 𝓤 (OpenIs z (wid .now) (cod .now) (msk .now) (zs .1 .1 .0) r)))) (id⊢ 𝓤 _) $ pick ! (λ zs.
         split ! $
         move ! (1 ∷ []) $
         heard ! (OpenIs z (wid .now) (cod .now) (msk .now) (zs .1 .1 .0) r) (λ er.
@@ -258,7 +282,8 @@ module _ {M : Type 1} (𝓤 : URA M) (H : Heap 𝓤) (A : Atoms 𝓤) (W : Given
         keep ! (0 ∷ 1 ∷ 4 ∷ 3 ∷ 2 ∷ []) $
         by ! (exits r w′ (zs .1 .1 .0) lmsk (subst (λ (y : Sizes). OpenIs y (wid .now) (cod .now) (msk .now) (zs .1 .1 .0) r) ez er))))))))))))))))))))
 
-module _ {M : Type 1} (𝓤 : URA M) (H : Heap 𝓤) (A : Atoms 𝓤) (W : Given 𝓤 H A) (mem : Memory → SProp 𝓤) (run : Routine → Fun 𝓤) (𝓣 : Tables 𝓤 H) (known-sizes : Triple 𝓤 (𝓣 .C #capi-answers·sizes) (Sized 𝓤 H A mem run)) (known-call : Triple 𝓤 (𝓣 .C #session-steps·open) (Call 𝓤 H A mem run)) where
+module _ {M : Type 1} (𝓤 : URA M) (H : Heap 𝓤) (A : Atoms 𝓤) (W : Given 𝓤 H A) (mem : Memory → SProp 𝓤) (run : Routine → Fun 𝓤) (𝓣 : Tables 𝓤 H)
+    (known-sizes : Triple 𝓤 (𝓣 .C #capi-answers·sizes) (Sized 𝓤 H A mem run)) (known-call : Triple 𝓤 (𝓣 .C #session-steps·open) (Call 𝓤 H A mem run)) where
   self-walks : Walks 𝓤 H A self.ended stayed (WpFn 𝓤 H (𝓣 .C) (𝓣 .Λ) code.function) (self.clauses 𝓤 H A mem run)
   self-walks = walked 𝓤 H A self.ended stayed (self.clauses 𝓤 H A mem run) (WpFn 𝓤 H (𝓣 .C) (𝓣 .Λ) code.function)
       (λ κs. (slice-vals, (slice-vals, (slice-vals, (uint-vals w8, tt)))))
@@ -268,8 +293,13 @@ module _ {M : Type 1} (𝓤 : URA M) (H : Heap 𝓤) (A : Atoms 𝓤) (W : Given
       (are .0 .0 .1) (are .1 .0 .0 .1) (are .1 .1 .0 .0 .1) (are .1 .1 .1 .0 .1) 𝓣 known-sizes known-call))
 
   self-meets : Meets 𝓤 H A self.signature (WpFn 𝓤 H (𝓣 .C) (𝓣 .Λ) code.function) (self.spec 𝓤 H A mem run)
-  self-meets = walk-meets 𝓤 H A self.ended stayed W
-      (goes-none-slice 𝓤 H A W 3 (0 ∷ []) tt (plain (λ _. u32)) yes, (goes-none-slice 𝓤 H A W 3 (1 ∷ []) tt (plain (λ _. u8)) yes, (goes-gave-slice 𝓤 H A W 3 2 tt (plain (λ _. R.the-row)), (goes-none 𝓤 H A W 3 (λ _. u8) yes (λ κs x f. refl), tt))))
+  self-meets = walk-meets 𝓤 H A self.ended stayed W (
+    goes-none-slice 𝓤 H A W 3 (0 ∷ []) tt (plain (λ _. u32)) yes,
+    (
+      goes-none-slice 𝓤 H A W 3 (1 ∷ []) tt (plain (λ _. u8)) yes,
+      (goes-gave-slice 𝓤 H A W 3 2 tt (plain (λ _. R.the-row)), (goes-none 𝓤 H A W 3 (λ _. u8) yes (λ κs x f. refl), tt)),
+    ),
+  )
       (self.clauses 𝓤 H A mem run) (WpFn 𝓤 H (𝓣 .C) (𝓣 .Λ) code.function) (WpFn-mono 𝓤 H (W .laws) 𝓣 code.function) self-walks
 
 pub fidrovelj-session-open-spec : {M : Type 1} → stated.statement M

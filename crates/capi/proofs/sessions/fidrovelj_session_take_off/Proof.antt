@@ -109,8 +109,10 @@ module _ {M : Type 1} (𝓤 : URA M) (H : Heap 𝓤) (A : Atoms 𝓤) (W : Given
   exits : (r : Step) (u : Val) → r ≡ said s (offAsked s (src .now)) → ent 𝓤 (⋆ 𝓤 H A (‵ (E.the-row .own r (u ∷ [])) ∷ (‵ (flft κ q) ⊛ ‵ ftrue) ∷ ‵ Src ∷ [])) (Post u)
   exits r u said′ =
       qed W (‵ (E.the-row .own r (u ∷ [])) ∷ (‵ (flft κ q) ⊛ ‵ ftrue) ∷ ‵ Src ∷ []) ∵
-      suffices ! _ (ends-at 𝓤 H A self.ended stayed (self.clauses 𝓤 H A mem run) W (((κ, tt), (q, tt), tt, a, vals), tt) u r (tt, (tt, tt)) (tt, (tt, tt))) $ says ! said′ $
-      move ! (1 ∷ []) $ frame ! $ nothing ! $ move ! (2 ∷ 0 ∷ []) $ fjoin ! $ owned ! S.the-row (Is S.the-row) (LL.makes S.the-type S′.the-plain 𝓤 H A) s _ is $ fjoin ! $ done !
+      suffices ! _ (ends-at 𝓤 H A self.ended stayed (self.clauses 𝓤 H A mem run) W (((κ, tt), (q, tt), tt, a, vals), tt) u r (tt, (tt, tt)) (tt, (tt, tt))) $
+      says ! said′ $
+      move ! (1 ∷ []) $ frame ! $ nothing ! $ move ! (2 ∷ 0 ∷ []) $ fjoin ! $ owned ! S.the-row (Is S.the-row) (LL.makes S.the-type S′.the-plain 𝓤 H A) s _ is $
+      fjoin ! $ done !
 
   module _ (𝓣 : Tables 𝓤 H) (known-call : Triple 𝓤 (𝓣 .C #session-steps·take-off) (Call 𝓤 H A mem run)) where
     abbrev C : Calls 𝓤 H
@@ -127,7 +129,8 @@ module _ {M : Type 1} (𝓤 : URA M) (H : Heap 𝓤) (A : Atoms 𝓤) (W : Given
         qed W ((‵ (flft κ q) ⊛ ‵ ftrue) ∷ ‵ (owns (S.the-row ∷ ShrSlice (named 0) κ Q.the-row ∷ []) a vals) ∷ []) ∵
         split ! $ move ! (2 ∷ []) $ fsplit ! $ drop ! $ fsplit ! $ keep ! (0 ∷ 2 ∷ []) $ enter ! C Λ code.function (sv ∷ av ∷ []) _ $
         alloc1 ! (λ l₀. alloc1 ! (λ l₁. alloc1 ! (λ l₂. alloc0 ! $ params1 ! $
-        pass1 ! (init ! 2 refl (LL.lawful S.the-type S′.the-laws 𝓤 H A W .typed s _ is .0)) $ pass1 ! (init ! 0 refl (tt, (tt, (record { fits = rs .0 }, tt)))) $ pass0 ! $
+        pass1 ! (init ! 2 refl (LL.lawful S.the-type S′.the-laws 𝓤 H A W .typed s _ is .0)) $ pass1 ! (init ! 0 refl (tt, (tt, (record { fits = rs .0 }, tt))))
+        $ pass0 ! $
         move ! (6 ∷ []) $
         use1 W (‵ Src ⊛ ‵ Src) (shr-slice-copy 𝓤 H A W (named 0) κ Q.the-row .twice src (av ∷ [])) $
         split ! $
@@ -140,8 +143,10 @@ module _ {M : Type 1} (𝓤 : URA M) (H : Heap 𝓤) (A : Atoms 𝓤) (W : Given
         move ! (9 ∷ 0 ∷ []) $
         join ! $
         use2 W (raw (Call 𝓤 H A mem run .pre to-call)) goes-call $
-        calls-at ! fm (Call 𝓤 H A mem run) known-call to-call (and-then ! (load ! (from ! (stop !)) (look ! 4 refl)) (and-then ! (load ! (from ! (stop !)) (look ! 2 refl)) (no-more !))) (λ w.
-        use1 W (later (some (λ (r : Step). ((‵ (flft κ q) ⊛ ‵ ftrue) ⊛ ‵ (E.the-row .own r (w ∷ []))) ⊛ raw (ensured 𝓤 H A callee.ended (callee.clauses 𝓤 H A mem run) (κ, tt) a tt r)))) (id⊢ 𝓤 _) $ await ! tt $ pick ! (λ r.
+        calls-at ! fm (Call 𝓤 H A mem run) known-call to-call (and-then ! (load ! (from ! (stop !)) (look ! 4 refl))
+        (and-then ! (load ! (from ! (stop !)) (look ! 2 refl)) (no-more !))) (λ w.
+        use1 W (later (some (λ (r : Step). ((‵ (flft κ q) ⊛ ‵ ftrue) ⊛ ‵ (E.the-row .own r (w ∷ []))) ⊛ raw
+        (ensured 𝓤 H A callee.ended (callee.clauses 𝓤 H A mem run) (κ, tt) a tt r)))) (id⊢ 𝓤 _) $ await ! tt $ pick ! (λ r.
         split ! $
         move ! (1 ∷ []) $
         use1 W (raw (fact 𝓤 (r ≡ said s (offAsked s (src .now))))) (told r) $ heard ! (r ≡ said s (offAsked s (src .now))) (λ er.
@@ -157,14 +162,18 @@ module _ {M : Type 1} (𝓤 : URA M) (H : Heap 𝓤) (A : Atoms 𝓤) (W : Given
         keep ! (0 ∷ 1 ∷ 2 ∷ []) $
         by ! (exits r w er))))))))
 
-module _ {M : Type 1} (𝓤 : URA M) (H : Heap 𝓤) (A : Atoms 𝓤) (W : Given 𝓤 H A) (mem : Memory → SProp 𝓤) (run : Routine → Fun 𝓤) (𝓣 : Tables 𝓤 H) (known-call : Triple 𝓤 (𝓣 .C #session-steps·take-off) (Call 𝓤 H A mem run)) where
+module _ {M : Type 1} (𝓤 : URA M) (H : Heap 𝓤) (A : Atoms 𝓤) (W : Given 𝓤 H A) (mem : Memory → SProp 𝓤) (run : Routine → Fun 𝓤) (𝓣 : Tables 𝓤 H)
+    (known-call : Triple 𝓤 (𝓣 .C #session-steps·take-off) (Call 𝓤 H A mem run)) where
   self-walks : Walks 𝓤 H A self.ended stayed (WpFn 𝓤 H (𝓣 .C) (𝓣 .Λ) code.function) (self.clauses 𝓤 H A mem run)
   self-walks = walked 𝓤 H A self.ended stayed (self.clauses 𝓤 H A mem run) (WpFn 𝓤 H (𝓣 .C) (𝓣 .Λ) code.function)
       (λ κs. (LL.vals S.the-type S′.the-laws, (slice-vals, tt))) (λ κs. (LL.tells S.the-type S′.the-laws, (shr-slice-tells (named 0) (κs .0) Q.the-row, tt)))
       (λ κs qs bounds a g are. via 𝓤 _ (fst∗ 𝓤 _ (emp 𝓤)) (walk 𝓤 H A W mem run (κs .0) (qs .0) (a .0) (a .1 .0) (are .0) (are .1 .0 .0 .1) 𝓣 known-call))
 
   self-meets : Meets 𝓤 H A self.signature (WpFn 𝓤 H (𝓣 .C) (𝓣 .Λ) code.function) (self.spec 𝓤 H A mem run)
-  self-meets = walk-meets 𝓤 H A self.ended stayed W (goes-none 𝓤 H A W 1 (λ _. S.the-row) yes (λ κs x f. refl), (goes-none-slice 𝓤 H A W 1 (0 ∷ []) tt (plain (λ _. Q.the-row)) yes, tt))
+  self-meets = walk-meets 𝓤 H A self.ended stayed W (
+    goes-none 𝓤 H A W 1 (λ _. S.the-row) yes (λ κs x f. refl),
+    (goes-none-slice 𝓤 H A W 1 (0 ∷ []) tt (plain (λ _. Q.the-row)) yes, tt),
+  )
       (self.clauses 𝓤 H A mem run) (WpFn 𝓤 H (𝓣 .C) (𝓣 .Λ) code.function) (WpFn-mono 𝓤 H (W .laws) 𝓣 code.function) self-walks
 
 pub fidrovelj-session-take-off-spec : {M : Type 1} → stated.statement M

@@ -13,7 +13,10 @@ masked-requires : tie.Need-masked-requires
 masked-requires c κs = search needs
 
 number-requires : tie.Need-number-requires
-number-requires c κs = let m = c .before .before .before .before .before .before .before .before .before .before .before .before .masked in let s = c .before .before .before .before .before .before .before .before .before .before .before .before .before .before .before .before .before .before .before .before .before .before .before .before .before .before .before .before .before in countable (m .ensures (s .pre .0 .outcome) (s .pre .0 .stands) .answers .text) (omega (arith, s .good))
+number-requires c κs = let m = c .before .before .before .before .before .before .before .before .before .before .before .before .masked in
+    let s = c .before .before .before .before .before .before .before .before .before .before .before .before .before .before .before .before .before .before
+    .before .before .before .before .before .before .before .before .before .before .before in
+    countable (m .ensures (s .pre .0 .outcome) (s .pre .0 .stands) .answers .text) (omega (arith, s .good))
 
 same-length : tie.Need-same-length
 same-length c = search needs
@@ -34,7 +37,8 @@ same-length-6 : tie.Need-same-length-6
 same-length-6 c = search needs
 
 returns : tie.Need-returns
-returns c = let m = c .before .before .before .before .before .before .before .before .before .before .before .before .before .masked in λ o s. record { answer = m .result; promise = m .ensures o s; told = search needs }
+returns c = let m = c .before .before .before .before .before .before .before .before .before .before .before .before .before .masked in
+    λ o s. record { answer = m .result; promise = m .ensures o s; told = search needs }
 
 pub masked-spec : {M : Type 1} → statement M
 masked-spec =

@@ -13,7 +13,9 @@ text-requires : tie.Need-text-requires
 text-requires c κs = search needs
 
 number-requires : tie.Need-number-requires
-number-requires c κs = let t = c .before .before .before .before .before .before .text in let s = c .before .before .before .before .before .before .before .before .before .before .before .before .before .before .before in countable (t .ensures (s .pre .outcome) (s .pre .stands) .answers) (omega (arith, s .good))
+number-requires c κs = let t = c .before .before .before .before .before .before .text in
+    let s = c .before .before .before .before .before .before .before .before .before .before .before .before .before .before .before in
+    countable (t .ensures (s .pre .outcome) (s .pre .stands) .answers) (omega (arith, s .good))
 
 same-length : tie.Need-same-length
 same-length c = search needs

@@ -15,19 +15,23 @@ leak-size-requires : tie.Need-leak-size-requires
 leak-size-requires c κs = search needs
 
 returns : tie.Need-returns
-returns c = let a = c .before .before .before .before .before .args in leak-short (a .leak) (a .bad) (a .a) (c .before .before .before .a2 .given .1) (c .before .leak-size .ensures) (c .if1 .taken)
+returns c = let a = c .before .before .before .before .before .args in leak-short (a .leak) (a .bad) (a .a) (c .before .before .before .a2 .given .1)
+    (c .before .leak-size .ensures) (c .if1 .taken)
 
 bad-size-requires : tie.Need-bad-size-requires
 bad-size-requires c κs = search needs
 
 returns-2 : tie.Need-returns-2
-returns-2 c = let a = c .before .before .before .before .before .before .before .args in bad-short (a .leak) (a .bad) (a .a) (c .before .before .before .before .before .a2 .given .1) (c .before .bad-size .ensures) (c .if2 .taken)
+returns-2 c = let a = c .before .before .before .before .before .before .before .args in
+    bad-short (a .leak) (a .bad) (a .a) (c .before .before .before .before .before .a2 .given .1) (c .before .bad-size .ensures) (c .if2 .taken)
 
 returns-3 : tie.Need-returns-3
 returns-3 c = let a = c .before .before .before .args in room-refused (a .leak) (a .bad) (a .a) (c .before .a .given .1)
 
 returns-4 : tie.Need-returns-4
-returns-4 c = let a = c .before .before .before .before .before .before .before .args in both-fit (a .leak) (a .bad) (a .a) (c .before .before .before .before .before .a2 .given .1) (c .before .before .before .leak-size .ensures) (c .before .before .if1 .left) (c .before .bad-size .ensures) (c .if2 .left)
+returns-4 c = let a = c .before .before .before .before .before .before .before .args in
+    both-fit (a .leak) (a .bad) (a .a) (c .before .before .before .before .before .a2 .given .1) (c .before .before .before .leak-size .ensures)
+    (c .before .before .if1 .left) (c .before .bad-size .ensures) (c .if2 .left)
 
 pub room-for-spec : {M : Type 1} → statement M
 room-for-spec =

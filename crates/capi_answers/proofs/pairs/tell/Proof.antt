@@ -33,7 +33,8 @@ returns : tie.Need-returns
 returns c =
     let a = c .before .before .before .before .before .before .before .args in
     let f : Fits w8 (c .before .before .question .given .0 .0) = search needs in
-    shows-refused (a .leak .now) (a .bad .now) (a .a) (sym (c .before .before .before .before .room-for .ensures) ∙ c .before .before .question .given .1) (minus-back f (c .minus .ensures))
+    shows-refused (a .leak .now) (a .bad .now) (a .a) (sym (c .before .before .before .before .room-for .ensures) ∙ c .before .before .question .given .1)
+    (minus-back f (c .minus .ensures))
 
 same-length : tie.Need-same-length
 same-length c = search needs
@@ -44,8 +45,13 @@ same-length-2 c = search needs
 returns-2 : tie.Need-returns-2
 returns-2 c =
     let a = c .before .before .before .before .before .before .before .before .before .before .before .before .before .before .before .args in
-    shows-done (a .leak .now) (a .bad .now) (a .a) (sym (c .before .before .before .before .before .before .before .before .before .before .before .before .room-for .ensures) ∙ c .before .before .before .before .before .before .before .before .before .before .wires .given .1) (c .before .before .before .before .before .before .before .show-leak .ensures)
-    (c .before .before .before .show-bad .ensures) (both-back (c .before .before .before .before .before .before .before .before .before .before .wires .given .0 .0) (c .before .before .before .before .before .before .before .before .before .before .wires .given .0 .1 .0) (c .both .ensures))
+    shows-done (a .leak .now) (a .bad .now) (a .a)
+    (sym (c .before .before .before .before .before .before .before .before .before .before .before .before .room-for .ensures) ∙
+    c .before .before .before .before .before .before .before .before .before .before .wires .given .1)
+    (c .before .before .before .before .before .before .before .show-leak .ensures)
+    (c .before .before .before .show-bad .ensures)
+    (both-back (c .before .before .before .before .before .before .before .before .before .before .wires .given .0 .0)
+    (c .before .before .before .before .before .before .before .before .before .before .wires .given .0 .1 .0) (c .both .ensures))
 
 pub tell-spec : {M : Type 1} → statement M
 tell-spec =

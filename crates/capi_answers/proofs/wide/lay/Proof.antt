@@ -53,7 +53,8 @@ loop-again c = let h = c .before .before .before .before .before .before .loop .
       omega (arith, c .before .before .before .before .before .loop-test .taken),
       omega (arith, c .before .before .before .before .if1 .left),
       c .before .before .put .kept .0 ∙ h .2,
-      c .before .before .put .ensures ∙ ap (λ (l : List ℕ). set l i (getD (a .t2) i 0)) (h .3) ∙ laid-one (a .ones .now) (a .t2) i (omega (arith, c .before .before .before .before .before .loop-test .taken)),
+      c .before .before .put .ensures ∙ ap (λ (l : List ℕ). set l i (getD (a .t2) i 0)) (h .3) ∙ laid-one (a .ones .now) (a .t2) i
+          (omega (arith, c .before .before .before .before .before .loop-test .taken)),
     )
 
 same-length-2 : tie.Need-same-length-2 Inv-loop μ-loop

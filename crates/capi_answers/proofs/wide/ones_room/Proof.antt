@@ -18,7 +18,8 @@ enum-known-wires : tie.Need-enum-known-wires
 enum-known-wires c = search needs
 
 returns : tie.Need-returns
-returns c = let a = c .before .before .before .before .before .before .before .args in ones-short (a .room) (a .a) (c .before .before .before .before .before .a2 .given .1) (c .before .before .wires .given .1) (c .if1 .taken)
+returns c = let a = c .before .before .before .before .before .before .before .args in
+    ones-short (a .room) (a .a) (c .before .before .before .before .before .a2 .given .1) (c .before .before .wires .given .1) (c .if1 .taken)
 
 returns-2 : tie.Need-returns-2
 returns-2 c = let a = c .before .before .before .args in ones-refused (a .room) (a .a) (c .before .a .given .1)
@@ -27,7 +28,8 @@ returns-3 : tie.Need-returns-3
 returns-3 c = let a = c .before .before .before .before .before .args in ones-clean (a .room) (a .a) (c .before .before .before .a2 .given .1) (c .enum-told .given .1)
 
 returns-4 : tie.Need-returns-4
-returns-4 c = let a = c .before .before .before .before .before .before .before .args in ones-fit (a .room) (a .a) (c .before .before .before .before .before .a2 .given .1) (c .before .before .wires .given .1) (c .if1 .left)
+returns-4 c = let a = c .before .before .before .before .before .before .before .args in
+    ones-fit (a .room) (a .a) (c .before .before .before .before .before .a2 .given .1) (c .before .before .wires .given .1) (c .if1 .left)
 
 pub ones-room-spec : {M : Type 1} → statement M
 ones-room-spec =

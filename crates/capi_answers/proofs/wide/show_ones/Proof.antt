@@ -26,13 +26,16 @@ returns : tie.Need-returns
 returns c = let a = c .before .before .before .args in ap (sets (a .ones .now) 0) (shown-refused (a .items) (c .enum-told .given .1))
 
 returns-2 : tie.Need-returns-2
-returns-2 c = let a = c .before .before .before .before .before .before .args in ap (sets (a .ones .now) 0) (shown-clean (a .items) (c .before .before .before .a .given .1) (c .enum-told2 .given .1))
+returns-2 c = let a = c .before .before .before .before .before .before .args in
+    ap (sets (a .ones .now) 0) (shown-clean (a .items) (c .before .before .before .a .given .1) (c .enum-told2 .given .1))
 
 same-length : tie.Need-same-length
 same-length c = search needs
 
 returns-3 : tie.Need-returns-3
-returns-3 c = let a = c .before .before .before .before .before .before .before .before .before .before .before .args in c .before .before .lay .ensures ∙ ap (sets (a .ones .now) 0) (shown-leak (a .items) (c .before .before .before .before .before .before .before .before .a .given .1) (c .before .before .before .before .before .wires .given .1))
+returns-3 c = let a = c .before .before .before .before .before .before .before .before .before .before .before .args in
+    c .before .before .lay .ensures ∙ ap (sets (a .ones .now) 0) (shown-leak (a .items)
+    (c .before .before .before .before .before .before .before .before .a .given .1) (c .before .before .before .before .before .wires .given .1))
 
 pub show-ones-spec : {M : Type 1} → statement M
 show-ones-spec =

@@ -43,7 +43,9 @@ returns c = let a = c .before .before .before .before .before .before .before .b
     record {
       told = _∙_ {b = tl .result} (search needs) (t .told);
       leakList = t .leakList;
-      onesList = c .before .before .before .before .before .before .before .before .before .show-ones .ensures ∙ ap (λ (x : CheckedPairs). sets (a .ones .now) 0 (toOnes x (a .a .ones))) (c .before .before .before .before .before .before .before .before .before .before .room-for .ensures ∙ ap (roomFor L B) asked);
+      onesList = c .before .before .before .before .before .before .before .before .before .show-ones .ensures ∙ ap
+          (λ (x : CheckedPairs). sets (a .ones .now) 0 (toOnes x (a .a .ones)))
+          (c .before .before .before .before .before .before .before .before .before .before .room-for .ensures ∙ ap (roomFor L B) asked);
       badList = t .badList;
     }
 

@@ -33,7 +33,12 @@ shr-many : tie.Need-shr-many Inv-loop μ-loop
 shr-many c = omega (arith, c .before .before .before .pre .1)
 
 add-many : tie.Need-add-many Inv-loop μ-loop
-add-many c = let s = c .before .before .before .args in omega (arith, and-le-r (getD (s .words .now) (c .before .before .loop .i) 0 / 2 ^ (s .place)) 1, c .before .before .loop .inv .counted, ones-few (λ i. lane (s .place) (getD (s .words .now) i 0)) (c .before .before .loop .i))
+add-many c = let s = c .before .before .before .args in omega (
+  arith,
+  and-le-r (getD (s .words .now) (c .before .before .loop .i) 0 / 2 ^ (s .place)) 1,
+  c .before .before .loop .inv .counted,
+  ones-few (λ i. lane (s .place) (getD (s .words .now) i 0)) (c .before .before .loop .i),
+)
 
 add-i : tie.Need-add-i Inv-loop μ-loop
 add-i c = omega arith
@@ -42,10 +47,12 @@ loop-less : tie.Need-loop-less Inv-loop μ-loop
 loop-less c = omega arith
 
 loop-again : tie.Need-loop-again Inv-loop μ-loop
-loop-again c = let s = c .before .before .before .args in counting-more (c .before .before .loop .inv) (c .before .loop-test .taken) (bit-low (s .place) (getD (s .words .now) (c .before .before .loop .i) 0))
+loop-again c = let s = c .before .before .before .args in counting-more (c .before .before .loop .inv) (c .before .loop-test .taken)
+    (bit-low (s .place) (getD (s .words .now) (c .before .before .loop .i) 0))
 
 returns : tie.Need-returns Inv-loop μ-loop
-returns c = let s = c .before .before .args in let e : c .before .loop .i ≡ s .n = omega (arith, c .before .loop .inv .passed, c .loop-test .left) in rw e at (c .before .loop .inv .counted)
+returns c = let s = c .before .before .args in let e : c .before .loop .i ≡ s .n = omega (arith, c .before .loop .inv .passed, c .loop-test .left) in
+    rw e at (c .before .loop .inv .counted)
 
 pub count-spec : {M : Type 1} → statement M
 count-spec =

@@ -38,7 +38,16 @@ put-requires : tie.Need-put-requires Inv-loop μ-loop
 put-requires c κs = λ e. let s = c .before .before .before .before .before .before .args in let w = c .before .before .before .loop in
     let b : lane (s .place) (getD (s .words .now) (w .i) 0) ≡ true = sym (lane-test (s .place) (getD (s .words .now) (w .i) 0)) ∙ e in
     let o : bit (lane (s .place) (getD (s .words .now) (w .i) 0)) ≡ 1 = ap bit b in
-    omega (arith, o, ones-more (λ i. lane (s .place) (getD (s .words .now) i 0)) (w .i), ones-most (λ i. lane (s .place) (getD (s .words .now) i 0)) (w .i + 1) (s .n) (omega (arith, c .before .before .loop-test .taken)), w .inv .place, w .inv .long, c .before .before .before .before .before .before .pre .2)
+    omega (
+      arith,
+      o,
+      ones-more (λ i. lane (s .place) (getD (s .words .now) i 0)) (w .i),
+      ones-most (λ i. lane (s .place) (getD (s .words .now) i 0)) (w .i + 1)
+          (s .n) (omega (arith, c .before .before .loop-test .taken)),
+      w .inv .place,
+      w .inv .long,
+      c .before .before .before .before .before .before .pre .2,
+    )
 
 add-i : tie.Need-add-i Inv-loop μ-loop
 add-i c = omega arith
@@ -47,13 +56,17 @@ loop-less : tie.Need-loop-less Inv-loop μ-loop
 loop-less c = omega arith
 
 loop-again : tie.Need-loop-again Inv-loop μ-loop
-loop-again c = let s = c .before .before .before .before .before .before .before .before .before .args in writing-more (c .before .before .before .before .before .before .loop .inv) (c .before .before .before .before .before .loop-test .taken) (lane-test (s .place) (getD (s .words .now) (c .before .before .before .before .before .before .loop .i) 0)) (c .before .before .put .kept .0) (c .before .before .put .ensures .0) (c .before .before .put .ensures .1)
+loop-again c = let s = c .before .before .before .before .before .before .before .before .before .args in
+    writing-more (c .before .before .before .before .before .before .loop .inv) (c .before .before .before .before .before .loop-test .taken)
+    (lane-test (s .place) (getD (s .words .now) (c .before .before .before .before .before .before .loop .i) 0)) (c .before .before .put .kept .0)
+    (c .before .before .put .ensures .0) (c .before .before .put .ensures .1)
 
 same-length : tie.Need-same-length Inv-loop μ-loop
 same-length c = c .before .loop .inv .long
 
 returns : tie.Need-returns Inv-loop μ-loop
-returns c = let s = c .before .before .before .before .args in let e : c .before .loop .i ≡ s .n = omega (arith, c .before .loop .inv .passed, c .loop-test .left) in rw e at (c .before .loop .inv .written)
+returns c = let s = c .before .before .before .before .args in let e : c .before .loop .i ≡ s .n = omega
+    (arith, c .before .loop .inv .passed, c .loop-test .left) in rw e at (c .before .loop .inv .written)
 
 pub write-spec : {M : Type 1} → statement M
 write-spec =

@@ -38,7 +38,8 @@ returns-2 : tie.Need-returns-2
 returns-2 c = λ N codes K H.
     record {
       known = c .before .before .before .before .before .before .before .before .before .before .before .keep .ensures N codes (H .known) K;
-      marked = c .before .before .mark .ensures .0 refl N codes (c .before .before .before .before .before .clean .ensures N codes _ (H .marked) K (c .before .before .before .before .if2 .taken)) (H .marked);
+      marked = c .before .before .mark .ensures .0 refl N codes (c .before .before .before .before .before .clean .ensures N codes _ (H .marked) K
+          (c .before .before .before .before .if2 .taken)) (H .marked);
     }
 
 same-length-4 : tie.Need-same-length-4

@@ -36,7 +36,10 @@ same-length c = search needs
 
 returns-3 : tie.Need-returns-3
 returns-3 c = λ N codes T K.
-    let L = known-if (c .before .before .before .before .before .before .before .leaf .result) (c .before .before .before .before .before .s .given .1) (leaf-known (c .before .before .before .before .before .before .before .before .before .before .before .before .args .w) (c .before .before .before .before .before .before .before .leaf .result) (c .before .before .before .before .before .before .before .leaf .ensures) K) in
+    let L = known-if (c .before .before .before .before .before .before .before .leaf .result) (c .before .before .before .before .before .s .given .1)
+    (leaf-known (c .before .before .before .before .before .before .before .before .before .before .before .before .args .w)
+    (c .before .before .before .before .before .before .before .leaf .result) (c .before .before .before .before .before .before .before .leaf .ensures) K)
+    in
     c .before .before .hinted .ensures N codes T K L
 
 pub leaf-of-spec : {M : Type 1} → statement M

@@ -20,19 +20,29 @@ loop-holds : tie.Need-loop-holds Inv-loop μ-loop
 loop-holds c = settling-none _ _ _
 
 settle-requires : tie.Need-settle-requires Inv-loop μ-loop
-settle-requires c κs = let i = c .before .before .before .before .loop .inv in (omega (arith, i .records, c .before .before .before .before .before .before .before .before .pre .0), omega (arith, i .marks, c .before .before .before .before .before .before .before .before .pre .1), c .before .before .before .loop-test .taken)
+settle-requires c κs = let i = c .before .before .before .before .loop .inv in (
+  omega
+      (arith, i .records, c .before .before .before .before .before .before .before .before .pre .0),
+  omega
+      (arith, i .marks, c .before .before .before .before .before .before .before .before .pre .1),
+  c .before .before .before .loop-test .taken,
+)
 
 same-length : tie.Need-same-length Inv-loop μ-loop
-same-length c = c .before .before .before .before .before .before .before .settle .kept .0 ∙ c .before .before .before .before .before .before .before .before .before .before .before .before .loop .inv .records
+same-length c = c .before .before .before .before .before .before .before .settle .kept .0 ∙
+    c .before .before .before .before .before .before .before .before .before .before .before .before .loop .inv .records
 
 same-length-2 : tie.Need-same-length-2 Inv-loop μ-loop
-same-length-2 c = c .before .before .before .before .before .before .before .settle .kept .1 .0 ∙ c .before .before .before .before .before .before .before .before .before .before .before .before .loop .inv .marks
+same-length-2 c = c .before .before .before .before .before .before .before .settle .kept .1 .0 ∙
+    c .before .before .before .before .before .before .before .before .before .before .before .before .loop .inv .marks
 
 same-length-3 : tie.Need-same-length-3 Inv-loop μ-loop
-same-length-3 c = c .before .before .before .before .before .before .before .settle .kept .1 .1 .0 ∙ c .before .before .before .before .before .before .before .before .before .before .before .before .loop .inv .hints
+same-length-3 c = c .before .before .before .before .before .before .before .settle .kept .1 .1 .0 ∙
+    c .before .before .before .before .before .before .before .before .before .before .before .before .loop .inv .hints
 
 returns : tie.Need-returns Inv-loop μ-loop
-returns c = λ N codes H. c .before .before .before .before .before .before .before .settle .ensures N codes (c .before .before .before .before .before .before .before .before .before .before .before .before .loop .inv .stays N codes H)
+returns c = λ N codes H. c .before .before .before .before .before .before .before .settle .ensures N codes
+    (c .before .before .before .before .before .before .before .before .before .before .before .before .loop .inv .stays N codes H)
 
 add-k : tie.Need-add-k Inv-loop μ-loop
 add-k c = omega arith
@@ -41,7 +51,11 @@ loop-less : tie.Need-loop-less Inv-loop μ-loop
 loop-less c = omega arith
 
 loop-again : tie.Need-loop-again Inv-loop μ-loop
-loop-again c = settling-more _ _ _ (c .before .before .before .before .before .before .before .before .before .before .before .before .loop .inv) (c .before .before .before .before .before .before .before .before .before .before .before .loop-test .taken) (c .before .before .before .before .before .before .before .settle .kept .0) (c .before .before .before .before .before .before .before .settle .kept .1 .0) (c .before .before .before .before .before .before .before .settle .kept .1 .1 .0) (c .before .before .before .before .before .before .before .settle .ensures)
+loop-again c = settling-more _ _ _ (c .before .before .before .before .before .before .before .before .before .before .before .before .loop .inv)
+    (c .before .before .before .before .before .before .before .before .before .before .before .loop-test .taken)
+    (c .before .before .before .before .before .before .before .settle .kept .0) (c .before .before .before .before .before .before .before .settle .kept .1 .0)
+    (c .before .before .before .before .before .before .before .settle .kept .1 .1 .0)
+    (c .before .before .before .before .before .before .before .settle .ensures)
 
 same-length-4 : tie.Need-same-length-4 Inv-loop μ-loop
 same-length-4 c = c .before .loop .inv .records

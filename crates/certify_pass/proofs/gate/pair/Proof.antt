@@ -57,9 +57,19 @@ same-length-4 c = search needs
 returns-3 : tie.Need-returns-3
 returns-3 c = record {
   holds = λ N codes M X H.
-      let g = c .before .before .before .before .before .before .before .before .before .before .before .before .before .before .before .before .before .before .args .gate in
-      let Y = read-known (g .right) (c .before .before .before .before .before .before .before .before .before .before .before .before .before .before .before .before .before .before .args .j) (c .before .before .before .before .before .before .before .before .before .before .before .before .before .before .before .before .before .before .pre .1) (H .known) (c .before .before .before .before .before .before .before .before .before .before .before .before .before .get .ensures) (c .before .before .before .before .before .before .before .before .before .before .before .before .present .ensures (not-false _ (c .before .before .before .before .before .before .before .before .before .before .before .if1 .left))) in
-      let K = known-if (c .before .before .before .before .before .before .before .before .before .before .combine .result) (c .before .before .before .before .before .before .before .before .r .given .1) (joined-known (g .kind) (g .left) (g .right) (g .result) (c .before .before .before .before .before .before .before .before .before .before .combine .result) (c .before .before .before .before .before .before .before .before .before .before .combine .ensures) M X Y) in
+      let g = c .before .before .before .before .before .before .before .before .before .before .before .before .before .before .before .before .before .before
+      .args .gate in
+      let Y = read-known (g .right)
+      (c .before .before .before .before .before .before .before .before .before .before .before .before .before .before .before .before .before .before
+      .args .j) (c .before .before .before .before .before .before .before .before .before .before .before .before .before .before .before .before .before
+      .before .pre .1) (H .known) (c .before .before .before .before .before .before .before .before .before .before .before .before .before .get .ensures)
+      (c .before .before .before .before .before .before .before .before .before .before .before .before .present .ensures
+      (not-false _ (c .before .before .before .before .before .before .before .before .before .before .before .if1 .left))) in
+      let K = known-if (c .before .before .before .before .before .before .before .before .before .before .combine .result)
+      (c .before .before .before .before .before .before .before .before .r .given .1)
+      (joined-known (g .kind) (g .left) (g .right) (g .result)
+      (c .before .before .before .before .before .before .before .before .before .before .combine .result)
+      (c .before .before .before .before .before .before .before .before .before .before .combine .ensures) M X Y) in
       c .before .before .before .before .add .ensures N codes K H;
 }
 

@@ -21,7 +21,13 @@ loop-holds : tie.Need-loop-holds Inv-loop μ-loop
 loop-holds c = pairing-none _ _
 
 pairs-of-requires : tie.Need-pairs-of-requires Inv-loop μ-loop
-pairs-of-requires c κs = let i = c .before .before .before .loop .inv in (within-as (ap (λ (n : ℕ). n / 15) (i .records)) (c .before .before .before .before .before .before .pre .0), c .before .before .loop-test .taken, omega (arith, i .marks, c .before .before .before .before .before .before .pre .1))
+pairs-of-requires c κs = let i = c .before .before .before .loop .inv in (
+  within-as (ap (λ (n : ℕ). n / 15) (i .records))
+      (c .before .before .before .before .before .before .pre .0),
+  c .before .before .loop-test .taken,
+  omega
+      (arith, i .marks, c .before .before .before .before .before .before .pre .1),
+)
 
 add-i : tie.Need-add-i Inv-loop μ-loop
 add-i c = omega arith
@@ -30,7 +36,9 @@ loop-less : tie.Need-loop-less Inv-loop μ-loop
 loop-less c = omega arith
 
 loop-again : tie.Need-loop-again Inv-loop μ-loop
-loop-again c = pairing-more (c .before .before .before .before .before .before .before .before .loop .inv) (c .before .before .before .before .before .before .before .loop-test .taken) (c .before .before .before .before .pairs-of .kept .0) (c .before .before .before .before .pairs-of .kept .1 .0) (c .before .before .before .before .pairs-of .ensures .holds)
+loop-again c = pairing-more (c .before .before .before .before .before .before .before .before .loop .inv)
+    (c .before .before .before .before .before .before .before .loop-test .taken) (c .before .before .before .before .pairs-of .kept .0)
+    (c .before .before .before .before .pairs-of .kept .1 .0) (c .before .before .before .before .pairs-of .ensures .holds)
 
 same-length : tie.Need-same-length Inv-loop μ-loop
 same-length c = c .before .loop .inv .records

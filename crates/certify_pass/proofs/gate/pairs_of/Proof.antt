@@ -42,7 +42,12 @@ same-length-3 c = search needs
 returns-2 : tie.Need-returns-2
 returns-2 c = record {
   holds = λ N codes M H.
-      let X = read-known (c .before .before .before .before .before .before .before .before .before .before .before .before .before .before .before .before .args .gate .left) (c .before .before .before .before .before .before .before .before .before .before .before .before .before .before .before .before .args .i) (c .before .before .before .before .before .before .before .before .before .before .before .before .before .before .before .before .pre .1) (H .known) (c .before .before .before .before .before .before .before .before .before .before .before .get .ensures) (c .before .before .before .before .before .before .before .before .before .before .present .ensures (not-false _ (c .before .before .before .before .before .before .before .before .before .if1 .left))) in
+      let X = read-known (c .before .before .before .before .before .before .before .before .before .before .before .before .before .before .before .before
+      .args .gate .left) (c .before .before .before .before .before .before .before .before .before .before .before .before .before .before .before .before
+      .args .i) (c .before .before .before .before .before .before .before .before .before .before .before .before .before .before .before .before .pre .1)
+      (H .known) (c .before .before .before .before .before .before .before .before .before .before .before .get .ensures)
+      (c .before .before .before .before .before .before .before .before .before .before .present .ensures
+      (not-false _ (c .before .before .before .before .before .before .before .before .before .if1 .left))) in
       c .before .before .before .before .pair .ensures .holds N codes M X H;
 }
 
@@ -58,7 +63,12 @@ same-length-5 c = search needs
 returns-3 : tie.Need-returns-3
 returns-3 c = record {
   holds = λ N codes M H.
-      let X = read-known (c .before .before .before .before .before .before .before .before .before .before .before .before .before .before .before .before .args .gate .left) (c .before .before .before .before .before .before .before .before .before .before .before .before .before .before .before .before .args .i) (c .before .before .before .before .before .before .before .before .before .before .before .before .before .before .before .before .pre .1) (H .known) (c .before .before .before .before .before .before .before .before .before .before .before .get .ensures) (c .before .before .before .before .before .before .before .before .before .before .present .ensures (not-false _ (c .before .before .before .before .before .before .before .before .before .if1 .left))) in
+      let X = read-known (c .before .before .before .before .before .before .before .before .before .before .before .before .before .before .before .before
+      .args .gate .left) (c .before .before .before .before .before .before .before .before .before .before .before .before .before .before .before .before
+      .args .i) (c .before .before .before .before .before .before .before .before .before .before .before .before .before .before .before .before .pre .1)
+      (H .known) (c .before .before .before .before .before .before .before .before .before .before .before .get .ensures)
+      (c .before .before .before .before .before .before .before .before .before .before .present .ensures
+      (not-false _ (c .before .before .before .before .before .before .before .before .before .if1 .left))) in
       c .before .before .before .before .row .ensures .holds N codes M X H;
 }
 

@@ -20,7 +20,13 @@ loop-holds : tie.Need-loop-holds Inv-loop μ-loop
 loop-holds c = pairing-none _ _
 
 pair-requires : tie.Need-pair-requires Inv-loop μ-loop
-pair-requires c κs = let i = c .before .before .before .loop .inv in (within-as (ap (λ (n : ℕ). n / 15) (i .records)) (c .before .before .before .before .before .before .pre .0), c .before .before .loop-test .taken, omega (arith, i .marks, c .before .before .before .before .before .before .pre .1))
+pair-requires c κs = let i = c .before .before .before .loop .inv in (
+  within-as (ap (λ (n : ℕ). n / 15) (i .records))
+      (c .before .before .before .before .before .before .pre .0),
+  c .before .before .loop-test .taken,
+  omega
+      (arith, i .marks, c .before .before .before .before .before .before .pre .1),
+)
 
 add-j : tie.Need-add-j Inv-loop μ-loop
 add-j c = omega arith
@@ -29,7 +35,9 @@ loop-less : tie.Need-loop-less Inv-loop μ-loop
 loop-less c = omega arith
 
 loop-again : tie.Need-loop-again Inv-loop μ-loop
-loop-again c = pairing-more (c .before .before .before .before .before .before .before .before .loop .inv) (c .before .before .before .before .before .before .before .loop-test .taken) (c .before .before .before .before .pair .kept .0) (c .before .before .before .before .pair .kept .1 .0) (λ N codes p H. c .before .before .before .before .pair .ensures .holds N codes (p .0) (p .1) H)
+loop-again c = pairing-more (c .before .before .before .before .before .before .before .before .loop .inv)
+    (c .before .before .before .before .before .before .before .loop-test .taken) (c .before .before .before .before .pair .kept .0)
+    (c .before .before .before .before .pair .kept .1 .0) (λ N codes p H. c .before .before .before .before .pair .ensures .holds N codes (p .0) (p .1) H)
 
 same-length : tie.Need-same-length Inv-loop μ-loop
 same-length c = c .before .loop .inv .records

@@ -74,11 +74,26 @@ same-length-6 c = search needs
 
 returns-3 : tie.Need-returns-3
 returns-3 c = λ N codes H.
-    let K = read-known (c .before .before .before .before .before .before .before .before .before .before .before .before .before .before .before .before .before .before .before .before .before .before .before .before .before .before .args .w) (c .before .before .before .before .before .before .before .before .before .before .before .before .before .before .before .before .before .before .before .before .before .before .before .before .before .before .args .k) (c .before .before .before .before .before .before .before .before .before .before .before .before .before .before .before .before .before .before .before .before .before .before .before .before .before .before .pre .2) (H .known) (c .before .before .before .before .before .before .before .before .before .before .before .before .before .before .before .before .before .before .before .before .before .get .ensures) (c .before .before .before .before .before .before .before .before .before .before .before .before .before .before .before .before .before .before .before .before .present .ensures (not-false _ (c .before .before .before .before .before .before .before .before .before .before .before .before .before .before .before .before .before .before .before .if1 .left))) in
-    let L = known-if (c .before .before .before .before .before .before .before .before .before .before .before .before .before .before .before .before .leaf-of .result) (c .before .before .before .before .before .before .before .before .before .before .before .before .s .given .1) (c .before .before .before .before .before .before .before .before .before .before .before .before .before .before .before .before .leaf-of .ensures N codes (H .known) K) in
+    let K = read-known (c .before .before .before .before .before .before .before .before .before .before .before .before .before .before .before .before
+    .before .before .before .before .before .before .before .before .before .before .args .w)
+    (c .before .before .before .before .before .before .before .before .before .before .before .before .before .before .before .before .before .before
+    .before .before .before .before .before .before .before .before .args .k)
+    (c .before .before .before .before .before .before .before .before .before .before .before .before .before .before .before .before .before .before
+    .before .before .before .before .before .before .before .before .pre .2) (H .known)
+    (c .before .before .before .before .before .before .before .before .before .before .before .before .before .before .before .before .before .before
+    .before .before .before .get .ensures)
+    (c .before .before .before .before .before .before .before .before .before .before .before .before .before .before .before .before .before .before
+    .before .before .present .ensures
+    (not-false _ (c .before .before .before .before .before .before .before .before .before .before .before .before .before .before .before .before .before
+    .before .before .if1 .left))) in
+    let L = known-if (c .before .before .before .before .before .before .before .before .before .before .before .before .before .before .before .before .leaf-of
+    .result) (c .before .before .before .before .before .before .before .before .before .before .before .before .s .given .1)
+    (c .before .before .before .before .before .before .before .before .before .before .before .before .before .before .before .before .leaf-of .ensures N
+    codes (H .known) K) in
     record {
       known = put-leaf (c .before .before .before .before .before .before .before .before .before .put .ensures) (H .known) L;
-      marked = c .before .before .mark .ensures .1 refl N codes (c .before .before .before .before .before .public .ensures N codes _ (H .marked) K (c .before .before .before .before .if2 .taken)) (H .marked);
+      marked = c .before .before .mark .ensures .1 refl N codes (c .before .before .before .before .before .public .ensures N codes _ (H .marked) K
+          (c .before .before .before .before .if2 .taken)) (H .marked);
     }
 
 same-length-7 : tie.Need-same-length-7
@@ -92,8 +107,19 @@ same-length-9 c = search needs
 
 returns-4 : tie.Need-returns-4
 returns-4 c = λ N codes H.
-    let K = read-known (c .before .before .before .before .before .before .before .before .before .before .before .before .before .before .before .before .before .before .before .before .before .before .args .w) (c .before .before .before .before .before .before .before .before .before .before .before .before .before .before .before .before .before .before .before .before .before .before .args .k) (c .before .before .before .before .before .before .before .before .before .before .before .before .before .before .before .before .before .before .before .before .before .before .pre .2) (H .known) (c .before .before .before .before .before .before .before .before .before .before .before .before .before .before .before .before .before .get .ensures) (c .before .before .before .before .before .before .before .before .before .before .before .before .before .before .before .before .present .ensures (not-false _ (c .before .before .before .before .before .before .before .before .before .before .before .before .before .before .before .if1 .left))) in
-    let L = known-if (c .before .before .before .before .before .before .before .before .before .before .before .before .leaf-of .result) (c .before .before .before .before .before .before .before .before .s .given .1) (c .before .before .before .before .before .before .before .before .before .before .before .before .leaf-of .ensures N codes (H .known) K) in
+    let K = read-known (c .before .before .before .before .before .before .before .before .before .before .before .before .before .before .before .before
+    .before .before .before .before .before .before .args .w)
+    (c .before .before .before .before .before .before .before .before .before .before .before .before .before .before .before .before .before .before
+    .before .before .before .before .args .k)
+    (c .before .before .before .before .before .before .before .before .before .before .before .before .before .before .before .before .before .before
+    .before .before .before .before .pre .2) (H .known)
+    (c .before .before .before .before .before .before .before .before .before .before .before .before .before .before .before .before .before .get
+    .ensures) (c .before .before .before .before .before .before .before .before .before .before .before .before .before .before .before .before .present
+    .ensures (not-false _
+    (c .before .before .before .before .before .before .before .before .before .before .before .before .before .before .before .if1 .left))) in
+    let L = known-if (c .before .before .before .before .before .before .before .before .before .before .before .before .leaf-of .result)
+    (c .before .before .before .before .before .before .before .before .s .given .1)
+    (c .before .before .before .before .before .before .before .before .before .before .before .before .leaf-of .ensures N codes (H .known) K) in
     record { known = put-leaf (c .before .before .before .before .before .put .ensures) (H .known) L; marked = H .marked }
 
 pub settle-spec : {M : Type 1} → statement M

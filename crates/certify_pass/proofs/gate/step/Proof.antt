@@ -24,7 +24,10 @@ same-length-3 : tie.Need-same-length-3
 same-length-3 c = search needs
 
 returns : tie.Need-returns
-returns c = record { holds = λ N codes M H. c .before .before .before .before .before .before .leaves .ensures N codes (c .before .before .before .before .before .before .before .before .before .before .before .before .before .before .pairs .ensures .holds N codes M H) }
+returns c = record {
+  holds = λ N codes M H. c .before .before .before .before .before .before .leaves .ensures N codes
+      (c .before .before .before .before .before .before .before .before .before .before .before .before .before .before .pairs .ensures .holds N codes M H);
+}
 
 pub step-spec : {M : Type 1} → statement M
 step-spec =

@@ -30,7 +30,11 @@ same-length-2 : tie.Need-same-length-2
 same-length-2 c = search needs
 
 returns : tie.Need-returns
-returns c = λ N codes K H. record { known = put-leaf (c .before .before .before .before .before .before .before .before .before .put .ensures) (H .known) K; marked = c .before .before .mark .ensures .0 refl N codes (c .before .before .before .before .before .clean .ensures N codes _ (H .marked) K (c .before .before .before .before .if1 .taken)) (H .marked) }
+returns c = λ N codes K H. record {
+  known = put-leaf (c .before .before .before .before .before .before .before .before .before .put .ensures) (H .known) K;
+  marked = c .before .before .mark .ensures .0 refl N codes (c .before .before .before .before .before .clean .ensures N codes _ (H .marked) K
+      (c .before .before .before .before .if1 .taken)) (H .marked);
+}
 
 same-length-3 : tie.Need-same-length-3
 same-length-3 c = search needs

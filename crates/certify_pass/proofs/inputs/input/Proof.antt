@@ -30,7 +30,8 @@ returns c = record {
       let laid = at-mark .before .before .before .before .before .before .lay .ensures .holds N codes M h e H in
       record {
         known = laid .known;
-        marked = at-mark .mark .ensures .1 refl N codes (input-open M _ h (e ∙ at-mark .before .before .before .before .before .before .before .before .before .if1 .taken)) (laid .marked);
+        marked = at-mark .mark .ensures .1 refl N codes
+            (input-open M _ h (e ∙ at-mark .before .before .before .before .before .before .before .before .before .if1 .taken)) (laid .marked);
       };
 }
 

@@ -31,7 +31,12 @@ same-length-2 : tie.Need-same-length-2
 same-length-2 c = search needs
 
 returns-2 : tie.Need-returns-2
-returns-2 c = record { holds = λ N codes M h e H. c .before .before .before .before .give .ensures N codes (known-if (c .before .before .before .before .before .before .before .before .before .before .input-record .result) (c .before .before .before .before .before .before .before .before .r .given .1) (c .before .before .before .before .before .before .before .before .before .before .input-record .ensures N codes M h e)) H }
+returns-2 c = record {
+  holds = λ N codes M h e H. c .before .before .before .before .give .ensures N codes
+      (known-if (c .before .before .before .before .before .before .before .before .before .before .input-record .result)
+      (c .before .before .before .before .before .before .before .before .r .given .1)
+      (c .before .before .before .before .before .before .before .before .before .before .input-record .ensures N codes M h e)) H;
+}
 
 pub lay-spec : {M : Type 1} → statement M
 lay-spec =

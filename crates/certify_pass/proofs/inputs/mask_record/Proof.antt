@@ -14,7 +14,11 @@ mask-requires : tie.Need-mask-requires
 mask-requires c κs = search needs
 
 returns : tie.Need-returns
-returns c = λ N codes M. (λ e. first-known M (c .mask .result) (subst (MaskIs (c .mask .result)) e (c .mask .ensures)), λ e. second-known M (c .mask .result) (subst (MaskIs (c .mask .result)) e (c .mask .ensures)))
+returns c = λ N codes M. (
+  λ e. first-known M (c .mask .result) (subst (MaskIs (c .mask .result)) e (c .mask .ensures)),
+  λ e. second-known M (c .mask .result)
+      (subst (MaskIs (c .mask .result)) e (c .mask .ensures)),
+)
 
 pub mask-record-spec : {M : Type 1} → statement M
 mask-record-spec = tie.close (tie.spec mask-requires returns)

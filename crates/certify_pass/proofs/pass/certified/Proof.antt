@@ -30,9 +30,14 @@ inputs-requires : tie.Need-inputs-requires
 inputs-requires c κs = search needs
 
 gates-requires : tie.Need-gates-requires
-gates-requires c κs = let s = c .before .before .before .before .before .before .before .before .before .before .before .before .before .before .before .before .before .before .before .before .before .before .before .before .before .before .before .before in
-    let m = c .before .before .before .before .before .before .before .inputs .kept .1 .1 .0 ∙ c .before .before .before .before .before .before .before .before .before .before .before .before .before .before .before .before .bytes .kept .0 in
-    let r = c .before .before .before .before .before .before .before .inputs .kept .1 .0 ∙ c .before .before .before .before .before .before .before .before .before .before .before .before .before .before .before .before .before .before .before .before .words .kept .0 in
+gates-requires c κs = let s =
+    c .before .before .before .before .before .before .before .before .before .before .before .before .before .before .before .before .before .before .before
+    .before .before .before .before .before .before .before .before .before in
+    let m = c .before .before .before .before .before .before .before .inputs .kept .1 .1 .0 ∙
+    c .before .before .before .before .before .before .before .before .before .before .before .before .before .before .before .before .bytes .kept .0 in
+    let r = c .before .before .before .before .before .before .before .inputs .kept .1 .0 ∙
+    c .before .before .before .before .before .before .before .before .before .before .before .before .before .before .before .before .before .before
+    .before .before .words .kept .0 in
     (wired-same m (s .pre .0), omega (arith, s .pre .1, m, r), omega arith)
 
 lowest-requires : tie.Need-lowest-requires
@@ -48,14 +53,24 @@ same-length-3 : tie.Need-same-length-3
 same-length-3 c = search needs
 
 returns : tie.Need-returns
-returns c = let s = c .before .before .before .before .before .before .before .before .before .before .before .before .before .before .before .before .before .before .before .before .before .before .before .before .before .before .before .before .before .before .before .before .before .before .before .before .before in
-    let m = c .before .before .before .before .before .before .before .before .before .before .before .before .before .before .before .before .inputs .kept .1 .1 .0 ∙ c .before .before .before .before .before .before .before .before .before .before .before .before .before .before .before .before .before .before .before .before .before .before .before .before .before .bytes .kept .0 in
+returns c = let s = c .before .before .before .before .before .before .before .before .before .before .before .before .before .before .before .before .before
+    .before .before .before .before .before .before .before .before .before .before .before .before .before .before .before .before .before .before .before
+    .before in
+    let m = c .before .before .before .before .before .before .before .before .before .before .before .before .before .before .before .before .inputs .kept .1
+    .1 .0 ∙ c .before .before .before .before .before .before .before .before .before .before .before .before .before .before .before .before .before
+    .before .before .before .before .before .before .before .before .bytes .kept .0 in
     let g = c .before .before .before .before .before .before .before .before .gates .kept .1 .1 .1 .1 .1 .0 in (
       omega (arith, c .lowest .ensures .0, m, g),
       λ n o N H M w h.
           let K = subst (λ (W : ℕ). Holds (tables (s .args .operands .now) (s .args .results .now)) (s .args .count) W n o N) (sym m) H in
-          let S = c .before .before .before .before .before .before .before .before .before .before .before .before .before .before .before .before .inputs .ensures N M (holding-none N (s .args .codes .now) (length (s .args .records .now)) (length (s .args .marks .now)) (c .before .before .before .before .before .before .before .before .before .before .before .before .before .before .before .before .before .before .before .before .before .before .before .before .before .before .before .before .before .words .ensures) (c .before .before .before .before .before .before .before .before .before .before .before .before .before .before .before .before .before .before .before .before .before .before .before .before .before .bytes .ensures)) in
-          c .before .before .before .before .before .before .before .before .gates .ensures n o N (s .args .codes .now) K M S .marked .clean w (c .lowest .ensures .1 w h),
+          let S = c .before .before .before .before .before .before .before .before .before .before .before .before .before .before .before .before .inputs
+          .ensures N M (holding-none N (s .args .codes .now) (length (s .args .records .now)) (length (s .args .marks .now))
+          (c .before .before .before .before .before .before .before .before .before .before .before .before .before .before .before .before .before .before
+          .before .before .before .before .before .before .before .before .before .before .before .words .ensures)
+          (c .before .before .before .before .before .before .before .before .before .before .before .before .before .before .before .before .before .before
+          .before .before .before .before .before .before .before .bytes .ensures)) in
+          c .before .before .before .before .before .before .before .before .gates .ensures n o N (s .args .codes .now) K M S .marked .clean w
+          (c .lowest .ensures .1 w h),
     )
 
 pub certified-spec : {M : Type 1} → statement M

@@ -13,7 +13,8 @@ use Rattle.certify_pass.proofs.gate.step.Reads as step-reads
 use Rattle.gate_table.proofs.split.Reads as split-reads
 
 abbrev Inv-loop : tie.InvT-loop
-Inv-loop operands results count wires records₀ marks₀ hints₀ i₀ records marks hints i = Passed (tables operands results) count wires records₀ marks₀ hints₀ records marks hints i
+Inv-loop operands results count wires records₀ marks₀ hints₀ i₀ records marks hints i = Passed (tables operands results) count wires records₀ marks₀ hints₀
+    records marks hints i
 
 abbrev μ-loop : tie.MeasureT-loop
 μ-loop operands results count wires records₀ marks₀ hints₀ i₀ records marks hints i = count - i
@@ -38,7 +39,11 @@ split-requires c κs = search needs
 
 step-requires : tie.Need-step-requires Inv-loop μ-loop
 step-requires c κs = let i = c .before .before .before .before .before .before .before .loop .inv in
-    let p = gate-within (length (c .before .before .before .before .before .before .before .loop .records)) (c .before .before .before .before .before .before .before .loop .i) (c .before .before .before .before .before .before .before .before .before .before .before .before .before .pre .0) (c .before .before .before .before .before .before .loop-test .taken) (c .split .ensures) (omega (arith, c .before .before .before .before .before .before .before .before .before .before .before .before .before .pre .1, i .records)) in
+    let p = gate-within (length (c .before .before .before .before .before .before .before .loop .records))
+    (c .before .before .before .before .before .before .before .loop .i)
+    (c .before .before .before .before .before .before .before .before .before .before .before .before .before .pre .0)
+    (c .before .before .before .before .before .before .loop-test .taken) (c .split .ensures)
+    (omega (arith, c .before .before .before .before .before .before .before .before .before .before .before .before .before .pre .1, i .records)) in
     (p .0, omega (arith, p .1, c .before .before .before .before .before .before .before .before .before .before .before .before .before .pre .2, i .marks))
 
 add-i : tie.Need-add-i Inv-loop μ-loop
@@ -48,7 +53,11 @@ loop-less : tie.Need-loop-less Inv-loop μ-loop
 loop-less c = omega arith
 
 loop-again : tie.Need-loop-again Inv-loop μ-loop
-loop-again c = passed-more (c .before .before .before .before .before .before .before .before .before .before .before .before .before .before .loop .inv) (c .before .before .before .before .before .before .before .before .before .before .before .before .before .loop-test .taken) (c .before .before .before .before .before .before .step .kept .0) (c .before .before .before .before .before .before .step .kept .1 .0) (c .before .before .before .before .before .before .step .kept .1 .1 .0) (c .before .before .before .before .before .before .before .split .ensures) (c .before .before .before .before .before .before .step .ensures)
+loop-again c = passed-more (c .before .before .before .before .before .before .before .before .before .before .before .before .before .before .loop .inv)
+    (c .before .before .before .before .before .before .before .before .before .before .before .before .before .loop-test .taken)
+    (c .before .before .before .before .before .before .step .kept .0) (c .before .before .before .before .before .before .step .kept .1 .0)
+    (c .before .before .before .before .before .before .step .kept .1 .1 .0) (c .before .before .before .before .before .before .before .split .ensures)
+    (c .before .before .before .before .before .before .step .ensures)
 
 same-length : tie.Need-same-length Inv-loop μ-loop
 same-length c = c .before .loop .inv .records

@@ -32,7 +32,11 @@ loop-less : tie.Need-loop-less Inv-loop μ-loop
 loop-less c = omega arith
 
 loop-again : tie.Need-loop-again Inv-loop μ-loop
-loop-again c = record { passed = omega arith; each = below-more _ _ (c .before .before .before .loop .inv .each) (bit-set (getD (c .before .before .before .before .args .marks .now) (c .before .before .before .loop .w) 0) (c .if1 .left)) }
+loop-again c = record {
+  passed = omega arith;
+  each = below-more _ _ (c .before .before .before .loop .inv .each)
+      (bit-set (getD (c .before .before .before .before .args .marks .now) (c .before .before .before .loop .w) 0) (c .if1 .left));
+}
 
 returns-2 : tie.Need-returns-2 Inv-loop μ-loop
 returns-2 c = (c .before .loop .inv .passed, c .before .loop .inv .each)

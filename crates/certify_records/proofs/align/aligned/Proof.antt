@@ -20,7 +20,11 @@ align-third-requires : tie.Need-align-third-requires
 align-third-requires c κs = search needs
 
 returns : tie.Need-returns
-returns c = (says-then (c .before .before .align-first .ensures .0) (says-then (c .before .align-second .ensures .0) (c .align-third .ensures .0)), says-then (c .before .before .align-first .ensures .1) (says-then (c .before .align-second .ensures .1) (c .align-third .ensures .1)))
+returns c = (
+  says-then (c .before .before .align-first .ensures .0) (says-then (c .before .align-second .ensures .0) (c .align-third .ensures .0)),
+  says-then
+      (c .before .before .align-first .ensures .1) (says-then (c .before .align-second .ensures .1) (c .align-third .ensures .1)),
+)
 
 pub aligned-spec : {M : Type 1} → statement M
 aligned-spec =

@@ -51,7 +51,17 @@ either-requires-4 : tie.Need-either-requires-4
 either-requires-4 c κs = search needs
 
 returns-5 : tie.Need-returns-5
-returns-5 c = let s = c .before .before .before .before .before .before .before .before .before .before .before .before .before .args in meet-law (s .kind) (s .x) (s .y) (c .before .before .before .before .made .result) (c .before .before .before .either .result) (c .before .before .either2 .result) (c .before .either3 .result) (c .either4 .result) (c .before .before .before .before .made .ensures) (c .before .before .before .either .ensures) (c .before .before .either2 .ensures) (c .before .either3 .ensures) (c .either4 .ensures) (c .before .before .before .before .before .before .before .before .before .before .before .before .agree .ensures (not-false _ (c .before .before .before .before .before .before .before .before .before .before .before .if1 .left))) (c .before .before .before .before .before .before .before .before .before .before .agree2 .ensures (not-false _ (c .before .before .before .before .before .before .before .before .before .if2 .left))) (c .before .before .before .before .before .before .before .before .agree3 .ensures (not-false _ (c .before .before .before .before .before .before .before .if3 .left))) (c .before .before .before .before .before .before .agree4 .ensures (not-false _ (c .before .before .before .before .before .if4 .left)))
+returns-5 c = let s = c .before .before .before .before .before .before .before .before .before .before .before .before .before .args in
+    meet-law (s .kind) (s .x) (s .y) (c .before .before .before .before .made .result) (c .before .before .before .either .result)
+    (c .before .before .either2 .result) (c .before .either3 .result) (c .either4 .result) (c .before .before .before .before .made .ensures)
+    (c .before .before .before .either .ensures) (c .before .before .either2 .ensures) (c .before .either3 .ensures) (c .either4 .ensures)
+    (c .before .before .before .before .before .before .before .before .before .before .before .before .agree .ensures
+    (not-false _ (c .before .before .before .before .before .before .before .before .before .before .before .if1 .left)))
+    (c .before .before .before .before .before .before .before .before .before .before .agree2 .ensures
+    (not-false _ (c .before .before .before .before .before .before .before .before .before .if2 .left)))
+    (c .before .before .before .before .before .before .before .before .agree3 .ensures
+    (not-false _ (c .before .before .before .before .before .before .before .if3 .left)))
+    (c .before .before .before .before .before .before .agree4 .ensures (not-false _ (c .before .before .before .before .before .if4 .left)))
 
 pub meet-spec : {M : Type 1} → statement M
 meet-spec =

@@ -35,8 +35,11 @@ settled-requires-4 : tie.Need-settled-requires-4
 settled-requires-4 c κs = search needs
 
 returns-4 : tie.Need-returns-4
-returns-4 c = λ e. let s = c .before .before .before .before .before .before .before .before .args in even-law (s .r) (c .before .before .before .before .before .before .before .counts .result) (s .first) (s .second) (s .third) (s .fourth) (c .before .before .before .before .before .before .before .counts .ensures)
-    (λ f. c .before .before .before .before .before .before .settled .ensures (not-false _ (c .before .before .before .before .before .if1 .left)) f 0 tt) (λ f. c .before .before .before .before .settled2 .ensures (not-false _ (c .before .before .before .if2 .left)) f 1 tt)
+returns-4 c = λ e. let s = c .before .before .before .before .before .before .before .before .args in
+    even-law (s .r) (c .before .before .before .before .before .before .before .counts .result) (s .first) (s .second) (s .third) (s .fourth)
+    (c .before .before .before .before .before .before .before .counts .ensures)
+    (λ f. c .before .before .before .before .before .before .settled .ensures (not-false _ (c .before .before .before .before .before .if1 .left)) f 0 tt)
+    (λ f. c .before .before .before .before .settled2 .ensures (not-false _ (c .before .before .before .if2 .left)) f 1 tt)
     (λ f. c .before .before .settled3 .ensures (not-false _ (c .before .if3 .left)) f 2 tt) (λ f. c .settled4 .ensures e f 3 tt)
 
 pub even-spec : {M : Type 1} → statement M

@@ -39,13 +39,17 @@ shr-if2 : tie.Need-shr-if2
 shr-if2 c = search needs
 
 mul-if2 : tie.Need-mul-if2
-mul-if2 c = let x = bitXor (c .before .before .before .before .before .args .t) (c .before .before .before .before .repeat .result) in omega (arith, and-le-r (x / 2 ^ (trailingZeros 64 x % 4)) 1229782938247303441)
+mul-if2 c = let x = bitXor (c .before .before .before .before .before .args .t) (c .before .before .before .before .repeat .result) in
+    omega (arith, and-le-r (x / 2 ^ (trailingZeros 64 x % 4)) 1229782938247303441)
 
 returns-2 : tie.Need-returns-2
 returns-2 c = search needs
 
 returns-3 : tie.Need-returns-3
-returns-3 c = let t = c .before .before .before .before .before .before .args .t in decides t (c .before .before .before .before .before .repeat .result) (c .before .repeat2 .result) (c .before .before .at .result) (trailingZeros 64 (bitXor t (c .before .before .before .before .before .repeat .result)) % 4) (omega arith) (c .before .before .before .before .before .repeat .ensures) (c .before .repeat2 .ensures) (c .if2 .left)
+returns-3 c = let t = c .before .before .before .before .before .before .args .t in
+    decides t (c .before .before .before .before .before .repeat .result) (c .before .repeat2 .result) (c .before .before .at .result)
+    (trailingZeros 64 (bitXor t (c .before .before .before .before .before .repeat .result)) % 4) (omega arith)
+    (c .before .before .before .before .before .repeat .ensures) (c .before .repeat2 .ensures) (c .if2 .left)
 
 pub chosen-spec : {M : Type 1} → statement M
 chosen-spec =

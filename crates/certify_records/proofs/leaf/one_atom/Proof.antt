@@ -24,7 +24,8 @@ selector-requires-2 : tie.Need-selector-requires-2
 selector-requires-2 c κs = search needs
 
 returns-2 : tie.Need-returns-2
-returns-2 c = λ e. one-atom (c .before .before .before .fellows .ensures (not-false _ (c .before .before .if1 .left))) (c .before .selector .ensures) (c .selector2 .ensures) (eqb-true _ _ e)
+returns-2 c = λ e. one-atom (c .before .before .before .fellows .ensures (not-false _ (c .before .before .if1 .left))) (c .before .selector .ensures)
+    (c .selector2 .ensures) (eqb-true _ _ e)
 
 pub one-atom-spec : {M : Type 1} → statement M
 one-atom-spec =

@@ -24,7 +24,8 @@ without-first-requires : tie.Need-without-first-requires
 without-first-requires c κs = search needs
 
 returns : tie.Need-returns
-returns c = says-then (c .before .before .before .without-fourth .ensures) (says-then (c .before .before .without-third .ensures) (says-then (c .before .without-second .ensures) (c .without-first .ensures)))
+returns c = says-then (c .before .before .before .without-fourth .ensures) (says-then (c .before .before .without-third .ensures)
+    (says-then (c .before .without-second .ensures) (c .without-first .ensures)))
 
 pub reduced-spec : {M : Type 1} → statement M
 reduced-spec =

@@ -15,7 +15,8 @@ alike-requires : tie.Need-alike-requires
 alike-requires c κs = search needs
 
 returns-2 : tie.Need-returns-2
-returns-2 c = let r = c .before .before .before .before .args .r in without-fourth (r .table) (r .first) (r .second) (r .third) (r .fourth) (c .before .alike .ensures (c .if2 .taken) 3 tt)
+returns-2 c = let r = c .before .before .before .before .args .r in without-fourth (r .table) (r .first) (r .second) (r .third) (r .fourth)
+    (c .before .alike .ensures (c .if2 .taken) 3 tt)
 
 returns-3 : tie.Need-returns-3
 returns-3 c = search needs

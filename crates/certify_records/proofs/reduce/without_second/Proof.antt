@@ -23,7 +23,9 @@ high-requires : tie.Need-high-requires
 high-requires c κs = search needs
 
 returns-2 : tie.Need-returns-2
-returns-2 c = let r = c .before .before .before .before .before .before .args .r in says-then (without-second (r .table) (r .first) (r .second) (r .third) (r .fourth) (c .before .before .before .alike .ensures (c .before .before .if2 .taken) 1 tt)) (says-then (c .before .middle .ensures) (c .high .ensures))
+returns-2 c = let r = c .before .before .before .before .before .before .args .r in
+    says-then (without-second (r .table) (r .first) (r .second) (r .third) (r .fourth)
+    (c .before .before .before .alike .ensures (c .before .before .if2 .taken) 1 tt)) (says-then (c .before .middle .ensures) (c .high .ensures))
 
 returns-3 : tie.Need-returns-3
 returns-3 c = search needs

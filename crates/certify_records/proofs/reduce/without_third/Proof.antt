@@ -19,7 +19,8 @@ high-requires : tie.Need-high-requires
 high-requires c κs = search needs
 
 returns-2 : tie.Need-returns-2
-returns-2 c = let r = c .before .before .before .before .before .args .r in says-then (without-third (r .table) (r .first) (r .second) (r .third) (r .fourth) (c .before .before .alike .ensures (c .before .if2 .taken) 2 tt)) (c .high .ensures)
+returns-2 c = let r = c .before .before .before .before .before .args .r in says-then
+    (without-third (r .table) (r .first) (r .second) (r .third) (r .fourth) (c .before .before .alike .ensures (c .before .if2 .taken) 2 tt)) (c .high .ensures)
 
 returns-3 : tie.Need-returns-3
 returns-3 c = search needs

@@ -44,7 +44,11 @@ loop-less : tie.Need-loop-less Inv-loop μ-loop
 loop-less c = omega arith
 
 loop-again : tie.Need-loop-again Inv-loop μ-loop
-loop-again c = (simp length-set (c .before .before .before .before .loop .inv .0), loading-more _ (c .before .before .before .before .loop .inv .1) (c .before .before .before .loop-test .taken) (c .input .ensures))
+loop-again c = (
+  simp length-set (c .before .before .before .before .loop .inv .0),
+  loading-more _ (c .before .before .before .before .loop .inv .1)
+      (c .before .before .before .loop-test .taken) (c .input .ensures),
+)
 
 mask-requires : tie.Need-mask-requires Inv-loop μ-loop
 mask-requires c κs = search needs

@@ -21,7 +21,8 @@ add-wires : tie.Need-add-wires
 add-wires c = search needs
 
 wires-requires : tie.Need-wires-requires
-wires-requires c κs = let s = c .before .before .before .before .before .before .before .before .before in let l = c .before .before .before .inputs .kept .1 .1 .0 in (wired-same l (s .pre .0), omega (arith, l, s .pre .1))
+wires-requires c κs = let s = c .before .before .before .before .before .before .before .before .before in
+    let l = c .before .before .before .inputs .kept .1 .1 .0 in (wired-same l (s .pre .0), omega (arith, l, s .pre .1))
 
 same-length : tie.Need-same-length
 same-length c = search needs
@@ -30,7 +31,9 @@ returns : tie.Need-returns
 returns c = λ n o N H M. let s = c .before .before .before .before .before .before .before .before .before .before .before .before in
     let l = c .before .before .before .before .before .before .inputs .kept .1 .1 .0 in
     let K = subst (λ (W : ℕ). Holds (tables (s .args .operands .now) (s .args .results .now)) (s .args .count) W n o N) (sym l) H in
-    ran K M (c .before .before .before .before .before .before .inputs .last .1 .1 .0) (c .before .before .wires .last .1 .1 .1 .1 .0) (omega (arith, l, s .pre .1)) (c .before .before .wires .kept .1 .1 .1 .1 .0) (c .before .before .before .before .before .before .inputs .ensures) (c .before .before .wires .ensures)
+    ran K M (c .before .before .before .before .before .before .inputs .last .1 .1 .0) (c .before .before .wires .last .1 .1 .1 .1 .0)
+    (omega (arith, l, s .pre .1)) (c .before .before .wires .kept .1 .1 .1 .1 .0) (c .before .before .before .before .before .before .inputs .ensures)
+    (c .before .before .wires .ensures)
 
 pub run-spec : {M : Type 1} → statement M
 run-spec = tie.close (tie.spec inputs-requires add-wires wires-requires same-length returns)

@@ -24,22 +24,34 @@ loop-holds : tie.Need-loop-holds Inv-loop μ-loop
 loop-holds c = (refl, refl)
 
 run-requires : tie.Need-run-requires Inv-loop μ-loop
-run-requires c κs = let s = c .before .before .before .before .before .before .before .before in let l = c .before .before .loop .inv .0 in (wired-same l (s .pre .0), omega (arith, l, s .pre .1))
+run-requires c κs = let s = c .before .before .before .before .before .before .before .before in let l = c .before .before .loop .inv .0 in
+    (wired-same l (s .pre .0), omega (arith, l, s .pre .1))
 
 look-requires : tie.Need-look-requires Inv-loop μ-loop
-look-requires c κs = let s = c .before .before .before .before .before .before .before .before .before .before .before .before .before in omega (arith, c .before .before .before .before .before .before .before .loop .inv .0, c .before .before .before .before .before .before .before .loop .inv .1, s .pre .2, c .before .before .before .before .run .kept .1 .1 .1 .1 .1 .0)
+look-requires c κs = let s = c .before .before .before .before .before .before .before .before .before .before .before .before .before in
+    omega (
+      arith,
+      c .before .before .before .before .before .before .before .loop .inv .0,
+      c .before .before .before .before .before .before .before .loop .inv .1,
+      s .pre .2,
+      c .before .before .before .before .run .kept .1 .1 .1 .1 .1 .0,
+    )
 
 same-length : tie.Need-same-length Inv-loop μ-loop
-same-length c = c .before .before .before .before .before .before .before .before .before .run .kept .1 .1 .1 .1 .1 .0 ∙ c .before .before .before .before .before .before .before .before .before .before .before .before .loop .inv .0
+same-length c = c .before .before .before .before .before .before .before .before .before .run .kept .1 .1 .1 .1 .1 .0 ∙
+    c .before .before .before .before .before .before .before .before .before .before .before .before .loop .inv .0
 
 same-length-2 : tie.Need-same-length-2 Inv-loop μ-loop
-same-length-2 c = c .before .before .before .before .look .kept .1 .0 ∙ c .before .before .before .before .before .before .before .before .before .before .before .before .loop .inv .1
+same-length-2 c = c .before .before .before .before .look .kept .1 .0 ∙
+    c .before .before .before .before .before .before .before .before .before .before .before .before .loop .inv .1
 
 returns : tie.Need-returns Inv-loop μ-loop
-returns c = λ n o N H M h. let s = c .before .before .before .before .before .before .before .before .before .before .before .before .before .before .before .before .before .before in
+returns c = λ n o N H M h. let s =
+    c .before .before .before .before .before .before .before .before .before .before .before .before .before .before .before .before .before .before in
     let l = c .before .before .before .before .before .before .before .before .before .before .before .before .loop .inv .0 in
     let K = subst (λ (W : ℕ). Holds (tables (s .args .operands .now) (s .args .results .now)) (s .args .count) W n o N) (sym l) H in
-    c .before .before .before .before .look .ensures N (s .args .codes .now) (c .before .before .before .before .before .before .before .before .before .run .ensures n o N K M) (c .if1 .taken)
+    c .before .before .before .before .look .ensures N (s .args .codes .now)
+    (c .before .before .before .before .before .before .before .before .before .run .ensures n o N K M) (c .if1 .taken)
 
 add-round : tie.Need-add-round Inv-loop μ-loop
 add-round c = omega arith
@@ -48,7 +60,12 @@ loop-less : tie.Need-loop-less Inv-loop μ-loop
 loop-less c = omega arith
 
 loop-again : tie.Need-loop-again Inv-loop μ-loop
-loop-again c = (c .before .before .before .before .before .before .before .before .before .run .kept .1 .1 .1 .1 .1 .0 ∙ c .before .before .before .before .before .before .before .before .before .before .before .before .loop .inv .0, c .before .before .before .before .look .kept .1 .0 ∙ c .before .before .before .before .before .before .before .before .before .before .before .before .loop .inv .1)
+loop-again c = (
+  c .before .before .before .before .before .before .before .before .before .run .kept .1 .1 .1 .1 .1 .0 ∙
+      c .before .before .before .before .before .before .before .before .before .before .before .before .loop .inv .0,
+  c .before .before .before .before .look .kept .1 .0 ∙
+      c .before .before .before .before .before .before .before .before .before .before .before .before .loop .inv .1,
+)
 
 none-requires : tie.Need-none-requires Inv-loop μ-loop
 none-requires c κs = search needs

@@ -50,7 +50,9 @@ returns-6 c = search needs
 
 returns-7 : tie.Need-returns-7
 returns-7 c = λ N codes T R L.
-    hint-law (c .before .before .before .before .before .before .before .before .before .before .before .args .leaf) _ (c .before .one-atom .ensures (not-false _ (c .if6 .left))) (omega arith) (omega arith) (c .before .before .before .before .before .before .before .before .before .if1 .left) R
+    hint-law (c .before .before .before .before .before .before .before .before .before .before .before .args .leaf) _
+    (c .before .one-atom .ensures (not-false _ (c .if6 .left))) (omega arith) (omega arith)
+    (c .before .before .before .before .before .before .before .before .before .if1 .left) R
     (known-at _ T (c .before .before .before .before .get .ensures) (c .before .before .before .present .ensures (not-false _ (c .before .before .if5 .left)))) L
 
 pub tried-spec : {M : Type 1} → statement M

@@ -51,7 +51,13 @@ same-length-3 : tie.Need-same-length-3
 same-length-3 c = search needs
 
 returns-3 : tie.Need-returns-3
-returns-3 c = λ N codes R K. (recorded-put (c .before .before .put2 .ensures) R K, known-at _ R (c .before .before .before .before .before .before .before .before .before .before .before .get .ensures) (c .before .before .before .before .before .before .before .before .before .before .present .ensures (not-false _ (c .before .before .before .before .before .before .before .before .before .if1 .left))))
+returns-3 c = λ N codes R K. (
+  recorded-put (c .before .before .put2 .ensures) R K,
+  known-at _ R
+      (c .before .before .before .before .before .before .before .before .before .before .before .get .ensures)
+      (c .before .before .before .before .before .before .before .before .before .before .present .ensures
+      (not-false _ (c .before .before .before .before .before .before .before .before .before .if1 .left))),
+)
 
 same-length-4 : tie.Need-same-length-4
 same-length-4 c = search needs

@@ -25,7 +25,10 @@ even-requires : tie.Need-even-requires
 even-requires c κs = search needs
 
 returns : tie.Need-returns
-returns c = λ N codes w M K e. let m = c .before .before .before .before .before .before .args .marks .now in let r = c .before .before .before .before .before .before .args .r in clean-law M (c .even .ensures e) (plain-atom m (r .first) (c .before .before .before .before .plain .ensures)) (plain-atom m (r .second) (c .before .before .before .plain2 .ensures)) (plain-atom m (r .third) (c .before .before .plain3 .ensures)) (plain-atom m (r .fourth) (c .before .plain4 .ensures)) K
+returns c = λ N codes w M K e. let m = c .before .before .before .before .before .before .args .marks .now in
+    let r = c .before .before .before .before .before .before .args .r in clean-law M (c .even .ensures e)
+    (plain-atom m (r .first) (c .before .before .before .before .plain .ensures)) (plain-atom m (r .second) (c .before .before .before .plain2 .ensures))
+    (plain-atom m (r .third) (c .before .before .plain3 .ensures)) (plain-atom m (r .fourth) (c .before .plain4 .ensures)) K
 
 pub clean-spec : {M : Type 1} → statement M
 clean-spec =

@@ -22,10 +22,12 @@ shared-slice-read-result : tie.Need-shared-slice-read-result
 shared-slice-read-result c = search needs
 
 returns-2 : tie.Need-returns-2
-returns-2 c = let s = c .before .before .before .args in rw (ne-eqb (s .atom) 4294967295 (c .before .before .if1 .left)) (bit-one 1 (getD (s .marks .now) (s .atom / 8) 0))
+returns-2 c = let s = c .before .before .before .args in rw (ne-eqb (s .atom) 4294967295 (c .before .before .if1 .left))
+    (bit-one 1 (getD (s .marks .now) (s .atom / 8) 0))
 
 returns-3 : tie.Need-returns-3
-returns-3 c = let s = c .before .before .args in rw (ne-eqb (s .atom) 4294967295 (c .before .if1 .left)) (sym (ap (lane 1) (List·getD-eq-default (s .marks .now) 0 (omega arith))))
+returns-3 c = let s = c .before .before .args in rw (ne-eqb (s .atom) 4294967295 (c .before .if1 .left))
+    (sym (ap (lane 1) (List·getD-eq-default (s .marks .now) 0 (omega arith))))
 
 pub plain-spec : {M : Type 1} → statement M
 plain-spec = tie.close (tie.spec returns cast-w shared-slice-read-result returns-2 returns-3)

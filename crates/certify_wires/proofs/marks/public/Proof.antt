@@ -32,7 +32,12 @@ plain-requires-4 : tie.Need-plain-requires-4
 plain-requires-4 c κs = search needs
 
 returns-4 : tie.Need-returns-4
-returns-4 c = λ N codes w M K e. let m = c .before .before .before .before .before .before .before .before .args .marks .now in let r = c .before .before .before .before .before .before .before .before .args .r in public-law M (plain-atom m (r .first) (c .before .before .before .before .before .before .plain .ensures) (not-false _ (c .before .before .before .before .before .if1 .left))) (plain-atom m (r .second) (c .before .before .before .before .plain2 .ensures) (not-false _ (c .before .before .before .if2 .left))) (plain-atom m (r .third) (c .before .before .plain3 .ensures) (not-false _ (c .before .if3 .left))) (plain-atom m (r .fourth) (c .plain4 .ensures) e) K
+returns-4 c = λ N codes w M K e. let m = c .before .before .before .before .before .before .before .before .args .marks .now in
+    let r = c .before .before .before .before .before .before .before .before .args .r in
+    public-law M (plain-atom m (r .first) (c .before .before .before .before .before .before .plain .ensures)
+    (not-false _ (c .before .before .before .before .before .if1 .left))) (plain-atom m (r .second) (c .before .before .before .before .plain2 .ensures)
+    (not-false _ (c .before .before .before .if2 .left))) (plain-atom m (r .third) (c .before .before .plain3 .ensures) (not-false _ (c .before .if3 .left)))
+    (plain-atom m (r .fourth) (c .plain4 .ensures) e) K
 
 pub public-spec : {M : Type 1} → statement M
 public-spec =

@@ -63,7 +63,8 @@ same-length : tie.Need-same-length
 same-length c = search needs
 
 returns : tie.Need-returns
-returns c = let s = c .before .before .before .before .args in put-at (s .records .now) (s .q) (s .r .table) (s .r .first) (s .r .second) (s .r .third) (s .r .fourth) (c .before .before .before .before .pre) (search needs) (search needs)
+returns c = let s = c .before .before .before .before .args in put-at (s .records .now) (s .q) (s .r .table) (s .r .first) (s .r .second) (s .r .third)
+    (s .r .fourth) (c .before .before .before .before .pre) (search needs) (search needs)
 
 pub put-spec : {M : Type 1} → statement M
 put-spec =

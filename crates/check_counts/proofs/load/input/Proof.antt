@@ -43,7 +43,8 @@ returns-2 : tie.Need-returns-2
 returns-2 c = let a = c .before .before .before .args in
     λ j l. lane-xor j (c .before .chosen .result) (c .mask2 .result)
     ∙ ap₂ differs
-    (c .before .chosen .ensures j l ∙ ap (kept (a .secrets) (codeOf (a .paint))) (sym (shade-some (colourOf (a .paint)) ((a .block * 64 + j) / 4) (c .before .before .if1 .left))))
+    (c .before .chosen .ensures j l ∙ ap (kept (a .secrets) (codeOf (a .paint)))
+    (sym (shade-some (colourOf (a .paint)) ((a .block * 64 + j) / 4) (c .before .before .if1 .left))))
     (c .mask2 .ensures (a .block) j l)
 
 pub input-spec : {M : Type 1} → statement M

@@ -23,7 +23,8 @@ old-gates-requires c κs = search needs
 returns-3 : tie.Need-returns-3
 returns-3 c =
     let s = c .before .before .before .before .before .args in
-    form-gates (every isOldGate (gatesOf (tables (s .operands .now) (s .results .now)) (s .count))) (s .inputs) (s .outputs) (c .before .before .if1 .left) (c .before .if2 .left)
+    form-gates (every isOldGate (gatesOf (tables (s .operands .now) (s .results .now)) (s .count))) (s .inputs) (s .outputs) (c .before .before .if1 .left)
+    (c .before .if2 .left)
     (c .old-gates .ensures)
 
 pub has-old-form-spec : {M : Type 1} → statement M

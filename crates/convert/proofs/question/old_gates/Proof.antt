@@ -34,7 +34,8 @@ is-old-entry-requires c κs = search needs
 returns : tie.Need-returns Inv-loop μ-loop
 returns c =
     down-no (c .before .before .before .before .loop .inv) (c .before .before .before .loop-test .taken)
-    (sym (not-true _ (c .if1 .taken)) ∙ c .before .is-old-entry .ensures (getD (c .before .before .before .before .before .before .before .args .operands .now) (c .before .before .before .before .loop .left - 1) 0))
+    (sym (not-true _ (c .if1 .taken)) ∙ c .before .is-old-entry .ensures (getD (c .before .before .before .before .before .before .before .args .operands .now)
+    (c .before .before .before .before .loop .left - 1) 0))
 
 loop-less : tie.Need-loop-less Inv-loop μ-loop
 loop-less c = search needs
@@ -42,7 +43,8 @@ loop-less c = search needs
 loop-again : tie.Need-loop-again Inv-loop μ-loop
 loop-again c =
     down-more (c .before .before .before .before .loop .inv) (c .before .before .before .loop-test .taken)
-    (sym (not-false _ (c .if1 .left)) ∙ c .before .is-old-entry .ensures (getD (c .before .before .before .before .before .before .before .args .operands .now) (c .before .before .before .before .loop .left - 1) 0))
+    (sym (not-false _ (c .if1 .left)) ∙ c .before .is-old-entry .ensures (getD (c .before .before .before .before .before .before .before .args .operands .now)
+    (c .before .before .before .before .loop .left - 1) 0))
 
 returns-2 : tie.Need-returns-2 Inv-loop μ-loop
 returns-2 c = down-all (c .before .loop .inv) (c .loop-test .left)

@@ -31,11 +31,13 @@ slice-write-lows c = search needs
 
 enter-requires : tie.Need-enter-requires
 enter-requires c κs =
-    let s = c .before .before .before .before .before .before .before .before .before .before .before .before .before .before .before .before .before .before .before .before .before in
+    let s = c .before .before .before .before .before .before .before .before .before .before .before .before .before .before .before .before .before .before
+    .before .before .before in
     let p = s .pre .0 in
     let few : s .args .count ≤ 100000 = omega (arith, p .places, p .small) in
     let some : 0 < length (s .args .lows .now) = omega (arith, p .lowest, p .places, p .some) in
-    let low = low-first (tables (s .args .operands .now) (s .args .results .now)) (s .args .count) (s .args .lows .now) some (c .before .before .before .twices .ensures) in (
+    let low = low-first (tables (s .args .operands .now) (s .args .results .now)) (s .args .count) (s .args .lows .now) some
+    (c .before .before .before .twices .ensures) in (
       p .wired,
       (
         omega (arith, p .places, p .ways, c .before .before .before .before .before .before .before .before .before .before .bytes .kept .0),
@@ -48,18 +50,25 @@ enter-requires c κs =
 
 keep-requires : tie.Need-keep-requires
 keep-requires c κs =
-    let p = c .before .before .before .before .before .before .before .before .before .before .before .before .before .before .before .before .before .before .before .before .before .before .before .before .before .before .before .before .pre .0 in p .bests ∙ sym (p .ways) ∙ sym (c .before .before .before .before .before .before .before .before .before .before .before .before .before .before .before .before .before .bytes .kept .0)
+    let p = c .before .before .before .before .before .before .before .before .before .before .before .before .before .before .before .before .before .before
+    .before .before .before .before .before .before .before .before .before .before .pre .0 in
+    p .bests ∙ sym (p .ways) ∙ sym
+    (c .before .before .before .before .before .before .before .before .before .before .before .before .before .before .before .before .before .bytes .kept
+    .0)
 
 weigh-requires : tie.Need-weigh-requires
 weigh-requires c κs =
-    let s = c .before .before .before .before .before .before .before .before .before .before .before .before .before .before .before .before .before .before .before .before .before .before .before .before .before .before .before .before .before .before .before .before .before in
+    let s = c .before .before .before .before .before .before .before .before .before .before .before .before .before .before .before .before .before .before
+    .before .before .before .before .before .before .before .before .before .before .before .before .before .before .before in
     let p = s .pre .0 in
     let few : s .args .count ≤ 100000 = omega (arith, p .places, p .small) in
     let some : 0 < length (s .args .lows .now) = omega (arith, p .lowest, p .places, p .some) in
-    let low = low-first (tables (s .args .operands .now) (s .args .results .now)) (s .args .count) (s .args .lows .now) some (c .before .before .before .before .before .before .before .before .before .before .before .before .before .before .before .twices .ensures) in
+    let low = low-first (tables (s .args .operands .now) (s .args .results .now)) (s .args .count) (s .args .lows .now) some
+    (c .before .before .before .before .before .before .before .before .before .before .before .before .before .before .before .twices .ensures) in
     let E = c .before .before .before .before .before .before .before .before .before .before .before .enter in
     let e = begun-whole (E .ensures) low few in
-    let long = length-set (s .args .lows .now) 0 (c .before .before .before .before .before .before .before .before .before .before .before .before .before .before .before .twices .result) in
+    let long = length-set (s .args .lows .now) 0
+    (c .before .before .before .before .before .before .before .before .before .before .before .before .before .before .before .twices .result) in
     let z : 0 - length (s .args .codes .now) ≡ 0 = omega arith in
     let m = rw (e, z) at (entered-most (E .ensures)) in (
       omega (arith, p .lowest, p .places, p .some, long, E .kept .1 .1 .1 .1 .1 .1 .0),
@@ -79,21 +88,31 @@ same-length-3 c = search needs
 
 same-length-4 : tie.Need-same-length-4
 same-length-4 c =
-    c .before .before .before .before .before .before .before .before .before .before .before .before .enter .kept .1 .1 .1 .1 .1 .1 .0 ∙ length-set (c .before .before .before .before .before .before .before .before .before .before .before .before .before .before .before .before .before .before .before .before .before .before .before .before .before .before .before .before .before .before .before .before .before .before .args .lows .now) 0 (c .before .before .before .before .before .before .before .before .before .before .before .before .before .before .before .before .twices .result)
+    c .before .before .before .before .before .before .before .before .before .before .before .before .enter .kept .1 .1 .1 .1 .1 .1 .0 ∙ length-set
+    (c .before .before .before .before .before .before .before .before .before .before .before .before .before .before .before .before .before .before
+    .before .before .before .before .before .before .before .before .before .before .before .before .before .before .before .before .args .lows .now) 0
+    (c .before .before .before .before .before .before .before .before .before .before .before .before .before .before .before .before .twices .result)
 
 same-length-5 : tie.Need-same-length-5
 same-length-5 c = search needs
 
 returns : tie.Need-returns
 returns c =
-    let s = c .before .before .before .before .before .before .before .before .before .before .before .before .before .before .before .before .before .before .before .before .before .before .before .before .before .before .before .before .before .before .before .before .before .before in
+    let s = c .before .before .before .before .before .before .before .before .before .before .before .before .before .before .before .before .before .before
+    .before .before .before .before .before .before .before .before .before .before .before .before .before .before .before .before in
     let p = s .pre .0 in
     let few : s .args .count ≤ 100000 = omega (arith, p .places, p .small) in
     let some : 0 < length (s .args .lows .now) = omega (arith, p .lowest, p .places, p .some) in
-    let low = low-first (tables (s .args .operands .now) (s .args .results .now)) (s .args .count) (s .args .lows .now) some (c .before .before .before .before .before .before .before .before .before .before .before .before .before .before .before .before .twices .ensures) in
+    let low = low-first (tables (s .args .operands .now) (s .args .results .now)) (s .args .count) (s .args .lows .now) some
+    (c .before .before .before .before .before .before .before .before .before .before .before .before .before .before .before .before .twices .ensures) in
     let E = c .before .before .before .before .before .before .before .before .before .before .before .before .enter in
     let e = begun-whole (E .ensures) low few in
-    begun-all (c .before .before .before .before .before .before .before .before .before .before .before .before .before .before .before .before .before .before .before .before .before .before .before .bytes .ensures) (c .before .before .before .before .before .before .before .before .before .before .before .before .before .before .before .before .before .before .before .spans .ensures) (c .before .before .before .before .before .before .before .before .before .before .before .before .before .before .before .before .twices .ensures) e (E .ensures) (c .before .before .before .before .before .keep .ensures) (c .weigh .ensures)
+    begun-all (c .before .before .before .before .before .before .before .before .before .before .before .before .before .before .before .before .before .before
+    .before .before .before .before .before .bytes .ensures)
+    (c .before .before .before .before .before .before .before .before .before .before .before .before .before .before .before .before .before .before
+    .before .spans .ensures)
+    (c .before .before .before .before .before .before .before .before .before .before .before .before .before .before .before .before .twices .ensures) e
+    (E .ensures) (c .before .before .before .before .before .keep .ensures) (c .weigh .ensures)
 
 pub start-spec : {M : Type 1} → statement M
 start-spec =

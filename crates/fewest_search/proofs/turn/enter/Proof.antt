@@ -17,7 +17,9 @@ inputs-requires : tie.Need-inputs-requires
 inputs-requires c κs = search needs
 
 walk-requires : tie.Need-walk-requires
-walk-requires c κs = let s = c .before .before .before .before .before .before .before .before .before .before .before .before .before in let z : s .args .place - length (s .args .codes .now) ≡ 0 = omega (arith, c .before .before .before .before .before .before .if1 .taken) in (wired-same (c .before .before .before .before .inputs .kept .1 .1 .0) (s .pre .0), (s .pre .1 .0, s .pre .1 .2, omega arith, rw z at (s .pre .1 .4)))
+walk-requires c κs = let s = c .before .before .before .before .before .before .before .before .before .before .before .before .before in
+    let z : s .args .place - length (s .args .codes .now) ≡ 0 = omega (arith, c .before .before .before .before .before .before .if1 .taken) in
+    (wired-same (c .before .before .before .before .inputs .kept .1 .1 .0) (s .pre .0), (s .pre .1 .0, s .pre .1 .2, omega arith, rw z at (s .pre .1 .4)))
 
 same-length : tie.Need-same-length
 same-length c = search needs
@@ -26,7 +28,8 @@ same-length-2 : tie.Need-same-length-2
 same-length-2 c = search needs
 
 returns : tie.Need-returns
-returns c = entered-input _ _ _ _ _ (c .before .before .before .before .before .before .before .before .before .before .before .if1 .taken) (c .before .before .before .before .before .before .before .before .before .inputs .ensures) (c .before .before .before .before .walk .ensures)
+returns c = entered-input _ _ _ _ _ (c .before .before .before .before .before .before .before .before .before .before .before .if1 .taken)
+    (c .before .before .before .before .before .before .before .before .before .inputs .ensures) (c .before .before .before .before .walk .ensures)
 
 walk-requires-2 : tie.Need-walk-requires-2
 walk-requires-2 c κs = search needs

@@ -23,10 +23,12 @@ shared-slice-read-result : tie.Need-shared-slice-read-result
 shared-slice-read-result c = idle-left _ _ _ (c .before .before .before .before .before .before .pre (c .before .before .before .if1 .left)) (c .before .split .ensures)
 
 shared-slice-read-result-2 : tie.Need-shared-slice-read-result-2
-shared-slice-read-result-2 c = idle-right _ _ _ (c .before .before .before .before .before .before .before .pre (c .before .before .before .before .if1 .left)) (c .before .before .split .ensures)
+shared-slice-read-result-2 c = idle-right _ _ _ (c .before .before .before .before .before .before .before .pre (c .before .before .before .before .if1 .left))
+    (c .before .before .split .ensures)
 
 returns-2 : tie.Need-returns-2
-returns-2 c = let a = c .before .before .before .before .before .before .before .args in idle-gate (a .operands .now) (a .n) (a .place) (a .code .now) (c .before .before .before .before .if1 .left) (c .before .before .split .ensures)
+returns-2 c = let a = c .before .before .before .before .before .before .before .args in
+    idle-gate (a .operands .now) (a .n) (a .place) (a .code .now) (c .before .before .before .before .if1 .left) (c .before .before .split .ensures)
 
 pub idle-spec : {M : Type 1} → statement M
 idle-spec =

@@ -19,7 +19,8 @@ idle-requires : tie.Need-idle-requires
 idle-requires c κs = let s = c .before .before .before .before .before .before .before .before .before in idle-fits _ _ (s .pre .0 .wired) (s .pre .1 .0)
 
 sub-t18 : tie.Need-sub-t18
-sub-t18 c = let a = c .before .before .before .before .before .before .before .before .before .before .before .args in idle-place (a .operands .now) (length (a .codes .now)) (a .place) (a .code .now) (sym (c .before .idle .ensures) ∙ c .if1 .taken)
+sub-t18 c = let a = c .before .before .before .before .before .before .before .before .before .before .before .args in
+    idle-place (a .operands .now) (length (a .codes .now)) (a .place) (a .code .now) (sym (c .before .idle .ensures) ∙ c .if1 .taken)
 
 add-t19 : tie.Need-add-t19
 add-t19 c = search needs
@@ -31,7 +32,17 @@ returns : tie.Need-returns
 returns c = turn-idle _ (c .before .idle .ensures) (c .if1 .taken) (omega arith) refl
 
 enter-requires : tie.Need-enter-requires
-enter-requires c κs = let p = c .before .before .before .before .before .before .before .before .before .before .before .before .before .pre in (p .0 .wired, (omega (arith, p .0 .places, p .0 .ways), omega (arith, p .0 .places), omega (arith, p .0 .places, p .0 .lowest, p .0 .some), omega (arith, p .1 .0), omega (arith, p .1 .1, p .0 .small, p .0 .places)))
+enter-requires c κs = let p = c .before .before .before .before .before .before .before .before .before .before .before .before .before .pre in (
+  p .0 .wired,
+  (
+    omega (arith, p .0 .places, p .0 .ways),
+    omega (arith, p .0 .places),
+    omega (arith, p .0 .places, p .0 .lowest, p .0 .some),
+    omega
+        (arith, p .1 .0),
+    omega (arith, p .1 .1, p .0 .small, p .0 .places),
+  ),
+)
 
 same-length-2 : tie.Need-same-length-2
 same-length-2 c = search needs
@@ -43,7 +54,17 @@ returns-2 : tie.Need-returns-2
 returns-2 c = turn-cut _ (c .before .before .before .before .before .enter .ensures) (c .if2 .taken) refl
 
 weigh-requires : tie.Need-weigh-requires
-weigh-requires c κs = let p = c .before .before .before .before .before .before .before .before .before .before .before .before .before .before .before .before .before .before .before .before .before .pre in let E = c .before .before .before .before .before .before .before .enter in let e : E .result ≡ c .before .before .before .before .before .before .before .before .before .before .before .before .before .before .before .before .before .before .before .before .before .args .count = omega (arith, E .ensures .walked .high, c .before .before .if2 .left) in (omega (arith, p .0 .places, p .0 .lowest, p .0 .some, E .kept .1 .1 .1 .1 .1 .1 .0), omega (arith, p .0 .outs, E .kept .1 .1 .1 .1 .1 .0), omega (arith, p .0 .outs, p .0 .small), (let m = rw e at (entered-most (E .ensures)) in omega (arith, p .1 .1, p .0 .small, p .0 .places)))
+weigh-requires c κs = let p =
+    c .before .before .before .before .before .before .before .before .before .before .before .before .before .before .before .before .before .before .before
+    .before .before .pre in let E = c .before .before .before .before .before .before .before .enter in
+    let e : E .result ≡ c .before .before .before .before .before .before .before .before .before .before .before .before .before .before .before .before
+    .before .before .before .before .before .args .count = omega (arith, E .ensures .walked .high, c .before .before .if2 .left) in (
+      omega (arith, p .0 .places, p .0 .lowest, p .0 .some, E .kept .1 .1 .1 .1 .1 .1 .0),
+      omega (arith, p .0 .outs, E .kept .1 .1 .1 .1 .1 .0),
+      omega
+          (arith, p .0 .outs, p .0 .small),
+      (let m = rw e at (entered-most (E .ensures)) in omega (arith, p .1 .1, p .0 .small, p .0 .places)),
+    )
 
 same-length-4 : tie.Need-same-length-4
 same-length-4 c = search needs
@@ -52,7 +73,8 @@ same-length-5 : tie.Need-same-length-5
 same-length-5 c = search needs
 
 returns-3 : tie.Need-returns-3
-returns-3 c = turn-same _ (c .before .before .before .before .before .before .before .before .before .enter .ensures) (c .before .weigh .ensures) (c .before .before .before .before .if2 .left) (c .if3 .taken) refl
+returns-3 c = turn-same _ (c .before .before .before .before .before .before .before .before .before .enter .ensures) (c .before .weigh .ensures)
+    (c .before .before .before .before .if2 .left) (c .if3 .taken) refl
 
 keep-requires : tie.Need-keep-requires
 keep-requires c κs = search needs
@@ -67,7 +89,9 @@ same-length-8 : tie.Need-same-length-8
 same-length-8 c = search needs
 
 returns-4 : tie.Need-returns-4
-returns-4 c = turn-fewer _ (c .before .before .before .before .before .before .before .before .before .before .before .before .before .enter .ensures) (c .before .before .before .before .before .weigh .ensures) (c .before .before .before .before .before .before .before .before .if2 .left) (c .before .before .before .before .if3 .left) refl (c .before .before .keep .ensures)
+returns-4 c = turn-fewer _ (c .before .before .before .before .before .before .before .before .before .before .before .before .before .enter .ensures)
+    (c .before .before .before .before .before .weigh .ensures) (c .before .before .before .before .before .before .before .before .if2 .left)
+    (c .before .before .before .before .if3 .left) refl (c .before .before .keep .ensures)
 
 pub turn-spec : {M : Type 1} → statement M
 turn-spec =

@@ -23,7 +23,9 @@ outputs-requires : tie.Need-outputs-requires
 outputs-requires c κs = search needs
 
 add-result : tie.Need-add-result
-add-result c = let a = c .before .before .before .before .before .args in let h = ends-most (drop (length (a .code .now) - length (a .wanted .now)) (a .code .now)) (a .wanted .now) in omega (arith, c .outputs .ensures, c .before .before .before .before .before .pre .2, c .before .before .before .before .before .pre .3)
+add-result c = let a = c .before .before .before .before .before .args in let h = ends-most
+    (drop (length (a .code .now) - length (a .wanted .now)) (a .code .now)) (a .wanted .now) in
+    omega (arith, c .outputs .ensures, c .before .before .before .before .before .pre .2, c .before .before .before .before .before .pre .3)
 
 returns : tie.Need-returns
 returns c = search needs

@@ -24,34 +24,55 @@ sub-q : tie.Need-sub-q Inv-loop μ-loop
 sub-q c = search needs
 
 slice-read-d : tie.Need-slice-read-d Inv-loop μ-loop
-slice-read-d c = omega (arith, c .before .before .before .before .before .before .pre .1, c .before .before .loop .inv .within, c .before .before .loop .inv .size, c .before .loop-test .taken)
+slice-read-d c = omega (
+  arith,
+  c .before .before .before .before .before .before .pre .1,
+  c .before .before .loop .inv .within,
+  c .before .before .loop .inv .size,
+  c .before .loop-test .taken,
+)
 
 ways-requires : tie.Need-ways-requires Inv-loop μ-loop
 ways-requires c κs = omega (arith, c .before .before .before .before .before .before .pre .0, c .before .before .loop .inv .within, c .before .loop-test .taken)
 
 sub-if1 : tie.Need-sub-if1 Inv-loop μ-loop
-sub-if1 c = ways-one (c .before .before .before .before .before .before .before .args .codes .now) (c .before .before .before .before .before .before .before .args .results .now) _ (c .ways .ensures)
+sub-if1 c = ways-one (c .before .before .before .before .before .before .before .args .codes .now)
+    (c .before .before .before .before .before .before .before .args .results .now) _ (c .ways .ensures)
 
 add-way : tie.Need-add-way Inv-loop μ-loop
 add-way c = search needs
 
 slice-write-way : tie.Need-slice-write-way Inv-loop μ-loop
-slice-write-way c = omega (arith, c .before .before .before .before .before .before .before .before .pre .1, c .before .before .before .before .loop .inv .within, c .before .before .before .before .loop .inv .size, c .before .before .before .loop-test .taken)
+slice-write-way c = omega (
+  arith,
+  c .before .before .before .before .before .before .before .before .pre .1,
+  c .before .before .before .before .loop .inv .within,
+  c .before .before .before .before .loop .inv .size,
+  c .before .before .before .loop-test .taken,
+)
 
 same-length : tie.Need-same-length Inv-loop μ-loop
 same-length c = search needs
 
 returns : tie.Need-returns Inv-loop μ-loop
-returns c = advanced-at _ (c .before .before .before .before .loop .inv) (c .before .before .before .loop-test .taken) (c .before .before .before .before .before .before .before .before .pre .1) (way-more (c .before .ways .ensures) (c .if1 .taken))
+returns c = advanced-at _ (c .before .before .before .before .loop .inv) (c .before .before .before .loop-test .taken)
+    (c .before .before .before .before .before .before .before .before .pre .1) (way-more (c .before .ways .ensures) (c .if1 .taken))
 
 slice-write-way-2 : tie.Need-slice-write-way-2 Inv-loop μ-loop
-slice-write-way-2 c = omega (arith, c .before .before .before .before .before .before .before .before .pre .1, c .before .before .before .before .loop .inv .within, c .before .before .before .before .loop .inv .size, c .before .before .before .loop-test .taken)
+slice-write-way-2 c = omega (
+  arith,
+  c .before .before .before .before .before .before .before .before .pre .1,
+  c .before .before .before .before .loop .inv .within,
+  c .before .before .before .before .loop .inv .size,
+  c .before .before .before .loop-test .taken,
+)
 
 loop-less : tie.Need-loop-less Inv-loop μ-loop
 loop-less c = omega arith
 
 loop-again : tie.Need-loop-again Inv-loop μ-loop
-loop-again c = advancing-more _ (c .before .before .before .before .loop .inv) (c .before .before .before .loop-test .taken) (c .before .before .before .before .before .before .before .before .pre .1) (way-last (c .before .ways .ensures) (c .if1 .left))
+loop-again c = advancing-more _ (c .before .before .before .before .loop .inv) (c .before .before .before .loop-test .taken)
+    (c .before .before .before .before .before .before .before .before .pre .1) (way-last (c .before .ways .ensures) (c .if1 .left))
 
 same-length-2 : tie.Need-same-length-2 Inv-loop μ-loop
 same-length-2 c = c .before .loop .inv .size

@@ -29,7 +29,8 @@ output-requires : tie.Need-output-requires Inv-loop μ-loop
 output-requires c κs = search needs
 
 add-sum : tie.Need-add-sum Inv-loop μ-loop
-add-sum c = let h = ending-small (c .before .before .before .before .loop .inv) (c .before .before .before .loop-test .taken) (c .before .before .before .before .before .before .before .pre .1) (c .output .ensures) in omega arith
+add-sum c = let h = ending-small (c .before .before .before .before .loop .inv) (c .before .before .before .loop-test .taken)
+    (c .before .before .before .before .before .before .before .pre .1) (c .output .ensures) in omega arith
 
 add-i : tie.Need-add-i Inv-loop μ-loop
 add-i c = search needs
@@ -38,7 +39,8 @@ loop-less : tie.Need-loop-less Inv-loop μ-loop
 loop-less c = search needs
 
 loop-again : tie.Need-loop-again Inv-loop μ-loop
-loop-again c = ending-more (c .before .before .before .before .loop .inv) (c .before .before .before .loop-test .taken) (c .before .before .before .before .before .before .before .pre .0) (c .output .ensures)
+loop-again c = ending-more (c .before .before .before .before .loop .inv) (c .before .before .before .loop-test .taken)
+    (c .before .before .before .before .before .before .before .pre .0) (c .output .ensures)
 
 returns : tie.Need-returns Inv-loop μ-loop
 returns c = ending-all (c .before .loop .inv) (c .loop-test .left) (c .before .before .before .before .pre .0)

@@ -41,13 +41,17 @@ ways-requires : tie.Need-ways-requires Inv-loop μ-loop
 ways-requires c κs = omega (arith, c .before .before .before .before .before .pre .0, c .before .loop .inv .within, c .loop-test .taken)
 
 times-requires : tie.Need-times-requires Inv-loop μ-loop
-times-requires c κs = let a = c .before .before .before .before .before .before .args in let s = ways-some (a .codes .now) (a .results .now) (c .before .before .loop .p - 1) in let f = ways-few (a .codes .now) (a .results .now) (c .before .before .loop .p - 1) in let e = c .ways .ensures in (omega arith, omega arith)
+times-requires c κs = let a = c .before .before .before .before .before .before .args in
+    let s = ways-some (a .codes .now) (a .results .now) (c .before .before .loop .p - 1) in
+    let f = ways-few (a .codes .now) (a .results .now) (c .before .before .loop .p - 1) in let e = c .ways .ensures in (omega arith, omega arith)
 
 loop-less : tie.Need-loop-less Inv-loop μ-loop
 loop-less c = search needs
 
 loop-again : tie.Need-loop-again Inv-loop μ-loop
-loop-again c = spanning-more (c .before .before .before .loop .inv) (c .before .before .loop-test .taken) (c .before .before .before .before .before .before .before .pre .1) (λ x e. c .times .ensures x e ∙ ap (λ (w : ℕ). capped (w * x)) (c .before .ways .ensures))
+loop-again c = spanning-more (c .before .before .before .loop .inv) (c .before .before .loop-test .taken)
+    (c .before .before .before .before .before .before .before .pre .1) (λ x e. c .times .ensures x e ∙ ap (λ (w : ℕ). capped (w * x))
+    (c .before .ways .ensures))
 
 same-length : tie.Need-same-length Inv-loop μ-loop
 same-length c = c .before .loop .inv .size

@@ -20,7 +20,8 @@ cast-result-2 : tie.Need-cast-result-2
 cast-result-2 c = search needs
 
 returns-2 : tie.Need-returns-2
-returns-2 c = let a = c .before .before .before .before .args in twice-and (a .operands) (a .results) (c .before .before .before .split .ensures) (c .before .before .if1 .left) (c .before .if2 .taken)
+returns-2 c = let a = c .before .before .before .before .args in twice-and (a .operands) (a .results) (c .before .before .before .split .ensures)
+    (c .before .before .if1 .left) (c .before .if2 .taken)
 
 returns-3 : tie.Need-returns-3
 returns-3 c = let a = c .before .before .before .args in twice-none (a .operands) (a .results) (c .before .before .split .ensures) (c .before .if1 .left) (c .if2 .left)

@@ -36,7 +36,9 @@ twice-requires : tie.Need-twice-requires Inv-loop μ-loop
 twice-requires c κs = search needs
 
 add-sum : tie.Need-add-sum Inv-loop μ-loop
-add-sum c = let a = c .before .before .before .before .before .before .before .args in let h = counting-small (gateAt (tables (a .operands .now) (a .results .now)) (c .before .before .before .before .loop .i)) (c .twice .ensures) in omega (arith, c .before .before .before .before .loop .inv .1 .most, c .before .before .before .before .before .before .before .pre .2)
+add-sum c = let a = c .before .before .before .before .before .before .before .args in
+    let h = counting-small (gateAt (tables (a .operands .now) (a .results .now)) (c .before .before .before .before .loop .i)) (c .twice .ensures) in
+    omega (arith, c .before .before .before .before .loop .inv .1 .most, c .before .before .before .before .before .before .before .pre .2)
 
 add-i : tie.Need-add-i Inv-loop μ-loop
 add-i c = search needs
@@ -48,7 +50,8 @@ loop-again : tie.Need-loop-again Inv-loop μ-loop
 loop-again c = (omega (arith, c .before .before .before .loop-test .taken), counting-more (c .before .before .before .before .loop .inv .1) (c .twice .ensures))
 
 returns : tie.Need-returns Inv-loop μ-loop
-returns c = let e : c .before .loop .i ≡ c .before .before .before .before .args .count = omega (arith, c .before .loop .inv .0, c .loop-test .left) in counting-all (c .before .loop .inv .1) e
+returns c = let e : c .before .loop .i ≡ c .before .before .before .before .args .count = omega (arith, c .before .loop .inv .0, c .loop-test .left) in
+    counting-all (c .before .loop .inv .1) e
 
 pub twices-spec : {M : Type 1} → statement M
 twices-spec =

@@ -19,10 +19,12 @@ cast-result-2 : tie.Need-cast-result-2
 cast-result-2 c = search needs
 
 returns-3 : tie.Need-returns-3
-returns-3 c = let a = c .before .before .before .args in added-and (a .kind) (a .a) (a .b) (a .e) (a .f) (c .before .before .if1 .left) (c .before .if2 .left) (c .if3 .taken)
+returns-3 c = let a = c .before .before .before .args in added-and (a .kind) (a .a) (a .b) (a .e) (a .f) (c .before .before .if1 .left) (c .before .if2 .left)
+    (c .if3 .taken)
 
 returns-4 : tie.Need-returns-4
-returns-4 c = let a = c .before .before .before .args in added-none (a .kind) (a .a) (a .b) (a .e) (a .f) (c .before .before .if1 .left) (c .before .if2 .left) (c .if3 .left)
+returns-4 c = let a = c .before .before .before .args in added-none (a .kind) (a .a) (a .b) (a .e) (a .f) (c .before .before .if1 .left) (c .before .if2 .left)
+    (c .if3 .left)
 
 pub added-spec : {M : Type 1} → statement M
 added-spec = tie.close (tie.spec returns cast-result returns-2 cast-result-2 returns-3 returns-4)

@@ -11,7 +11,8 @@ third-code-requires : tie.Need-third-code-requires
 third-code-requires c κs = search needs
 
 returns : tie.Need-returns
-returns c = second-same (c .before .before .before .args .e) (c .before .before .before .args .f) _ _ (c .before .before .if1 .taken) (c .before .code-after .ensures) (c .third-code .ensures)
+returns c = second-same (c .before .before .before .args .e) (c .before .before .before .args .f) _ _ (c .before .before .if1 .taken)
+    (c .before .code-after .ensures) (c .third-code .ensures)
 
 returns-2 : tie.Need-returns-2
 returns-2 c = second-other (c .before .args .e) (c .before .args .f) (c .if1 .left)

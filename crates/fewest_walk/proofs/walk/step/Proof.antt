@@ -23,7 +23,8 @@ result-code-requires : tie.Need-result-code-requires
 result-code-requires c κs = search needs
 
 slice-write-code : tie.Need-slice-write-code
-slice-write-code c = let s = c .before .before .before .before .before in parts-within (s .args .operands) (s .args .results) (c .before .before .before .split .ensures) (s .pre) .result
+slice-write-code c = let s = c .before .before .before .before .before in parts-within (s .args .operands) (s .args .results)
+    (c .before .before .before .split .ensures) (s .pre) .result
 
 added-requires : tie.Need-added-requires
 added-requires c κs = search needs
@@ -32,7 +33,8 @@ same-length : tie.Need-same-length
 same-length c = search needs
 
 returns : tie.Need-returns
-returns c = let a = c .before .before .before .before .before .before .args in stepped-is (a .code .now) (a .way) (a .operands) (a .results) (c .before .before .before .before .split .ensures) (c .before .result-code .ensures) (c .added .ensures)
+returns c = let a = c .before .before .before .before .before .before .args in stepped-is (a .code .now) (a .way) (a .operands) (a .results)
+    (c .before .before .before .before .split .ensures) (c .before .result-code .ensures) (c .added .ensures)
 
 pub step-spec : {M : Type 1} → statement M
 step-spec =

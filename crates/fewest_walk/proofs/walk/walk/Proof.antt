@@ -24,7 +24,13 @@ slice-read-low : tie.Need-slice-read-low Inv-loop μ-loop
 slice-read-low c = omega (arith, c .before .before .before .before .before .before .pre .1 .1, c .before .before .before .before .before .before .pre .1 .2)
 
 loop-holds : tie.Need-loop-holds Inv-loop μ-loop
-loop-holds c = record { so = done-none _ _ _ _ _ _; after = omega arith; high = c .before .before .before .before .before .before .pre .1 .2; entry = refl; room = omega (arith, c .before .before .before .before .before .before .pre .1 .3) }
+loop-holds c = record {
+  so = done-none _ _ _ _ _ _;
+  after = omega arith;
+  high = c .before .before .before .before .before .before .pre .1 .2;
+  entry = refl;
+  room = omega (arith, c .before .before .before .before .before .before .pre .1 .3);
+}
 
 add-step : tie.Need-add-step Inv-loop μ-loop
 add-step c = search needs
@@ -45,10 +51,17 @@ shared-slice-read-step-3 : tie.Need-shared-slice-read-step-3 Inv-loop μ-loop
 shared-slice-read-step-3 c = search needs
 
 step-requires : tie.Need-step-requires Inv-loop μ-loop
-step-requires c κs = rw (c .before .before .before .before .before .loop .inv .so .codeLength) (c .before .before .before .before .before .before .before .before .before .before .before .before .pre .0 .each _ (c .before .before .before .before .loop-test .taken))
+step-requires c κs = rw (c .before .before .before .before .before .loop .inv .so .codeLength)
+    (c .before .before .before .before .before .before .before .before .before .before .before .before .pre .0 .each _
+    (c .before .before .before .before .loop-test .taken))
 
 add-low : tie.Need-add-low Inv-loop μ-loop
-add-low c = omega (arith, stepped-small (c .before .before .step .ensures), c .before .before .before .before .before .before .before .before .loop .inv .room, c .before .before .before .before .before .before .before .loop-test .taken)
+add-low c = omega (
+  arith,
+  stepped-small (c .before .before .step .ensures),
+  c .before .before .before .before .before .before .before .before .loop .inv .room,
+  c .before .before .before .before .before .before .before .loop-test .taken,
+)
 
 add-i : tie.Need-add-i Inv-loop μ-loop
 add-i c = search needs
@@ -57,22 +70,40 @@ mul-lows : tie.Need-mul-lows Inv-loop μ-loop
 mul-lows c = search needs
 
 slice-write-lows : tie.Need-slice-write-lows Inv-loop μ-loop
-slice-write-lows c = omega (arith, c .before .before .before .before .before .before .before .before .before .before .before .before .before .before .before .pre .1 .1, c .before .before .before .before .before .before .before .loop-test .taken, c .before .before .before .before .before .before .before .before .loop .inv .so .lowLength)
+slice-write-lows c = omega (
+  arith,
+  c .before .before .before .before .before .before .before .before .before .before .before .before .before .before .before .pre .1 .1,
+  c .before .before .before .before .before .before .before .loop-test .taken,
+  c .before .before .before .before .before .before .before .before .loop .inv .so .lowLength,
+)
 
 same-length : tie.Need-same-length Inv-loop μ-loop
-same-length c = walking-more (c .before .before .before .before .before .before .before .before .before .loop .inv) (c .before .before .before .before .before .before .before .before .loop-test .taken) (c .before .before .before .before .before .before .before .before .before .before .before .before .before .before .before .before .pre .1 .1) (c .before .before .before .step .ensures) .so .codeLength
+same-length c = walking-more (c .before .before .before .before .before .before .before .before .before .loop .inv)
+    (c .before .before .before .before .before .before .before .before .loop-test .taken)
+    (c .before .before .before .before .before .before .before .before .before .before .before .before .before .before .before .before .pre .1 .1)
+    (c .before .before .before .step .ensures) .so .codeLength
 
 same-length-2 : tie.Need-same-length-2 Inv-loop μ-loop
-same-length-2 c = walking-more (c .before .before .before .before .before .before .before .before .before .loop .inv) (c .before .before .before .before .before .before .before .before .loop-test .taken) (c .before .before .before .before .before .before .before .before .before .before .before .before .before .before .before .before .pre .1 .1) (c .before .before .before .step .ensures) .so .lowLength
+same-length-2 c = walking-more (c .before .before .before .before .before .before .before .before .before .loop .inv)
+    (c .before .before .before .before .before .before .before .before .loop-test .taken)
+    (c .before .before .before .before .before .before .before .before .before .before .before .before .before .before .before .before .pre .1 .1)
+    (c .before .before .before .step .ensures) .so .lowLength
 
 returns : tie.Need-returns Inv-loop μ-loop
-returns c = let I = walking-more (c .before .before .before .before .before .before .before .before .before .loop .inv) (c .before .before .before .before .before .before .before .before .loop-test .taken) (c .before .before .before .before .before .before .before .before .before .before .before .before .before .before .before .before .pre .1 .1) (c .before .before .before .step .ensures) in walked-cut I (omega (arith, c .before .before .before .before .before .before .before .before .before .loop .inv .after)) (c .if1 .taken)
+returns c = let I = walking-more (c .before .before .before .before .before .before .before .before .before .loop .inv)
+    (c .before .before .before .before .before .before .before .before .loop-test .taken)
+    (c .before .before .before .before .before .before .before .before .before .before .before .before .before .before .before .before .pre .1 .1)
+    (c .before .before .before .step .ensures) in
+    walked-cut I (omega (arith, c .before .before .before .before .before .before .before .before .before .loop .inv .after)) (c .if1 .taken)
 
 loop-less : tie.Need-loop-less Inv-loop μ-loop
 loop-less c = search needs
 
 loop-again : tie.Need-loop-again Inv-loop μ-loop
-loop-again c = walking-more (c .before .before .before .before .before .before .before .before .before .loop .inv) (c .before .before .before .before .before .before .before .before .loop-test .taken) (c .before .before .before .before .before .before .before .before .before .before .before .before .before .before .before .before .pre .1 .1) (c .before .before .before .step .ensures)
+loop-again c = walking-more (c .before .before .before .before .before .before .before .before .before .loop .inv)
+    (c .before .before .before .before .before .before .before .before .loop-test .taken)
+    (c .before .before .before .before .before .before .before .before .before .before .before .before .before .before .before .before .pre .1 .1)
+    (c .before .before .before .step .ensures)
 
 same-length-3 : tie.Need-same-length-3 Inv-loop μ-loop
 same-length-3 c = c .before .loop .inv .so .codeLength

@@ -265,7 +265,8 @@ module _ {M : Type 1} (𝓤 : URA M) (H : Heap 𝓤) (A : Atoms 𝓤) (W : Given
         assigns ! (agg ! (and-then ! (load ! (from ! (stop !)) (look ! 10 refl)) (and-then ! (load ! (from ! (stop !)) (look ! 2 refl)) (no-more !))))
         (from ! (stop !))
         (init ! 18 refl (LL.lawful K.the-type K′.the-laws 𝓤 H A W .typed (result t (r′ .at)) _
-        (whole-is t (r′ .at) (subst (Is S.the-row t) (EL.tells S.the-type S′.the-laws t (u′ ∷ []) is′) is′) (LL.owed (T.the-type αᵉ) (T′.the-laws αᵉ) r′ (u″ ∷ []) is″ .1 .0 .1)) .0)) $
+        (whole-is t (r′ .at) (subst (Is S.the-row t) (EL.tells S.the-type S′.the-laws t (u′ ∷ []) is′) is′)
+        (LL.owed (T.the-type αᵉ) (T′.the-laws αᵉ) r′ (u″ ∷ []) is″ .1 .0 .1)) .0)) $
         returns ! (look ! 18 refl) $ forget ! 2 refl $ forget ! 4 refl $ forget ! 6 refl $ forget ! 8 refl $ forget ! 10 refl $ forget ! 12 refl $
         forget ! 14 refl $ forget ! 16 refl $ forget ! 18 refl $
         move ! (18 ∷ 19 ∷ []) $ free1 ! $ move ! (16 ∷ 17 ∷ []) $ free1 ! $ move ! (14 ∷ 15 ∷ []) $ free1 ! $ move ! (12 ∷ 13 ∷ []) $ free1 ! $

@@ -1,6 +1,6 @@
 -- `call_at`: the calls made so far.
 use Prim.Native.Nat.{_-_}
-use Rattle.gate_reader.proofs.CallLaws.{Calling, calling-start, calling-on, calling-stays, calling-end}
+use Rattle.gate_reader.proofs.Calling.{Calling, calling-start, calling-on, calling-stays, calling-end}
 use borrow.Author.Needs.{needs}
 use Rattle.gate_reader.proofs.calls.call_at.Statement.{statement}
 use Rattle.gate_reader.proofs.calls.call_at.Tie as tie

@@ -1,6 +1,6 @@
 -- `kth`: the opening, and then the calls.
-use Rattle.gate_reader.proofs.OpenLaws.{open-is}
-use Rattle.gate_reader.proofs.CallLaws.{reader-no, reader-on}
+use Rattle.gate_reader.proofs.Openings.{open-is}
+use Rattle.gate_reader.proofs.Calling.{reader-no, reader-on}
 use borrow.Author.Needs.{needs}
 use Rattle.gate_reader.proofs.calls.kth.Statement.{statement}
 use Rattle.gate_reader.proofs.calls.kth.Tie as tie

@@ -1,7 +1,7 @@
 -- `copy`: what is left to copy.
 use Prim.Native.Nat.{_-_}
 use lib.ListN.{take}
-use Rattle.gate_reader.proofs.OpenLaws.{Copying, copying-start, copying-on, copying-end}
+use Rattle.gate_reader.proofs.Openings.{Copying, copying-start, copying-on, copying-end}
 use borrow.Author.Needs.{needs}
 use Rattle.gate_reader.proofs.opening.copy.Statement.{statement}
 use Rattle.gate_reader.proofs.opening.copy.Tie as tie

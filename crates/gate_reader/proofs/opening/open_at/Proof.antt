@@ -1,6 +1,6 @@
 -- `open_at`: the head, the number of gate lines, the room for the widths, and then the widths.
 use Rattle.netlist.proofs.Size.{large-fits}
-use Rattle.gate_reader.proofs.OpenLaws.{head-under, open-not, open-6, open-14-in, open-14-out, open-at}
+use Rattle.gate_reader.proofs.Openings.{head-under, open-not, open-6, open-14-in, open-14-out, open-at}
 use native.Mathlib.Omega.{arith}
 use borrow.Author.Needs.{needs}
 use Rattle.gate_reader.proofs.opening.open_at.Statement.{statement}
@@ -53,7 +53,8 @@ returns-3 c =
     let at-h = c .before .before .before .before .before .before .before .before in
     let k = at-h .before .before .before .before in
     let a = head-under _ _ _ (k .before .before .before .large .ensures) (at-h .h .given .1) (k .read-opening .ensures) in
-    open-14-out a (c .before .before .before .before .before .before .count-lines .ensures) (c .before .before .before .before .if1 .left) (c .before .before .if2 .left) (c .if3 .taken)
+    open-14-out a (c .before .before .before .before .before .before .count-lines .ensures) (c .before .before .before .before .if1 .left)
+    (c .before .before .if2 .left) (c .if3 .taken)
 
 slice-aggregate-copy : tie.Need-slice-aggregate-copy
 slice-aggregate-copy c = search needs
@@ -78,7 +79,8 @@ copy-requires-2 c κs =
 returns-4 : tie.Need-returns-4
 returns-4 c =
     open-not
-    (head-under _ _ _ (c .before .before .before .before .before .before .before .before .large .ensures) (c .before .question .given .1) (c .before .before .before .before .before .read-opening .ensures))
+    (head-under _ _ _ (c .before .before .before .before .before .before .before .before .large .ensures) (c .before .question .given .1)
+    (c .before .before .before .before .before .read-opening .ensures))
 
 same-length : tie.Need-same-length
 same-length c = search needs

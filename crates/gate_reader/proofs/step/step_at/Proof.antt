@@ -1,8 +1,8 @@
 -- `step_at`: blank lines are passed, and the line is asked.
 use mathlib.Core.Path.{ap, _∙_}
 use mathlib.Core.Option.{some}
-use Rattle.read_gate_line.proofs.GateLaws.{line-is, line-is-not}
-use Rattle.gate_reader.proofs.StepLaws.{end-past, end-blank, no-step, on-step}
+use Rattle.read_gate_line.proofs.GateWords.{line-is, line-is-not}
+use Rattle.gate_reader.proofs.Stepping.{end-past, end-blank, no-step, on-step}
 use borrow.Author.Needs.{needs}
 use Rattle.gate_reader.proofs.step.step_at.Statement.{statement}
 use Rattle.gate_reader.proofs.step.step_at.Tie as tie

@@ -2,7 +2,7 @@
 use Prim.Native.Nat.{_-_}
 use lib.ListN.{length}
 use Rattle.netlist.specs.Table.{tables}
-use Rattle.write_buffer.proofs.Wrote.{wrote-length}
+use Rattle.write_buffer.proofs.Writing.{wrote-length}
 use Rattle.mask_twins.specs.State.{stateOf}
 use Rattle.mask_pass.proofs.States.{Emitting, emitting-none, emitting-more, emitting-all}
 use borrow.Author.Needs.{needs}
@@ -11,7 +11,8 @@ use Rattle.mask_pass.proofs.gates.gates.Statement.{statement}
 use Rattle.mask_pass.proofs.gates.gates.Tie as tie
 
 abbrev Inv-loop : tie.InvT-loop
-Inv-loop d out₀ at n c operands results count wire₀ code₀ place₀ next₀ i₀ out wire code place next i = Emitting out₀ at n (tables operands results) count (stateOf c wire₀ code₀) out place next (length wire₀) wire code i
+Inv-loop d out₀ at n c operands results count wire₀ code₀ place₀ next₀ i₀ out wire code place next i = Emitting out₀ at n (tables operands results) count
+    (stateOf c wire₀ code₀) out place next (length wire₀) wire code i
 
 abbrev μ-loop : tie.MeasureT-loop
 μ-loop d out₀ at n c operands results count wire₀ code₀ place₀ next₀ i₀ out wire code place next i = count - i

@@ -26,22 +26,34 @@ emit-requires c κs = search needs
 mul-wire : tie.Need-mul-wire
 mul-wire c =
     let s = c .before .before .before .before .before .before .before .before .before .before .before .before .before .before .before .before in
-    omega (arith, result-of (s .args .operands) (s .args .results) (c .before .before .before .before .before .before .before .before .before .before .before .split .ensures), right-of (s .args .operands) (s .args .results) (c .before .before .before .before .before .before .before .before .before .before .before .split .ensures))
+    omega (
+      arith,
+      result-of (s .args .operands) (s .args .results)
+          (c .before .before .before .before .before .before .before .before .before .before .before .split .ensures),
+      right-of (s .args .operands)
+          (s .args .results) (c .before .before .before .before .before .before .before .before .before .before .before .split .ensures),
+    )
 
 slice-write-wire : tie.Need-slice-write-wire
 slice-write-wire c =
     let s = c .before .before .before .before .before .before .before .before .before .before .before .before .before .before .before .before in
-    let w = parts-within (s .args .operands) (s .args .results) (c .before .before .before .before .before .before .before .before .before .before .before .split .ensures) (s .pre .1 .1 .0) in
+    let w = parts-within (s .args .operands) (s .args .results)
+    (c .before .before .before .before .before .before .before .before .before .before .before .split .ensures) (s .pre .1 .1 .0) in
     omega (arith, w .result, w .right)
 
 slice-write-code : tie.Need-slice-write-code
 slice-write-code c =
     let s = c .before .before .before .before .before .before .before .before .before .before .before .before .before .before .before .before in
-    let w = parts-within (s .args .operands) (s .args .results) (c .before .before .before .before .before .before .before .before .before .before .before .split .ensures) (s .pre .1 .1 .0) in
+    let w = parts-within (s .args .operands) (s .args .results)
+    (c .before .before .before .before .before .before .before .before .before .before .before .split .ensures) (s .pre .1 .1 .0) in
     omega (arith, w .result, w .right, s .pre .1 .1 .1)
 
 add-t30 : tie.Need-add-t30
-add-t30 c = omega (arith, kind-small (c .before .before .before .before .emit .ensures), c .before .before .before .before .before .before .before .before .before .before .before .before .before .before .before .before .before .pre .1 .0 .1)
+add-t30 c = omega (
+  arith,
+  kind-small (c .before .before .before .before .emit .ensures),
+  c .before .before .before .before .before .before .before .before .before .before .before .before .before .before .before .before .before .pre .1 .0 .1,
+)
 
 same-length : tie.Need-same-length
 same-length c = search needs
@@ -55,8 +67,10 @@ same-length-3 c = search needs
 returns : tie.Need-returns
 returns c =
     let a = c .before .before .before .before .before .before .before .before .before .before .before .before .before .before .before .before .before .args in
-    step-parts (a .wire .now) (a .code .now) (a .operands) (a .results) (c .before .before .before .before .before .before .before .before .before .before .before .before .split .ensures)
-    (c .before .before .before .before .before .before .before .before .before .twin .ensures) (c .before .before .before .before .before .before .twin2 .ensures) (c .before .before .before .before .emit .ensures)
+    step-parts (a .wire .now) (a .code .now) (a .operands) (a .results)
+    (c .before .before .before .before .before .before .before .before .before .before .before .before .split .ensures)
+    (c .before .before .before .before .before .before .before .before .before .twin .ensures)
+    (c .before .before .before .before .before .before .twin2 .ensures) (c .before .before .before .before .emit .ensures)
 
 pub step-spec : {M : Type 1} → statement M
 step-spec =

@@ -21,7 +21,8 @@ same-length-2 : tie.Need-same-length-2
 same-length-2 c = search needs
 
 returns-2 : tie.Need-returns-2
-returns-2 c = rw (ne-eqb _ 0 (c .before .before .before .before .before .before .if1 .left), eq-eqb _ _ (c .before .before .before .before .if2 .taken)) (c .before .before .eqw2 .ensures)
+returns-2 c = rw (ne-eqb _ 0 (c .before .before .before .before .before .before .if1 .left), eq-eqb _ _ (c .before .before .before .before .if2 .taken))
+    (c .before .before .eqw2 .ensures)
 
 third-code-requires : tie.Need-third-code-requires
 third-code-requires c κs = search needs

@@ -1,7 +1,7 @@
 -- `mask_pass::outs::outs` meets its contract.
 use Prim.Native.Nat.{_-_}
 use lib.ListN.{length}
-use Rattle.write_buffer.proofs.Wrote.{wrote-length}
+use Rattle.write_buffer.proofs.Writing.{wrote-length}
 use Rattle.mask_pass.proofs.Outputs.{Outed, outed-none, outed-more, outed-all}
 use borrow.Author.Needs.{needs}
 use native.Mathlib.Omega.{arith}

@@ -1,6 +1,6 @@
 -- `publics::one`: the input is public, or not.
 use borrow.Author.Tests.{eq-eqb, ne-eqb}
-use Rattle.write_gates.proofs.Gates.{gates-none}
+use Rattle.write_gates.proofs.GateLines.{gates-none}
 use native.Mathlib.Omega.{arith}
 use borrow.Author.Needs.{needs}
 use Rattle.mask_pass.proofs.publics.one.Statement.{statement}

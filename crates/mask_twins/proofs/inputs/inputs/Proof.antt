@@ -44,7 +44,8 @@ loop-less : tie.Need-loop-less Inv-loop μ-loop
 loop-less c = search needs
 
 loop-again : tie.Need-loop-again Inv-loop μ-loop
-loop-again c = entered-more (c .before .before .before .before .loop .inv) (c .before .before .before .loop-test .taken) (c .before .before .before .before .before .before .before .before .pre .1) (c .before .input .ensures) (c .past .ensures)
+loop-again c = entered-more (c .before .before .before .before .loop .inv) (c .before .before .before .loop-test .taken)
+    (c .before .before .before .before .before .before .before .before .pre .1) (c .before .input .ensures) (c .past .ensures)
 
 same-length : tie.Need-same-length Inv-loop μ-loop
 same-length c = c .before .loop .inv .wires

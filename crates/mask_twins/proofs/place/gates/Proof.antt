@@ -10,7 +10,8 @@ use Rattle.mask_twins.proofs.place.gates.Statement.{statement}
 use Rattle.mask_twins.proofs.place.gates.Tie as tie
 
 abbrev Inv-loop : tie.InvT-loop
-Inv-loop c operands results count wire₀ code₀ next₀ i₀ wire code next i = Advancing (tables operands results) count (stateOf c wire₀ code₀) next (length wire₀) wire code i
+Inv-loop c operands results count wire₀ code₀ next₀ i₀ wire code next i = Advancing (tables operands results) count (stateOf c wire₀ code₀) next (length wire₀)
+    wire code i
 
 abbrev μ-loop : tie.MeasureT-loop
 μ-loop c operands results count wire₀ code₀ next₀ i₀ wire code next i = count - i
@@ -32,8 +33,14 @@ shared-slice-read-step-2 c = search needs
 
 step-requires : tie.Need-step-requires Inv-loop μ-loop
 step-requires c κs = let p = c .before .before .before .before .before .before .before .before .before .before .pre in
-    let inv = c .before .before .before .before .before .loop .inv in
-    (omega (arith, p .0, inv .made .grown), (rw (inv .wires) (p .1 .0 .each _ (c .before .before .before .before .loop-test .taken)), omega (arith, inv .wires, inv .codes)))
+    let inv = c .before .before .before .before .before .loop .inv in (
+      omega (arith, p .0, inv .made .grown),
+      (
+        rw (inv .wires) (p .1 .0 .each _ (c .before .before .before .before .loop-test .taken)),
+        omega
+            (arith, inv .wires, inv .codes),
+      ),
+    )
 
 add-i : tie.Need-add-i Inv-loop μ-loop
 add-i c = search needs
@@ -43,7 +50,9 @@ loop-less c = search needs
 
 loop-again : tie.Need-loop-again Inv-loop μ-loop
 loop-again c = let s = c .before .before .before .before .step in
-    advancing-more (c .before .before .before .before .before .before .before .before .before .before .loop .inv) (c .before .before .before .before .before .before .before .before .before .loop-test .taken) (s .kept .1 .1 .1 .0) (s .kept .1 .1 .1 .1 .0) (s .ensures)
+    advancing-more (c .before .before .before .before .before .before .before .before .before .before .loop .inv)
+    (c .before .before .before .before .before .before .before .before .before .loop-test .taken) (s .kept .1 .1 .1 .0) (s .kept .1 .1 .1 .1 .0)
+    (s .ensures)
 
 same-length : tie.Need-same-length Inv-loop μ-loop
 same-length c = c .before .loop .inv .wires

@@ -26,7 +26,12 @@ twin-requires-3 c κs = search needs
 mul-wire : tie.Need-mul-wire
 mul-wire c =
     let s = c .before .before .before .before .before .before .before .before .before .before in
-    omega (arith, result-of (s .args .operands) (s .args .results) (c .before .before .before .before .before .before .before .split .ensures), right-of (s .args .operands) (s .args .results) (c .before .before .before .before .before .before .before .split .ensures))
+    omega (
+      arith,
+      result-of (s .args .operands) (s .args .results) (c .before .before .before .before .before .before .before .split .ensures),
+      right-of
+          (s .args .operands) (s .args .results) (c .before .before .before .before .before .before .before .split .ensures),
+    )
 
 slice-write-wire : tie.Need-slice-write-wire
 slice-write-wire c =
@@ -46,7 +51,8 @@ add-result c =
     omega (
       arith,
       s .pre .0,
-      twin-small (s .args .c) (c .before .before .before .before .before .before .before .before .split .result .kind) (c .before .before .before .before .before .twin .result) (c .before .before .twin2 .result) (c .before .twin3 .ensures),
+      twin-small (s .args .c) (c .before .before .before .before .before .before .before .before .split .result .kind)
+          (c .before .before .before .before .before .twin .result) (c .before .before .twin2 .result) (c .before .twin3 .ensures),
     )
 
 same-length : tie.Need-same-length

@@ -39,8 +39,11 @@ returns c = let s = c .before .before .before .before .before .before .before .b
     let run-block = c .before .before .before .before .before .before .before .run-block in
     let t = tables (s .args .operands .now) (s .args .results .now) in
     let ran = subst (λ (W : ℕ). Evaluated (bare t (s .args .count) W) false (s .args .paints .now) (run-block .last .1 .1 .1 .1 .1 .1 .0) (s .args .block))
-    (s .pre .1 .0 .1) (run-block .ensures) in
-    (record { words = ran; counts = c .before .before .tally .ensures }, λ e. absurd (subst T (sym (c .before .before .before .before .before .before .before .before .before .if1 .taken) ∙ e) tt))
+    (s .pre .1 .0 .1) (run-block .ensures) in (
+      record { words = ran; counts = c .before .before .tally .ensures },
+      λ e. absurd
+          (subst T (sym (c .before .before .before .before .before .before .before .before .before .if1 .taken) ∙ e) tt),
+    )
 
 same-length-3 : tie.Need-same-length-3
 same-length-3 c = search needs

@@ -44,7 +44,8 @@ cast-v : tie.Need-cast-v Inv-loop μ-loop
 cast-v c = omega (arith, c .shared-slice-known6 .given (2 * c .before .before .before .loop .j + 1))
 
 level-requires : tie.Need-level-requires Inv-loop μ-loop
-level-requires c κs = let s = c .before .before .before .before .before .before .before .before in let j = c .before .before .before .loop .j in (s .pre .3 (2 * j) (omega arith), s .pre .3 (2 * j + 1) (omega arith), s .pre .1, s .pre .2, s .pre .4)
+level-requires c κs = let s = c .before .before .before .before .before .before .before .before in let j = c .before .before .before .loop .j in
+    (s .pre .3 (2 * j) (omega arith), s .pre .3 (2 * j + 1) (omega arith), s .pre .1, s .pre .2, s .pre .4)
 
 returns : tie.Need-returns Inv-loop μ-loop
 returns c = record {

@@ -42,13 +42,16 @@ run-requires c κs = let s = c .before .before .before .before .before .before .
         at .inv .long-bases ∙ sym w,
         at .inv .long-base ∙ sym w,
         subst
-            (λ (W : ℕ). HeldOn (c .before .before .before .before .before .before .public .result) (bare t (s .args .count) W) (s .args .paints .now) (at .bases) (at .base) (at .block))
+            (λ (W : ℕ). HeldOn (c .before .before .before .before .before .before .public .result) (bare t (s .args .count) W) (s .args .paints .now)
+            (at .bases) (at .base) (at .block))
             (sym w) (at .inv .held),
       ),
     )
 
 look-requires : tie.Need-look-requires Inv-loop μ-loop
-look-requires c κs = let s = c .before .before .before .before .before .before .before .before .before .before .before .before .before .before .before .before .before .before .before .before .before .before .before .before in
+look-requires c κs = let s =
+    c .before .before .before .before .before .before .before .before .before .before .before .before .before .before .before .before .before .before .before
+    .before .before .before .before .before in
     let at = c .before .before .before .before .before .before .before .before .before .before .before .before .before .before .loop in
     let run = c .before .before .before .before .before .before .before .before .before .run in
     let w = run .kept .1 .1 .1 .1 .1 .1 .0 ∙ at .inv .long-words in (
@@ -61,14 +64,21 @@ look-requires c κs = let s = c .before .before .before .before .before .before 
     )
 
 add-block : tie.Need-add-block Inv-loop μ-loop
-add-block c = omega (arith, c .before .before .before .before .before .before .before .before .before .before .before .before .before .before .before .before .before .before .before .before .before .before .before .before .before .pre .1 .3, c .before .before .before .before .before .before .before .before .before .before .before .before .before .before .loop-test .taken)
+add-block c = omega (
+  arith,
+  c .before .before .before .before .before .before .before .before .before .before .before .before .before .before .before .before .before .before .before
+      .before .before .before .before .before .before .pre .1 .3,
+  c .before .before .before .before .before .before .before .before .before .before .before .before .before .before .loop-test .taken,
+)
 
 loop-less : tie.Need-loop-less Inv-loop μ-loop
 loop-less c = omega (arith, c .before .before .before .before .before .before .before .before .before .before .before .before .before .before .loop-test .taken)
 
 loop-again : tie.Need-loop-again Inv-loop μ-loop
 loop-again c = let run = c .before .before .before .before .before .before .before .before .before .before .run in
-    find-more (c .before .before .before .before .before .before .before .before .before .before .before .before .before .before .before .loop .inv) (c .before .before .before .before .before .before .before .before .before .before .before .before .before .before .loop-test .taken) (run .last .1 .1 .1 .1 .1 .1 .0) (run .last .1 .1 .1 .1 .1 .1 .1 .0)
+    find-more (c .before .before .before .before .before .before .before .before .before .before .before .before .before .before .before .loop .inv)
+    (c .before .before .before .before .before .before .before .before .before .before .before .before .before .before .loop-test .taken)
+    (run .last .1 .1 .1 .1 .1 .1 .0) (run .last .1 .1 .1 .1 .1 .1 .1 .0)
     (run .last .1 .1 .1 .1 .1 .1 .1 .1 .0) (c .look .result) (run .kept .1 .1 .1 .1 .1 .1 .0) (run .kept .1 .1 .1 .1 .1 .1 .1 .0)
     (run .kept .1 .1 .1 .1 .1 .1 .1 .1 .0) (run .ensures) (c .look .ensures)
 

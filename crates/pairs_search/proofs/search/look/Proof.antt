@@ -30,7 +30,8 @@ better-requires c κs = (c .before .before .before .before .before .before .befo
 
 returns : tie.Need-returns
 returns c = let a = c .before .before .before .before .before .before .before .before .args in
-    look-law (a .words .now) (a .bases .now) (a .base .now) (a .pairs .now) (a .block) (c .before .before .before .scan .ensures) (c .before .scan2 .ensures) (c .better .ensures)
+    look-law (a .words .now) (a .bases .now) (a .base .now) (a .pairs .now) (a .block) (c .before .before .before .scan .ensures) (c .before .scan2 .ensures)
+    (c .better .ensures)
 
 pub look-spec : {M : Type 1} → statement M
 look-spec = tie.close (tie.spec scan-requires scan-requires-2 better-requires returns)

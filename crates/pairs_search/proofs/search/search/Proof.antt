@@ -31,7 +31,8 @@ array-share-prefix-paints : tie.Need-array-share-prefix-paints
 array-share-prefix-paints c = search needs
 
 slice-aggregate-find : tie.Need-slice-aggregate-find
-slice-aggregate-find c = sym (ap length (c .before .each .ensures) ∙ length-each 0 (c .before .before .before .before .before .before .before .before .before .args .codes .now))
+slice-aggregate-find c = sym (ap length (c .before .each .ensures) ∙ length-each 0
+    (c .before .before .before .before .before .before .before .before .before .args .codes .now))
 
 blocks-of-requires : tie.Need-blocks-of-requires
 blocks-of-requires c κs = search needs
@@ -57,7 +58,9 @@ same-length-3 : tie.Need-same-length-3
 same-length-3 c = search needs
 
 returns : tie.Need-returns
-returns c = λ n o N h. let s = c .before .before .before .before .before .before .before .before .before .before .before .before .before .before .before .before .before .before .before .before .before .before in
+returns c = λ n o N h. let s =
+    c .before .before .before .before .before .before .before .before .before .before .before .before .before .before .before .before .before .before .before
+    .before .before .before in
     let a = s .args in
     let find = c .before .before .before .before .before .before .before .before .find in
     let blocks = c .before .before .before .before .before .before .before .before .before .before .before .before .blocks-of in

@@ -57,13 +57,15 @@ same-length-4 c = search needs
 
 returns-2 : tie.Need-returns-2
 returns-2 c =
-    let a = c .before .before .before .before .before .before .before .before .before .before .before .before .before .before .before .before .before .before .before .before .before .before .before .args in
+    let a = c .before .before .before .before .before .before .before .before .before .before .before .before .before .before .before .before .before .before
+    .before .before .before .before .before .args in
     let H = headSaid (a .h) in
     let t = a .text .now in
     let ls = fileLines (drop (a .at .at) t) in
     let i = c .before .before .before .before .before .before .before .before .before .before .before .before .before .before .before .before .before .inputs in
     let v = i .last .1 .1 .1 .1 .0 in
-    let A = inputs-is ls t (H .inputs) (H .most) v (i .result) _ (c .before .before .before .before .before .before .before .before .before .before .before .before .before .behind .given .1) (i .ensures) in
+    let A = inputs-is ls t (H .inputs) (H .most) v (i .result) _
+    (c .before .before .before .before .before .before .before .before .before .before .before .before .before .behind .given .1) (i .ensures) in
     (c .before .before .before .before .before .before .by-marks .ensures .0 ls A, c .before .before .before .before .before .before .by-marks .ensures .1)
 
 by-literals-requires : tie.Need-by-literals-requires
@@ -89,13 +91,15 @@ same-length-7 c = search needs
 
 returns-3 : tie.Need-returns-3
 returns-3 c =
-    let a = c .before .before .before .before .before .before .before .before .before .before .before .before .before .before .before .before .before .before .before .before .before .before .before .args in
+    let a = c .before .before .before .before .before .before .before .before .before .before .before .before .before .before .before .before .before .before
+    .before .before .before .before .before .args in
     let H = headSaid (a .h) in
     let t = a .text .now in
     let ls = fileLines (drop (a .at .at) t) in
     let i = c .before .before .before .before .before .before .before .before .before .before .before .before .before .before .before .before .before .inputs in
     let v = i .last .1 .1 .1 .1 .0 in
-    let A = inputs-is ls t (H .inputs) (H .most) v (i .result) _ (c .before .before .before .before .before .before .before .before .before .before .before .before .before .behind .given .1) (i .ensures) in
+    let A = inputs-is ls t (H .inputs) (H .most) v (i .result) _
+    (c .before .before .before .before .before .before .before .before .before .before .before .before .before .behind .given .1) (i .ensures) in
     (c .before .before .before .before .before .before .by-literals .ensures .0 ls A, c .before .before .before .before .before .before .by-literals .ensures .1)
 
 pub body-spec : {M : Type 1} → statement M

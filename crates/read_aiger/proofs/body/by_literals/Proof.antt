@@ -52,8 +52,12 @@ returns c =
     let t = a .text .now in
     let q = c .before .before .before .before .keep-literals in
     let K = q .last .1 .1 .0 in
-    let l = q .kept .1 .1 .0 in
-    (λ ls A. kept-no-outputs H t (a .results .now) K (a .at .at) (c .before .before .before .before .before .before .before .before .before .before .before .pre .3) l ls A (kept-not _ t K (q .result) (c .enum-told .given .1) (q .ensures)), omega arith)
+    let l = q .kept .1 .1 .0 in (
+      λ ls A. kept-no-outputs H t (a .results .now) K (a .at .at)
+          (c .before .before .before .before .before .before .before .before .before .before .before .pre .3) l ls A
+          (kept-not _ t K (q .result) (c .enum-told .given .1) (q .ensures)),
+      omega arith,
+    )
 
 slice-relend-prefix-ands : tie.Need-slice-relend-prefix-ands
 slice-relend-prefix-ands c =
@@ -86,7 +90,8 @@ ands-requires c κs =
     let K = q .last .1 .1 .0 in
     let l = q .kept .1 .1 .0 in
     let Q = kept-is _ t K (q .result) _ (c .before .before .before .before .first .given .1) (q .ensures) in
-    let L = kept-literals H t (a .results .now) K (a .at .at) (c .before .before .before .before .before .before .before .before .before .before .before .before .before .before .before .pre .3) l (Q .0) in
+    let L = kept-literals H t (a .results .now) K (a .at .at)
+    (c .before .before .before .before .before .before .before .before .before .before .before .before .before .before .before .pre .3) l (Q .0) in
     let p = c .before .before .before .before .before .before .before .before .before .before .before .before .before .before .before .pre in
     (L .within, p .1, omega (arith, p .2 .inputs, p .2 .ands))
 
@@ -107,14 +112,18 @@ same-length-4 c = search needs
 
 returns-2 : tie.Need-returns-2
 returns-2 c =
-    let a = c .before .before .before .before .before .before .before .before .before .before .before .before .before .before .before .before .before .before .before .before .before .before .before .before .args in
+    let a = c .before .before .before .before .before .before .before .before .before .before .before .before .before .before .before .before .before .before
+    .before .before .before .before .before .before .args in
     let H = headSaid (a .h) in
     let t = a .text .now in
     let q = c .before .before .before .before .before .before .before .before .before .before .before .before .before .before .before .before .before .keep-literals in
     let K = q .last .1 .1 .0 in
     let l = q .kept .1 .1 .0 in
-    let Q = kept-is _ t K (q .result) _ (c .before .before .before .before .before .before .before .before .before .before .before .before .before .first .given .1) (q .ensures) in
-    let L = kept-literals H t (a .results .now) K (a .at .at) (c .before .before .before .before .before .before .before .before .before .before .before .before .before .before .before .before .before .before .before .before .before .before .before .before .pre .3) l (Q .0) in
+    let Q = kept-is _ t K (q .result) _
+    (c .before .before .before .before .before .before .before .before .before .before .before .before .before .first .given .1) (q .ensures) in
+    let L = kept-literals H t (a .results .now) K (a .at .at)
+    (c .before .before .before .before .before .before .before .before .before .before .before .before .before .before .before .before .before .before
+    .before .before .before .before .before .before .pre .3) l (Q .0) in
     let k = c .before .before .before .before .before .before .before .before .ands in
     let F = k .last .1 .1 .1 .1 .1 .1 .1 .0 in
     let m = k .kept .1 .1 .1 .1 .1 .1 .1 .0 in
@@ -122,27 +131,35 @@ returns-2 c =
     let o = k .last .1 .1 .1 .1 .1 .1 .0 in (
       λ ls A.
           let S = standing-first H ls t A (tables (a .operands .now) _) in
-          lines-no-ands H ls t A L (ands-not _ t (H .ands) (H .most) (H .inputs) _ _ w (tables o F) (k .result) (c .enum-told2 .given .1) (k .ensures .0 _ _ (wires-length H ls t A) S)),
+          lines-no-ands H ls t A L (ands-not _ t (H .ands) (H .most) (H .inputs) _ _ w (tables o F) (k .result) (c .enum-told2 .given .1)
+          (k .ensures .0 _ _ (wires-length H ls t A) S)),
       omega arith,
     )
 
 outputs-requires : tie.Need-outputs-requires
 outputs-requires c κs =
-    let a = c .before .before .before .before .before .before .before .before .before .before .before .before .before .before .before .before .before .before .before .before .before .before .before .before .before .before .before .before .args in
+    let a = c .before .before .before .before .before .before .before .before .before .before .before .before .before .before .before .before .before .before
+    .before .before .before .before .before .before .before .before .before .before .args in
     let H = headSaid (a .h) in
     let t = a .text .now in
-    let q = c .before .before .before .before .before .before .before .before .before .before .before .before .before .before .before .before .before .before .before .before .before .keep-literals in
+    let q = c .before .before .before .before .before .before .before .before .before .before .before .before .before .before .before .before .before .before
+    .before .before .before .keep-literals in
     let K = q .last .1 .1 .0 in
     let l = q .kept .1 .1 .0 in
-    let Q = kept-is _ t K (q .result) _ (c .before .before .before .before .before .before .before .before .before .before .before .before .before .before .before .before .before .first .given .1) (q .ensures) in
-    let L = kept-literals H t (a .results .now) K (a .at .at) (c .before .before .before .before .before .before .before .before .before .before .before .before .before .before .before .before .before .before .before .before .before .before .before .before .before .before .before .before .pre .3) l (Q .0) in
+    let Q = kept-is _ t K (q .result) _
+    (c .before .before .before .before .before .before .before .before .before .before .before .before .before .before .before .before .before .first .given
+    .1) (q .ensures) in
+    let L = kept-literals H t (a .results .now) K (a .at .at)
+    (c .before .before .before .before .before .before .before .before .before .before .before .before .before .before .before .before .before .before
+    .before .before .before .before .before .before .before .before .before .before .pre .3) l (Q .0) in
     let k = c .before .before .before .before .before .before .before .before .before .before .before .before .ands in
     let F = k .last .1 .1 .1 .1 .1 .1 .1 .0 in
     let m = k .kept .1 .1 .1 .1 .1 .1 .1 .0 in
     let w = k .last .1 .1 .1 .1 .1 .0 in
     let o = k .last .1 .1 .1 .1 .1 .1 .0 in
     let said = said-is (k .result) _ _ (c .before .before .before .before .count .given .1) in
-    let p = c .before .before .before .before .before .before .before .before .before .before .before .before .before .before .before .before .before .before .before .before .before .before .before .before .before .before .before .before .pre in
+    let p = c .before .before .before .before .before .before .before .before .before .before .before .before .before .before .before .before .before .before
+    .before .before .before .before .before .before .before .before .before .before .pre in
     let z = whole-outputs H t (a .results .now) K (a .at .at) (p .3) l F m in (
       whole-inside H t (a .results .now) K (a .at .at) (p .3) l F m,
       omega (arith, p .2 .inputs, p .2 .ands, p .2 .outputs, k .ensures .1, said .0, z),
@@ -160,14 +177,20 @@ same-length-7 c = search needs
 
 returns-3 : tie.Need-returns-3
 returns-3 c =
-    let a = c .before .before .before .before .before .before .before .before .before .before .before .before .before .before .before .before .before .before .before .before .before .before .before .before .before .before .before .before .before .before .before .before .before .before .args in
+    let a = c .before .before .before .before .before .before .before .before .before .before .before .before .before .before .before .before .before .before
+    .before .before .before .before .before .before .before .before .before .before .before .before .before .before .before .before .args in
     let H = headSaid (a .h) in
     let t = a .text .now in
-    let q = c .before .before .before .before .before .before .before .before .before .before .before .before .before .before .before .before .before .before .before .before .before .before .before .before .before .before .before .keep-literals in
+    let q = c .before .before .before .before .before .before .before .before .before .before .before .before .before .before .before .before .before .before
+    .before .before .before .before .before .before .before .before .before .keep-literals in
     let K = q .last .1 .1 .0 in
     let l = q .kept .1 .1 .0 in
-    let Q = kept-is _ t K (q .result) _ (c .before .before .before .before .before .before .before .before .before .before .before .before .before .before .before .before .before .before .before .before .before .before .before .first .given .1) (q .ensures) in
-    let L = kept-literals H t (a .results .now) K (a .at .at) (c .before .before .before .before .before .before .before .before .before .before .before .before .before .before .before .before .before .before .before .before .before .before .before .before .before .before .before .before .before .before .before .before .before .before .pre .3) l (Q .0) in
+    let Q = kept-is _ t K (q .result) _
+    (c .before .before .before .before .before .before .before .before .before .before .before .before .before .before .before .before .before .before
+    .before .before .before .before .before .first .given .1) (q .ensures) in
+    let L = kept-literals H t (a .results .now) K (a .at .at)
+    (c .before .before .before .before .before .before .before .before .before .before .before .before .before .before .before .before .before .before
+    .before .before .before .before .before .before .before .before .before .before .before .before .before .before .before .before .pre .3) l (Q .0) in
     let k = c .before .before .before .before .before .before .before .before .before .before .before .before .before .before .before .before .before .before .ands in
     let F = k .last .1 .1 .1 .1 .1 .1 .1 .0 in
     let m = k .kept .1 .1 .1 .1 .1 .1 .1 .0 in
@@ -176,28 +199,40 @@ returns-3 c =
     let x = c .before .before .before .before .before .outputs in (
       λ ls A.
           let S = standing-first H ls t A (tables (a .operands .now) _) in
-          let D = ands-is _ t (H .ands) (H .most) (H .inputs) _ _ w (tables o F) (k .result) _ _ (c .before .before .before .before .before .before .before .before .before .before .count .given .1) (k .ensures .0 _ _ (wires-length H ls t A) S) in
-          whole-no-outs H t (a .results .now) K (a .at .at) (c .before .before .before .before .before .before .before .before .before .before .before .before .before .before .before .before .before .before .before .before .before .before .before .before .before .before .before .before .before .before .before .before .before .before .pre .3) l F m ls A L D (rw (not-true (x .result) (c .if1 .taken)) at (x .ensures)),
+          let D = ands-is _ t (H .ands) (H .most) (H .inputs) _ _ w (tables o F) (k .result) _ _
+          (c .before .before .before .before .before .before .before .before .before .before .count .given .1) (k .ensures .0 _ _ (wires-length H ls t A) S)
+          in
+          whole-no-outs H t (a .results .now) K (a .at .at)
+          (c .before .before .before .before .before .before .before .before .before .before .before .before .before .before .before .before .before .before
+          .before .before .before .before .before .before .before .before .before .before .before .before .before .before .before .before .pre .3) l F m ls
+          A L D (rw (not-true (x .result) (c .if1 .taken)) at (x .ensures)),
       omega arith,
     )
 
 add-t13 : tie.Need-add-t13
 add-t13 c =
-    let a = c .before .before .before .before .before .before .before .before .before .before .before .before .before .before .before .before .before .before .before .before .before .before .before .before .before .before .before .before .before .before .before .before .before .before .args in
+    let a = c .before .before .before .before .before .before .before .before .before .before .before .before .before .before .before .before .before .before
+    .before .before .before .before .before .before .before .before .before .before .before .before .before .before .before .before .args in
     let H = headSaid (a .h) in
     let t = a .text .now in
-    let q = c .before .before .before .before .before .before .before .before .before .before .before .before .before .before .before .before .before .before .before .before .before .before .before .before .before .before .before .keep-literals in
+    let q = c .before .before .before .before .before .before .before .before .before .before .before .before .before .before .before .before .before .before
+    .before .before .before .before .before .before .before .before .before .keep-literals in
     let K = q .last .1 .1 .0 in
     let l = q .kept .1 .1 .0 in
-    let Q = kept-is _ t K (q .result) _ (c .before .before .before .before .before .before .before .before .before .before .before .before .before .before .before .before .before .before .before .before .before .before .before .first .given .1) (q .ensures) in
-    let L = kept-literals H t (a .results .now) K (a .at .at) (c .before .before .before .before .before .before .before .before .before .before .before .before .before .before .before .before .before .before .before .before .before .before .before .before .before .before .before .before .before .before .before .before .before .before .pre .3) l (Q .0) in
+    let Q = kept-is _ t K (q .result) _
+    (c .before .before .before .before .before .before .before .before .before .before .before .before .before .before .before .before .before .before
+    .before .before .before .before .before .first .given .1) (q .ensures) in
+    let L = kept-literals H t (a .results .now) K (a .at .at)
+    (c .before .before .before .before .before .before .before .before .before .before .before .before .before .before .before .before .before .before
+    .before .before .before .before .before .before .before .before .before .before .before .before .before .before .before .before .pre .3) l (Q .0) in
     let k = c .before .before .before .before .before .before .before .before .before .before .before .before .before .before .before .before .before .before .ands in
     let F = k .last .1 .1 .1 .1 .1 .1 .1 .0 in
     let m = k .kept .1 .1 .1 .1 .1 .1 .1 .0 in
     let w = k .last .1 .1 .1 .1 .1 .0 in
     let o = k .last .1 .1 .1 .1 .1 .1 .0 in
     let said = said-is (k .result) _ _ (c .before .before .before .before .before .before .before .before .before .before .count .given .1) in
-    let p = c .before .before .before .before .before .before .before .before .before .before .before .before .before .before .before .before .before .before .before .before .before .before .before .before .before .before .before .before .before .before .before .before .before .before .pre in
+    let p = c .before .before .before .before .before .before .before .before .before .before .before .before .before .before .before .before .before .before
+    .before .before .before .before .before .before .before .before .before .before .before .before .before .before .before .before .pre in
     omega (arith, p .2 .ands, p .2 .outputs, k .ensures .1, said .0)
 
 same-length-8 : tie.Need-same-length-8
@@ -211,14 +246,20 @@ same-length-10 c = search needs
 
 returns-4 : tie.Need-returns-4
 returns-4 c =
-    let a = c .before .before .before .before .before .before .before .before .before .before .before .before .before .before .before .before .before .before .before .before .before .before .before .before .before .before .before .before .before .before .before .before .before .before .args in
+    let a = c .before .before .before .before .before .before .before .before .before .before .before .before .before .before .before .before .before .before
+    .before .before .before .before .before .before .before .before .before .before .before .before .before .before .before .before .args in
     let H = headSaid (a .h) in
     let t = a .text .now in
-    let q = c .before .before .before .before .before .before .before .before .before .before .before .before .before .before .before .before .before .before .before .before .before .before .before .before .before .before .before .keep-literals in
+    let q = c .before .before .before .before .before .before .before .before .before .before .before .before .before .before .before .before .before .before
+    .before .before .before .before .before .before .before .before .before .keep-literals in
     let K = q .last .1 .1 .0 in
     let l = q .kept .1 .1 .0 in
-    let Q = kept-is _ t K (q .result) _ (c .before .before .before .before .before .before .before .before .before .before .before .before .before .before .before .before .before .before .before .before .before .before .before .first .given .1) (q .ensures) in
-    let L = kept-literals H t (a .results .now) K (a .at .at) (c .before .before .before .before .before .before .before .before .before .before .before .before .before .before .before .before .before .before .before .before .before .before .before .before .before .before .before .before .before .before .before .before .before .before .pre .3) l (Q .0) in
+    let Q = kept-is _ t K (q .result) _
+    (c .before .before .before .before .before .before .before .before .before .before .before .before .before .before .before .before .before .before
+    .before .before .before .before .before .first .given .1) (q .ensures) in
+    let L = kept-literals H t (a .results .now) K (a .at .at)
+    (c .before .before .before .before .before .before .before .before .before .before .before .before .before .before .before .before .before .before
+    .before .before .before .before .before .before .before .before .before .before .before .before .before .before .before .before .pre .3) l (Q .0) in
     let k = c .before .before .before .before .before .before .before .before .before .before .before .before .before .before .before .before .before .before .ands in
     let F = k .last .1 .1 .1 .1 .1 .1 .1 .0 in
     let m = k .kept .1 .1 .1 .1 .1 .1 .1 .0 in
@@ -228,8 +269,13 @@ returns-4 c =
     let x = c .before .before .before .before .before .outputs in (
       λ ls A.
           let S = standing-first H ls t A (tables (a .operands .now) _) in
-          let D = ands-is _ t (H .ands) (H .most) (H .inputs) _ _ w (tables o F) (k .result) _ _ (c .before .before .before .before .before .before .before .before .before .before .count .given .1) (k .ensures .0 _ _ (wires-length H ls t A) S) in
-          whole-made H t (a .results .now) K (a .at .at) (c .before .before .before .before .before .before .before .before .before .before .before .before .before .before .before .before .before .before .before .before .before .before .before .before .before .before .before .before .before .before .before .before .before .before .pre .3) l F m ls A L D (rw (not-false (x .result) (c .if1 .left)) at (x .ensures)),
+          let D = ands-is _ t (H .ands) (H .most) (H .inputs) _ _ w (tables o F) (k .result) _ _
+          (c .before .before .before .before .before .before .before .before .before .before .count .given .1) (k .ensures .0 _ _ (wires-length H ls t A) S)
+          in
+          whole-made H t (a .results .now) K (a .at .at)
+          (c .before .before .before .before .before .before .before .before .before .before .before .before .before .before .before .before .before .before
+          .before .before .before .before .before .before .before .before .before .before .before .before .before .before .before .before .pre .3) l F m ls
+          A L D (rw (not-false (x .result) (c .if1 .left)) at (x .ensures)),
       omega (arith, k .ensures .1, said .0),
     )
 

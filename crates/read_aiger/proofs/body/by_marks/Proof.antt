@@ -71,17 +71,20 @@ same-length-4 c = search needs
 
 returns-2 : tie.Need-returns-2
 returns-2 c =
-    let a = c .before .before .before .before .before .before .before .before .before .before .before .before .before .before .before .before .before .before .before .before .before .before .before .before .before .before .args in
+    let a = c .before .before .before .before .before .before .before .before .before .before .before .before .before .before .before .before .before .before
+    .before .before .before .before .before .before .before .before .args in
     let H = headSaid (a .h) in
     let t = a .text .now in
     let q = c .before .before .before .before .before .before .before .before .before .before .before .before .before .before .before .before .mark-literals in
     let K = q .last .1 .1 .1 .1 .0 in
-    let B = marks-are _ t (H .outputs) (H .most) K (q .result) _ (c .before .before .before .before .before .before .before .before .before .before .before .before .first .given .1) (q .ensures) in
+    let B = marks-are _ t (H .outputs) (H .most) K (q .result) _
+    (c .before .before .before .before .before .before .before .before .before .before .before .before .first .given .1) (q .ensures) in
     let k = c .before .before .before .before .before .before .before .ands in
     let w = k .last .1 .1 .1 .1 .1 .0 in
     let T = tables (k .last .1 .1 .1 .1 .1 .1 .0) (k .last .1 .1 .1 .1 .1 .1 .1 .0) in (
       λ ls A.
-          lines-no-ands H ls t A (B .literals) (ands-not _ t (H .ands) (H .most) (H .inputs) _ _ w T (k .result) (c .enum-told2 .given .1) (k .ensures .0 _ _ (wires-length H ls t A) (standing-first H ls t A _))),
+          lines-no-ands H ls t A (B .literals) (ands-not _ t (H .ands) (H .most) (H .inputs) _ _ w T (k .result) (c .enum-told2 .given .1)
+          (k .ensures .0 _ _ (wires-length H ls t A) (standing-first H ls t A _))),
       omega arith,
     )
 
@@ -99,17 +102,22 @@ same-length-7 c = search needs
 
 returns-3 : tie.Need-returns-3
 returns-3 c =
-    let a = c .before .before .before .before .before .before .before .before .before .before .before .before .before .before .before .before .before .before .before .before .before .before .before .before .before .before .before .before .before .before .before .args in
+    let a = c .before .before .before .before .before .before .before .before .before .before .before .before .before .before .before .before .before .before
+    .before .before .before .before .before .before .before .before .before .before .before .before .before .args in
     let H = headSaid (a .h) in
     let t = a .text .now in
-    let q = c .before .before .before .before .before .before .before .before .before .before .before .before .before .before .before .before .before .before .before .before .before .mark-literals in
+    let q = c .before .before .before .before .before .before .before .before .before .before .before .before .before .before .before .before .before .before
+    .before .before .before .mark-literals in
     let K = q .last .1 .1 .1 .1 .0 in
-    let B = marks-are _ t (H .outputs) (H .most) K (q .result) _ (c .before .before .before .before .before .before .before .before .before .before .before .before .before .before .before .before .before .first .given .1) (q .ensures) in
+    let B = marks-are _ t (H .outputs) (H .most) K (q .result) _
+    (c .before .before .before .before .before .before .before .before .before .before .before .before .before .before .before .before .before .first .given
+    .1) (q .ensures) in
     let k = c .before .before .before .before .before .before .before .before .before .before .before .before .ands in
     let w = k .last .1 .1 .1 .1 .1 .0 in
     let T = tables (k .last .1 .1 .1 .1 .1 .1 .0) (k .last .1 .1 .1 .1 .1 .1 .1 .0) in (
       λ ls A.
-          let D = ands-is _ t (H .ands) (H .most) (H .inputs) _ _ w T (k .result) _ _ (c .before .before .before .before .before .count .given .1) (k .ensures .0 _ _ (wires-length H ls t A) (standing-first H ls t A _)) in
+          let D = ands-is _ t (H .ands) (H .most) (H .inputs) _ _ w T (k .result) _ _ (c .before .before .before .before .before .count .given .1)
+          (k .ensures .0 _ _ (wires-length H ls t A) (standing-first H ls t A _)) in
           marks-no-outs H t ls A B D (λ given wires are P O. sym (not-true _ (c .if1 .taken)) ∙ c .before .are-given .ensures given wires are P O),
       omega arith,
     )
@@ -121,7 +129,8 @@ add-t31 : tie.Need-add-t31
 add-t31 c =
     let k = c .before .before .before .before .before .before .before .before .before .before .before .before .before .ands in
     let said = said-is (k .result) _ _ (c .before .before .before .before .before .before .count .given .1) in
-    let p = c .before .before .before .before .before .before .before .before .before .before .before .before .before .before .before .before .before .before .before .before .before .before .before .before .before .before .before .before .before .before .before .before .pre in
+    let p = c .before .before .before .before .before .before .before .before .before .before .before .before .before .before .before .before .before .before
+    .before .before .before .before .before .before .before .before .before .before .before .before .before .before .pre in
     omega (arith, p .2 .ands, p .2 .outputs, k .ensures .1, said .0)
 
 same-length-8 : tie.Need-same-length-8
@@ -135,19 +144,30 @@ same-length-10 c = search needs
 
 returns-4 : tie.Need-returns-4
 returns-4 c =
-    let a = c .before .before .before .before .before .before .before .before .before .before .before .before .before .before .before .before .before .before .before .before .before .before .before .before .before .before .before .before .before .before .before .before .args in
+    let a = c .before .before .before .before .before .before .before .before .before .before .before .before .before .before .before .before .before .before
+    .before .before .before .before .before .before .before .before .before .before .before .before .before .before .args in
     let H = headSaid (a .h) in
     let t = a .text .now in
-    let q = c .before .before .before .before .before .before .before .before .before .before .before .before .before .before .before .before .before .before .before .before .before .before .mark-literals in
+    let q = c .before .before .before .before .before .before .before .before .before .before .before .before .before .before .before .before .before .before
+    .before .before .before .before .mark-literals in
     let K = q .last .1 .1 .1 .1 .0 in
-    let B = marks-are _ t (H .outputs) (H .most) K (q .result) _ (c .before .before .before .before .before .before .before .before .before .before .before .before .before .before .before .before .before .before .first .given .1) (q .ensures) in
+    let B = marks-are _ t (H .outputs) (H .most) K (q .result) _
+    (c .before .before .before .before .before .before .before .before .before .before .before .before .before .before .before .before .before .before
+    .first .given .1) (q .ensures) in
     let k = c .before .before .before .before .before .before .before .before .before .before .before .before .before .ands in
     let w = k .last .1 .1 .1 .1 .1 .0 in
     let T = tables (k .last .1 .1 .1 .1 .1 .1 .0) (k .last .1 .1 .1 .1 .1 .1 .1 .0) in
     let said = said-is (k .result) _ _ (c .before .before .before .before .before .before .count .given .1) in (
       λ ls A.
-          let D = ands-is _ t (H .ands) (H .most) (H .inputs) _ _ w T (k .result) _ _ (c .before .before .before .before .before .before .count .given .1) (k .ensures .0 _ _ (wires-length H ls t A) (standing-first H ls t A _)) in
-          marks-made H t ls A B D (λ given wires are P O. sym (not-false _ (c .before .if1 .left)) ∙ c .before .before .are-given .ensures given wires are P O) (omega (arith, c .before .before .before .before .before .before .before .before .before .before .before .before .before .before .before .before .before .before .before .before .before .before .before .before .before .before .before .before .before .before .before .before .pre .3, k .kept .1 .1 .1 .1 .1 .1 .1 .0)),
+          let D = ands-is _ t (H .ands) (H .most) (H .inputs) _ _ w T (k .result) _ _ (c .before .before .before .before .before .before .count .given .1)
+          (k .ensures .0 _ _ (wires-length H ls t A) (standing-first H ls t A _)) in
+          marks-made H t ls A B D (λ given wires are P O. sym (not-false _ (c .before .if1 .left)) ∙ c .before .before .are-given .ensures given wires are P O)
+          (omega (
+            arith,
+            c .before .before .before .before .before .before .before .before .before .before .before .before .before .before .before .before
+                .before .before .before .before .before .before .before .before .before .before .before .before .before .before .before .before .pre .3,
+            k .kept .1 .1 .1 .1 .1 .1 .1 .0,
+          )),
       omega (arith, k .ensures .1, said .0),
     )
 

@@ -1,7 +1,7 @@
 -- The first four bytes, where there are so many.
 use mathlib.Core.Path.{sym}
 use lib.Seq.{length-take-le}
-use Rattle.read_aiger.proofs.HeadLaws.{opens-short}
+use Rattle.read_aiger.proofs.Heads.{opens-short}
 use native.Mathlib.Omega.{arith}
 use borrow.Author.Needs.{needs}
 use Rattle.read_aiger.proofs.head.is_opening.Statement.{statement}

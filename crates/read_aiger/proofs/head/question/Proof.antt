@@ -15,10 +15,22 @@ returns-3 : tie.Need-returns-3
 returns-3 c = rw (le-leb _ _ (c .before .before .before .before .before .if1 .left), le-leb _ _ (c .before .before .before .if2 .left), le-ltb _ _ (c .if3 .taken))
 
 returns-4 : tie.Need-returns-4
-returns-4 c = rw (le-leb _ _ (c .before .before .before .before .before .before .before .if1 .left), le-leb _ _ (c .before .before .before .before .before .if2 .left), lt-ltb _ _ (c .before .before .if3 .left), ne-eqb _ _ (c .if4 .taken))
+returns-4 c = rw (
+  le-leb _ _ (c .before .before .before .before .before .before .before .if1 .left),
+  le-leb _ _
+      (c .before .before .before .before .before .if2 .left),
+  lt-ltb _ _ (c .before .before .if3 .left),
+  ne-eqb _ _ (c .if4 .taken),
+)
 
 returns-5 : tie.Need-returns-5
-returns-5 c = rw (le-leb _ _ (c .before .before .before .before .before .before .before .if1 .left), le-leb _ _ (c .before .before .before .before .before .if2 .left), lt-ltb _ _ (c .before .before .if3 .left), eq-eqb _ _ (c .if4 .left))
+returns-5 c = rw (
+  le-leb _ _ (c .before .before .before .before .before .before .before .if1 .left),
+  le-leb _ _
+      (c .before .before .before .before .before .if2 .left),
+  lt-ltb _ _ (c .before .before .if3 .left),
+  eq-eqb _ _ (c .if4 .left),
+)
 
 pub question-spec : {M : Type 1} → statement M
 question-spec = tie.close (tie.spec returns returns-2 returns-3 returns-4 returns-5)

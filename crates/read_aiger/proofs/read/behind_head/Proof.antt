@@ -44,7 +44,8 @@ cast-wires c = search needs
 add-wires : tie.Need-add-wires
 add-wires c =
     let b = c .before .before .before .before .before .before .before .before .before .before .body in
-    let p = c .before .before .before .before .before .before .before .before .before .before .before .before .before .before .before .before .before .before .pre .0 .3 in
+    let p = c .before .before .before .before .before .before .before .before .before .before .before .before .before .before .before .before .before .before
+    .pre .0 .3 in
     omega (arith, p .ands, p .outputs, b .ensures .1, ap gatesMade (c .before .before .gates .given .1))
 
 cast-if1 : tie.Need-cast-if1
@@ -61,7 +62,8 @@ same-length-6 c = search needs
 
 returns-2 : tie.Need-returns-2
 returns-2 c =
-    let s = c .before .before .before .before .before .before .before .before .before .before .before .before .before .before .before .before .before .before .before .before .args in
+    let s = c .before .before .before .before .before .before .before .before .before .before .before .before .before .before .before .before .before .before
+    .before .before .args in
     let H = headSaid (s .h) in
     let ls = fileLines (drop (s .at .at) (s .text .now)) in
     let b = c .before .before .before .before .before .before .before .before .before .before .before .before .body in
@@ -80,13 +82,15 @@ same-length-9 c = search needs
 
 returns-3 : tie.Need-returns-3
 returns-3 c =
-    let s = c .before .before .before .before .before .before .before .before .before .before .before .before .before .before .before .before .before .before .before .before .args in
+    let s = c .before .before .before .before .before .before .before .before .before .before .before .before .before .before .before .before .before .before
+    .before .before .args in
     let H = headSaid (s .h) in
     let ls = fileLines (drop (s .at .at) (s .text .now)) in
     let b = c .before .before .before .before .before .before .before .before .before .before .before .before .body in
     let T = tables (b .last .1 .1 .1 .1 .0) (b .last .1 .1 .1 .1 .1 .0) in
     let A = lines-are H ls T (b .result) _ (c .before .before .before .before .gates .given .1) (b .ensures .0) in
-    let p = c .before .before .before .before .before .before .before .before .before .before .before .before .before .before .before .before .before .before .before .before .pre .1 in
+    let p = c .before .before .before .before .before .before .before .before .before .before .before .before .before .before .before .before .before .before
+    .before .before .pre .1 in
     lines-taken (s .l) H ls A (c .if1 .left) (p .2) (p .3) (omega (arith, p .0, b .kept .1 .1 .1 .1 .0)) (omega (arith, p .1, b .kept .1 .1 .1 .1 .1 .0))
 
 pub behind-head-spec : {M : Type 1} → statement M

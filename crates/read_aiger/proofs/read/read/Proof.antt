@@ -25,8 +25,16 @@ wires-requires c κs = search needs
 read-file-requires : tie.Need-read-file-requires
 read-file-requires c κs = let s = c .before .before .before .before .before .before .before .before .before .before .before .before .before .before .args in
     let p = c .before .before .before .before .before .before .before .before .before .before .before .before .before .before .pre in
-    let k = c .before .before .before .before .before .wires in
-    (omega (arith, p .wires, c .before .before .before .before .before .before .before .if3 .left, k .kept .0), zeros-own (length (s .variables .now)) (k .ensures), omega (arith, p .wires, c .before .before .before .before .before .before .before .before .before .if1 .left), omega (arith, p .wires, c .before .before .before .before .before .before .before .before .if2 .left), p .inputs, p .outputs)
+    let k = c .before .before .before .before .before .wires in (
+      omega (arith, p .wires, c .before .before .before .before .before .before .before .if3 .left, k .kept .0),
+      zeros-own (length (s .variables .now))
+          (k .ensures),
+      omega (arith, p .wires, c .before .before .before .before .before .before .before .before .before .if1 .left),
+      omega
+          (arith, p .wires, c .before .before .before .before .before .before .before .before .if2 .left),
+      p .inputs,
+      p .outputs,
+    )
 
 same-length : tie.Need-same-length
 same-length c = search needs
@@ -38,10 +46,20 @@ same-length-3 : tie.Need-same-length-3
 same-length-3 c = search needs
 
 returns-4 : tie.Need-returns-4
-returns-4 c = let s = c .before .before .before .before .before .before .before .before .before .before .before .before .before .before .before .before .before .before .before .before .before .args in
+returns-4 c = let s =
+    c .before .before .before .before .before .before .before .before .before .before .before .before .before .before .before .before .before .before .before
+    .before .before .args in
     let t = c .before .before .before .before .before .before .read-file in
-    read-after (s .l) (length (s .operands .now) ∷ length (s .results .now) ∷ length (s .variables .now) ∷ []) (s .text .now) (tables (t .last .1 .1 .1 .0) (t .last .1 .1 .1 .1 .0)) (t .result)
-    (rw (le-leb _ _ (c .before .before .before .before .before .before .before .before .before .before .before .before .before .before .before .before .if1 .left), le-leb _ _ (c .before .before .before .before .before .before .before .before .before .before .before .before .before .before .before .if2 .left), le-leb _ _ (c .before .before .before .before .before .before .before .before .before .before .before .before .before .before .if3 .left))) (t .ensures)
+    read-after (s .l) (length (s .operands .now) ∷ length (s .results .now) ∷ length (s .variables .now) ∷ []) (s .text .now)
+    (tables (t .last .1 .1 .1 .0) (t .last .1 .1 .1 .1 .0)) (t .result)
+    (rw (
+      le-leb _ _ (c .before .before .before .before .before .before .before .before .before .before .before .before .before .before .before .before .if1
+          .left),
+      le-leb _ _ (c .before .before .before .before .before .before .before .before .before .before .before .before .before .before .before .if2
+          .left),
+      le-leb _ _ (c .before .before .before .before .before .before .before .before .before .before .before .before .before .before .if3 .left),
+    ))
+    (t .ensures)
 
 pub read-spec : {M : Type 1} → statement M
 read-spec =

@@ -1,9 +1,9 @@
 -- The counts, and what stands behind them.
 use mathlib.Core.Path.{refl}
 use borrow.Author.Needs.{needs}
-use Rattle.read_gate_line.proofs.GateFormLaws.{gate-form, counted-one, counted-two, counted-other}
-use Rattle.read_gate_line.proofs.GateLaws.{line-not, line-same}
-use Rattle.read_gate_line.proofs.OperandLaws.{operands-are, operands-not, line-operands}
+use Rattle.read_gate_line.proofs.GateForms.{gate-form, counted-one, counted-two, counted-other}
+use Rattle.read_gate_line.proofs.GateWords.{line-not, line-same}
+use Rattle.read_gate_line.proofs.OperandCounts.{operands-are, operands-not, line-operands}
 use Rattle.read_gate_line.proofs.gate.gate_line.Statement.{statement}
 use Rattle.read_gate_line.proofs.gate.gate_line.Tie as tie
 

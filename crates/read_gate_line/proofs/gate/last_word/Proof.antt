@@ -1,7 +1,7 @@
 -- A gate, and the line's end.
 use borrow.Author.Needs.{needs}
-use Rattle.read_text.proofs.AnswerLaws.{end-is, end-more}
-use Rattle.read_gate_line.proofs.GateLaws.{last-unnamed, last-more, last-gate}
+use Rattle.read_text.proofs.Answering.{end-is, end-more}
+use Rattle.read_gate_line.proofs.GateWords.{last-unnamed, last-more, last-gate}
 use Rattle.read_gate_line.proofs.gate.last_word.Statement.{statement}
 use Rattle.read_gate_line.proofs.gate.last_word.Tie as tie
 

@@ -1,6 +1,6 @@
 -- The name, and the line's end.
 use mathlib.Core.Path.{refl}
-use Rattle.read_gate_line.proofs.GateLaws.{line-named, named-gate, named-exact}
+use Rattle.read_gate_line.proofs.GateWords.{line-named, named-gate, named-exact}
 use borrow.Author.Needs.{needs}
 use Rattle.read_gate_line.proofs.gate.read_end2.Statement.{statement}
 use Rattle.read_gate_line.proofs.gate.read_end2.Tie as tie

@@ -1,6 +1,6 @@
 -- A number and the end.
-use Rattle.read_text.proofs.AnswerLaws.{number-is, number-not}
-use Rattle.read_gate_line.proofs.GateLaws.{line-behind, line-no-number}
+use Rattle.read_text.proofs.Answering.{number-is, number-not}
+use Rattle.read_gate_line.proofs.GateWords.{line-behind, line-no-number}
 use borrow.Author.Needs.{needs}
 use Rattle.read_gate_line.proofs.gate.result_and_name.Statement.{statement}
 use Rattle.read_gate_line.proofs.gate.result_and_name.Tie as tie

@@ -1,7 +1,7 @@
 -- Two numbers, and what stands behind them.
 use borrow.Author.Needs.{needs}
-use Rattle.read_text.proofs.AnswerLaws.{number-is, number-not}
-use Rattle.read_gate_line.proofs.GateLaws.{line-behind, line-no-number}
+use Rattle.read_text.proofs.Answering.{number-is, number-not}
+use Rattle.read_gate_line.proofs.GateWords.{line-behind, line-no-number}
 use Rattle.read_gate_line.proofs.gate.two_operands.Statement.{statement}
 use Rattle.read_gate_line.proofs.gate.two_operands.Tie as tie
 

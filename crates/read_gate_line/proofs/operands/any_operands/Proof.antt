@@ -1,7 +1,7 @@
 -- Two numbers, of which the second is 1.
 use borrow.Author.Needs.{needs}
-use Rattle.read_text.proofs.AnswerLaws.{number-is, number-not}
-use Rattle.read_gate_line.proofs.OperandLaws.{no-operands, no-results, other-results, one-result}
+use Rattle.read_text.proofs.Answering.{number-is, number-not}
+use Rattle.read_gate_line.proofs.OperandCounts.{no-operands, no-results, other-results, one-result}
 use Rattle.read_gate_line.proofs.operands.any_operands.Statement.{statement}
 use Rattle.read_gate_line.proofs.operands.any_operands.Tie as tie
 

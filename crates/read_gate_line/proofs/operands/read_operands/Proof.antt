@@ -1,6 +1,6 @@
 -- What is told at first, or the counts however they are written.
 use borrow.Author.Needs.{needs}
-use Rattle.read_gate_line.proofs.OperandLaws.{usual-are}
+use Rattle.read_gate_line.proofs.OperandCounts.{usual-are}
 use Rattle.read_gate_line.proofs.operands.read_operands.Statement.{statement}
 use Rattle.read_gate_line.proofs.operands.read_operands.Tie as tie
 

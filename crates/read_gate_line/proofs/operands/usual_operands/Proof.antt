@@ -1,7 +1,7 @@
 -- Two digits, of which the second is 1.
 use borrow.Author.Needs.{needs}
-use Rattle.read_text.proofs.AnswerLaws.{digit-is}
-use Rattle.read_gate_line.proofs.OperandLaws.{one-result}
+use Rattle.read_text.proofs.Answering.{digit-is}
+use Rattle.read_gate_line.proofs.OperandCounts.{one-result}
 use Rattle.read_gate_line.proofs.operands.usual_operands.Statement.{statement}
 use Rattle.read_gate_line.proofs.operands.usual_operands.Tie as tie
 

@@ -1,6 +1,6 @@
 -- `read_header_in`: the reader of the dialect's header.
 use mathlib.Core.Path.{sym}
-use Rattle.read_header.proofs.HeaderLaws.{header-in}
+use Rattle.read_header.proofs.Headers.{header-in}
 use native.Mathlib.Omega.{arith}
 use borrow.Author.Needs.{needs}
 use Rattle.read_header.proofs.head.read_header_in.Statement.{statement}
@@ -27,7 +27,8 @@ same-length-2 c = search needs
 returns : tie.Need-returns
 returns c =
     let k = c .before .before .before .before .read-header in
-    header-in (c .before .before .before .before .before .before .before .before .before .before .before .before .args .text .now) (k .last .1 .0) (k .last .1 .1 .0) (k .result) (sym (c .before .before .before .before .before .before .before .enum-told .given .1)) (k .ensures)
+    header-in (c .before .before .before .before .before .before .before .before .before .before .before .before .args .text .now) (k .last .1 .0)
+    (k .last .1 .1 .0) (k .result) (sym (c .before .before .before .before .before .before .before .enum-told .given .1)) (k .ensures)
 
 same-length-3 : tie.Need-same-length-3
 same-length-3 c = search needs
@@ -38,7 +39,8 @@ same-length-4 c = search needs
 returns-2 : tie.Need-returns-2
 returns-2 c =
     let k = c .before .before .before .before .read-old-header in
-    header-in (c .before .before .before .before .before .before .before .before .before .before .before .before .args .text .now) (k .last .1 .0) (k .last .1 .1 .0) (k .result) (sym (c .before .before .before .before .before .before .before .enum-told2 .given .1)) (k .ensures)
+    header-in (c .before .before .before .before .before .before .before .before .before .before .before .before .args .text .now) (k .last .1 .0)
+    (k .last .1 .1 .0) (k .result) (sym (c .before .before .before .before .before .before .before .enum-told2 .given .1)) (k .ensures)
 
 pub read-header-in-spec : {M : Type 1} → statement M
 read-header-in-spec =

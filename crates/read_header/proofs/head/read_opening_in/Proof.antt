@@ -1,8 +1,8 @@
 -- `read_opening_in`: questions 2 to 6 in order.
 use mathlib.Core.Path.{sym, _∙_}
 use borrow.Author.Tests.{not-true, not-false}
-use Rattle.read_header.proofs.HeaderLaws.{header-is, header-not}
-use Rattle.read_header.proofs.HeadLaws.{bits-fit, head-2, head-3, head-4, head-5, head-6, head-at}
+use Rattle.read_header.proofs.Headers.{header-is, header-not}
+use Rattle.read_header.proofs.Heads.{bits-fit, head-2, head-3, head-4, head-5, head-6, head-at}
 use borrow.Author.Needs.{needs}
 use Rattle.read_header.proofs.head.read_opening_in.Statement.{statement}
 use Rattle.read_header.proofs.head.read_opening_in.Tie as tie

@@ -1,7 +1,7 @@
 -- `parties_line`: a number, and two alone.
-use Rattle.read_text.proofs.AnswerLaws.{number-is, number-not}
-use Rattle.read_header.proofs.HeaderLaws.{counts-is, counts-not}
-use Rattle.read_header.proofs.OldHeaderLaws.{parties-first, parties-rest, parties-no-one, parties-no-output, parties-good}
+use Rattle.read_text.proofs.Answering.{number-is, number-not}
+use Rattle.read_header.proofs.Headers.{counts-is, counts-not}
+use Rattle.read_header.proofs.OldHeaders.{parties-first, parties-rest, parties-no-one, parties-no-output, parties-good}
 use native.Mathlib.Omega.{arith}
 use borrow.Author.Needs.{needs}
 use Rattle.read_header.proofs.old.parties_line.Statement.{statement}
@@ -35,19 +35,22 @@ returns-2 c =
 
 returns-3 : tie.Need-returns-3
 returns-3 c =
-    let a = number-is _ _ _ _ _ (c .before .before .before .before .before .before .one .given .1) (c .before .before .before .before .before .before .before .before .next-number .ensures) in
+    let a = number-is _ _ _ _ _ (c .before .before .before .before .before .before .one .given .1)
+    (c .before .before .before .before .before .before .before .before .next-number .ensures) in
     let b = counts-is _ _ _ _ _ _ (c .before .before .two .given .1) (c .before .before .before .before .counts-line .ensures) in
     parties-no-one _ _ _ _ _ _ _ a b (c .if1 .taken)
 
 returns-4 : tie.Need-returns-4
 returns-4 c =
-    let a = number-is _ _ _ _ _ (c .before .before .before .before .before .before .before .one .given .1) (c .before .before .before .before .before .before .before .before .before .next-number .ensures) in
+    let a = number-is _ _ _ _ _ (c .before .before .before .before .before .before .before .one .given .1)
+    (c .before .before .before .before .before .before .before .before .before .next-number .ensures) in
     let b = counts-is _ _ _ _ _ _ (c .before .before .before .two .given .1) (c .before .before .before .before .before .counts-line .ensures) in
     parties-no-output _ _ _ _ _ _ _ a b (c .before .if1 .left) (c .if2 .taken)
 
 returns-5 : tie.Need-returns-5
 returns-5 c =
-    let a = number-is _ _ _ _ _ (c .before .before .before .before .before .before .before .one .given .1) (c .before .before .before .before .before .before .before .before .before .next-number .ensures) in
+    let a = number-is _ _ _ _ _ (c .before .before .before .before .before .before .before .one .given .1)
+    (c .before .before .before .before .before .before .before .before .before .next-number .ensures) in
     let b = counts-is _ _ _ _ _ _ (c .before .before .before .two .given .1) (c .before .before .before .before .before .counts-line .ensures) in
     parties-good _ _ _ _ _ _ _ a b (c .before .if1 .left) (c .if2 .left)
 

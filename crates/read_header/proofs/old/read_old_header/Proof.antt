@@ -1,6 +1,6 @@
 -- `read_old_header`: two lines, with blank lines between them.
-use Rattle.read_header.proofs.HeaderLaws.{counts-is, counts-not}
-use Rattle.read_header.proofs.OldHeaderLaws.{parties-is, parties-not, no-old-header-1, no-old-header-2, an-old-header}
+use Rattle.read_header.proofs.Headers.{counts-is, counts-not}
+use Rattle.read_header.proofs.OldHeaders.{parties-is, parties-not, no-old-header-1, no-old-header-2, an-old-header}
 use native.Mathlib.Omega.{arith}
 use borrow.Author.Needs.{needs}
 use Rattle.read_header.proofs.old.read_old_header.Statement.{statement}
@@ -35,8 +35,10 @@ enum-told-2 c = search needs
 
 returns-2 : tie.Need-returns-2
 returns-2 c =
-    let n = counts-is _ _ _ _ _ _ (c .before .before .before .before .before .gates .given .1) (c .before .before .before .before .before .before .before .counts-line .ensures) in
-    no-old-header-2 _ _ (c .before .before .before .before .before .before .before .before .skip-blanks .ensures) _ _ _ n _ (c .before .before .before .skip-blanks2 .ensures)
+    let n = counts-is _ _ _ _ _ _ (c .before .before .before .before .before .gates .given .1)
+    (c .before .before .before .before .before .before .before .counts-line .ensures) in
+    no-old-header-2 _ _ (c .before .before .before .before .before .before .before .before .skip-blanks .ensures) _ _ _ n _
+    (c .before .before .before .skip-blanks2 .ensures)
     (parties-not _ _ _ (c .enum-told2 .given .1) (c .before .before .parties-line .ensures))
 
 keep-inputs-requires : tie.Need-keep-inputs-requires
@@ -65,9 +67,17 @@ same-length-2 c = search needs
 
 returns-3 : tie.Need-returns-3
 returns-3 c =
-    let n = counts-is _ _ _ _ _ _ (c .before .before .before .before .before .before .before .before .before .before .before .before .before .before .before .before .before .gates .given .1) (c .before .before .before .before .before .before .before .before .before .before .before .before .before .before .before .before .before .before .before .counts-line .ensures) in
-    let p = parties-is _ _ _ _ _ (c .before .before .before .before .before .before .before .before .before .before .before .before .p .given .1) (c .before .before .before .before .before .before .before .before .before .before .before .before .before .before .parties-line .ensures) in
-    an-old-header _ _ (c .before .before .before .before .before .before .before .before .before .before .before .before .before .before .before .before .before .before .before .before .skip-blanks .ensures) _ _ _ n _ (c .before .before .before .before .before .before .before .before .before .before .before .before .before .before .before .skip-blanks2 .ensures) _ _ p (c .before .before .before .before .before .before .before .before .before .before .before .before .before .before .before .before .before .before .before .before .before .before .before .before .args .outputs .now)
+    let n = counts-is _ _ _ _ _ _
+    (c .before .before .before .before .before .before .before .before .before .before .before .before .before .before .before .before .before .gates .given
+    .1) (c .before .before .before .before .before .before .before .before .before .before .before .before .before .before .before .before .before .before
+    .before .counts-line .ensures) in
+    let p = parties-is _ _ _ _ _ (c .before .before .before .before .before .before .before .before .before .before .before .before .p .given .1)
+    (c .before .before .before .before .before .before .before .before .before .before .before .before .before .before .parties-line .ensures) in
+    an-old-header _ _ (c .before .before .before .before .before .before .before .before .before .before .before .before .before .before .before .before .before
+    .before .before .before .skip-blanks .ensures) _ _ _ n _
+    (c .before .before .before .before .before .before .before .before .before .before .before .before .before .before .before .skip-blanks2 .ensures) _ _ p
+    (c .before .before .before .before .before .before .before .before .before .before .before .before .before .before .before .before .before .before
+    .before .before .before .before .before .before .args .outputs .now)
     (c .before .before .before .before .before .before .before .before .before .keep-inputs .ensures) (c .before .before .before .before .before .keep .ensures)
 
 pub read-old-header-spec : {M : Type 1} → statement M

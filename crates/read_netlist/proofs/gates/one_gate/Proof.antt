@@ -1,7 +1,7 @@
 -- `one_gate`: questions 7 to 9 in order, for every list of results that the table marks.
 use mathlib.Core.Path.{sym, _∙_}
 use borrow.Author.Tests.{not-true, not-false}
-use Rattle.read_gate_line.proofs.GateLaws.{line-is, line-is-not}
+use Rattle.read_gate_line.proofs.GateWords.{line-is, line-is-not}
 use Rattle.gate_table.proofs.Entries.{said-result}
 use Rattle.read_netlist.proofs.Reading.{one-7, one-lacks, one-8, one-9, one-on, one-room}
 use borrow.Author.Needs.{needs}

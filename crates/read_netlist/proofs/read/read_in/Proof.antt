@@ -21,7 +21,13 @@ returns-3 : tie.Need-returns-3
 returns-3 c = rw (le-leb _ _ (c .before .before .if1 .left), le-leb _ _ (c .before .if2 .left), lt-leb _ _ (c .if3 .taken))
 
 returns-4 : tie.Need-returns-4
-returns-4 c = rw (le-leb _ _ (c .before .before .before .if1 .left), le-leb _ _ (c .before .before .if2 .left), le-leb _ _ (c .before .if3 .left), lt-leb _ _ (c .if4 .taken))
+returns-4 c = rw (
+  le-leb _ _ (c .before .before .before .if1 .left),
+  le-leb _ _ (c .before .before .if2 .left),
+  le-leb _ _ (c .before .if3 .left),
+  lt-leb _ _
+      (c .if4 .taken),
+)
 
 bytes-requires : tie.Need-bytes-requires
 bytes-requires c κs = search needs
@@ -32,8 +38,18 @@ read-text-requires c κs =
     let k = c .before .before .before .before .before .before .before .bytes in
     let o = c .before .before .before .before .before .before .before .before .before .before .before .before .if1 .left in
     let r = c .before .before .before .before .before .before .before .before .before .before .before .if2 .left in
-    let g = c .before .before .before .before .before .before .before .before .before .before .if3 .left in
-    ((p .text, omega (arith, p .inputs), omega (arith, p .outputs)), (omega (arith, p .wires, g, k .kept .0), omega (arith, p .wires, o), omega (arith, p .wires, r), zeros-own (length (c .before .before .before .before .before .before .before .before .before .before .before .before .before .before .before .before .before .args .marks .now)) (k .ensures)))
+    let g = c .before .before .before .before .before .before .before .before .before .before .if3 .left in (
+      (p .text, omega (arith, p .inputs), omega (arith, p .outputs)),
+      (
+        omega (arith, p .wires, g, k .kept .0),
+        omega (arith, p .wires, o),
+        omega
+            (arith, p .wires, r),
+        zeros-own
+            (length (c .before .before .before .before .before .before .before .before .before .before .before .before .before .before .before .before .before .args
+            .marks .now)) (k .ensures),
+      ),
+    )
 
 same-length : tie.Need-same-length
 same-length c = search needs
@@ -46,13 +62,17 @@ same-length-3 c = search needs
 
 returns-5 : tie.Need-returns-5
 returns-5 c =
-    let s = c .before .before .before .before .before .before .before .before .before .before .before .before .before .before .before .before .before .before .before .before .before .before .before .before .args in
-    let o = c .before .before .before .before .before .before .before .before .before .before .before .before .before .before .before .before .before .before .before .if1 .left in
-    let r = c .before .before .before .before .before .before .before .before .before .before .before .before .before .before .before .before .before .before .if2 .left in
+    let s = c .before .before .before .before .before .before .before .before .before .before .before .before .before .before .before .before .before .before
+    .before .before .before .before .before .before .args in
+    let o = c .before .before .before .before .before .before .before .before .before .before .before .before .before .before .before .before .before .before
+    .before .if1 .left in
+    let r = c .before .before .before .before .before .before .before .before .before .before .before .before .before .before .before .before .before .before
+    .if2 .left in
     let g = c .before .before .before .before .before .before .before .before .before .before .before .before .before .before .before .before .before .if3 .left in
     let w = c .before .before .before .before .before .before .before .before .before .before .before .before .before .before .before .before .if4 .left in
     let t = c .before .before .before .before .before .before .read-text in
-    read-after (s .d) (s .l) (length (s .operands .now) ∷ length (s .results .now) ∷ length (s .marks .now) ∷ s .shortest ∷ []) (s .text .now) (t .last .1 .1 .0) (t .last .1 .1 .1 .0)
+    read-after (s .d) (s .l) (length (s .operands .now) ∷ length (s .results .now) ∷ length (s .marks .now) ∷ s .shortest ∷ []) (s .text .now)
+    (t .last .1 .1 .0) (t .last .1 .1 .1 .0)
     (tables (t .last .1 .1 .1 .1 .1 .0) (t .last .1 .1 .1 .1 .1 .1 .0)) (t .result)
     (rw (le-leb _ _ o, le-leb _ _ r, le-leb _ _ g, le-leb _ _ w)) (t .ensures)
 

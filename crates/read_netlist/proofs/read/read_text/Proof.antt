@@ -1,6 +1,6 @@
 -- `read_text`: the head, and then the gate lines.
 use Rattle.netlist.specs.Table.{tables}
-use Rattle.read_header.proofs.HeadLaws.{head-is, head-refused}
+use Rattle.read_header.proofs.Heads.{head-is, head-refused}
 use Rattle.read_netlist.proofs.Wholes.{few-gates, read-no-head, read-not, read-done, gates-done, gates-refused}
 use native.Mathlib.Omega.{arith}
 use borrow.Author.Needs.{needs}

@@ -5,7 +5,7 @@ use native.Mathlib.Omega.{arith}
 use lib.ListN.{length}
 use borrow.Author.Needs.{needs}
 use Rattle.netlist.specs.Read.{bytesAllowed}
-use Rattle.read_text.proofs.AllowedLaws.{Testing, testing-start, before-on, before-end, none-allowed}
+use Rattle.read_text.proofs.AllowedBytes.{Testing, testing-start, before-on, before-end, none-allowed}
 use Rattle.read_text.proofs.allowed.all_before.Statement.{statement}
 use Rattle.read_text.proofs.allowed.all_before.Tie as tie
 

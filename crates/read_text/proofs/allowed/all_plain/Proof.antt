@@ -5,7 +5,7 @@ use lib.ListN.{length}
 use borrow.Author.Needs.{needs}
 use Rattle.netlist.specs.Lists.{every}
 use Rattle.netlist.specs.Read.{byteAllowed}
-use Rattle.read_text.proofs.AllowedLaws.{Testing, testing-start, testing-end, plain-on}
+use Rattle.read_text.proofs.AllowedBytes.{Testing, testing-start, testing-end, plain-on}
 use Rattle.read_text.proofs.allowed.all_plain.Statement.{statement}
 use Rattle.read_text.proofs.allowed.all_plain.Tie as tie
 

@@ -6,7 +6,7 @@ use borrow.Author.Needs.{needs}
 use Rattle.netlist.specs.Text.{cr, isLineEnd}
 use Rattle.netlist.specs.Read.{byteAllowed}
 use Rattle.read_text.specs.Answers.{faultOf}
-use Rattle.read_text.proofs.AllowedLaws.{faults-before}
+use Rattle.read_text.proofs.AllowedBytes.{faults-before}
 use Rattle.read_text.proofs.allowed.fault_before.Statement.{statement}
 use Rattle.read_text.proofs.allowed.fault_before.Tie as tie
 

@@ -5,7 +5,7 @@ use lib.ListN.{length, drop}
 use native.Mathlib.Omega.{arith}
 use borrow.Author.Needs.{needs}
 use Rattle.netlist.specs.Lists.{sameBytes}
-use Rattle.read_text.proofs.BytesLaws.{same-length, same-on, same-off, same-end}
+use Rattle.read_text.proofs.ByteStrings.{same-length, same-on, same-off, same-end}
 use Rattle.read_text.proofs.bytes.same.Statement.{statement}
 use Rattle.read_text.proofs.bytes.same.Tie as tie
 

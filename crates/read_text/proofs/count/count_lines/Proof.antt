@@ -4,7 +4,7 @@ use mathlib.Core.Path.{ap, _∙_}
 use native.Mathlib.Omega.{arith}
 use lib.ListN.{length}
 use borrow.Author.Needs.{needs}
-use Rattle.read_text.proofs.LineLaws.{Counting, counting-start, counting-on, counting-end, line-on, at-word, blanks-lines}
+use Rattle.read_text.proofs.Lines.{Counting, counting-start, counting-on, counting-end, line-on, at-word, blanks-lines}
 use Rattle.read_text.proofs.count.count_lines.Statement.{statement}
 use Rattle.read_text.proofs.count.count_lines.Tie as tie
 

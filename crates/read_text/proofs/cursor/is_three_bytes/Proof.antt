@@ -1,6 +1,6 @@
 -- Four bytes, one after the other.
-use Rattle.read_text.proofs.NumberLaws.{above-space}
-use Rattle.read_text.proofs.ScanLaws.{not-three, are-three}
+use Rattle.read_text.proofs.Numbers.{above-space}
+use Rattle.read_text.proofs.Scans.{not-three, are-three}
 use native.Mathlib.Omega.{arith}
 use borrow.Author.Needs.{needs}
 use Rattle.read_text.proofs.cursor.is_three_bytes.Statement.{statement}
@@ -47,7 +47,8 @@ is-blank-requires c κs = search needs
 
 returns-5 : tie.Need-returns-5
 returns-5 c = let s = c .before .before .before .before .before .before .before .before .before .before .args in
-    are-three (s .text .now) (s .at) _ (search needs) (above-space _ (c .before .before .before .before .before .before .if2 .left)) (above-space _ (c .before .before .before .before .if3 .left)) (above-space _ (c .before .before .if4 .left)) (c .is-blank .ensures)
+    are-three (s .text .now) (s .at) _ (search needs) (above-space _ (c .before .before .before .before .before .before .if2 .left))
+    (above-space _ (c .before .before .before .before .if3 .left)) (above-space _ (c .before .before .if4 .left)) (c .is-blank .ensures)
 
 pub is-three-bytes-spec : {M : Type 1} → statement M
 is-three-bytes-spec =

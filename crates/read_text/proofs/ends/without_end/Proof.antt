@@ -2,7 +2,7 @@
 use mathlib.Core.Path.{sym, _∙_}
 use borrow.Author.Needs.{needs}
 use borrow.Author.Tests.{not-true, not-false}
-use Rattle.read_text.proofs.EndLaws.{left-none, left-all, left-alone, left-crlf, left-lf}
+use Rattle.read_text.proofs.LineEnds.{left-none, left-all, left-alone, left-crlf, left-lf}
 use Rattle.read_text.proofs.ends.without_end.Statement.{statement}
 use Rattle.read_text.proofs.ends.without_end.Tie as tie
 

@@ -2,7 +2,7 @@
 use mathlib.Core.Path.{refl}
 use native.Mathlib.Omega.{arith}
 use borrow.Author.Needs.{needs}
-use Rattle.read_text.proofs.NumberLaws.{digit-range}
+use Rattle.read_text.proofs.Numbers.{digit-range}
 use Rattle.read_text.proofs.number.digit_value.Statement.{statement}
 use Rattle.read_text.proofs.number.digit_value.Tie as tie
 

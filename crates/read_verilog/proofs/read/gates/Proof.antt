@@ -13,7 +13,16 @@ equations-requires : tie.Need-equations-requires
 equations-requires c κs = search needs
 
 copies-requires : tie.Need-copies-requires
-copies-requires c κs = let p = c .before .before .before .before .before .before .before .before .before .before .before .before .before .before .before .before .before .before .before .before .before .pre in (p .0, p .1, omega (arith, p .2, c .before .before .before .before .before .before .before .before .before .equations .kept .1 .1 .1 .1 .0), p .3, p .6, p .7)
+copies-requires c κs = let p =
+    c .before .before .before .before .before .before .before .before .before .before .before .before .before .before .before .before .before .before .before
+    .before .before .pre in (
+      p .0,
+      p .1,
+      omega (arith, p .2, c .before .before .before .before .before .before .before .before .before .equations .kept .1 .1 .1 .1 .0),
+      p .3,
+      p .6,
+      p .7,
+    )
 
 same-length : tie.Need-same-length
 same-length c = search needs
@@ -25,7 +34,8 @@ same-length-3 : tie.Need-same-length-3
 same-length-3 c = search needs
 
 returns : tie.Need-returns
-returns c = gates-put (c .before .before .before .before .before .before .before .before .before .before .before .before .before .before .equations .ensures) (c .before .before .before .before .copies .ensures)
+returns c = gates-put (c .before .before .before .before .before .before .before .before .before .before .before .before .before .before .equations .ensures)
+    (c .before .before .before .before .copies .ensures)
 
 pub gates-spec : {M : Type 1} → statement M
 gates-spec =

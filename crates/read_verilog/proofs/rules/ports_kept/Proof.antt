@@ -40,7 +40,8 @@ same-length-4 : tie.Need-same-length-4
 same-length-4 c = search needs
 
 returns-2 : tie.Need-returns-2
-returns-2 c = ports-missing (c .before .before .before .before .before .before .before .before .before .before .port-list .ensures) (c .no-ports2 .ensures) (sym (c .before .before .all-from .ensures) ∙ not-true _ (c .before .if2 .taken))
+returns-2 c = ports-missing (c .before .before .before .before .before .before .before .before .before .before .port-list .ensures) (c .no-ports2 .ensures)
+    (sym (c .before .before .all-from .ensures) ∙ not-true _ (c .before .if2 .taken))
 
 no-ports-requires-3 : tie.Need-no-ports-requires-3
 no-ports-requires-3 c κs = search needs
@@ -52,7 +53,8 @@ same-length-6 : tie.Need-same-length-6
 same-length-6 c = search needs
 
 returns-3 : tie.Need-returns-3
-returns-3 c = ports-inputless (c .before .before .before .before .before .before .before .before .before .before .before .before .port-list .ensures) (c .no-ports3 .ensures) (c .before .if3 .taken)
+returns-3 c = ports-inputless (c .before .before .before .before .before .before .before .before .before .before .before .before .port-list .ensures)
+    (c .no-ports3 .ensures) (c .before .if3 .taken)
 
 no-ports-requires-4 : tie.Need-no-ports-requires-4
 no-ports-requires-4 c κs = search needs
@@ -64,7 +66,9 @@ same-length-8 : tie.Need-same-length-8
 same-length-8 c = search needs
 
 returns-4 : tie.Need-returns-4
-returns-4 c = ports-outputless (c .before .before .before .before .before .before .before .before .before .before .before .before .before .before .port-list .ensures) (c .no-ports4 .ensures) (c .before .if4 .taken)
+returns-4 c = ports-outputless
+    (c .before .before .before .before .before .before .before .before .before .before .before .before .before .before .port-list .ensures)
+    (c .no-ports4 .ensures) (c .before .if4 .taken)
 
 same-length-9 : tie.Need-same-length-9
 same-length-9 c = search needs
@@ -73,7 +77,10 @@ same-length-10 : tie.Need-same-length-10
 same-length-10 c = search needs
 
 returns-5 : tie.Need-returns-5
-returns-5 c = ports-yes (c .before .before .before .before .before .before .before .before .before .before .before .before .before .port-list .ensures) (not-false _ (c .before .before .before .before .before .before .before .if1 .left)) (sym (c .before .before .before .before .before .all-from .ensures) ∙ not-false _ (c .before .before .before .before .if2 .left)) (omega (arith, c .before .before .if3 .left)) (omega (arith, c .if4 .left))
+returns-5 c = ports-yes (c .before .before .before .before .before .before .before .before .before .before .before .before .before .port-list .ensures)
+    (not-false _ (c .before .before .before .before .before .before .before .if1 .left))
+    (sym (c .before .before .before .before .before .all-from .ensures) ∙ not-false _ (c .before .before .before .before .if2 .left))
+    (omega (arith, c .before .before .if3 .left)) (omega (arith, c .if4 .left))
 
 pub ports-kept-spec : {M : Type 1} → statement M
 ports-kept-spec =

@@ -15,16 +15,21 @@ operands-requires : tie.Need-operands-requires
 operands-requires c κs = search needs
 
 returns-2 : tie.Need-returns-2
-returns-2 c = no-eight _ (c .before .before .before .before .args .g) (sym (c .before .before .before .known .ensures) ∙ not-no _ (c .before .before .if1 .left)) (c .before .operands .ensures) (not-yes _ (c .if2 .taken))
+returns-2 c = no-eight _ (c .before .before .before .before .args .g) (sym (c .before .before .before .known .ensures) ∙ not-no _
+    (c .before .before .if1 .left)) (c .before .operands .ensures) (not-yes _ (c .if2 .taken))
 
 cast-if3 : tie.Need-cast-if3
 cast-if3 c = search needs
 
 returns-3 : tie.Need-returns-3
-returns-3 c = no-nine _ (c .before .before .before .before .before .before .args .g) (sym (c .before .before .before .before .before .known .ensures) ∙ not-no _ (c .before .before .before .before .if1 .left)) (c .before .before .before .operands .ensures) (not-no _ (c .before .before .if2 .left)) (c .if3 .taken)
+returns-3 c = no-nine _ (c .before .before .before .before .before .before .args .g)
+    (sym (c .before .before .before .before .before .known .ensures) ∙ not-no _ (c .before .before .before .before .if1 .left))
+    (c .before .before .before .operands .ensures) (not-no _ (c .before .before .if2 .left)) (c .if3 .taken)
 
 returns-4 : tie.Need-returns-4
-returns-4 c = no-none _ (c .before .before .before .before .before .before .args .g) (sym (c .before .before .before .before .before .known .ensures) ∙ not-no _ (c .before .before .before .before .if1 .left)) (c .before .before .before .operands .ensures) (not-no _ (c .before .before .if2 .left)) (c .if3 .left)
+returns-4 c = no-none _ (c .before .before .before .before .before .before .args .g)
+    (sym (c .before .before .before .before .before .known .ensures) ∙ not-no _ (c .before .before .before .before .if1 .left))
+    (c .before .before .before .operands .ensures) (not-no _ (c .before .before .if2 .left)) (c .if3 .left)
 
 pub gate-no-spec : {M : Type 1} → statement M
 gate-no-spec =

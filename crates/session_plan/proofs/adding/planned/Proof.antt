@@ -31,19 +31,30 @@ cast-at : tie.Need-cast-at
 cast-at c = search needs
 
 add-if1 : tie.Need-add-if1
-add-if1 c = omega (arith, many-most (c .before .before .table-kind .result) (c .before .before .before .before .twin .result) (c .before .before .before .twin2 .result) (c .before .count .ensures))
+add-if1 c = omega (
+  arith,
+  many-most (c .before .before .table-kind .result) (c .before .before .before .before .twin .result)
+      (c .before .before .before .twin2 .result) (c .before .count .ensures),
+)
 
 returns : tie.Need-returns
 returns c = let a = c .before .before .before .before .before .before .before .args in λ source masked g lm good ra rb.
-    list-full (a .s) (a .codes .now) (a .first) (a .second) (a .g) (c .before .before .before .table-kind .ensures) (c .before .before .before .before .before .twin .ensures) (c .before .before .before .before .twin2 .ensures) (c .before .before .count .ensures)
+    list-full (a .s) (a .codes .now) (a .first) (a .second) (a .g) (c .before .before .before .table-kind .ensures)
+    (c .before .before .before .before .before .twin .ensures) (c .before .before .before .before .twin2 .ensures) (c .before .before .count .ensures)
     source masked g good ra rb refl (omega (arith, lm, c .if1 .taken))
 
 add-if2 : tie.Need-add-if2
-add-if2 c = omega (arith, many-most (c .before .before .before .table-kind .result) (c .before .before .before .before .before .twin .result) (c .before .before .before .before .twin2 .result) (c .before .before .count .ensures))
+add-if2 c = omega (
+  arith,
+  many-most (c .before .before .before .table-kind .result) (c .before .before .before .before .before .twin .result)
+      (c .before .before .before .before .twin2 .result) (c .before .before .count .ensures),
+)
 
 returns-2 : tie.Need-returns-2
 returns-2 c = let a = c .before .before .before .before .before .before .before .before .args in λ source masked g lm good ra rb.
-    too-many (a .s) (a .codes .now) (a .first) (a .second) (a .g) (c .before .before .before .before .table-kind .ensures) (c .before .before .before .before .before .before .twin .ensures) (c .before .before .before .before .before .twin2 .ensures) (c .before .before .before .count .ensures)
+    too-many (a .s) (a .codes .now) (a .first) (a .second) (a .g) (c .before .before .before .before .table-kind .ensures)
+    (c .before .before .before .before .before .before .twin .ensures) (c .before .before .before .before .before .twin2 .ensures)
+    (c .before .before .before .count .ensures)
     source masked g good ra rb refl (omega (arith, c .if2 .taken))
 
 add-c : tie.Need-add-c
@@ -59,15 +70,27 @@ add-t19 : tie.Need-add-t19
 add-t19 c = omega (arith, c .before .before .before .before .before .before .before .before .before .before .before .pre)
 
 cast-t22 : tie.Need-cast-t22
-cast-t22 c = omega (arith, many-most (c .before .before .before .before .before .before .before .table-kind .result) (c .before .before .before .before .before .before .before .before .before .twin .result) (c .before .before .before .before .before .before .before .before .twin2 .result) (c .before .before .before .before .before .before .count .ensures))
+cast-t22 c = omega (
+  arith,
+  many-most (c .before .before .before .before .before .before .before .table-kind .result)
+      (c .before .before .before .before .before .before .before .before .before .twin .result)
+      (c .before .before .before .before .before .before .before .before .twin2 .result) (c .before .before .before .before .before .before .count .ensures),
+)
 
 add-t23 : tie.Need-add-t23
 add-t23 c = omega (arith, c .before .before .before .before .if2 .left)
 
 returns-3 : tie.Need-returns-3
 returns-3 c = let a = c .before .before .before .before .before .before .before .before .before .before .before .before .args in λ source masked g lm good ra rb.
-    admits (a .s) (a .codes .now) (a .first) (a .second) (a .g) (c .before .before .before .before .before .before .before .before .table-kind .ensures) (c .before .before .before .before .before .before .before .before .before .before .twin .ensures) (c .before .before .before .before .before .before .before .before .before .twin2 .ensures) (c .before .before .before .before .before .before .before .count .ensures)
-    source masked g good ra rb refl (c .before .before .twin3 .ensures) (omega (arith, lm, c .before .before .before .before .before .if1 .left)) (omega (arith, c .before .before .before .before .if2 .left)) (omega (arith, c .before .before .before .before .before .before .before .before .before .before .before .before .pre))
+    admits (a .s) (a .codes .now) (a .first) (a .second) (a .g) (c .before .before .before .before .before .before .before .before .table-kind .ensures)
+    (c .before .before .before .before .before .before .before .before .before .before .twin .ensures)
+    (c .before .before .before .before .before .before .before .before .before .twin2 .ensures)
+    (c .before .before .before .before .before .before .before .count .ensures)
+    source masked g good ra rb refl (c .before .before .twin3 .ensures) (omega (arith, lm, c .before .before .before .before .before .if1 .left))
+    (omega (arith, c .before .before .before .before .if2 .left)) (omega (
+      arith,
+      c .before .before .before .before .before .before .before .before .before .before .before .before .pre,
+    ))
 
 pub planned-spec : {M : Type 1} → statement M
 planned-spec =

@@ -25,13 +25,20 @@ returns : tie.Need-returns
 returns c = let a = c .before .before .before .before .args in no-place (a .sizes) (a .inputs) (a .s .gates) (a .places) (a .g) (omega (arith, c .if1 .taken))
 
 returns-2 : tie.Need-returns-2
-returns-2 c = let a = c .before .before .before .before .before .args in no-wire (a .sizes) (a .inputs) (a .s .gates) (a .places) (a .g) (omega (arith, c .if2 .taken, ap (λ (l : Limits). l .wires) (c .before .before .before .before .small .ensures)))
+returns-2 c = let a = c .before .before .before .before .before .args in no-wire (a .sizes) (a .inputs) (a .s .gates) (a .places) (a .g)
+    (omega (arith, c .if2 .taken, ap (λ (l : Limits). l .wires) (c .before .before .before .before .small .ensures)))
 
 add-next : tie.Need-add-next
 add-next c = search needs
 
 returns-3 : tie.Need-returns-3
-returns-3 c = let a = c .before .before .before .before .before .before .args in no-wire (a .sizes) (a .inputs) (a .s .gates) (a .places) (a .g) (omega (arith, c .if3 .taken, ap (λ (l : Limits). l .wires) (c .before .before .before .before .before .small .ensures)))
+returns-3 c = let a = c .before .before .before .before .before .before .args in
+    no-wire (a .sizes) (a .inputs) (a .s .gates) (a .places) (a .g) (omega (
+      arith,
+      c .if3 .taken,
+      ap (λ (l : Limits). l .wires)
+          (c .before .before .before .before .before .small .ensures),
+    ))
 
 gate-no-requires : tie.Need-gate-no-requires
 gate-no-requires c κs = search needs
@@ -45,7 +52,13 @@ place-requires-2 c κs = search needs
 returns-4 : tie.Need-returns-4
 returns-4 c = let a = c .before .before .before .before .before .before .before .before .before .args in
     first-asked (a .sizes) (a .inputs) (a .s .gates) (a .places) (a .g) (omega (arith, c .before .before .before .before .before .if1 .left))
-    (omega (arith, c .before .before .before .if3 .left, ap (λ (l : Limits). l .wires) (c .before .before .before .before .before .before .before .before .small .ensures))) (c .before .before .gate-no .ensures) (c .before .place .ensures) (c .place2 .ensures)
+    (omega (
+      arith,
+      c .before .before .before .if3 .left,
+      ap (λ (l : Limits). l .wires)
+          (c .before .before .before .before .before .before .before .before .small .ensures),
+    )) (c .before .before .gate-no .ensures) (c .before .place .ensures)
+    (c .place2 .ensures)
 
 pub questions-spec : {M : Type 1} → statement M
 questions-spec =

@@ -16,7 +16,8 @@ shared-slice-read-e : tie.Need-shared-slice-read-e
 shared-slice-read-e c = omega (arith, c .before .if1 .left)
 
 returns-2 : tie.Need-returns-2
-returns-2 c = let a = c .before .before .before .before .args in twin-secret (a .codes .now) (a .w) (a .r) (omega (arith, c .before .before .if1 .left)) refl (c .if2 .taken)
+returns-2 c = let a = c .before .before .before .before .args in twin-secret (a .codes .now) (a .w) (a .r) (omega (arith, c .before .before .if1 .left)) refl
+    (c .if2 .taken)
 
 cast-t10 : tie.Need-cast-t10
 cast-t10 c = search needs
@@ -31,7 +32,8 @@ add-t13 : tie.Need-add-t13
 add-t13 c = omega (arith, c .publics .ensures .few, c .before .before .before .if1 .left, c .before .before .before .before .before .pre)
 
 returns-3 : tie.Need-returns-3
-returns-3 c = let a = c .before .before .before .before .before .args in twin-public (a .codes .now) (a .w) (a .r) (omega (arith, c .before .before .before .if1 .left)) refl (c .before .if2 .left) (c .publics .ensures)
+returns-3 c = let a = c .before .before .before .before .before .args in twin-public (a .codes .now) (a .w) (a .r)
+    (omega (arith, c .before .before .before .if1 .left)) refl (c .before .if2 .left) (c .publics .ensures)
 
 pub twin-spec : {M : Type 1} → statement M
 twin-spec =

@@ -21,7 +21,8 @@ gate-requires c κs = let a = c .before .before .before .before .before .args in
     (omega (arith, p .0 .inputs), p .0 .next, steps-place (a .codes .now) (a .x) (a .k) (c .before .before .if1 .left) (p .1))
 
 returns-2 : tie.Need-returns-2
-returns-2 c = let a = c .before .before .before .before .before .before .args in made-steps (a .codes .now) (a .x) (a .k) (c .before .before .before .if1 .left) (c .gate .ensures)
+returns-2 c = let a = c .before .before .before .before .before .before .args in
+    made-steps (a .codes .now) (a .x) (a .k) (c .before .before .before .if1 .left) (c .gate .ensures)
 
 pub gate-spec : {M : Type 1} → statement M
 gate-spec = tie.close (tie.spec open-gate-requires returns gate-requires returns-2)

@@ -43,7 +43,8 @@ returns-2 : tie.Need-returns-2
 returns-2 c = mask-place (c .before .args .n) 1 (c .match .keys2) refl
 
 returns-3 : tie.Need-returns-3
-returns-3 c = mask-place (c .before .before .args .n) 2 {k = c .before .before .args .k} (omega (arith, c .before .match .rest .0 .1, c .before .match .rest .1)) (c .xor-gate2 .ensures)
+returns-3 c = mask-place (c .before .before .args .n) 2 {k = c .before .before .args .k}
+    (omega (arith, c .before .match .rest .0 .1, c .before .match .rest .1)) (c .xor-gate2 .ensures)
 
 pub mask-gate-spec : {M : Type 1} → statement M
 mask-gate-spec =

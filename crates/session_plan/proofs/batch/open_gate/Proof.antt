@@ -14,13 +14,15 @@ mask-gate-requires : tie.Need-mask-gate-requires
 mask-gate-requires c κs = search needs
 
 returns : tie.Need-returns
-returns c = let a = c .before .before .before .args in let p = c .before .before .before .pre in mask-made (a .codes .now) (a .k) (a .w) (p .2) (p .3) (c .before .if1 .taken) (p .0) (c .mask-gate .ensures)
+returns c = let a = c .before .before .before .args in let p = c .before .before .before .pre in
+    mask-made (a .codes .now) (a .k) (a .w) (p .2) (p .3) (c .before .if1 .taken) (p .0) (c .mask-gate .ensures)
 
 public-from-requires : tie.Need-public-from-requires
 public-from-requires c κs = search needs
 
 cast-xor-gate : tie.Need-cast-xor-gate
-cast-xor-gate c = let a = c .before .before .before .args in let p = c .before .before .before .pre in omega (arith, p .0, p .1, within (a .codes .now) (a .k) (a .w) (p .2) (p .3) (c .before .if1 .left) (c .public-from .ensures))
+cast-xor-gate c = let a = c .before .before .before .args in let p = c .before .before .before .pre in
+    omega (arith, p .0, p .1, within (a .codes .now) (a .k) (a .w) (p .2) (p .3) (c .before .if1 .left) (c .public-from .ensures))
 
 add-xor-gate : tie.Need-add-xor-gate
 add-xor-gate c = search needs
@@ -35,7 +37,8 @@ xor-gate-requires : tie.Need-xor-gate-requires
 xor-gate-requires c κs = search needs
 
 add-t13 : tie.Need-add-t13
-add-t13 c = let a = c .before .before .before .before .args in let p = c .before .before .before .before .pre in omega (arith, p .0, p .1, within (a .codes .now) (a .k) (a .w) (p .2) (p .3) (c .before .before .if1 .left) (c .before .public-from .ensures))
+add-t13 c = let a = c .before .before .before .before .args in let p = c .before .before .before .before .pre in
+    omega (arith, p .0, p .1, within (a .codes .now) (a .k) (a .w) (p .2) (p .3) (c .before .before .if1 .left) (c .before .public-from .ensures))
 
 returns-2 : tie.Need-returns-2
 returns-2 c = let a = c .before .before .before .before .args in let p = c .before .before .before .before .pre in

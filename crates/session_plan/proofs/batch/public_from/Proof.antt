@@ -31,7 +31,8 @@ loop-less : tie.Need-loop-less Inv-loop μ-loop
 loop-less c = search needs
 
 loop-again : tie.Need-loop-again Inv-loop μ-loop
-loop-again c = let a = c .before .before .before .before .args in passed-more (a .codes .now) (a .w) (c .before .before .before .loop .v) (c .before .before .before .loop .inv) (c .before .before .loop-test .taken) (c .if1 .left)
+loop-again c = let a = c .before .before .before .before .args in passed-more (a .codes .now) (a .w) (c .before .before .before .loop .v)
+    (c .before .before .before .loop .inv) (c .before .before .loop-test .taken) (c .if1 .left)
 
 returns-2 : tie.Need-returns-2 Inv-loop μ-loop
 returns-2 c = record { same = c .before .loop .inv; here = λ h. absurd (omega (arith, h, c .loop-test .left)) }

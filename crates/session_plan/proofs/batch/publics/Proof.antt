@@ -27,7 +27,13 @@ one-if-public-requires : tie.Need-one-if-public-requires Inv-loop μ-loop
 one-if-public-requires c κs = search needs
 
 add-many : tie.Need-add-many Inv-loop μ-loop
-add-many c = omega (arith, c .before .before .before .loop .inv .0 .few, c .one-if-public .ensures, public-most (getD (c .before .before .before .before .before .args .codes .now) (c .before .before .before .loop .i) 0))
+add-many c = omega (
+  arith,
+  c .before .before .before .loop .inv .0 .few,
+  c .one-if-public .ensures,
+  public-most
+      (getD (c .before .before .before .before .before .args .codes .now) (c .before .before .before .loop .i) 0),
+)
 
 add-i : tie.Need-add-i Inv-loop μ-loop
 add-i c = search needs
@@ -36,7 +42,11 @@ loop-less : tie.Need-loop-less Inv-loop μ-loop
 loop-less c = search needs
 
 loop-again : tie.Need-loop-again Inv-loop μ-loop
-loop-again c = (counted-more (c .before .before .before .loop .inv .0) (omega (arith, c .before .before .loop-test .taken)) (c .one-if-public .ensures), omega (arith, c .before .before .loop-test .taken))
+loop-again c = (
+  counted-more (c .before .before .before .loop .inv .0) (omega (arith, c .before .before .loop-test .taken)) (c .one-if-public .ensures),
+  omega
+      (arith, c .before .before .loop-test .taken),
+)
 
 returns : tie.Need-returns Inv-loop μ-loop
 returns c = counted-all (c .before .loop .inv .0) (c .before .loop .inv .1) (c .loop-test .left)

@@ -13,7 +13,8 @@ question-requires : tie.Need-question-requires
 question-requires c κs = search needs
 
 returns : tie.Need-returns
-returns c = let a = c .before .before .before .before .args in refused-plan (a .sizes) (a .widths .now) (a .codes .now) (a .room) (c .if1 .taken) (c .before .question .ensures)
+returns c = let a = c .before .before .before .before .args in refused-plan (a .sizes) (a .widths .now) (a .codes .now) (a .room) (c .if1 .taken)
+    (c .before .question .ensures)
 
 publics-requires : tie.Need-publics-requires
 publics-requires c κs = let a = c .before .before .before .before .args in

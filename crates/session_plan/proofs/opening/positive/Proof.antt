@@ -30,7 +30,8 @@ shared-slice-read-if2 : tie.Need-shared-slice-read-if2 Inv-loop μ-loop
 shared-slice-read-if2 c = search needs
 
 returns-2 : tie.Need-returns-2 Inv-loop μ-loop
-returns-2 c = some-narrow (c .before .before .before .before .before .args .widths .now) (passing-fails (c .before .before .before .loop .inv) (c .before .before .loop-test .taken) (zero-leb (c .if2 .taken)))
+returns-2 c = some-narrow (c .before .before .before .before .before .args .widths .now)
+    (passing-fails (c .before .before .before .loop .inv) (c .before .before .loop-test .taken) (zero-leb (c .if2 .taken)))
 
 add-i : tie.Need-add-i Inv-loop μ-loop
 add-i c = search needs

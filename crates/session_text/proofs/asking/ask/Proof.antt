@@ -18,18 +18,23 @@ question-requires : tie.Need-question-requires
 question-requires c κs = search needs
 
 returns : tie.Need-returns
-returns c = let a = c .before .before .before .before .args in asked-no (a .sizes) (a .a) (a .b) (a .c) (a .d) (a .widths .now) (a .outputs .now) (a .gates) (a .places) (c .if1 .taken) (c .before .question .ensures)
+returns c = let a = c .before .before .before .before .args in asked-no (a .sizes) (a .a) (a .b) (a .c) (a .d) (a .widths .now) (a .outputs .now) (a .gates)
+    (a .places) (c .if1 .taken) (c .before .question .ensures)
 
 total-requires : tie.Need-total-requires
-total-requires c κs = let a = c .before .before .before .before .args in head-few (a .sizes) (a .a) (a .b) (a .c) (a .d) (a .widths .now) (a .outputs .now) (a .gates) (a .places) (c .if1 .left) (c .before .question .ensures) .0
+total-requires c κs = let a = c .before .before .before .before .args in head-few (a .sizes) (a .a) (a .b) (a .c) (a .d) (a .widths .now) (a .outputs .now)
+    (a .gates) (a .places) (c .if1 .left) (c .before .question .ensures) .0
 
 total-requires-2 : tie.Need-total-requires-2
-total-requires-2 c κs = let a = c .before .before .before .before .before .args in head-few (a .sizes) (a .a) (a .b) (a .c) (a .d) (a .widths .now) (a .outputs .now) (a .gates) (a .places) (c .before .if1 .left) (c .before .before .question .ensures) .1
+total-requires-2 c κs = let a = c .before .before .before .before .before .args in
+    head-few (a .sizes) (a .a) (a .b) (a .c) (a .d) (a .widths .now) (a .outputs .now) (a .gates) (a .places) (c .before .if1 .left)
+    (c .before .before .question .ensures) .1
 
 returns-2 : tie.Need-returns-2
 returns-2 c = let a = c .before .before .before .before .before .before .args in
     asked-yes (a .sizes) (a .a) (a .b) (a .c) (a .d) (a .widths .now) (a .outputs .now) (a .gates) (a .places) (c .before .total .ensures) (c .total2 .ensures)
-    (subst (NoIs (headAsked (small (a .sizes)) (a .a ∷ a .b ∷ a .c ∷ a .d ∷ []) (a .widths .now) (a .outputs .now) (a .gates) (a .places))) (c .before .before .if1 .left) (c .before .before .before .question .ensures))
+    (subst (NoIs (headAsked (small (a .sizes)) (a .a ∷ a .b ∷ a .c ∷ a .d ∷ []) (a .widths .now) (a .outputs .now) (a .gates) (a .places)))
+    (c .before .before .if1 .left) (c .before .before .before .question .ensures))
 
 pub ask-spec : {M : Type 1} → statement M
 ask-spec = tie.close (tie.spec question-requires returns total-requires total-requires-2 returns-2)

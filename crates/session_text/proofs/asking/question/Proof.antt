@@ -30,7 +30,8 @@ long-requires c κs = search needs
 returns : tie.Need-returns
 returns c = let a = c .before .before .before .before .before .args in
     no-one (small (a .sizes)) (a .a ∷ a .b ∷ a .c ∷ a .d ∷ []) (a .widths .now) (a .outputs .now) (a .gates) (a .places)
-    (ap (λ (l : Limits). every (leb (l .table)) (a .a ∷ a .b ∷ a .c ∷ a .d ∷ [])) (sym (c .before .before .small .ensures)) ∙ sym (c .before .long .ensures) ∙ not-yes _ (c .if1 .taken))
+    (ap (λ (l : Limits). every (leb (l .table)) (a .a ∷ a .b ∷ a .c ∷ a .d ∷ [])) (sym (c .before .before .small .ensures)) ∙ sym (c .before .long .ensures) ∙
+    not-yes _ (c .if1 .taken))
 
 positive-requires : tie.Need-positive-requires
 positive-requires c κs = search needs
@@ -38,7 +39,8 @@ positive-requires c κs = search needs
 returns-2 : tie.Need-returns-2
 returns-2 c = let a = c .before .before .before .before .before .before .before .args in
     no-four (small (a .sizes)) (a .a ∷ a .b ∷ a .c ∷ a .d ∷ []) (a .widths .now) (a .outputs .now) (a .gates) (a .places)
-    (ap (λ (l : Limits). every (leb (l .table)) (a .a ∷ a .b ∷ a .c ∷ a .d ∷ [])) (sym (c .before .before .before .before .small .ensures)) ∙ sym (c .before .before .before .long .ensures) ∙ not-no _ (c .before .before .if1 .left))
+    (ap (λ (l : Limits). every (leb (l .table)) (a .a ∷ a .b ∷ a .c ∷ a .d ∷ [])) (sym (c .before .before .before .before .small .ensures)) ∙ sym
+    (c .before .before .before .long .ensures) ∙ not-no _ (c .before .before .if1 .left))
     (sym (c .before .positive .ensures) ∙ not-yes _ (c .if2 .taken))
 
 positive-requires-2 : tie.Need-positive-requires-2
@@ -47,37 +49,53 @@ positive-requires-2 c κs = search needs
 returns-3 : tie.Need-returns-3
 returns-3 c = let a = c .before .before .before .before .before .before .before .before .before .args in
     no-four-out (small (a .sizes)) (a .a ∷ a .b ∷ a .c ∷ a .d ∷ []) (a .widths .now) (a .outputs .now) (a .gates) (a .places)
-    (ap (λ (l : Limits). every (leb (l .table)) (a .a ∷ a .b ∷ a .c ∷ a .d ∷ [])) (sym (c .before .before .before .before .before .before .small .ensures)) ∙ sym (c .before .before .before .before .before .long .ensures) ∙ not-no _ (c .before .before .before .before .if1 .left))
+    (ap (λ (l : Limits). every (leb (l .table)) (a .a ∷ a .b ∷ a .c ∷ a .d ∷ [])) (sym (c .before .before .before .before .before .before .small .ensures)) ∙
+    sym (c .before .before .before .before .before .long .ensures) ∙ not-no _ (c .before .before .before .before .if1 .left))
     (sym (c .before .before .before .positive .ensures) ∙ not-no _ (c .before .before .if2 .left))
     (sym (c .before .positive2 .ensures) ∙ not-yes _ (c .if3 .taken))
 
 within-requires : tie.Need-within-requires
-within-requires c κs = let e = c .before .before .before .before .before .before .small .ensures in (omega (arith, ap (λ (l : Limits). l .inputs) e), omega (arith, ap (λ (l : Limits). l .outputs) e))
+within-requires c κs = let e = c .before .before .before .before .before .before .small .ensures in
+    (omega (arith, ap (λ (l : Limits). l .inputs) e), omega (arith, ap (λ (l : Limits). l .outputs) e))
 
 returns-4 : tie.Need-returns-4
 returns-4 c = let a = c .before .before .before .before .before .before .before .before .before .before .before .args in
     no-five (small (a .sizes)) (a .a ∷ a .b ∷ a .c ∷ a .d ∷ []) (a .widths .now) (a .outputs .now) (a .gates) (a .places)
-    (ap (λ (l : Limits). every (leb (l .table)) (a .a ∷ a .b ∷ a .c ∷ a .d ∷ [])) (sym (c .before .before .before .before .before .before .before .before .small .ensures)) ∙ sym (c .before .before .before .before .before .before .before .long .ensures) ∙ not-no _ (c .before .before .before .before .before .before .if1 .left))
+    (ap (λ (l : Limits). every (leb (l .table)) (a .a ∷ a .b ∷ a .c ∷ a .d ∷ []))
+    (sym (c .before .before .before .before .before .before .before .before .small .ensures)) ∙ sym
+    (c .before .before .before .before .before .before .before .long .ensures) ∙ not-no _ (c .before .before .before .before .before .before .if1 .left))
     (sym (c .before .before .before .before .before .positive .ensures) ∙ not-no _ (c .before .before .before .before .if2 .left))
     (sym (c .before .before .before .positive2 .ensures) ∙ not-no _ (c .before .before .if3 .left))
-    (ap (λ (l : Limits). withinLimits l (headOf (a .widths .now) (a .outputs .now) (a .gates))) (sym (c .before .before .before .before .before .before .before .before .small .ensures)) ∙ sym (c .before .within .ensures) ∙ not-yes _ (c .if4 .taken))
+    (ap (λ (l : Limits). withinLimits l (headOf (a .widths .now) (a .outputs .now) (a .gates)))
+    (sym (c .before .before .before .before .before .before .before .before .small .ensures)) ∙ sym (c .before .within .ensures) ∙ not-yes _
+    (c .if4 .taken))
 
 returns-5 : tie.Need-returns-5
 returns-5 c = let a = c .before .before .before .before .before .before .before .before .before .before .before .before .args in
     no-six (small (a .sizes)) (a .a ∷ a .b ∷ a .c ∷ a .d ∷ []) (a .widths .now) (a .outputs .now) (a .gates) (a .places)
-    (ap (λ (l : Limits). every (leb (l .table)) (a .a ∷ a .b ∷ a .c ∷ a .d ∷ [])) (sym (c .before .before .before .before .before .before .before .before .before .small .ensures)) ∙ sym (c .before .before .before .before .before .before .before .before .long .ensures) ∙ not-no _ (c .before .before .before .before .before .before .before .if1 .left))
+    (ap (λ (l : Limits). every (leb (l .table)) (a .a ∷ a .b ∷ a .c ∷ a .d ∷ []))
+    (sym (c .before .before .before .before .before .before .before .before .before .small .ensures)) ∙ sym
+    (c .before .before .before .before .before .before .before .before .long .ensures) ∙ not-no _
+    (c .before .before .before .before .before .before .before .if1 .left))
     (sym (c .before .before .before .before .before .before .positive .ensures) ∙ not-no _ (c .before .before .before .before .before .if2 .left))
     (sym (c .before .before .before .before .positive2 .ensures) ∙ not-no _ (c .before .before .before .if3 .left))
-    (ap (λ (l : Limits). withinLimits l (headOf (a .widths .now) (a .outputs .now) (a .gates))) (sym (c .before .before .before .before .before .before .before .before .before .small .ensures)) ∙ sym (c .before .before .within .ensures) ∙ not-no _ (c .before .if4 .left))
+    (ap (λ (l : Limits). withinLimits l (headOf (a .widths .now) (a .outputs .now) (a .gates)))
+    (sym (c .before .before .before .before .before .before .before .before .before .small .ensures)) ∙ sym (c .before .before .within .ensures) ∙ not-no _
+    (c .before .if4 .left))
     (c .if5 .taken)
 
 returns-6 : tie.Need-returns-6
 returns-6 c = let a = c .before .before .before .before .before .before .before .before .before .before .before .before .args in
     no-none (small (a .sizes)) (a .a ∷ a .b ∷ a .c ∷ a .d ∷ []) (a .widths .now) (a .outputs .now) (a .gates) (a .places)
-    (ap (λ (l : Limits). every (leb (l .table)) (a .a ∷ a .b ∷ a .c ∷ a .d ∷ [])) (sym (c .before .before .before .before .before .before .before .before .before .small .ensures)) ∙ sym (c .before .before .before .before .before .before .before .before .long .ensures) ∙ not-no _ (c .before .before .before .before .before .before .before .if1 .left))
+    (ap (λ (l : Limits). every (leb (l .table)) (a .a ∷ a .b ∷ a .c ∷ a .d ∷ []))
+    (sym (c .before .before .before .before .before .before .before .before .before .small .ensures)) ∙ sym
+    (c .before .before .before .before .before .before .before .before .long .ensures) ∙ not-no _
+    (c .before .before .before .before .before .before .before .if1 .left))
     (sym (c .before .before .before .before .before .before .positive .ensures) ∙ not-no _ (c .before .before .before .before .before .if2 .left))
     (sym (c .before .before .before .before .positive2 .ensures) ∙ not-no _ (c .before .before .before .if3 .left))
-    (ap (λ (l : Limits). withinLimits l (headOf (a .widths .now) (a .outputs .now) (a .gates))) (sym (c .before .before .before .before .before .before .before .before .before .small .ensures)) ∙ sym (c .before .before .within .ensures) ∙ not-no _ (c .before .if4 .left))
+    (ap (λ (l : Limits). withinLimits l (headOf (a .widths .now) (a .outputs .now) (a .gates)))
+    (sym (c .before .before .before .before .before .before .before .before .before .small .ensures)) ∙ sym (c .before .before .within .ensures) ∙ not-no _
+    (c .before .if4 .left))
     (c .if5 .left)
 
 pub question-spec : {M : Type 1} → statement M

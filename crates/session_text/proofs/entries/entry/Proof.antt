@@ -25,7 +25,8 @@ entry-of-requires : tie.Need-entry-of-requires
 entry-of-requires c κs = search needs
 
 returns-3 : tie.Need-returns-3
-returns-3 c = let a = c .before .before .before .before .before .args in record-yes (a .r) (a .next) (c .before .before .before .before .if1 .left) (c .before .before .if2 .left) (c .before .before .before .gate-no .ensures) (c .entry-of .ensures) (omega arith) (omega arith)
+returns-3 c = let a = c .before .before .before .before .before .args in record-yes (a .r) (a .next) (c .before .before .before .before .if1 .left)
+    (c .before .before .if2 .left) (c .before .before .before .gate-no .ensures) (c .entry-of .ensures) (omega arith) (omega arith)
 
 pub entry-spec : {M : Type 1} → statement M
 entry-spec =

@@ -46,7 +46,8 @@ same-length-6 c = search needs
 
 returns : tie.Need-returns
 returns c = λ o s.
-    let m = c .before .before .before .before .before .before .before .before .before .before .before .before .before .before .before .before .before .before .before .before .before .before .before .before .mask-tables in
+    let m = c .before .before .before .before .before .before .before .before .before .before .before .before .before .before .before .before .before .before
+    .before .before .before .before .before .before .mask-tables in
     record {
       answers = m .ensures o s;
       operands = c .before .before .before .before .before .before .before .before .before .before .before .before .before .before .words .ensures;

@@ -27,7 +27,12 @@ same-length-3 : tie.Need-same-length-3
 same-length-3 c = search needs
 
 returns : tie.Need-returns
-returns c = λ o s. record { answers = c .before .before .before .before .before .before .before .before .before .before .write .ensures o s; operands = c .before .before .before .before .before .before .words .ensures; results = c .before .before .words2 .ensures }
+returns c = λ o s. record {
+  answers = c .before .before .before .before .before .before .before .before .before .before .write .ensures o s;
+  operands =
+      c .before .before .before .before .before .before .words .ensures;
+  results = c .before .before .words2 .ensures;
+}
 
 pub text-spec : {M : Type 1} → statement M
 text-spec =

@@ -13,7 +13,8 @@ use Rattle.verilog_gates.proofs.wires.give.Reads as give-reads
 use Rattle.verilog_tokens.proofs.next.Reads as next-reads
 
 abbrev Inv-loop : tie.InvT-loop
-Inv-loop text heads words links wires₀ operands₀ results₀ size count n at next code₀ to₀ free₀ wires operands results code to free = Going text heads words links wires₀ operands₀ results₀ size count n at next code to free wires operands results
+Inv-loop text heads words links wires₀ operands₀ results₀ size count n at next code₀ to₀ free₀ wires operands results code to free = Going text heads words
+    links wires₀ operands₀ results₀ size count n at next code to free wires operands results
 
 abbrev μ-loop : tie.MeasureT-loop
 μ-loop text heads words links wires₀ operands₀ results₀ size count n at next code₀ to₀ free₀ wires operands results code to free = left text code to
@@ -31,19 +32,38 @@ next-requires-3 : tie.Need-next-requires-3 Inv-loop μ-loop
 next-requires-3 c κs = c .next2 .ensures .within
 
 expression-requires : tie.Need-expression-requires Inv-loop μ-loop
-expression-requires c κs = go-ready (c .before .before .before .before .before .before .loop .inv) (c .before .before .before .before .next2 .ensures) (c .before .before .before .next3 .ensures)
+expression-requires c κs = go-ready (c .before .before .before .before .before .before .loop .inv) (c .before .before .before .before .next2 .ensures)
+    (c .before .before .before .next3 .ensures)
 
 give-requires : tie.Need-give-requires Inv-loop μ-loop
-give-requires c κs = (c .before .before .before .before .before .before .before .before .before .before .before .before .loop .inv .ready .names, c .before .before .before .before .before .before .before .before .before .before .before .before .loop .inv .ready .wired, c .before .before .before .before .before .before .before .before .before .before .next2 .ensures .onward, c .before .before .before .before .before .before .before .before .before .before .next2 .ensures .within)
+give-requires c κs = (
+  c .before .before .before .before .before .before .before .before .before .before .before .before .loop .inv .ready .names,
+  c .before .before .before .before .before .before .before .before .before .before .before .before .loop .inv .ready .wired,
+  c .before .before .before .before .before .before .before .before .before .before .next2 .ensures .onward,
+  c .before .before .before .before .before .before .before .before .before .before .next2 .ensures .within,
+)
 
 next-requires-4 : tie.Need-next-requires-4 Inv-loop μ-loop
 next-requires-4 c κs = c .before .before .before .before .before .before .before .before .expression .ensures .token .within
 
 loop-less : tie.Need-loop-less Inv-loop μ-loop
-loop-less c = go-less (c .before .before .before .before .before .before .before .before .before .before .before .before .before .before .before .before .loop .inv) (c .before .before .before .before .before .before .before .before .before .before .before .before .before .before .next2 .ensures) (c .before .before .before .before .before .before .before .before .before .before .before .before .before .next3 .ensures) (c .before .before .before .before .before .before .before .before .before .expression .ensures) (c .before .before .before .before .before .before .before .before .before .before .before .before .before .before .before .loop-test .taken) (c .next4 .ensures)
+loop-less c = go-less
+    (c .before .before .before .before .before .before .before .before .before .before .before .before .before .before .before .before .loop .inv)
+    (c .before .before .before .before .before .before .before .before .before .before .before .before .before .before .next2 .ensures)
+    (c .before .before .before .before .before .before .before .before .before .before .before .before .before .next3 .ensures)
+    (c .before .before .before .before .before .before .before .before .before .expression .ensures)
+    (c .before .before .before .before .before .before .before .before .before .before .before .before .before .before .before .loop-test .taken)
+    (c .next4 .ensures)
 
 loop-again : tie.Need-loop-again Inv-loop μ-loop
-loop-again c = go-on (c .before .before .before .before .before .before .before .before .before .before .before .before .before .before .before .before .loop .inv) (c .before .before .before .before .before .before .before .before .before .before .before .before .before .before .next2 .ensures) (c .before .before .before .before .before .before .before .before .before .before .before .before .before .next3 .ensures) (c .before .before .before .before .before .before .before .before .before .expression .ensures) (c .before .before .before .before .before .before .before .before .before .before .before .before .before .before .before .loop-test .taken) (c .before .before .before .before .before .before .before .before .before .expression .kept .1 .1 .1 .1 .1 .0) (c .before .before .before .before .before .before .before .before .before .expression .kept .1 .1 .1 .1 .1 .1 .0) (c .before .before .before .give .ensures) (c .next4 .ensures)
+loop-again c = go-on (c .before .before .before .before .before .before .before .before .before .before .before .before .before .before .before .before .loop
+    .inv) (c .before .before .before .before .before .before .before .before .before .before .before .before .before .before .next2 .ensures)
+    (c .before .before .before .before .before .before .before .before .before .before .before .before .before .next3 .ensures)
+    (c .before .before .before .before .before .before .before .before .before .expression .ensures)
+    (c .before .before .before .before .before .before .before .before .before .before .before .before .before .before .before .loop-test .taken)
+    (c .before .before .before .before .before .before .before .before .before .expression .kept .1 .1 .1 .1 .1 .0)
+    (c .before .before .before .before .before .before .before .before .before .expression .kept .1 .1 .1 .1 .1 .1 .0)
+    (c .before .before .before .give .ensures) (c .next4 .ensures)
 
 same-length : tie.Need-same-length Inv-loop μ-loop
 same-length c = c .before .loop .inv .wide

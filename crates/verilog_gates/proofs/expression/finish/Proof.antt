@@ -26,7 +26,15 @@ same-length-2 : tie.Need-same-length-2
 same-length-2 c = search needs
 
 returns : tie.Need-returns
-returns c = rw (c .before .before .before .before .before .before .before .if1 .taken) (record { start = _; token = c .before .before .before .before .before .before .before .before .next .ensures; value = refl; free = refl; stored = c .before .before .before .before .put .ensures })
+returns c = rw (c .before .before .before .before .before .before .before .if1 .taken)
+    (record {
+      start = _;
+      token = c .before .before .before .before .before .before .before .before .next .ensures;
+      value = refl;
+      free = refl;
+      stored =
+          c .before .before .before .before .put .ensures;
+    })
 
 returns-2 : tie.Need-returns-2
 returns-2 c = rw (c .if1 .left) (record { start = _; token = c .before .next .ensures; value = refl; free = refl; stored = refl })

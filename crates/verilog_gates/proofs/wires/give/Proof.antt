@@ -26,10 +26,22 @@ sub-wires : tie.Need-sub-wires
 sub-wires c = search needs
 
 mul-wires : tie.Need-mul-wires
-mul-wires c = let x = c .before .before .before .before .before .before .before .before .args in omega (arith, c .before .find .ensures, found-within (x .text .now) (x .words .now) (between (x .text .now) (x .from) (x .to)) (x .count), c .before .before .before .before .before .before .before .before .pre .1)
+mul-wires c = let x = c .before .before .before .before .before .before .before .before .args in
+    omega (
+      arith,
+      c .before .find .ensures,
+      found-within (x .text .now) (x .words .now) (between (x .text .now) (x .from) (x .to)) (x .count),
+      c .before .before .before .before .before .before .before .before .pre .1,
+    )
 
 slice-write-wires : tie.Need-slice-write-wires
-slice-write-wires c = let x = c .before .before .before .before .before .before .before .before .args in omega (arith, c .before .find .ensures, found-within (x .text .now) (x .words .now) (between (x .text .now) (x .from) (x .to)) (x .count), c .before .before .before .before .before .before .before .before .pre .1)
+slice-write-wires c = let x = c .before .before .before .before .before .before .before .before .args in
+    omega (
+      arith,
+      c .before .find .ensures,
+      found-within (x .text .now) (x .words .now) (between (x .text .now) (x .from) (x .to)) (x .count),
+      c .before .before .before .before .before .before .before .before .pre .1,
+    )
 
 same-length : tie.Need-same-length
 same-length c = search needs

@@ -31,10 +31,31 @@ sub-result : tie.Need-sub-result
 sub-result c = search needs
 
 mul-result : tie.Need-mul-result
-mul-result c = omega (arith, c .before .find .ensures, found-within (c .before .before .before .before .before .before .before .before .args .text .now) (c .before .before .before .before .before .before .before .before .args .words .now) (between (c .before .before .before .before .before .before .before .before .args .text .now) (c .before .before .before .before .before .before .before .before .args .from) (c .before .before .before .before .before .before .before .before .args .to)) (c .before .before .before .before .before .before .before .before .args .count), c .before .before .before .before .before .before .before .before .pre .1)
+mul-result c = omega (
+  arith,
+  c .before .find .ensures,
+  found-within (c .before .before .before .before .before .before .before .before .args .text .now)
+      (c .before .before .before .before .before .before .before .before .args .words .now)
+      (between (c .before .before .before .before .before .before .before .before .args .text .now)
+      (c .before .before .before .before .before .before .before .before .args .from)
+      (c .before .before .before .before .before .before .before .before .args .to))
+      (c .before .before .before .before .before .before .before .before .args .count),
+  c .before .before .before .before .before .before .before .before .pre .1,
+)
 
 shared-slice-read-result : tie.Need-shared-slice-read-result
-shared-slice-read-result c = omega (arith, c .before .before .find .ensures, found-within (c .before .before .before .before .before .before .before .before .before .args .text .now) (c .before .before .before .before .before .before .before .before .before .args .words .now) (between (c .before .before .before .before .before .before .before .before .before .args .text .now) (c .before .before .before .before .before .before .before .before .before .args .from) (c .before .before .before .before .before .before .before .before .before .args .to)) (c .before .before .before .before .before .before .before .before .before .args .count), c .before .before .before .before .before .before .before .before .before .pre .1)
+shared-slice-read-result c = omega (
+  arith,
+  c .before .before .find .ensures,
+  found-within
+      (c .before .before .before .before .before .before .before .before .before .args .text .now)
+      (c .before .before .before .before .before .before .before .before .before .args .words .now)
+      (between (c .before .before .before .before .before .before .before .before .before .args .text .now)
+      (c .before .before .before .before .before .before .before .before .before .args .from)
+      (c .before .before .before .before .before .before .before .before .before .args .to))
+      (c .before .before .before .before .before .before .before .before .before .args .count),
+  c .before .before .before .before .before .before .before .before .before .pre .1,
+)
 
 returns-2 : tie.Need-returns-2
 returns-2 c = some-wire _ _ _ _ _ _ (c .before .before .find .ensures) (search needs)

@@ -38,7 +38,21 @@ returns-2 : tie.Need-returns-2
 returns-2 c = name-twice (c .before .before .before .before .before .before .if1 .left) (c .before .find .ensures) (c .if2 .taken)
 
 add-requires : tie.Need-add-requires
-add-requires c κs = (c .before .before .before .before .before .before .before .before .before .before .before .before .before .before .before .pre .0, c .before .before .before .before .before .before .before .before .before .before .before .before .before .before .before .pre .4, c .before .before .before .before .before .before .before .before .before .before .before .before .before .before .before .pre .5, omega (arith, c .before .before .before .before .before .before .before .before .before .before .before .before .before .before .before .pre .1, c .before .before .before .before .before .before .before .before .before .if1 .left), omega (arith, c .before .before .before .before .before .before .before .before .before .before .before .before .before .before .before .pre .2, c .before .before .before .before .before .before .before .before .before .if1 .left))
+add-requires c κs = (
+  c .before .before .before .before .before .before .before .before .before .before .before .before .before .before .before .pre .0,
+  c .before .before .before .before .before .before .before .before .before .before .before .before .before .before .before .pre .4,
+  c .before .before .before .before .before .before .before .before .before .before .before .before .before .before .before .pre .5,
+  omega (
+    arith,
+    c .before .before .before .before .before .before .before .before .before .before .before .before .before .before .before .pre .1,
+    c .before .before .before .before .before .before .before .before .before .if1 .left,
+  ),
+  omega (
+    arith,
+    c .before .before .before .before .before .before .before .before .before .before .before .before .before .before .before .pre .2,
+    c .before .before .before .before .before .before .before .before .before .if1 .left,
+  ),
+)
 
 mul-states : tie.Need-mul-states
 mul-states c = search needs
@@ -59,7 +73,11 @@ same-length-7 : tie.Need-same-length-7
 same-length-7 c = search needs
 
 returns-3 : tie.Need-returns-3
-returns-3 c = name-new (c .before .before .before .before .before .before .before .before .before .before .before .before .before .before .before .before .if1 .left) (c .before .before .before .before .before .before .before .before .before .before .before .find .ensures) (c .before .before .before .before .before .before .before .before .before .before .if2 .left) (c .before .before .before .before .before .before .add .ensures) refl
+returns-3 c = name-new
+    (c .before .before .before .before .before .before .before .before .before .before .before .before .before .before .before .before .if1 .left)
+    (c .before .before .before .before .before .before .before .before .before .before .before .find .ensures)
+    (c .before .before .before .before .before .before .before .before .before .before .if2 .left)
+    (c .before .before .before .before .before .before .add .ensures) refl
 
 pub name-spec : {M : Type 1} → statement M
 name-spec =

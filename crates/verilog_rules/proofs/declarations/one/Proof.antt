@@ -28,7 +28,11 @@ same-length-4 : tie.Need-same-length-4
 same-length-4 c = search needs
 
 returns : tie.Need-returns
-returns c = record { named = λ e. (c .before .before .before .before .before .before .before .before .name .ensures, refl, refl); marked = λ h. absurd (h (c .before .before .before .before .before .before .before .before .before .before .before .before .before .if1 .taken)) }
+returns c = record {
+  named = λ e. (c .before .before .before .before .before .before .before .before .name .ensures, refl, refl);
+  marked = λ h. absurd
+      (h (c .before .before .before .before .before .before .before .before .before .before .before .before .before .if1 .taken));
+}
 
 kind-behind-requires : tie.Need-kind-behind-requires
 kind-behind-requires c κs = search needs

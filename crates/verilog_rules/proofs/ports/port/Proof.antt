@@ -25,7 +25,8 @@ same-length-2 : tie.Need-same-length-2
 same-length-2 c = search needs
 
 returns : tie.Need-returns
-returns c = port-input (c .before .before .before .before .before .before .before .advance .ensures .0) (c .before .before .before .before .if1 .taken) (c .before .before .before .before .before .before .before .advance .ensures .1) (c .before .before .give .ensures)
+returns c = port-input (c .before .before .before .before .before .before .before .advance .ensures .0) (c .before .before .before .before .if1 .taken)
+    (c .before .before .before .before .before .before .before .advance .ensures .1) (c .before .before .give .ensures)
 
 advance-requires-2 : tie.Need-advance-requires-2
 advance-requires-2 c κs = search needs
@@ -37,7 +38,9 @@ same-length-3 : tie.Need-same-length-3
 same-length-3 c = search needs
 
 returns-2 : tie.Need-returns-2
-returns-2 c = port-other (c .before .before .before .before .before .before .before .advance .ensures .0) (c .before .before .before .before .if1 .left) (c .before .before .before .before .before .before .before .advance .ensures .1) (c .before .before .advance2 .ensures .0) (c .before .before .advance2 .ensures .1)
+returns-2 c = port-other (c .before .before .before .before .before .before .before .advance .ensures .0) (c .before .before .before .before .if1 .left)
+    (c .before .before .before .before .before .before .before .advance .ensures .1) (c .before .before .advance2 .ensures .0)
+    (c .before .before .advance2 .ensures .1)
 
 pub port-spec : {M : Type 1} → statement M
 port-spec =

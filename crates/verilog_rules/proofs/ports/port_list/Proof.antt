@@ -12,7 +12,8 @@ use Rattle.verilog_rules.proofs.ports.port.Reads as port-reads
 use Rattle.verilog_tokens.proofs.next.Reads as next-reads
 
 abbrev Inv-loop : tie.InvT-loop
-Inv-loop text heads words links states₀ wires₀ size count at code₀ from₀ to₀ inputs₀ outputs₀ states wires code from to inputs outputs = Seating text words count at states₀ wires₀ states wires code from to inputs outputs
+Inv-loop text heads words links states₀ wires₀ size count at code₀ from₀ to₀ inputs₀ outputs₀ states wires code from to inputs outputs = Seating text words
+    count at states₀ wires₀ states wires code from to inputs outputs
 
 abbrev μ-loop : tie.MeasureT-loop
 μ-loop text heads words links states₀ wires₀ size count at code₀ from₀ to₀ inputs₀ outputs₀ states wires code from to inputs outputs = left text code to
@@ -24,16 +25,44 @@ loop-holds : tie.Need-loop-holds Inv-loop μ-loop
 loop-holds c = seat-start (c .next .ensures)
 
 port-requires : tie.Need-port-requires Inv-loop μ-loop
-port-requires c κs = let S = c .before .before .before .loop .inv in (c .before .before .before .before .before .before .before .before .before .before .before .pre .0, omega (arith, c .before .before .before .before .before .before .before .before .before .before .before .pre .1, S .stated), omega (arith, c .before .before .before .before .before .before .before .before .before .before .before .pre .2, S .wired), S .token .onward, S .token .within, omega (arith, S .few .0, S .token .start, S .token .onward, S .token .within, c .before .before .before .before .before .before .before .before .before .before .before .pre .4), omega (arith, S .few .1, S .token .start, S .token .onward, S .token .within, c .before .before .before .before .before .before .before .before .before .before .before .pre .4))
+port-requires c κs = let S = c .before .before .before .loop .inv in (
+  c .before .before .before .before .before .before .before .before .before .before .before .pre .0,
+  omega
+      (arith, c .before .before .before .before .before .before .before .before .before .before .before .pre .1, S .stated),
+  omega
+      (arith, c .before .before .before .before .before .before .before .before .before .before .before .pre .2, S .wired),
+  S .token .onward,
+  S .token .within,
+  omega (
+    arith,
+    S .few .0,
+    S .token .start,
+    S .token .onward,
+    S .token .within,
+    c .before .before .before .before .before .before .before .before .before .before .before .pre .4,
+  ),
+  omega (
+    arith,
+    S .few .1,
+    S .token .start,
+    S .token .onward,
+    S .token .within,
+    c .before .before .before .before .before .before .before .before .before .before .before .pre .4,
+  ),
+)
 
 same-length : tie.Need-same-length Inv-loop μ-loop
-same-length c = c .before .before .before .before .before .before .port .kept .1 .1 .1 .1 .0 ∙ c .before .before .before .before .before .before .before .before .before .before .loop .inv .stated
+same-length c = c .before .before .before .before .before .before .port .kept .1 .1 .1 .1 .0 ∙
+    c .before .before .before .before .before .before .before .before .before .before .loop .inv .stated
 
 same-length-2 : tie.Need-same-length-2 Inv-loop μ-loop
-same-length-2 c = c .before .before .before .before .before .before .port .kept .1 .1 .1 .1 .1 .0 ∙ c .before .before .before .before .before .before .before .before .before .before .loop .inv .wired
+same-length-2 c = c .before .before .before .before .before .before .port .kept .1 .1 .1 .1 .1 .0 ∙
+    c .before .before .before .before .before .before .before .before .before .before .loop .inv .wired
 
 returns : tie.Need-returns Inv-loop μ-loop
-returns c = seat-bad (c .before .before .before .before .before .before .before .before .before .before .loop .inv) (c .before .before .before .before .before .before .port .ensures) (c .before .before .before .before .before .before .before .before .before .loop-test .taken) (not-true _ (c .if1 .taken))
+returns c = seat-bad (c .before .before .before .before .before .before .before .before .before .before .loop .inv)
+    (c .before .before .before .before .before .before .port .ensures)
+    (c .before .before .before .before .before .before .before .before .before .loop-test .taken) (not-true _ (c .if1 .taken))
 
 next-requires-2 : tie.Need-next-requires-2 Inv-loop μ-loop
 next-requires-2 c κs = c .before .before .before .before .before .before .before .before .before .before .loop .inv .token .within
@@ -42,10 +71,19 @@ next-requires-3 : tie.Need-next-requires-3 Inv-loop μ-loop
 next-requires-3 c κs = c .next2 .ensures .within
 
 loop-less : tie.Need-loop-less Inv-loop μ-loop
-loop-less c = seat-less (c .before .before .before .before .before .before .before .before .before .before .before .before .before .before .before .before .before .before .before .before .args .text .now) (c .before .before .before .before .before .before .before .before .before .before .before .before .loop .code) (c .before .before .before .before .before .before .before .before .before .before .before .before .loop .to) (c .before .before .before .before .before .before .before .before .before .before .before .loop-test .taken) (c .before .next2 .ensures) (c .next3 .ensures)
+loop-less c = seat-less
+    (c .before .before .before .before .before .before .before .before .before .before .before .before .before .before .before .before .before .before .before
+    .before .args .text .now) (c .before .before .before .before .before .before .before .before .before .before .before .before .loop .code)
+    (c .before .before .before .before .before .before .before .before .before .before .before .before .loop .to)
+    (c .before .before .before .before .before .before .before .before .before .before .before .loop-test .taken) (c .before .next2 .ensures)
+    (c .next3 .ensures)
 
 loop-again : tie.Need-loop-again Inv-loop μ-loop
-loop-again c = seat-on (c .before .before .before .before .before .before .before .before .before .before .before .before .loop .inv) (c .before .before .before .before .before .before .before .before .port .ensures) (c .before .before .before .before .before .before .before .before .before .before .before .loop-test .taken) (not-false _ (c .before .before .if1 .left)) (c .before .before .before .before .before .before .before .before .port .kept .1 .1 .1 .1 .0) (c .before .before .before .before .before .before .before .before .port .kept .1 .1 .1 .1 .1 .0) (c .before .next2 .ensures) (c .next3 .ensures)
+loop-again c = seat-on (c .before .before .before .before .before .before .before .before .before .before .before .before .loop .inv)
+    (c .before .before .before .before .before .before .before .before .port .ensures)
+    (c .before .before .before .before .before .before .before .before .before .before .before .loop-test .taken) (not-false _ (c .before .before .if1 .left))
+    (c .before .before .before .before .before .before .before .before .port .kept .1 .1 .1 .1 .0)
+    (c .before .before .before .before .before .before .before .before .port .kept .1 .1 .1 .1 .1 .0) (c .before .next2 .ensures) (c .next3 .ensures)
 
 same-length-3 : tie.Need-same-length-3 Inv-loop μ-loop
 same-length-3 c = c .before .loop .inv .stated

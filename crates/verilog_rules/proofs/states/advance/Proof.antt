@@ -30,19 +30,43 @@ sub-i : tie.Need-sub-i
 sub-i c = omega arith
 
 mul-if2 : tie.Need-mul-if2
-mul-if2 c = let x = c .before .before .before .before .before .before .before .before .args in omega (arith, c .before .find .ensures, found-within (x .text .now) (x .words .now) (between (x .text .now) (x .from) (x .to)) (x .count), c .before .before .before .before .before .before .before .before .pre .1)
+mul-if2 c = let x = c .before .before .before .before .before .before .before .before .args in
+    omega (
+      arith,
+      c .before .find .ensures,
+      found-within (x .text .now) (x .words .now) (between (x .text .now) (x .from) (x .to)) (x .count),
+      c .before .before .before .before .before .before .before .before .pre .1,
+    )
 
 slice-read-if2 : tie.Need-slice-read-if2
-slice-read-if2 c = let x = c .before .before .before .before .before .before .before .before .before .args in omega (arith, c .before .before .find .ensures, found-within (x .text .now) (x .words .now) (between (x .text .now) (x .from) (x .to)) (x .count), c .before .before .before .before .before .before .before .before .before .pre .1)
+slice-read-if2 c = let x = c .before .before .before .before .before .before .before .before .before .args in
+    omega (
+      arith,
+      c .before .before .find .ensures,
+      found-within (x .text .now) (x .words .now) (between (x .text .now) (x .from) (x .to)) (x .count),
+      c .before .before .before .before .before .before .before .before .before .pre .1,
+    )
 
 returns-2 : tie.Need-returns-2
 returns-2 c = become-other _ _ _ _ _ _ _ _ (c .before .before .before .find .ensures) (omega arith) (c .if2 .taken)
 
 mul-states : tie.Need-mul-states
-mul-states c = let x = c .before .before .before .before .before .before .before .before .before .before .args in omega (arith, c .before .before .before .find .ensures, found-within (x .text .now) (x .words .now) (between (x .text .now) (x .from) (x .to)) (x .count), c .before .before .before .before .before .before .before .before .before .before .pre .1)
+mul-states c = let x = c .before .before .before .before .before .before .before .before .before .before .args in
+    omega (
+      arith,
+      c .before .before .before .find .ensures,
+      found-within (x .text .now) (x .words .now) (between (x .text .now) (x .from) (x .to)) (x .count),
+      c .before .before .before .before .before .before .before .before .before .before .pre .1,
+    )
 
 slice-write-states : tie.Need-slice-write-states
-slice-write-states c = let x = c .before .before .before .before .before .before .before .before .before .before .args in omega (arith, c .before .before .before .find .ensures, found-within (x .text .now) (x .words .now) (between (x .text .now) (x .from) (x .to)) (x .count), c .before .before .before .before .before .before .before .before .before .before .pre .1)
+slice-write-states c = let x = c .before .before .before .before .before .before .before .before .before .before .args in
+    omega (
+      arith,
+      c .before .before .before .find .ensures,
+      found-within (x .text .now) (x .words .now) (between (x .text .now) (x .from) (x .to)) (x .count),
+      c .before .before .before .before .before .before .before .before .before .before .pre .1,
+    )
 
 same-length : tie.Need-same-length
 same-length c = search needs

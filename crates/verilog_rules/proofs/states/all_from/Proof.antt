@@ -36,10 +36,15 @@ loop-less : tie.Need-loop-less Inv-loop μ-loop
 loop-less c = search needs
 
 loop-again : tie.Need-loop-again Inv-loop μ-loop
-loop-again c = (search needs, all-on (c .before .before .before .before .args .states .now) (c .before .before .before .before .args .least) (c .before .before .before .loop .i) (search needs) (search needs) (c .before .before .before .loop .inv .1))
+loop-again c = (
+  search needs,
+  all-on (c .before .before .before .before .args .states .now) (c .before .before .before .before .args .least)
+      (c .before .before .before .loop .i) (search needs) (search needs) (c .before .before .before .loop .inv .1),
+)
 
 returns-2 : tie.Need-returns-2 Inv-loop μ-loop
-returns-2 c = let x = c .before .before .args in let z : c .before .loop .i ≡ x .count = omega (arith, c .before .loop .inv .0) in sym (ap (λ (k : ℕ). allFrom (x .states .now) k (x .least)) (sym z) ∙ c .before .loop .inv .1)
+returns-2 c = let x = c .before .before .args in let z : c .before .loop .i ≡ x .count = omega (arith, c .before .loop .inv .0) in
+    sym (ap (λ (k : ℕ). allFrom (x .states .now) k (x .least)) (sym z) ∙ c .before .loop .inv .1)
 
 pub all-from-spec : {M : Type 1} → statement M
 all-from-spec =

@@ -3,7 +3,7 @@ use mathlib.Core.Path.{sym, _∙_}
 use Prim.Native.Nat.{_+_, _-_, _*_}
 use lib.ListN.{length, getD}
 use Rattle.wide_sets.specs.Packed.{sets}
-use Rattle.wide_search.proofs.Items.{item-wire, item-both}
+use Rattle.wide_search.proofs.ItemSets.{item-wire, item-both}
 use native.Mathlib.Omega.{arith}
 use borrow.Author.Needs.{needs}
 use Rattle.wide_search.proofs.item.set.Statement.{statement}
@@ -33,7 +33,8 @@ shared-slice-read-u : tie.Need-shared-slice-read-u
 shared-slice-read-u c = search needs
 
 cast-u : tie.Need-cast-u
-cast-u c = let s = c .before .before .before .before .before .before .before in omega (arith, s .pre .2 (2 * (s .args .k - length (s .args .set0 .now))) (omega (arith, s .pre .0, c .before .if1 .left)))
+cast-u c = let s = c .before .before .before .before .before .before .before in omega
+    (arith, s .pre .2 (2 * (s .args .k - length (s .args .set0 .now))) (omega (arith, s .pre .0, c .before .if1 .left)))
 
 mul-v : tie.Need-mul-v
 mul-v c = search needs
@@ -48,7 +49,8 @@ shared-slice-read-v : tie.Need-shared-slice-read-v
 shared-slice-read-v c = search needs
 
 cast-v : tie.Need-cast-v
-cast-v c = let s = c .before .before .before .before .before .before .before .before in omega (arith, s .pre .2 (2 * (s .args .k - length (s .args .set0 .now)) + 1) (omega (arith, s .pre .0, c .before .before .if1 .left)))
+cast-v c = let s = c .before .before .before .before .before .before .before .before in
+    omega (arith, s .pre .2 (2 * (s .args .k - length (s .args .set0 .now)) + 1) (omega (arith, s .pre .0, c .before .before .if1 .left)))
 
 get-requires-2 : tie.Need-get-requires-2
 get-requires-2 c κs = let s = c .before .before .before .before .before .before .before .before in
@@ -74,7 +76,8 @@ returns-2 : tie.Need-returns-2
 returns-2 c = let s = c .before .before .before .before .before .before .before .before .before .before .before in
     let a = s .args in
     let S = sets (a .set0 .now) (a .set1 .now) (a .set2 .now) (a .set3 .now) in
-    item-both S (a .pairs .now) (length (a .set0 .now)) (a .k) (c .before .before .before .before .before .if1 .left) (s .pre .0) (s .pre .3) (c .before .before .get2 .ensures .0) (c .before .get3 .ensures .0) (c .both .ensures)
+    item-both S (a .pairs .now) (length (a .set0 .now)) (a .k) (c .before .before .before .before .before .if1 .left) (s .pre .0) (s .pre .3)
+    (c .before .before .get2 .ensures .0) (c .before .get3 .ensures .0) (c .both .ensures)
 
 pub set-spec : {M : Type 1} → statement M
 set-spec =

@@ -46,11 +46,15 @@ same-length-3 : tie.Need-same-length-3
 same-length-3 c = search needs
 
 returns-2 : tie.Need-returns-2
-returns-2 c = let a = c .before .before .before .before .before .before .before .before .before .before .before .before .before .before .before .before .before .before .before .before .args in
+returns-2 c = let a =
+    c .before .before .before .before .before .before .before .before .before .before .before .before .before .before .before .before .before .before .before
+    .before .args in
     let S = sets (a .set0 .now) (a .set1 .now) (a .set2 .now) (a .set3 .now) in
     let fit = c .before .before .before .before .before .before .before .fit in
-    let D = subst (λ (is : List ℕ). Different is (fit .last .1 .0)) (c .before .before .before .before .before .before .before .before .before .set .ensures .0) (fit .ensures .1 (c .before .before .before .before .if2 .taken)) in
-    subst (λ (ms : List ℕ). Serving S (a .pairs .now) (length (a .set0 .now)) (a .start) (a .marks .now) ms (a .paints .now) (fit .last .1 .0)) (sym (c .before .before .mark .ensures))
+    let D = subst (λ (is : List ℕ). Different is (fit .last .1 .0)) (c .before .before .before .before .before .before .before .before .before .set .ensures .0)
+    (fit .ensures .1 (c .before .before .before .before .if2 .taken)) in
+    subst (λ (ms : List ℕ). Serving S (a .pairs .now) (length (a .set0 .now)) (a .start) (a .marks .now) ms (a .paints .now) (fit .last .1 .0))
+    (sym (c .before .before .mark .ensures))
     (serving-mark (a .marks .now) (a .x) (fit .ensures .0) D)
 
 same-length-4 : tie.Need-same-length-4

@@ -14,7 +14,8 @@ use Rattle.wide_search.proofs.pass.serve_all.Lts as lts
 use Rattle.wide_search.proofs.pass.serve.Reads as serve-reads
 
 abbrev Inv-loop : tie.InvT-loop
-Inv-loop pairs set0 set1 set2 set3 start count paints₀ marks₀ x₀ paints marks x = (x ≤ count) × (length paints ≡ length paints₀) × (length marks ≡ length marks₀) × Serving (sets set0 set1 set2 set3) pairs (length set0) start marks₀ marks paints₀ paints
+Inv-loop pairs set0 set1 set2 set3 start count paints₀ marks₀ x₀ paints marks x = (x ≤ count) × (length paints ≡ length paints₀) ×
+    (length marks ≡ length marks₀) × Serving (sets set0 set1 set2 set3) pairs (length set0) start marks₀ marks paints₀ paints
 
 abbrev μ-loop : tie.MeasureT-loop
 μ-loop pairs set0 set1 set2 set3 start count paints₀ marks₀ x₀ paints marks x = x
@@ -26,7 +27,8 @@ sub-x : tie.Need-sub-x Inv-loop μ-loop
 sub-x c = omega (arith, c .loop-test .taken)
 
 serve-requires : tie.Need-serve-requires Inv-loop μ-loop
-serve-requires c κs = let s = c .before .before .before .before .before .before .before .before .before .before .before in (omega (arith, s .pre .0, c .before .before .before .loop .inv .0, c .before .before .loop-test .taken), s .pre .1, s .pre .2, s .pre .3)
+serve-requires c κs = let s = c .before .before .before .before .before .before .before .before .before .before .before in
+    (omega (arith, s .pre .0, c .before .before .before .loop .inv .0, c .before .before .loop-test .taken), s .pre .1, s .pre .2, s .pre .3)
 
 loop-less : tie.Need-loop-less Inv-loop μ-loop
 loop-less c = omega (arith, c .before .before .before .before .before .before .before .loop-test .taken)

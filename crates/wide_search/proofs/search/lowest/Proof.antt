@@ -20,7 +20,9 @@ bytes-requires : tie.Need-bytes-requires
 bytes-requires c κs = search needs
 
 passes-requires : tie.Need-passes-requires
-passes-requires c κs = let s = c .before .before .before .before .before .before .before .before .before .before .before .before .before .before .before .before .before .before .before .before .before .before in
+passes-requires c κs = let s =
+    c .before .before .before .before .before .before .before .before .before .before .before .before .before .before .before .before .before .before .before
+    .before .before .before in
     let p = s .pre .0 in
     let q = s .pre .1 in
     ((p .0, omega (arith, q .1), p .1, p .2, p .3), (q .0, q .1, q .2, q .3, q .4, q .5, omega arith, omega arith))
@@ -29,19 +31,40 @@ bytes-requires-2 : tie.Need-bytes-requires-2
 bytes-requires-2 c κs = search needs
 
 passes-requires-2 : tie.Need-passes-requires-2
-passes-requires-2 c κs = let s = c .before .before .before .before .before .before .before .before .before .before .before .before .before .before .before .before .before .before .before .before .before .before .before .before .before .before .before .before .before .before .before .before .before .before .before .before .before .before .before .before .before .before in
+passes-requires-2 c κs = let s =
+    c .before .before .before .before .before .before .before .before .before .before .before .before .before .before .before .before .before .before .before
+    .before .before .before .before .before .before .before .before .before .before .before .before .before .before .before .before .before .before .before
+    .before .before .before .before in
     let p = s .pre .0 in
     let q = s .pre .1 in
-    let r = c .before .before .before .before .before .before .before .before .before .before .before .before .before .before .before .before .before .before .before .passes in
+    let r = c .before .before .before .before .before .before .before .before .before .before .before .before .before .before .before .before .before .before
+    .before .passes in
     let k = r .kept .1 .1 .1 .1 .1 .1 .1 .1 .1 .1 .1 .1 in
-    let w = k .1 .1 .0 in
-    ((wired-same w (p .0), omega (arith, q .1), p .1, p .2, p .3), (k .0 ∙ q .0, q .1 ∙ sym w, omega (arith, q .2, w), k .1 .1 .1 .1 .0 ∙ q .3 ∙ sym w, k .1 .1 .1 .0 ∙ q .4 ∙ sym w, q .5, omega (arith, r .ensures .0, w), r .ensures .1))
+    let w = k .1 .1 .0 in (
+      (wired-same w (p .0), omega (arith, q .1), p .1, p .2, p .3),
+      (
+        k .0 ∙ q .0,
+        q .1 ∙ sym w,
+        omega (arith, q .2, w),
+        k .1 .1 .1 .1 .0 ∙ q .3 ∙ sym w,
+        k .1 .1 .1 .0 ∙ q .4 ∙ sym w,
+        q .5,
+        omega (arith, r .ensures .0, w),
+        r .ensures .1,
+      ),
+    )
 
 same-length : tie.Need-same-length
 same-length c = search needs
 
 same-length-2 : tie.Need-same-length-2
-same-length-2 c = c .before .before .before .before .before .before .before .before .before .before .passes2 .kept .1 .1 .1 .1 .1 .1 .1 .1 .1 .1 .1 .1 .1 .0 ∙ c .before .before .before .before .before .before .before .before .before .before .before .before .before .before .before .before .before .before .bytes2 .kept .0 ∙ c .before .before .before .before .before .before .before .before .before .before .before .before .before .before .before .before .before .before .before .before .before .before .before .before .before .before .before .before .before .before .passes .kept .1 .1 .1 .1 .1 .1 .1 .1 .1 .1 .1 .1 .1 .0 ∙ c .before .before .before .before .before .before .before .before .before .before .before .before .before .before .before .before .before .before .before .before .before .before .before .before .before .before .before .before .before .before .before .before .before .before .before .before .before .before .bytes .kept .0
+same-length-2 c = c .before .before .before .before .before .before .before .before .before .before .passes2 .kept .1 .1 .1 .1 .1 .1 .1 .1 .1 .1 .1 .1 .1 .0 ∙
+    c .before .before .before .before .before .before .before .before .before .before .before .before .before .before .before .before .before .before .bytes2
+    .kept .0 ∙ c .before .before .before .before .before .before .before .before .before .before .before .before .before .before .before .before .before .before
+    .before .before .before .before .before .before .before .before .before .before .before .before .passes .kept .1 .1 .1 .1 .1 .1 .1 .1 .1 .1 .1 .1 .1 .0 ∙
+    c .before .before .before .before .before .before .before .before .before .before .before .before .before .before .before .before .before .before .before
+    .before .before .before .before .before .before .before .before .before .before .before .before .before .before .before .before .before .before .before
+    .bytes .kept .0
 
 same-length-3 : tie.Need-same-length-3
 same-length-3 c = search needs
@@ -53,9 +76,12 @@ same-length-5 : tie.Need-same-length-5
 same-length-5 c = search needs
 
 returns : tie.Need-returns
-returns c = let s = c .before .before .before .before .before .before .before .before .before .before .before .before .before .before .before .before .before .before .before .before .before .before .before .before .before .before .before .before .before .before .before .before .before .before .before .before .before .before .before .before .before .before .before .before .before .before .before .before .before .before .before .before .before in
+returns c = let s = c .before .before .before .before .before .before .before .before .before .before .before .before .before .before .before .before .before
+    .before .before .before .before .before .before .before .before .before .before .before .before .before .before .before .before .before .before .before
+    .before .before .before .before .before .before .before .before .before .before .before .before .before .before .before .before .before in
     let a = s .args in
-    let first = c .before .before .before .before .before .before .before .before .before .before .before .before .before .before .before .before .before .before .before .before .before .before .before .before .before .before .before .before .before .before .passes in
+    let first = c .before .before .before .before .before .before .before .before .before .before .before .before .before .before .before .before .before
+    .before .before .before .before .before .before .before .before .before .before .before .before .before .passes in
     let second = c .before .before .before .before .before .before .before .before .before .before .passes2 in
     let w = first .kept .1 .1 .1 .1 .1 .1 .1 .1 .1 .1 .1 .1 .1 .1 .0 in
     let W = length (a .words .now) in
@@ -70,8 +96,15 @@ returns c = let s = c .before .before .before .before .before .before .before .b
       omega (arith, first .ensures .1, second .ensures .1),
       λ o N G. all-judged (subst (λ (Y : ℕ). Judging N cs ws (second .last .1 .1 .1 .1 .1 .1 .1 .1 .1 .1 .1 .1 .1 .0) Y W P 0 (two .wire) (two .pair)) w
           (second .ensures .2 o N (subst (λ (Y : ℕ). Given t (a .count) Y (length cs) S o N) (sym w) G)
-          (subst (λ (Y : ℕ). Judging N cs ws (c .before .before .before .before .before .before .before .before .before .before .before .before .before .before .before .before .before .before .bytes2 .last .0) Y W P P (one .wire) (one .pair)) (sym w)
-          (then-pairs (length (first .last .1 .1 .1 .1 .1 .1 .1 .1 .1 .1 .1 .1 .1 .0)) (c .before .before .before .before .before .before .before .before .before .before .before .before .before .before .before .before .before .before .bytes2 .ensures) (first .ensures .2 o N G (first-wires N cs ws W (length (a .marks .now)) (c .before .before .before .before .before .before .before .before .before .before .before .before .before .before .before .before .before .before .before .before .before .before .before .before .before .before .before .before .before .before .before .before .before .before .before .before .before .before .bytes .ensures))))))),
+          (subst (λ (Y : ℕ). Judging N cs ws
+          (c .before .before .before .before .before .before .before .before .before .before .before .before .before .before .before .before .before .before
+          .bytes2 .last .0) Y W P P (one .wire) (one .pair)) (sym w)
+          (then-pairs (length (first .last .1 .1 .1 .1 .1 .1 .1 .1 .1 .1 .1 .1 .1 .0))
+          (c .before .before .before .before .before .before .before .before .before .before .before .before .before .before .before .before .before .before
+          .bytes2 .ensures) (first .ensures .2 o N G (first-wires N cs ws W (length (a .marks .now))
+          (c .before .before .before .before .before .before .before .before .before .before .before .before .before .before .before .before .before .before
+          .before .before .before .before .before .before .before .before .before .before .before .before .before .before .before .before .before .before
+          .before .before .bytes .ensures))))))),
     )
 
 pub lowest-spec : {M : Type 1} → statement M

@@ -54,7 +54,8 @@ returns c = let s = c .before .before .before .before .before in
     let a = s .args in
     let p = s .pre in
     let pack = c .pack in
-    stored (sets (a .set0 .now) (a .set1 .now) (a .set2 .now) (a .set3 .now)) (a .w) _ _ _ _ (p .0) (p .1) (p .2) (p .3) (pack .ensures .0) (omega (arith, pack .ensures .1, p .4))
+    stored (sets (a .set0 .now) (a .set1 .now) (a .set2 .now) (a .set3 .now)) (a .w) _ _ _ _ (p .0) (p .1) (p .2) (p .3) (pack .ensures .0)
+    (omega (arith, pack .ensures .1, p .4))
 
 pub put-spec : {M : Type 1} → statement M
 put-spec =

@@ -69,7 +69,8 @@ shared-slice-read-result-2 c = search needs
 returns-4 : tie.Need-returns-4
 returns-4 c = λ e.
     let a = c .before .before .before .before .before .before .before .before .before .before .before .args in
-    same-listed (sets (a .set0 .now) (a .set1 .now) (a .set2 .now) (a .set3 .now)) (a .a) (a .b) (c .before .before .before .before .before .before .before .before .if1 .left)
+    same-listed (sets (a .set0 .now) (a .set1 .now) (a .set2 .now) (a .set3 .now)) (a .a) (a .b)
+    (c .before .before .before .before .before .before .before .before .if1 .left)
     (c .before .before .before .before .before .if2 .left) (c .before .before .if3 .left)
     (eqb-true (getD (a .set3 .now) (a .a) 0) (getD (a .set3 .now) (a .b) 0) e)
 

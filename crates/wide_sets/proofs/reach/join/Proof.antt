@@ -21,7 +21,8 @@ copy-requires c κs = let s = c .before .before .before .before .before .before 
     let z = s .pre .0 in
     let l = s .pre .3 in
     let w = c .before .before .before .before .before .w .given in
-    let o = subst (OneOf (sets (a .set0 .now) (a .set1 .now) (a .set2 .now) (a .set3 .now)) (length (a .set0 .now)) (a .a) (a .b)) (w .1) (c .before .before .before .before .before .before .before .one-of .ensures) in
+    let o = subst (OneOf (sets (a .set0 .now) (a .set1 .now) (a .set2 .now) (a .set3 .now)) (length (a .set0 .now)) (a .a) (a .b)) (w .1)
+    (c .before .before .before .before .before .before .before .one-of .ensures) in
     let m = o .0 in (
       m,
       omega (arith, m, z .long1),
@@ -53,8 +54,10 @@ same-length-4 : tie.Need-same-length-4
 same-length-4 c = search needs
 
 returns : tie.Need-returns
-returns c = let a = c .before .before .before .before .before .before .before .before .before .before .before .before .before .before .before .before .before .before .before .before .before .before .before .before .before .args in
-    let o = subst (OneOf (sets (a .set0 .now) (a .set1 .now) (a .set2 .now) (a .set3 .now)) (length (a .set0 .now)) (a .a) (a .b)) (c .before .before .before .before .before .before .before .before .before .before .before .before .before .before .w .given .1)
+returns c = let a = c .before .before .before .before .before .before .before .before .before .before .before .before .before .before .before .before .before
+    .before .before .before .before .before .before .before .before .args in
+    let o = subst (OneOf (sets (a .set0 .now) (a .set1 .now) (a .set2 .now) (a .set3 .now)) (length (a .set0 .now)) (a .a) (a .b))
+    (c .before .before .before .before .before .before .before .before .before .before .before .before .before .before .w .given .1)
     (c .before .before .before .before .before .before .before .before .before .before .before .before .before .before .before .before .one-of .ensures) in
     record {
       put = λ _. subst (Put _ _ _) (sym (o .1)) (c .before .before .before .before .before .before .before .before .copy .ensures);

@@ -25,7 +25,8 @@ returns : tie.Need-returns
 returns c = let a = c .before .before .before .before .before .before .before .before .before .args in
     let g = a .gate in
     let S = sets (a .set0 .now) (a .set1 .now) (a .set2 .now) (a .set3 .now) in
-    told-put (sym (set-none (setAt S) (g .kind) (g .left) (g .right) (g .result) (c .before .before .before .before .if1 .taken))) (c .before .before .none .ensures _ _ _)
+    told-put (sym (set-none (setAt S) (g .kind) (g .left) (g .right) (g .result) (c .before .before .before .before .if1 .taken)))
+    (c .before .before .none .ensures _ _ _)
 
 copy-requires : tie.Need-copy-requires
 copy-requires c κs = let p = c .before .before .before .before .before .before .before .before .before .before .pre in
@@ -56,13 +57,19 @@ same-length-5 : tie.Need-same-length-5
 same-length-5 c = search needs
 
 returns-2 : tie.Need-returns-2
-returns-2 c = let a = c .before .before .before .before .before .before .before .before .before .before .before .before .before .before .before .before .before .before .before .args in
+returns-2 c = let a =
+    c .before .before .before .before .before .before .before .before .before .before .before .before .before .before .before .before .before .before .before
+    .args in
     let g = a .gate in
     let S = sets (a .set0 .now) (a .set1 .now) (a .set2 .now) (a .set3 .now) in
-    told-put (sym (set-one (setAt S) (g .kind) (g .left) (g .right) (g .result) (c .before .before .before .before .before .before .before .before .before .before .before .before .before .if2 .taken) (c .before .before .before .before .before .before .before .before .before .before .before .before .before .before .if1 .left))) (c .before .before .before .before .before .before .before .before .copy .ensures)
+    told-put (sym (set-one (setAt S) (g .kind) (g .left) (g .right) (g .result)
+    (c .before .before .before .before .before .before .before .before .before .before .before .before .before .if2 .taken)
+    (c .before .before .before .before .before .before .before .before .before .before .before .before .before .before .if1 .left)))
+    (c .before .before .before .before .before .before .before .before .copy .ensures)
 
 join-requires : tie.Need-join-requires
-join-requires c κs = let p = c .before .before .before .before .before .before .before .before .before .before .before .pre in (p .0, p .1 .left, p .1 .right, p .1 .result)
+join-requires c κs = let p = c .before .before .before .before .before .before .before .before .before .before .before .pre in
+    (p .0, p .1 .left, p .1 .right, p .1 .result)
 
 same-length-6 : tie.Need-same-length-6
 same-length-6 c = search needs
@@ -77,12 +84,17 @@ same-length-9 : tie.Need-same-length-9
 same-length-9 c = search needs
 
 returns-3 : tie.Need-returns-3
-returns-3 c = let a = c .before .before .before .before .before .before .before .before .before .before .before .before .before .before .before .before .before .before .before .before .args in
+returns-3 c = let a =
+    c .before .before .before .before .before .before .before .before .before .before .before .before .before .before .before .before .before .before .before
+    .before .args in
     let g = a .gate in
     let S = sets (a .set0 .now) (a .set1 .now) (a .set2 .now) (a .set3 .now) in
     let j = c .before .before .before .before .before .before .before .before .join in
     let S′ = sets (j .last .0) (j .last .1 .0) (j .last .1 .1 .0) (j .last .1 .1 .1 .0) in
-    subst (λ (is : List ℕ). Lined S S′ (g .result) is (j .result)) (sym (set-two (setAt S) (g .kind) (g .left) (g .right) (g .result) (c .before .before .before .before .before .before .before .before .before .before .before .before .before .if3 .taken) (c .before .before .before .before .before .before .before .before .before .before .before .before .before .before .if2 .left))) (c .before .before .before .before .before .before .before .before .join .ensures)
+    subst (λ (is : List ℕ). Lined S S′ (g .result) is (j .result)) (sym (set-two (setAt S) (g .kind) (g .left) (g .right) (g .result)
+    (c .before .before .before .before .before .before .before .before .before .before .before .before .before .if3 .taken)
+    (c .before .before .before .before .before .before .before .before .before .before .before .before .before .before .if2 .left)))
+    (c .before .before .before .before .before .before .before .before .join .ensures)
 
 none-requires-2 : tie.Need-none-requires-2
 none-requires-2 c κs = search needs
@@ -94,7 +106,8 @@ returns-4 : tie.Need-returns-4
 returns-4 c = let a = c .before .before .before .before .before .before .before .before .before .before .before .args in
     let g = a .gate in
     let S = sets (a .set0 .now) (a .set1 .now) (a .set2 .now) (a .set3 .now) in
-    told-put (sym (set-zero (setAt S) (g .kind) (g .left) (g .right) (g .result) (c .before .before .before .before .if3 .left))) (c .before .before .none2 .ensures _ _ _)
+    told-put (sym (set-zero (setAt S) (g .kind) (g .left) (g .right) (g .result) (c .before .before .before .before .if3 .left)))
+    (c .before .before .none2 .ensures _ _ _)
 
 pub line-spec : {M : Type 1} → statement M
 line-spec =

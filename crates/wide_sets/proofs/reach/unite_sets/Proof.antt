@@ -50,10 +50,18 @@ returns c = let g = c .before .before .before .before .before .before .before .b
     }
 
 put-requires : tie.Need-put-requires
-put-requires c κs = let s = c .before .before .before .before .before .before .before .before .before .before .before .before .before .before .before .before .before .before .before .before .before in
+put-requires c κs = let s =
+    c .before .before .before .before .before .before .before .before .before .before .before .before .before .before .before .before .before .before .before
+    .before .before in
     let z = s .pre .0 in
-    let l = s .pre .3 in
-    (l, omega (arith, l, z .long1), omega (arith, l, z .long2), omega (arith, l, z .long3), c .before .before .before .before .if1 .left, c .before .before .before .before .before .before .both .ensures .items)
+    let l = s .pre .3 in (
+      l,
+      omega (arith, l, z .long1),
+      omega (arith, l, z .long2),
+      omega (arith, l, z .long3),
+      c .before .before .before .before .if1 .left,
+      c .before .before .before .before .before .before .both .ensures .items,
+    )
 
 same-length-5 : tie.Need-same-length-5
 same-length-5 c = search needs
@@ -71,9 +79,12 @@ returns-2 : tie.Need-returns-2
 returns-2 c = let put = c .before .before .before .before .before .before .before .before .put in
     let both = c .before .before .before .before .before .before .before .before .before .before .before .before .before .before .before .both in
     let h = c .before .before .before .before .before .before .before .before .before .before .before .before .before .before .before .before .get2 in
-    let g = c .before .before .before .before .before .before .before .before .before .before .before .before .before .before .before .before .before .before .before .before .before .get in
+    let g = c .before .before .before .before .before .before .before .before .before .before .before .before .before .before .before .before .before .before
+    .before .before .before .get in
     record {
-      put = λ _. subst (Put _ _ _) (both .ensures .few (c .before .before .before .before .before .before .before .before .before .before .before .before .before .if1 .left) ∙ ap₂ merge (g .ensures .0) (h .ensures .0)) (put .ensures);
+      put = λ _. subst (Put _ _ _)
+          (both .ensures .few (c .before .before .before .before .before .before .before .before .before .before .before .before .before .if1 .left) ∙ ap₂ merge
+          (g .ensures .0) (h .ensures .0)) (put .ensures);
       many = λ e. absurd (subst T e tt);
     }
 

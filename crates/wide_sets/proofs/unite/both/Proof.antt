@@ -44,7 +44,8 @@ enum-told c = search needs
 returns : tie.Need-returns
 returns c = let s = c .before .before .before .before .before .before .before .before .before .before in
     let u = c .before .before .before .before .unite in
-    together (s .args .x) (s .args .y) (s .pre .2) (s .pre .3) (Few (c .before .k .given .0 .0)) (u .last .1 .1 .0) (c .before .k .given .1) (u .kept .1 .1 .0) (u .ensures)
+    together (s .args .x) (s .args .y) (s .pre .2) (s .pre .3) (Few (c .before .k .given .0 .0)) (u .last .1 .1 .0) (c .before .k .given .1) (u .kept .1 .1 .0)
+    (u .ensures)
 
 returns-2 : tie.Need-returns-2
 returns-2 c = let s = c .before .before .before .before .before .before .before .before .before in

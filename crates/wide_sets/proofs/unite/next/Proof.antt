@@ -17,7 +17,8 @@ add-t12 : tie.Need-add-t12
 add-t12 c = search needs
 
 returns : tie.Need-returns
-returns c = next-first (c .before .before .args .x .now) (c .before .before .args .y .now) (c .before .before .args .i) (c .before .before .args .j) (c .before .if1 .taken) (omega arith)
+returns c = next-first (c .before .before .args .x .now) (c .before .before .args .y .now) (c .before .before .args .i) (c .before .before .args .j)
+    (c .before .if1 .taken) (omega arith)
 
 mul-t13 : tie.Need-mul-t13
 mul-t13 c = search needs
@@ -29,7 +30,8 @@ add-t16 : tie.Need-add-t16
 add-t16 c = search needs
 
 returns-2 : tie.Need-returns-2
-returns-2 c = next-second (c .before .before .before .args .x .now) (c .before .before .before .args .y .now) (c .before .before .before .args .i) (c .before .before .before .args .j) (c .before .if2 .taken) (omega arith)
+returns-2 c = next-second (c .before .before .before .args .x .now) (c .before .before .before .args .y .now) (c .before .before .before .args .i)
+    (c .before .before .before .args .j) (c .before .if2 .taken) (omega arith)
 
 mul-p : tie.Need-mul-p
 mul-p c = search needs
@@ -47,13 +49,16 @@ add-t20 : tie.Need-add-t20
 add-t20 c = search needs
 
 returns-3 : tie.Need-returns-3
-returns-3 c = next-less (c .before .before .before .before .before .args .x .now) (c .before .before .before .before .before .args .y .now) (c .before .before .before .before .before .args .i) (c .before .before .before .before .before .args .j) (omega arith) (omega arith) (c .if3 .taken)
+returns-3 c = next-less (c .before .before .before .before .before .args .x .now) (c .before .before .before .before .before .args .y .now)
+    (c .before .before .before .before .before .args .i) (c .before .before .before .before .before .args .j) (omega arith) (omega arith) (c .if3 .taken)
 
 add-t21 : tie.Need-add-t21
 add-t21 c = search needs
 
 returns-4 : tie.Need-returns-4
-returns-4 c = next-more (c .before .before .before .before .before .before .args .x .now) (c .before .before .before .before .before .before .args .y .now) (c .before .before .before .before .before .before .args .i) (c .before .before .before .before .before .before .args .j) (omega arith) (omega arith) (c .if4 .taken)
+returns-4 c = next-more (c .before .before .before .before .before .before .args .x .now) (c .before .before .before .before .before .before .args .y .now)
+    (c .before .before .before .before .before .before .args .i) (c .before .before .before .before .before .before .args .j) (omega arith) (omega arith)
+    (c .if4 .taken)
 
 add-t7 : tie.Need-add-t7
 add-t7 c = search needs
@@ -62,7 +67,9 @@ add-t22 : tie.Need-add-t22
 add-t22 c = search needs
 
 returns-5 : tie.Need-returns-5
-returns-5 c = next-same (c .before .before .before .before .before .before .args .x .now) (c .before .before .before .before .before .before .args .y .now) (c .before .before .before .before .before .before .args .i) (c .before .before .before .before .before .before .args .j) (omega arith) (omega arith) (c .before .if3 .left) (c .if4 .left)
+returns-5 c = next-same (c .before .before .before .before .before .before .args .x .now) (c .before .before .before .before .before .before .args .y .now)
+    (c .before .before .before .before .before .before .args .i) (c .before .before .before .before .before .before .args .j) (omega arith) (omega arith)
+    (c .before .if3 .left) (c .if4 .left)
 
 pub next-spec : {M : Type 1} → statement M
 next-spec =

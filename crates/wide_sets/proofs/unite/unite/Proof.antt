@@ -26,7 +26,13 @@ add-loop-2 : tie.Need-add-loop-2 Inv-loop μ-loop
 add-loop-2 c = omega (arith, c .before .before .before .before .pre .0, c .before .before .before .before .pre .1)
 
 next-requires : tie.Need-next-requires Inv-loop μ-loop
-next-requires c κs = (c .before .before .before .before .before .pre .0, c .before .before .before .before .before .pre .1, c .before .loop .inv .left, c .before .loop .inv .right, c .loop-test .taken)
+next-requires c κs = (
+  c .before .before .before .before .before .pre .0,
+  c .before .before .before .before .before .pre .1,
+  c .before .loop .inv .left,
+  c .before .loop .inv .right,
+  c .loop-test .taken,
+)
 
 same-length : tie.Need-same-length Inv-loop μ-loop
 same-length c = c .before .before .before .loop .inv .long

@@ -1,5 +1,5 @@
 -- `four`: two bytes, and then two more.
-use Rattle.write_buffer.proofs.Wrote.{wrote-then}
+use Rattle.write_buffer.proofs.Writing.{wrote-then}
 use borrow.Author.Needs.{needs}
 use Rattle.write_buffer.proofs.store.four.Statement.{statement}
 use Rattle.write_buffer.proofs.store.four.Tie as tie

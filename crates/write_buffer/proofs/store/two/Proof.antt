@@ -1,5 +1,5 @@
 -- `two`: one byte, and then one more.
-use Rattle.write_buffer.proofs.Wrote.{wrote-then}
+use Rattle.write_buffer.proofs.Writing.{wrote-then}
 use borrow.Author.Needs.{needs}
 use Rattle.write_buffer.proofs.store.two.Statement.{statement}
 use Rattle.write_buffer.proofs.store.two.Tie as tie

@@ -1,7 +1,7 @@
 -- `eq`: the counts, the constant, the wire and the name.
-use Rattle.write_buffer.proofs.Wrote.{wrote-then, wrote-as}
+use Rattle.write_buffer.proofs.Writing.{wrote-then, wrote-as}
 use Rattle.write_parts.proofs.Lines.{line-eq}
-use Rattle.write_gates.proofs.Gates.{gates-one}
+use Rattle.write_gates.proofs.GateLines.{gates-one}
 use borrow.Author.Needs.{needs}
 use Rattle.write_gates.proofs.gate.eq.Statement.{statement}
 use Rattle.write_gates.proofs.gate.eq.Tie as tie

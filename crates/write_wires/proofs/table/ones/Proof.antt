@@ -40,7 +40,13 @@ slice-write-d-2 : tie.Need-slice-write-d-2 Inv-loop μ-loop
 slice-write-d-2 c = simp length-set (omega (arith, c .before .loop .inv .tens .within, c .before .loop .inv .filled .long))
 
 add-w : tie.Need-add-w Inv-loop μ-loop
-add-w c = let r = c .before .loop .inv in omega (arith, rising-word r (c .loop-test .taken), packed-lt (c .before .before .args .at + c .before .loop .i) (omega (arith, r .tens .within)), r .tens .small)
+add-w c = let r = c .before .loop .inv in omega (
+  arith,
+  rising-word r (c .loop-test .taken),
+  packed-lt (c .before .before .args .at + c .before .loop .i)
+      (omega (arith, r .tens .within)),
+  r .tens .small,
+)
 
 add-a : tie.Need-add-a Inv-loop μ-loop
 add-a c = let r = c .before .loop .inv in omega (arith, rising-add r (c .loop-test .taken), added-lt (c .before .before .args .at + c .before .loop .i))

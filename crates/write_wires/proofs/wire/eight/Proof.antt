@@ -1,6 +1,6 @@
 -- `eight`: four bytes, and then four more.
 use native.Mathlib.Omega.{arith}
-use Rattle.write_buffer.proofs.Wrote.{wrote-then, wrote-as}
+use Rattle.write_buffer.proofs.Writing.{wrote-then, wrote-as}
 use Rattle.write_wires.proofs.Spilling.{eight-bytes}
 use borrow.Author.Needs.{needs}
 use Rattle.write_wires.proofs.wire.eight.Statement.{statement}

@@ -17,7 +17,8 @@ same-length : tie.Need-same-length
 same-length c = search needs
 
 returns : tie.Need-returns
-returns c = let p = c .before .before .before .before .before .before .before .pre in stored _ (p .1 .six) (p .2) (c .before .before .before .before .look .ensures) (c .before .before .eight .ensures)
+returns c = let p = c .before .before .before .before .before .before .before .pre in
+    stored _ (p .1 .six) (p .2) (c .before .before .before .before .look .ensures) (c .before .before .eight .ensures)
 
 pub wire-spec : {M : Type 1} → statement M
 wire-spec = tie.close (tie.spec look-requires eight-requires add-result same-length returns)

@@ -1,6 +1,6 @@
 -- The line's end at once, or behind the spaces.
 use mathlib.Core.Path.{sym, _∙_}
-use Rattle.read_text.proofs.LineLaws.{end-here, end-text, end-line, end-not}
+use Rattle.read_text.proofs.Lines.{end-here, end-text, end-line, end-not}
 use native.Mathlib.Omega.{arith}
 use borrow.Author.Needs.{needs}
 use Rattle.read_text.proofs.cursor.Cursor.line_end.Statement.{statement}

@@ -5,8 +5,8 @@ use mathlib.Core.Bool.{not}
 use lib.ListN.{length}
 use borrow.Author.Needs.{needs}
 use Rattle.read_text.specs.Line.{inLine}
-use Rattle.read_text.proofs.LineLaws.{line-found, line-last}
-use Rattle.read_text.proofs.ScanLaws.{Scanning, scan-start, scan-on, scan-stop, scan-end}
+use Rattle.read_text.proofs.Lines.{line-found, line-last}
+use Rattle.read_text.proofs.Scans.{Scanning, scan-start, scan-on, scan-stop, scan-end}
 use Rattle.read_text.proofs.cursor.Cursor.next_line.Statement.{statement}
 use Rattle.read_text.proofs.cursor.Cursor.next_line.Tie as tie
 

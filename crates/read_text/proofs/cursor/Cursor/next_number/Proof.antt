@@ -5,8 +5,8 @@ use lib.ListN.{length}
 use borrow.Author.Tests.{not-true, not-false}
 use borrow.Author.Needs.{needs}
 use Rattle.netlist.specs.Text.{isSpace}
-use Rattle.read_text.proofs.ScanLaws.{Scanning, scan-start, scan-on}
-use Rattle.read_text.proofs.ReadingLaws.{number-found, number-other, number-missing}
+use Rattle.read_text.proofs.Scans.{Scanning, scan-start, scan-on}
+use Rattle.read_text.proofs.DigitByDigit.{number-found, number-other, number-missing}
 use Rattle.read_text.proofs.cursor.Cursor.next_number.Statement.{statement}
 use Rattle.read_text.proofs.cursor.Cursor.next_number.Tie as tie
 

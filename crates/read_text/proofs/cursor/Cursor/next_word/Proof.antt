@@ -1,5 +1,5 @@
 -- Three bytes, or two scans.
-use Rattle.read_text.proofs.ScanLaws.{word-at, three-word}
+use Rattle.read_text.proofs.Scans.{word-at, three-word}
 use native.Mathlib.Omega.{arith}
 use borrow.Author.Needs.{needs}
 use Rattle.read_text.proofs.cursor.Cursor.next_word.Statement.{statement}

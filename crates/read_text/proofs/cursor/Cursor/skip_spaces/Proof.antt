@@ -5,7 +5,7 @@ use lib.ListN.{length}
 use borrow.Author.Tests.{not-true, not-false}
 use borrow.Author.Needs.{needs}
 use Rattle.netlist.specs.Text.{isSpace}
-use Rattle.read_text.proofs.ScanLaws.{Scanning, scan-start, scan-on, scan-stop, scan-end}
+use Rattle.read_text.proofs.Scans.{Scanning, scan-start, scan-on, scan-stop, scan-end}
 use Rattle.read_text.proofs.cursor.Cursor.skip_spaces.Statement.{statement}
 use Rattle.read_text.proofs.cursor.Cursor.skip_spaces.Tie as tie
 

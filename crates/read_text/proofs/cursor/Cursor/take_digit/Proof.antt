@@ -3,7 +3,7 @@ use mathlib.Core.Path.{refl, sym, _∙_}
 use native.Mathlib.Omega.{arith}
 use borrow.Author.Tests.{not-true, not-false}
 use borrow.Author.Needs.{needs}
-use Rattle.read_text.proofs.ReadingLaws as R
+use Rattle.read_text.proofs.DigitByDigit as R
 use Rattle.read_text.proofs.cursor.Cursor.take_digit.Statement.{statement}
 use Rattle.read_text.proofs.cursor.Cursor.take_digit.Tie as tie
 

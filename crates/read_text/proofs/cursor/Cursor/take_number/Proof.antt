@@ -3,7 +3,7 @@ use Prim.Native.Nat.{_-_}
 use mathlib.Core.Path.{sym, _∙_}
 use lib.ListN.{length}
 use borrow.Author.Tests.{not-true, not-false}
-use Rattle.read_text.proofs.ReadingLaws as R
+use Rattle.read_text.proofs.DigitByDigit as R
 use borrow.Author.Needs.{needs}
 use native.Mathlib.Omega.{arith}
 use Rattle.read_text.proofs.cursor.Cursor.take_number.Statement.{statement}
@@ -56,23 +56,27 @@ is-blank-requires c κs = search needs
 
 returns-4 : tie.Need-returns-4 Inv-loop μ-loop
 returns-4 c =
-    R.reading-stop _ _ _ _ _ (c .before .before .before .before .before .before .before .before .loop .inv) (search needs) (c .before .before .if5 .taken) (sym (c .before .is-blank .ensures) ∙ c .if6 .taken)
+    R.reading-stop _ _ _ _ _ (c .before .before .before .before .before .before .before .before .loop .inv) (search needs) (c .before .before .if5 .taken)
+    (sym (c .before .is-blank .ensures) ∙ c .if6 .taken)
 
 returns-5 : tie.Need-returns-5 Inv-loop μ-loop
 returns-5 c =
-    R.reading-other _ _ _ _ _ (c .before .before .before .before .before .before .before .before .loop .inv) (search needs) (sym (c .before .is-blank .ensures) ∙ c .if6 .left)
+    R.reading-other _ _ _ _ _ (c .before .before .before .before .before .before .before .before .loop .inv) (search needs)
+    (sym (c .before .is-blank .ensures) ∙ c .if6 .left)
     (sym (c .before .before .before .before .before .is-digit2 .ensures) ∙ not-true _ (c .before .before .before .before .if3 .taken))
 
 returns-6 : tie.Need-returns-6 Inv-loop μ-loop
 returns-6 c =
-    R.reading-above _ _ _ _ _ (c .before .before .before .before .before .before .loop .inv) (search needs) (omega arith) (sym (c .before .before .before .is-digit2 .ensures) ∙ not-true _ (c .before .before .if3 .taken))
+    R.reading-above _ _ _ _ _ (c .before .before .before .before .before .before .loop .inv) (search needs) (omega arith)
+    (sym (c .before .before .before .is-digit2 .ensures) ∙ not-true _ (c .before .before .if3 .taken))
 
 is-full-requires : tie.Need-is-full-requires Inv-loop μ-loop
 is-full-requires c κs = search needs
 
 returns-7 : tie.Need-returns-7 Inv-loop μ-loop
 returns-7 c =
-    R.reading-full _ _ _ _ _ (c .before .before .before .before .before .before .loop .inv) (search needs) (sym (c .before .before .before .is-digit2 .ensures) ∙ not-false _ (c .before .before .if3 .left))
+    R.reading-full _ _ _ _ _ (c .before .before .before .before .before .before .loop .inv) (search needs)
+    (sym (c .before .before .before .is-digit2 .ensures) ∙ not-false _ (c .before .before .if3 .left))
     (sym (c .before .is-full .ensures) ∙ c .if7 .taken)
 
 mul-v : tie.Need-mul-v Inv-loop μ-loop
@@ -83,7 +87,12 @@ digit-value-requires-2 c κs = sym (c .before .before .before .is-digit2 .ensure
 
 add-v : tie.Need-add-v Inv-loop μ-loop
 add-v c =
-    omega (arith, R.reading-small _ _ _ _ _ (c .before .before .before .before .before .before .before .loop .inv) (sym (c .before .before .is-full .ensures) ∙ c .before .if7 .left), c .digit-value2 .ensures .1)
+    omega (
+      arith,
+      R.reading-small _ _ _ _ _ (c .before .before .before .before .before .before .before .loop .inv)
+          (sym (c .before .before .is-full .ensures) ∙ c .before .if7 .left),
+      c .digit-value2 .ensures .1,
+    )
 
 add-more : tie.Need-add-more Inv-loop μ-loop
 add-more c = search needs
@@ -96,7 +105,8 @@ loop-less c = search needs
 
 loop-again : tie.Need-loop-again Inv-loop μ-loop
 loop-again c =
-    R.reading-on _ _ _ _ _ (c .before .before .before .before .before .before .before .loop .inv) _ (search needs) (sym (c .before .before .before .before .is-digit2 .ensures) ∙ not-false _ (c .before .before .before .if3 .left)) (c .digit-value2 .ensures .0)
+    R.reading-on _ _ _ _ _ (c .before .before .before .before .before .before .before .loop .inv) _ (search needs)
+    (sym (c .before .before .before .before .is-digit2 .ensures) ∙ not-false _ (c .before .before .before .if3 .left)) (c .digit-value2 .ensures .0)
     (sym (c .before .before .is-full .ensures) ∙ c .before .if7 .left)
 
 returns-8 : tie.Need-returns-8 Inv-loop μ-loop

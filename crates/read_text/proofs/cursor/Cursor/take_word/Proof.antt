@@ -5,7 +5,7 @@ use mathlib.Core.Bool.{not}
 use lib.ListN.{length}
 use borrow.Author.Needs.{needs}
 use Rattle.read_text.specs.Line.{inWord}
-use Rattle.read_text.proofs.ScanLaws.{Scanning, scan-start, scan-on, scan-stop, scan-end}
+use Rattle.read_text.proofs.Scans.{Scanning, scan-start, scan-on, scan-stop, scan-end}
 use Rattle.read_text.proofs.cursor.Cursor.take_word.Statement.{statement}
 use Rattle.read_text.proofs.cursor.Cursor.take_word.Tie as tie
 

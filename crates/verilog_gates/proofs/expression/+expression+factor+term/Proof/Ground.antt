@@ -51,7 +51,18 @@ abbrev pub expression-claims : ℕ → expression-lts.Claims
 expression-claims t = (term-below t, term.Post, put-reads.Asked, put-reads.Learnt)
 
 abbrev pub factor-claims : ℕ → factor-lts.Claims
-factor-claims t = (next-reads.Asked, next-reads.Learnt, past-reads.Asked, past-reads.Learnt, wire-of-reads.Asked, wire-of-reads.Learnt, finish-reads.Asked, finish-reads.Learnt, expression-below t, expression.Post)
+factor-claims t = (
+  next-reads.Asked,
+  next-reads.Learnt,
+  past-reads.Asked,
+  past-reads.Learnt,
+  wire-of-reads.Asked,
+  wire-of-reads.Learnt,
+  finish-reads.Asked,
+  finish-reads.Learnt,
+  expression-below t,
+  expression.Post,
+)
 
 abbrev pub term-claims : ℕ → term-lts.Claims
 term-claims t = (factor-below t, factor.Post, put-reads.Asked, put-reads.Learnt)

@@ -16,9 +16,9 @@ use Rattle.netlist.proofs.Questions.{none-some}
 use Rattle.read_text.specs.declared.cursor.Cursor.{Cursor}
 use Rattle.read_text.specs.Line.{lineWords, nextWord, afterLine, behindLine, isBlank, isEmpty, Scanned, LineTaken, EndAt}
 use Rattle.read_text.specs.Answers.{NumberAt}
-use Rattle.read_text.proofs.SplitLaws.{addLine, lines-step}
-use Rattle.read_text.proofs.AnswerLaws.{number-line, no-number}
-use Rattle.read_text.proofs.LineLaws.{AtWord, at-word, word-line, no-line, blanks-lines, line-passed, behind-lines}
+use Rattle.read_text.proofs.Splitting.{addLine, lines-step}
+use Rattle.read_text.proofs.Answering.{number-line, no-number}
+use Rattle.read_text.proofs.Lines.{AtWord, at-word, word-line, no-line, blanks-lines, line-passed, behind-lines}
 use Rattle.old_form.specs.declared.Dialect.{Dialect}
 use Rattle.old_form.specs.Dialects.{headerIn, headerLines}
 use Rattle.read_header.specs.HeaderAnswers.{pairOnly, CountsAt, CountsIs, WidthsAt, HeaderOf, HeaderAt, HeaderSays}
@@ -27,7 +27,7 @@ use Rattle.read_header.specs.declared.Counts.the-variants as C
 use Rattle.read_header.specs.declared.HeaderNumbers.{HeaderNumbers}
 use Rattle.read_header.specs.declared.HeaderRead.{HeaderRead}
 use Rattle.read_header.specs.declared.HeaderRead.the-variants as R
-use Rattle.read_header.proofs.WidthLaws.{numbers-on}
+use Rattle.read_header.proofs.WidthLines.{numbers-on}
 
 -- ---- the answers
 

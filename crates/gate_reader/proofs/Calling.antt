@@ -21,7 +21,7 @@ use Rattle.netlist.proofs.Tests.{clash}
 use Rattle.netlist.proofs.Accepted.{opened}
 use Rattle.netlist.proofs.ReaderCalls.{end-again, no-again, reader-in-order}
 use Rattle.read_text.specs.Line.{behindLines}
-use Rattle.read_text.proofs.LineLaws.{behind-line, behind-lines}
+use Rattle.read_text.proofs.Lines.{behind-line, behind-lines}
 use Rattle.read_header.specs.declared.HeaderNumbers.{HeaderNumbers}
 use Rattle.gate_reader.specs.Steps.{stepSaid, placeAfter, StepIs}
 use Rattle.gate_reader.specs.Opens.{numbersOf, openingCall, OpeningIs}

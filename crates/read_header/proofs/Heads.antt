@@ -24,7 +24,7 @@ use Rattle.read_header.specs.HeadAnswers.{withinNumbers, gatesCounted, I
 use Rattle.read_header.specs.declared.HeaderNumbers.{HeaderNumbers}
 use Rattle.read_header.specs.declared.head.Head.{Head}
 use Rattle.read_header.specs.declared.head.Head.the-variants as H
-use Rattle.read_header.proofs.HeaderLaws.{header-left}
+use Rattle.read_header.proofs.Headers.{header-left}
 
 -- ---- a header's numbers
 

@@ -10,7 +10,7 @@ use Rattle.netlist.specs.Text.{wordLines}
 use Rattle.netlist.specs.GateLine.{gateLine}
 use Rattle.netlist.specs.GateReader.{says}
 use Rattle.read_text.specs.Line.{lineWords, afterLine, LineTaken, isBlank, Scanned}
-use Rattle.read_text.proofs.LineLaws.{at-word, word-line, no-line, blanks-lines, line-on, line-passed}
+use Rattle.read_text.proofs.Lines.{at-word, word-line, no-line, blanks-lines, line-on, line-passed}
 use Rattle.gate_reader.specs.Steps.{StepIs}
 use Rattle.gate_reader.specs.declared.step.Step.the-variants as S
 

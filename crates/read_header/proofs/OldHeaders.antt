@@ -16,16 +16,16 @@ use Rattle.netlist.proofs.Questions.{none-some}
 use Rattle.read_text.specs.declared.cursor.Cursor.{Cursor}
 use Rattle.read_text.specs.Line.{lineWords, nextWord, behindLine, isBlank, Scanned}
 use Rattle.read_text.specs.Answers.{NumberAt}
-use Rattle.read_text.proofs.AnswerLaws.{number-line, no-number}
-use Rattle.read_text.proofs.LineLaws.{at-word, line-passed}
+use Rattle.read_text.proofs.Answering.{number-line, no-number}
+use Rattle.read_text.proofs.Lines.{at-word, line-passed}
 use Rattle.old_form.specs.declared.Parties.{Parties}
 use Rattle.old_form.specs.declared.Dialect.the-variants.{Old}
 use Rattle.old_form.specs.OldHeader.{parties, inputValues, outputValues, partyHeader, oldHeader}
 use Rattle.read_header.specs.HeaderAnswers.{pairOnly, CountsAt, Kept, PartiesAt, PartiesIs, HeaderOf}
 use Rattle.read_header.specs.declared.old.PartiesLine.{PartiesLine}
 use Rattle.read_header.specs.declared.old.PartiesLine.the-variants as P
-use Rattle.read_header.proofs.WidthLaws.{numbers-on, kept-more}
-use Rattle.read_header.proofs.HeaderLaws.{read-line, Without, first-line, pairOf, pair-is, no-pair, start, one, pair}
+use Rattle.read_header.proofs.WidthLines.{numbers-on, kept-more}
+use Rattle.read_header.proofs.Headers.{read-line, Without, first-line, pairOf, pair-is, no-pair, start, one, pair}
 
 -- ---- line two
 
@@ -53,7 +53,8 @@ parties-rest t at x c a e = ap parties (numbers-on t at x c a) ∙ no-rest x (nu
 -- the first number, and the two others
 module _ (t : List ℕ) (at x c y z to : ℕ) (a : NumberAt t at x c) (b : CountsAt t c y z to) where
   three : parties (numbers (lineWords (drop at t))) ≡ cond (leb 1 x && leb 1 z) (some (record { one = x; two = y; output = z })) none
-  three = ap parties (numbers-on t at x c a) ∙ ap (λ (o : Option (List ℕ)). parties (consOption (some x) o)) (pair-is (numbers (lineWords (drop c t))) (y ∷ z ∷ []) (b .line))
+  three = ap parties (numbers-on t at x c a) ∙ ap (λ (o : Option (List ℕ)). parties (consOption (some x) o))
+      (pair-is (numbers (lineWords (drop c t))) (y ∷ z ∷ []) (b .line))
 
   pub parties-no-one : x ≡ 0 → parties (numbers (lineWords (drop at t))) ≡ none
   parties-no-one e = three ∙ rw e
@@ -118,7 +119,8 @@ module _ (t : List ℕ) (a : ℕ) (sa : Scanned isBlank t 0 a) where
         ap oldHeader (one t a sa g w b c b′ sb)
         ∙ old-2 (lineWords (drop a t)) (wordLines (drop b′ t)) (first-line partiesOf t b′ (at-word t b b′ sb) e)
 
-    pub an-old-header : (p : Parties) (to : ℕ) → PartiesAt t b′ p to → (outs₀ : List ℕ) {ins outs : List ℕ} {n : ℕ} → (n ≡ length (inputValues p)) × Kept ins (inputValues p)
+    pub an-old-header : (p : Parties) (to : ℕ) → PartiesAt t b′ p to → (outs₀ : List ℕ) {ins outs : List ℕ} {n : ℕ} → (n ≡ length (inputValues p)) × Kept ins
+        (inputValues p)
         → outs ≡ set outs₀ 0 (p .output)
         → HeaderOf Old t ins outs (record { gates = g; wires = w; «input_values» = n; «input_bits» = p .one + p .two; «output_values» = 1; «output_bits» = p .output }) to
     an-old-header p to x outs₀ {ins} {outs} {n} k o =

@@ -17,7 +17,7 @@ use Rattle.netlist.proofs.Tests.{All, empty, each, all-head, all-tail, all-map,
 use Rattle.netlist.proofs.Questions.{none-some, some-same, cond-some}
 use Rattle.netlist.proofs.LineEnds.{NoCR, ends-alike, space-words}
 use Rattle.read_text.specs.Line.{isBlank, firstLine, afterLine, dropWhile, lineWords}
-use Rattle.read_text.proofs.SplitLaws.{addLine, first-step, lines-step}
+use Rattle.read_text.proofs.Splitting.{addLine, first-step, lines-step}
 use Rattle.aiger.specs.Lines.{fileLine, fileLines}
 use Rattle.aiger_lines.specs.Stray.{isStray, strayAt, isBetween, ToWord}
 use Rattle.aiger_lines.specs.LineAnswers.{firstNumbers}

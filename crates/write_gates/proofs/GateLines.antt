@@ -7,7 +7,7 @@ use Rattle.netlist.specs.declared.Gate.{Gate}
 use Rattle.netlist.specs.Write.{line, gateWords, gateText}
 use Rattle.write_buffer.specs.Wrote.{Wrote, top}
 use Rattle.write_gates.specs.Gates.{WroteGates}
-use Rattle.write_buffer.proofs.Wrote.{wrote-none, wrote-then, wrote-as}
+use Rattle.write_buffer.proofs.Writing.{wrote-none, wrote-then, wrote-as}
 
 gateText-append : (gs hs : List Gate) → gateText (gs ++ hs) ≡ gateText gs ++ gateText hs
 gateText-append [] hs = refl

@@ -15,7 +15,7 @@ use Rattle.read_text.specs.declared.cursor.LineEnd.{LineEnd}
 use Rattle.read_text.specs.declared.cursor.LineEnd.the-variants as E
 use Rattle.read_text.specs.declared.number.Number.{Number}
 use Rattle.read_text.specs.declared.number.Number.the-variants as N
-use Rattle.read_text.proofs.SplitLaws.{addWord, pastSpace-words, pastSpace-after, words-step, after-step, no-word}
+use Rattle.read_text.proofs.Splitting.{addWord, pastSpace-words, pastSpace-after, words-step, after-step, no-word}
 
 -- ---- the variants
 

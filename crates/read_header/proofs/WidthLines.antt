@@ -17,7 +17,7 @@ use Rattle.netlist.proofs.Shape.{sum-snoc}
 use Rattle.read_text.specs.declared.cursor.Cursor.{Cursor}
 use Rattle.read_text.specs.Line.{lineWords, nextWord, afterLine, isEmpty, EndAt}
 use Rattle.read_text.specs.Answers.{NumberAt}
-use Rattle.read_text.proofs.AnswerLaws.{number-word, number-line, no-number}
+use Rattle.read_text.proofs.Answering.{number-word, number-line, no-number}
 use Rattle.read_header.specs.HeaderAnswers.{Kept, positives, WidthsAt, WidthsIs}
 use Rattle.read_header.specs.declared.Widths.{Widths}
 use Rattle.read_header.specs.declared.Widths.the-variants as W

@@ -9,8 +9,8 @@ use lib.ListN.{length, drop, getD, length-drop, drop-of-length-le}
 use lib.Seq.{drop-cons, drop-drop}
 use Rattle.netlist.specs.Text.{isSpace, isLineEnd, words, wordLines}
 use Rattle.read_text.specs.Line.{isBlank, inWord, inLine, afterLine, behindLine, behindLines, takeWhile, dropWhile, lineWords, isEmpty, Scanned, EndAt, LineTaken}
-use Rattle.read_text.proofs.SplitLaws.{addLine, addWord, lines-step, words-front, end-no-space, skip-words, skip-after, blank-lines}
-use Rattle.read_text.proofs.ScanLaws.{scan-start, scan-stop, dropped-head}
+use Rattle.read_text.proofs.Splitting.{addLine, addWord, lines-step, words-front, end-no-space, skip-words, skip-after, blank-lines}
+use Rattle.read_text.proofs.Scans.{scan-start, scan-stop, dropped-head}
 
 -- ---- a line's end
 

@@ -16,8 +16,8 @@ use Rattle.netlist.proofs.Tests.{onBool}
 use Rattle.netlist.specs.Text.{space, isSpace}
 use Rattle.read_text.specs.Line.{isBlank, inWord, takeWhile, dropWhile, nextWord, pastWord, pastSpace, Scanned}
 use Rattle.read_text.specs.Answers.{wordFrom, behindWord, isFull, WholeAt, WholeIs, NumberAt, NumberIs, oneDigit}
-use Rattle.read_text.proofs.NumberLaws.{no-digits, ill-led, too-long, a-number, led-filled, digit-word, above-space, digit-range, full-or, not-full}
-use Rattle.read_text.proofs.ScanLaws.{Scanning, scan-start, scan-stop, scan-end, word-no-space}
+use Rattle.read_text.proofs.Numbers.{no-digits, ill-led, too-long, a-number, led-filled, digit-word, above-space, digit-range, full-or, not-full}
+use Rattle.read_text.proofs.Scans.{Scanning, scan-start, scan-stop, scan-end, word-no-space}
 use Rattle.read_text.specs.declared.cursor.Cursor.{Cursor}
 use Rattle.read_text.specs.declared.number.Number.{Number}
 use Rattle.read_text.specs.declared.number.Number.the-variants as N

@@ -17,7 +17,7 @@ use Rattle.read_header.specs.HeaderAnswers.{HeaderAt}
 use Rattle.read_header.specs.HeadAnswers.{HeadAt, HeadNot, HeadIs}
 use Rattle.read_header.specs.declared.head.Head.{Head}
 use Rattle.read_header.specs.declared.HeaderNumbers.{HeaderNumbers}
-use Rattle.read_header.proofs.HeadLaws.{inputs-front, outputs-front}
+use Rattle.read_header.proofs.Heads.{inputs-front, outputs-front}
 use Rattle.gate_reader.specs.Calls.{leftAt}
 use Rattle.gate_reader.specs.Opens.{numbersOf, openingCall, OpeningIs}
 use Rattle.gate_reader.specs.declared.opening.Opening.{Opening}

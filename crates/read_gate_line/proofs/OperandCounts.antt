@@ -9,15 +9,15 @@ use Rattle.netlist.specs.Number.{number}
 use Rattle.read_text.specs.declared.cursor.Cursor.{Cursor}
 use Rattle.read_text.specs.Line.{lineWords, nextWord}
 use Rattle.read_text.specs.Answers.{NumberAt}
-use Rattle.read_text.proofs.AnswerLaws.{number-word, number-line, no-number}
+use Rattle.read_text.proofs.Answering.{number-word, number-line, no-number}
 use Rattle.read_gate_line.specs.GateForm.{onNumber, counted, gateForm}
 use Rattle.read_gate_line.specs.GateAnswers.{LineIs}
 use Rattle.read_gate_line.specs.OperandAnswers.{OperandsAt, OperandsIs, UsualIs}
 use Rattle.read_gate_line.specs.declared.gate.GateLine.{GateLine}
 use Rattle.read_gate_line.specs.declared.operands.Operands.{Operands}
 use Rattle.read_gate_line.specs.declared.operands.Operands.the-variants as O
-use Rattle.read_gate_line.proofs.GateFormLaws.{counted-results}
-use Rattle.read_gate_line.proofs.GateLaws.{next-behind}
+use Rattle.read_gate_line.proofs.GateForms.{counted-results}
+use Rattle.read_gate_line.proofs.GateWords.{next-behind}
 
 -- ---- the variants
 

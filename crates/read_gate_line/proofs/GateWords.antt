@@ -13,8 +13,8 @@ use Rattle.netlist.proofs.Tests.{clash}
 use Rattle.read_text.specs.declared.cursor.Cursor.{Cursor}
 use Rattle.read_text.specs.Line.{LineTaken, EndAt, WordAt, lineWords, nextWord, afterLine, isEmpty}
 use Rattle.read_text.specs.Answers.{NumberAt}
-use Rattle.read_text.proofs.SplitLaws.{addWord}
-use Rattle.read_text.proofs.AnswerLaws.{number-word, number-line, no-number, word-words, word-none, word-stays}
+use Rattle.read_text.proofs.Splitting.{addWord}
+use Rattle.read_text.proofs.Answering.{number-word, number-line, no-number, word-words, word-none, word-stays}
 use Rattle.read_gate_line.specs.GateForm.{onNumber, alone, named}
 use Rattle.read_gate_line.specs.GateAnswers.{gateNamed, namedFor, NamedExact, LineNext, LineIs}
 use Rattle.gate_table.specs.Numbers.{gateSaid}
