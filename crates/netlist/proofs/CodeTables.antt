@@ -172,7 +172,7 @@ all_same [] t A = (refl, refl)
 all_same {n} {W} {rs} {S} (g ∷ gs) t A =
     let G : GoodGate n W rs g gs = good_gate t in
     let a = advance-same n S (is_given n rs) A.room A.placed g G.operands in
-    let k = all_same gs G.rest (place-gate G A) in (
+    let k = all_same {rs = result g ∷ rs} {S = advance S g} gs G.rest (place-gate G A) in (
       ap₂ ◌++◌ (emit-same n S (is_given n rs) A.room A.placed g G.operands) (ap (λ (X : State). emit_all_t n X gs) a ∙ k.0),
       ap (λ (X : State). advance_all_t X gs) a ∙ k.1,
     )
