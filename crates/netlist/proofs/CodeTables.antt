@@ -1,7 +1,7 @@
 -- The formulas for the third code and the code after a code give what the two tables of document 01 give: in each code, and so
 -- in every netlist that Mask makes.
 use Prim.Native.Nat.{ℕ, ◌+◌, ◌-◌, ◌≤◌}
-use mathlib.Core.Path.{◌≡◌, refl, sym, ap, ap₂, ◌∙◌}
+use mathlib.Core.Path.{◌≡◌, refl, ap, ap₂, ◌∙◌}
 use mathlib.Core.Bool.{Bool, cond, not}
 use mathlib.Core.List.{List, [], ◌∷◌, ◌++◌}
 use lib.Dec.{T, eqb, eqb→eq}
@@ -12,11 +12,11 @@ use Rattle.netlist.specs.declared.Twin.{Twin}
 use Rattle.netlist.specs.Lists.{every}
 use Rattle.netlist.specs.Netlist.{Netlist, input_bits, output_bits, result}
 use Rattle.netlist.specs.Read.{operands_given, is_given, gates_good}
-use Rattle.netlist.specs.Mask.{is_code, is_wanted, third, after, mask_wire, rows, row_gates, changes, change_gates, changed, past, xor_gates, xor_twin, and_gates, and_twin, State, twin, emit, result_twin, advance, emit_all, advance_all, public_gates, mask_gates, start, out_gate, out_codes, out_gates, finish, out_twins, Masked, mask_netlist}
+use Rattle.netlist.specs.Mask.{is_code, is_wanted, third, after, mask_wire, rows, row_gates, changes, change_gates, changed, past, xor_gates, xor_twin, and_gates, State, twin, emit, result_twin, advance, emit_all, advance_all, public_gates, mask_gates, start, out_gate, out_codes, out_gates, finish, out_twins, Masked, mask_netlist}
 use Rattle.netlist.proofs.Tests.{both, on_bool, All, all_head, all_tail}
 use Rattle.netlist.proofs.Codes.{every_code-at, every_two-at, after-code, after-other, wanted-code}
 use Rattle.netlist.proofs.GoodGates.{GoodGate, good_gate}
-use Rattle.netlist.proofs.Placed.{Placed, Prepared, prepare, AllPlaced, place-gate}
+use Rattle.netlist.proofs.Placed.{Placed, prepare, AllPlaced, place-gate}
 use Rattle.netlist.proofs.OutputGates.{wanted-other}
 use Rattle.netlist.proofs.MaskInputs.{MaskInputs}
 use Rattle.netlist.proofs.Shape.{start-placed, outs-placed}

@@ -10,11 +10,9 @@ use lib.ListN.{length}
 use borrow.Author.Tests.{le-leb}
 use Rattle.netlist.specs.declared.Limits.{Limits}
 use Rattle.netlist.specs.Text.{cr, at_lf, lf_ends}
-use Rattle.netlist.specs.Netlist.{Netlist}
-use Rattle.netlist.specs.Outcome.{Outcome, ask, and_then}
 use Rattle.netlist.specs.Read.{opening, read_netlist}
 use Rattle.netlist.specs.GateReader.{reader_says}
-use Rattle.netlist.specs.Services.{tables_long, rewrite_call, run_call, mask_call, check_call}
+use Rattle.netlist.specs.Services.{rewrite_call, run_call, mask_call, check_call}
 use Rattle.netlist.proofs.LineEnds.{NoCR, lf_ends-none, ends-alike}
 
 ends-shorter : (t : List ℕ) → length (lf_ends t) ≤ length t

@@ -1,13 +1,12 @@
 -- Where no bit is public: equal counts are owed to all settings, and each is compared with setting 0, as document 01 has it.
-use Prim.Native.Nat.{ℕ, suc, ◌/◌, ◌^◌, ◌<◌}
+use Prim.Native.Nat.{ℕ, suc, ◌^◌, ◌<◌}
 use mathlib.Core.Path.{◌≡◌, refl, sym, ap, ap₂, ◌∙◌}
 use mathlib.Core.Bool.{Bool, false, ◌&&◌}
 use mathlib.Core.List.{List, [], ◌∷◌}
-use mathlib.Core.Option.{Option}
 use native.Mathlib.Omega.{arith}
 use lib.ListN.{length, replicate}
 use Rattle.netlist.specs.Netlist.{Netlist}
-use Rattle.netlist.specs.Leak.{count, public_only, SamePublic, Secret, EqualCounts, Clean, setting, Found, first_wire, count_at, base_at, leak}
+use Rattle.netlist.specs.Leak.{count, public_only, Secret, EqualCounts, Clean, setting, first_wire, count_at, base_at, leak}
 
 -- the rule for all settings
 abbrev pub AllEqual : Netlist → List ℕ → ℕ → Type 0
