@@ -13,7 +13,7 @@ use aiger_lines::numbers::{Line, next_numbers};
 use read_text::cursor::Cursor;
 
 // How many gates there are behind a line, with the start of the next line; or no such line.
-#[derive(Drop)]
+#[derive(Clone, Copy)]
 pub enum AndStep {
     On(usize, Cursor),
     Not,

@@ -10,7 +10,7 @@ use aiger_lines::numbers::{Line, next_numbers};
 use read_text::cursor::Cursor;
 
 // The place behind lines that were read, or no such lines.
-#[derive(Drop)]
+#[derive(Clone, Copy)]
 pub enum Step {
     On(Cursor),
     Not,

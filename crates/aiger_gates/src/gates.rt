@@ -9,7 +9,7 @@ use crate::variables::entry;
 use gate_table::GateNumbers;
 
 // The wire that carries an operand, and how many gates there are with its own.
-#[derive(Drop)]
+#[derive(Clone, Copy)]
 pub struct Carried {
     pub wire: u32,
     pub count: usize,

@@ -9,14 +9,14 @@ use read_text::cursor::{Cursor, LineEnd};
 use read_text::number::Number;
 
 // The start of the next line, behind a line that holds as many numbers as were asked for.
-#[derive(Drop)]
+#[derive(Clone, Copy)]
 pub enum Line {
     Is(Cursor),
     Not,
 }
 
 // The number of a line that holds one, with the start of the next line.
-#[derive(Drop)]
+#[derive(Clone, Copy)]
 pub enum One {
     Is(u32, Cursor),
     Not,

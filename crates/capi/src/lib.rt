@@ -1,5 +1,7 @@
 // The services for programs in C and Rust: a slice comes as a pointer and a length, and the answer is one number, at
 // least 0 for a result and minus the number of the refusing question otherwise. include/fidrovelj.h declares them.
+#![tactic(auto)]
+
 mod certified;
 mod fewest;
 mod pairs;

@@ -1,5 +1,7 @@
 // What a program in C or Rust gets for an answer: one number, at least 0 for a result and minus the number of the refusing question
 // otherwise, and the numbers of a leak or of a bad pair at the front of a lent list.
+#![tactic(auto)]
+
 pub mod certified;
 pub mod pairs;
 pub mod wide;

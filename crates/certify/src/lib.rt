@@ -1,5 +1,7 @@
 // Certify: whether a netlist of any number of input bits, whose last input value is the mask pair, leaks on one wire. Questions 1 to
 // 11 with the large limits, and 14.
+#![tactic(auto)]
+
 ghost use Rattle.certify.specs.Promise.{call, Answers, Promise};
 
 use certify_netlist::Certified;

@@ -1,4 +1,6 @@
 // Questions 10, 11 and 14 of a netlist that was read, and what the certifier says of it.
+#![tactic(auto)]
+
 mod ones;
 
 ghost use Rattle.std.specs.Prelude.{◌≡◌, List, ℕ, ◌+◌, ◌*◌, ◌<◌, ◌≤◌, length, take};
@@ -18,7 +20,7 @@ use read_header::HeaderNumbers;
 
 // Every wire is clean; a leak, whose numbers and input bits are told; the lowest wire not known to be clean is told; or the first
 // question that gets a no.
-#[derive(Drop)]
+#[derive(Clone, Copy)]
 pub enum Certified {
     Clean,
     Leak,

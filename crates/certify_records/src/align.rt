@@ -5,7 +5,7 @@ ghost use Rattle.certify_records.specs.Record.{Says, JoinIs, Has, either_of};
 use crate::{Joined, NO_ATOM, Record, table};
 
 // Two records.
-#[derive(Drop)]
+#[derive(Clone, Copy)]
 pub struct Pair {
     pub left: Record,
     pub right: Record,

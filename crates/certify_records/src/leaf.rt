@@ -10,7 +10,7 @@ use check_counts::nibble;
 use evaluate::gate;
 
 // A mask setting that decides, and the table over its atom; or there are more than two nibbles, or one.
-#[derive(Drop)]
+#[derive(Clone, Copy)]
 pub enum Two {
     Chosen(u32, u64),
     More,

@@ -1,4 +1,6 @@
 // Records: what the certifier knows of a wire.
+#![tactic(auto)]
+
 mod align;
 pub mod even;
 pub mod leaf;
@@ -12,7 +14,7 @@ ghost use Rattle.certify_records.specs.Record.{JoinIs, Fellows};
 pub const NO_ATOM: u32 = 0xffff_ffff;
 
 // Up to four atoms, rising, and a table: bit 4 s + m is the wire's bit at mask setting m where atom j has bit j of s.
-#[derive(Drop)]
+#[derive(Clone, Copy)]
 pub struct Record {
     pub table: u64,
     pub first: u32,
@@ -22,7 +24,7 @@ pub struct Record {
 }
 
 // A record, or none.
-#[derive(Drop)]
+#[derive(Clone, Copy)]
 pub enum Joined {
     One(Record),
     None,

@@ -8,7 +8,7 @@ use crate::store;
 use certify_records::{NO_ATOM, Record};
 
 // The record is stored, or has a fellow there; or one is still to be put further on.
-#[derive(Drop)]
+#[derive(Clone, Copy)]
 pub enum Kept {
     Stored,
     Carried(Record),

@@ -1,4 +1,6 @@
 // What the certifier knows of all wires, in lent tables: five records a wire and a mark.
+#![tactic(auto)]
+
 pub mod hints;
 pub mod keep;
 pub mod marks;

@@ -8,7 +8,7 @@ use check_counts::nibble;
 
 // A wire, a setting in which its count is not its base's, the base's count and the setting's; or,
 // with the first wire that was not looked at, none.
-#[derive(Drop)]
+#[derive(Clone, Copy)]
 pub struct Difference {
     pub wire: usize,
     pub setting: u64,

@@ -1,4 +1,6 @@
 // Questions 10 to 12 of a netlist that was read, and the verdict on it.
+#![tactic(auto)]
+
 ghost use Rattle.std.specs.Prelude.{◌≡◌, ℕ, ◌+◌, ◌<◌, ◌≤◌, length, take, get_or};
 ghost use Rattle.netlist.specs.Lists.{sum};
 ghost use Rattle.netlist.specs.Leak.{leak as leakOf};
@@ -11,7 +13,7 @@ ghost use Rattle.check_netlist.specs.Judge.{asked_of, codes_asked, outcome_of};
 use read_header::HeaderNumbers;
 
 // Clean; or a leak: its wire, its setting, its base's count and the setting's; or the first question that gets a no.
-#[derive(Drop)]
+#[derive(Clone, Copy)]
 pub enum Checked {
     Clean,
     Leak(usize, u64, u8, u8),
@@ -19,7 +21,7 @@ pub enum Checked {
 }
 
 // Questions 10 and 11 are passed, or the first that gets a no.
-#[derive(Drop)]
+#[derive(Clone, Copy)]
 pub enum Asked {
     Passed,
     Refused(u8),

@@ -1,5 +1,7 @@
 // Check with pairs: whether a netlist whose last input value is the mask pair leaks on one wire, and whether listed pairs of its
 // wires, as a register shows them that holds one after the other, leak together. Questions 1 to 12 with the large limits, and 21.
+#![tactic(auto)]
+
 ghost use Rattle.std.specs.Prelude.{◌≡◌};
 ghost use Rattle.pairs_judge.specs.Judge.{outcome_of};
 ghost use Rattle.check_pairs.specs.Promise.{call, Promise};

@@ -1,5 +1,7 @@
 // Check of netlists with many inputs: what Check with pairs decides, where at most twelve input bits besides the mask pair reach each
 // wire and each listed pair through gate lines. Questions 1 to 11 with the large limits, then 21, then 12.
+#![tactic(auto)]
+
 ghost use Rattle.std.specs.Prelude.{◌≡◌, true, ◌&&◌, ℕ, leb};
 ghost use Rattle.wide_judge.specs.Judge.{outcome_of};
 ghost use Rattle.check_wide.specs.Promise.{call, Promise};

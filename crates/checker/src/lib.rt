@@ -1,4 +1,6 @@
 // Check: whether a netlist whose last input value is the mask pair leaks on one wire. Questions 1 to 12 with the large limits.
+#![tactic(auto)]
+
 ghost use Rattle.std.specs.Prelude.{◌≡◌, min};
 ghost use Rattle.check_netlist.specs.Judge.{outcome_of};
 ghost use Rattle.checker.specs.Promise.{call, Promise};

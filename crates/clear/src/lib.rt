@@ -1,4 +1,6 @@
 // Zero in every entry of a lent table, at each element width.
+#![tactic(auto)]
+
 ghost use Rattle.std.specs.Prelude.{◌≡◌, length, replicate};
 
 // A table of bytes.

@@ -1,5 +1,7 @@
 // A netlist from a text in one dialect to its written form in another. Questions 1 to 9 with the large limits, 15 where the result
 // is in the older dialect, and 14.
+#![tactic(auto)]
+
 mod question;
 
 ghost use Rattle.std.specs.Prelude.{◌≤◌, length, take};

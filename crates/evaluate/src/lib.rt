@@ -1,5 +1,7 @@
 // The evaluator of netlists whose gates lie in tables. A wire's value is a word, whose bit j (its
 // lane j) belongs to setting j: one pass over the gates is sixty-four runs.
+#![tactic(auto)]
+
 pub mod gate;
 mod lay;
 pub mod single;

@@ -1,4 +1,6 @@
 // A choice put to use: the ANDs that it swaps are swapped in the gate tables, and its input codes are filled in.
+#![tactic(auto)]
+
 ghost use Rattle.std.specs.Prelude.{◌≡◌, ℕ, ◌+◌, ◌≤◌, length};
 ghost use Rattle.netlist.specs.Table.{tables, gate_in, Wired};
 ghost use Rattle.fewest.specs.Choice.{chosen_gate};

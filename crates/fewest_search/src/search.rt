@@ -9,7 +9,7 @@ ghost use Rattle.fewest_search.specs.Search.{Source, Searchable, Begun, Found};
 const MANY: u32 = 4294967295;
 
 // The changes of the choice that is given, and the floor.
-#[derive(Drop)]
+#[derive(Clone, Copy)]
 pub struct Tally {
     pub changes: u32,
     pub floor: u32,

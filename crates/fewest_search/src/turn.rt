@@ -5,7 +5,7 @@ ghost use Rattle.netlist.specs.Table.{tables, Wired};
 ghost use Rattle.fewest_search.specs.Turn.{Fits, IdleFits, idle_at, cost_of, Entered, TurnIs};
 
 // How many gates of a choice are done, and the changes of the best choice so far.
-#[derive(Drop)]
+#[derive(Clone, Copy)]
 pub struct Step {
     pub stop: usize,
     pub least: u32,

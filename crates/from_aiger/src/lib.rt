@@ -1,5 +1,7 @@
 // An AIGER file as a netlist in the written form (document 02, No. 9). Questions 1, 2, 19, 20, 19, 5 and 14 with the small
 // limits.
+#![tactic(auto)]
+
 ghost use Rattle.std.specs.Prelude.{[], ◌∷◌};
 ghost use Rattle.netlist.specs.Services.{Answers, Delivers};
 ghost use Rattle.netlist.specs.Table.{tables, Wired};

@@ -1,4 +1,6 @@
 // From the older dialect to Fashion, gates unchanged. Questions 1 to 9 with the large limits, and 14.
+#![tactic(auto)]
+
 ghost use Rattle.from_old.specs.Promise.{Promise};
 
 use netlist::{Answer, Sizes};

@@ -1,5 +1,7 @@
 // Equations in Verilog as a netlist in the written form (document 02, No. 6). Questions 1, 2, 16, 17, 18, 5 and 14 with the small
 // limits.
+#![tactic(auto)]
+
 ghost use Rattle.std.specs.Prelude.{◌≡◌, [], ◌∷◌, ◌*◌, ◌/◌, ◌≤◌, ◌<◌, length, replicate};
 ghost use Rattle.netlist.specs.Netlist.{small as smallLimits};
 ghost use Rattle.netlist.specs.Outcome.{and_then};

@@ -8,7 +8,7 @@ use crate::{advance, current, reader};
 use netlist::Sizes;
 
 // What the reader says at a place, and its place then.
-#[derive(Drop)]
+#[derive(Clone, Copy)]
 pub struct Call {
     pub step: Step,
     pub at: usize,

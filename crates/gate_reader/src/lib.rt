@@ -1,5 +1,7 @@
 // The gate reader: one gate after another of a lent text, without a table.
 // The work is done by functions of a text and a place in it. Those over the reader take it apart and call them.
+#![tactic(auto)]
+
 pub mod calls;
 pub mod opening;
 pub mod step;
@@ -11,7 +13,7 @@ ghost use Rattle.gate_reader.specs.Calls.{AtCall, CurrentIs, AdvanceIs};
 use crate::step::{Step, place_after, step_at};
 
 // A lent text, and the place from which its next gate line is looked for.
-#[derive(Drop)]
+#[derive(Clone, Copy)]
 pub struct GateReader<'a> {
     pub text: &'a [u8],
     pub at: usize,

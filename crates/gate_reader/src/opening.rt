@@ -10,7 +10,7 @@ use read_header::{HeaderNumbers, keep};
 use read_text::count::count_lines;
 
 // What the header says, with the place of the reader's first call; or the first question with a no.
-#[derive(Drop)]
+#[derive(Clone, Copy)]
 pub enum Opening {
     At(HeaderNumbers, usize),
     Refused(u8),

@@ -8,7 +8,7 @@ use read_gate_line::gate::{GateLine, gate_line};
 use read_text::cursor::Cursor;
 
 // A gate with the place behind its line, the end, or the number of the question with a no.
-#[derive(Drop)]
+#[derive(Clone, Copy)]
 pub enum Step {
     On(Gate, usize),
     End,

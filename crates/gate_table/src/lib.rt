@@ -1,4 +1,6 @@
 // Gates as numbers: the kinds, a gate on its way between text and tables, and its entries in the two lent tables.
+#![tactic(auto)]
+
 ghost use Rattle.std.specs.Prelude.{◌≡◌, ◌<◌, length};
 ghost use Rattle.netlist.specs.Table.{tables, put_entry};
 ghost use Rattle.gate_table.specs.Numbers.{gate_said, has_constant, second_of};
@@ -20,7 +22,7 @@ pub const EQ: u64 = 5;
 
 // A gate as plain numbers: its way into the tables needs no jump on its kind. The constant of an EQ stands on the left, and a
 // gate of one operand has 0 on the right.
-#[derive(Drop)]
+#[derive(Clone, Copy)]
 pub struct GateNumbers {
     pub kind: u64,
     pub left: u32,
@@ -29,14 +31,14 @@ pub struct GateNumbers {
 }
 
 // A gate's entry in each table.
-#[derive(Drop)]
+#[derive(Clone, Copy)]
 pub struct Entry {
     pub operands: u64,
     pub results: u64,
 }
 
 // A gate's entries, taken apart: its operands' wires, its result's wire, and its kind.
-#[derive(Drop)]
+#[derive(Clone, Copy)]
 pub struct Parts {
     pub left: usize,
     pub right: usize,

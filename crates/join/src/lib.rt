@@ -1,5 +1,7 @@
 // Join: two masked blocks over the same two mask bits as one netlist, the outputs of the first the inputs of the second. Questions 1 to 11
 // with the large limits to the first text and then to the second, 25, 5 of the joined netlist, and 14.
+#![tactic(auto)]
+
 ghost use Rattle.std.specs.Prelude.{◌≡◌, [], ◌∷◌, ◌+◌, ◌-◌, ◌≤◌, length, take};
 ghost use Rattle.netlist.specs.Lists.{every, sum};
 ghost use Rattle.netlist.specs.Netlist.{Netlist};

@@ -1,4 +1,6 @@
 // The gates of a second netlist put behind those of a first, on their joined wires.
+#![tactic(auto)]
+
 ghost use Rattle.std.specs.Prelude.{◌≡◌, ◌+◌, ◌*◌, ◌/◌, ◌%◌, ◌≤◌, ◌<◌, length};
 ghost use Rattle.netlist.specs.Table.{tables, half, Wired};
 ghost use Rattle.join_gates.specs.Appended.{Meeting, goes_to, Appended};
@@ -6,7 +8,7 @@ ghost use Rattle.join_gates.specs.Appended.{Meeting, goes_to, Appended};
 use gate_table::HALF;
 
 // The numbers of a seam; input bits include the mask pair.
-#[derive(Drop)]
+#[derive(Clone, Copy)]
 pub struct SeamNumbers {
     // the first's wires, output bits and input bits
     pub wires: u32,

@@ -1,4 +1,6 @@
 // Questions 11 and 13: has a list one entry for each bit, each in its range?
+#![tactic(auto)]
+
 ghost use Rattle.std.specs.Prelude.{◌≡◌};
 ghost use Rattle.netlist.specs.Lists.{every};
 ghost use Rattle.netlist.specs.Mask.{is_input_code, is_wanted};

@@ -1,4 +1,6 @@
 // The seven steps of the masked AND: one step by value, and all of them written.
+#![tactic(auto)]
+
 ghost use Rattle.std.specs.Prelude.{◌≡◌, ◌≤◌, ◌<◌, ◌^◌, [], ◌∷◌, map, get_or};
 ghost use Rattle.write_wires.specs.Packed.{WordTable};
 ghost use Rattle.netlist.specs.Mask.{rows, row_gates};

@@ -1,4 +1,6 @@
 // Mask codes: the third code, the code after a code, and the wire that carries a code's mask.
+#![tactic(auto)]
+
 ghost use Rattle.std.specs.Prelude.{◌≡◌, ◌<◌, ◌^◌};
 ghost use Rattle.netlist.specs.Mask.{third, after, mask_wire};
 

@@ -1,5 +1,7 @@
 // Fewer mask changes (document 02, No. 12): Mask under the first choice with the fewest mask changes, of the codes of free inputs and of
 // the order of the operands of each AND. Questions 1 to 9 with the small limits, 11 with codes 0 to 4, 13, 22 and 14.
+#![tactic(auto)]
+
 ghost use Rattle.std.specs.Prelude.{◌+◌, ◌≤◌, length, take};
 ghost use Rattle.netlist.specs.Netlist.{Netlist};
 ghost use Rattle.netlist.specs.Read.{WellFormed};

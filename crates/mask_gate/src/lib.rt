@@ -1,4 +1,6 @@
 // The masked gates of one source gate, written: what they are is said by `mask_rule`, and their lines follow each other here.
+#![tactic(auto)]
+
 ghost use Rattle.std.specs.Prelude.{◌<◌, ◌^◌, [], ◌∷◌};
 ghost use Rattle.write_wires.specs.Packed.{WordTable};
 ghost use Rattle.netlist.specs.declared.Gate.TheVariants.{Inv, Eqw};
@@ -10,7 +12,7 @@ use mask_codes::{code_after, mask_wire};
 use netlist::Twin;
 
 // Behind a source gate: the next place, and the twin of its result.
-#[derive(Drop)]
+#[derive(Clone, Copy)]
 pub struct Emitted {
     pub at: usize,
     pub twin: Twin,

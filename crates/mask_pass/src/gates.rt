@@ -6,7 +6,7 @@ ghost use Rattle.mask_twins.specs.State.{state_of};
 ghost use Rattle.mask_pass.specs.State.{WroteStep, WroteAll};
 
 // The next place in the buffer, and the next wire.
-#[derive(Drop)]
+#[derive(Clone, Copy)]
 pub struct Next {
     pub at: usize,
     pub next: u32,

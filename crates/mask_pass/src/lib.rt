@@ -1,4 +1,6 @@
 // One pass over a source netlist: its masked gates, at a place of a buffer.
+#![tactic(auto)]
+
 pub mod count;
 pub mod gates;
 pub mod outs;

@@ -1,5 +1,7 @@
 // The masking rule of one source gate, by value: its mask change, its masked gates one by one, how many they are, and the twin of its
 // result. Mask writes by it, Mask and Twins count by it, and a session stores what it gives.
+#![tactic(auto)]
+
 ghost use Rattle.std.specs.Prelude.{◌≡◌, map, ◌+◌, ◌<◌, ◌^◌, length, get_or};
 ghost use Rattle.netlist.specs.declared.Gate.TheVariants.{Xor};
 ghost use Rattle.netlist.specs.Leak.{bit};

@@ -1,5 +1,7 @@
 // The masked text and the output codes of a source that lies in the gate tables, written where both buffers can hold them: in
 // one pass where the text surely fits, and otherwise measured first.
+#![tactic(auto)]
+
 ghost use Rattle.std.specs.Prelude.{◌≡◌, ◌<◌, leb, length};
 ghost use Rattle.write_wires.specs.Packed.{WordTable};
 ghost use Rattle.netlist.specs.Netlist.{Netlist};

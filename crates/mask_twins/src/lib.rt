@@ -1,5 +1,7 @@
 // The twins of a source's wires, in two tables: entry w of one is the wire that source wire w stands on, entry w of the other
 // its code.
+#![tactic(auto)]
+
 pub mod inputs;
 pub mod place;
 

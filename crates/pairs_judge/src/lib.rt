@@ -1,4 +1,6 @@
 // Questions 10 to 12 and 21 of a netlist that was read, and the verdicts on its wires and on pairs of them.
+#![tactic(auto)]
+
 ghost use Rattle.std.specs.Prelude.{◌≡◌, ℕ, ◌+◌, ◌<◌, ◌≤◌, ltb, length, take, get_or};
 ghost use Rattle.netlist.specs.Lists.{every, sum};
 ghost use Rattle.netlist.specs.Leak.{leak as leakOf};
@@ -15,7 +17,7 @@ use pairs_search::search::{PairsVerdict, WiresVerdict};
 use read_header::HeaderNumbers;
 
 // Both answers; or the first question that gets a no.
-#[derive(Drop)]
+#[derive(Clone, Copy)]
 pub enum CheckedPairs {
     Done(WiresVerdict, PairsVerdict),
     Refused(u8),

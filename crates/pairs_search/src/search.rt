@@ -18,28 +18,28 @@ use check_leak::difference;
 use check_leak::difference::Difference;
 
 // Clean, or a leak: its wire, its setting, its base's count and the setting's.
-#[derive(Drop)]
+#[derive(Clone, Copy)]
 pub enum WiresVerdict {
     Clean,
     Leak(usize, u64, u8, u8),
 }
 
 // Clean, or how many pairs stand before the first bad one.
-#[derive(Drop)]
+#[derive(Clone, Copy)]
 pub enum PairsVerdict {
     Clean,
     Bad(usize),
 }
 
 // Both answers.
-#[derive(Drop)]
+#[derive(Clone, Copy)]
 pub struct Verdicts {
     pub wires: WiresVerdict,
     pub pairs: PairsVerdict,
 }
 
 // The lowest difference on a wire so far, and the first bad pair so far or the number of pairs.
-#[derive(Drop)]
+#[derive(Clone, Copy)]
 pub struct Best {
     pub difference: Difference,
     pub pair: usize,

@@ -16,7 +16,7 @@ use aiger_outputs::marks::{are_given, mark_literals};
 use read_text::cursor::Cursor;
 
 // How many gates the netlist made of a file has, or no such file.
-#[derive(Drop)]
+#[derive(Clone, Copy)]
 pub enum Gates {
     Made(usize),
     Not,

@@ -10,7 +10,7 @@ use read_text::bytes::same;
 use read_text::cursor::Cursor;
 
 // M I L O A.
-#[derive(Drop)]
+#[derive(Clone, Copy)]
 pub struct HeadNumbers {
     pub most: u32,
     pub inputs: u32,
@@ -20,7 +20,7 @@ pub struct HeadNumbers {
 }
 
 // An admitted header with the start of the next line, or the question that it gets a no to.
-#[derive(Drop)]
+#[derive(Clone, Copy)]
 pub enum HeadStep {
     Is(HeadNumbers, Cursor),
     Refused(u8),

@@ -1,4 +1,6 @@
 // AIGER files (document 02, No. 9) into lent tables.
+#![tactic(auto)]
+
 pub mod body;
 pub mod head;
 pub mod read;

@@ -13,7 +13,7 @@ use netlist::Limits;
 use read_text::cursor::Cursor;
 
 // The numbers of a netlist of one input value and one output value, whose gates the tables hold.
-#[derive(Drop)]
+#[derive(Clone, Copy)]
 pub struct NetlistNumbers {
     pub gates: usize,
     pub wires: usize,
@@ -22,7 +22,7 @@ pub struct NetlistNumbers {
 }
 
 // A netlist that the tables now hold, or the first question with a no.
-#[derive(Drop)]
+#[derive(Clone, Copy)]
 pub enum Reading {
     Done(NetlistNumbers),
     Refused(u8),

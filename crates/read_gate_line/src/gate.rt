@@ -14,14 +14,14 @@ use read_text::cursor::{Cursor, LineEnd};
 use read_text::number::Number;
 
 // The gate that a name stands for, if there is one.
-#[derive(Drop)]
+#[derive(Clone, Copy)]
 enum NamedGate {
     Is(GateNumbers),
     Not,
 }
 
 // The gate of a line, with the start of the next line; or no gate.
-#[derive(Drop)]
+#[derive(Clone, Copy)]
 pub enum GateLine {
     Is(GateNumbers, Cursor),
     Not,

@@ -6,7 +6,7 @@ use read_text::cursor::Cursor;
 use read_text::number::Number;
 
 // How many operands a gate line has, with the place behind its counts; or no gate.
-#[derive(Drop)]
+#[derive(Clone, Copy)]
 pub enum Operands {
     Are(u32, Cursor),
     Not,

@@ -12,7 +12,7 @@ use read_text::allowed::all_allowed;
 use read_text::cursor::Cursor;
 
 // What the header says, with the place behind its last line; or the first question with a no.
-#[derive(Drop)]
+#[derive(Clone, Copy)]
 pub enum Head {
     Is(HeaderNumbers, Cursor),
     Refused(u8),

@@ -1,4 +1,6 @@
 // The header lines: question 4; and the head of a text.
+#![tactic(auto)]
+
 pub mod head;
 mod old;
 
@@ -11,21 +13,21 @@ use read_text::cursor::{Cursor, LineEnd};
 use read_text::number::Number;
 
 // Two numbers, with the start of the next line.
-#[derive(Drop)]
+#[derive(Clone, Copy)]
 enum Counts {
     Is(u32, u32, Cursor),
     Not,
 }
 
 // How many widths a line has, their sum, and the start of the next line.
-#[derive(Drop)]
+#[derive(Clone, Copy)]
 enum Widths {
     Is(usize, u64, Cursor),
     Not,
 }
 
 // What the header says, besides the widths themselves.
-#[derive(Drop)]
+#[derive(Clone, Copy)]
 pub struct HeaderNumbers {
     // the gate count
     pub gates: u32,
@@ -40,7 +42,7 @@ pub struct HeaderNumbers {
 }
 
 // A header, with the place behind its last line.
-#[derive(Drop)]
+#[derive(Clone, Copy)]
 pub enum HeaderRead {
     Is(HeaderNumbers, Cursor),
     Not,

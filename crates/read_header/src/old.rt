@@ -10,7 +10,7 @@ use read_text::cursor::Cursor;
 use read_text::number::Number;
 
 // The bits that line two holds, with the start of the next line.
-#[derive(Drop)]
+#[derive(Clone, Copy)]
 enum PartiesLine {
     Is(Parties, Cursor),
     Not,

@@ -18,14 +18,14 @@ use read_text::count::count_lines;
 use read_text::cursor::Cursor;
 
 // A gate that questions 7 to 9 admit, with the start of the next line; or the first question with a no.
-#[derive(Drop)]
+#[derive(Clone, Copy)]
 pub enum GateStep {
     On(GateNumbers, Cursor),
     Refused(u8),
 }
 
 // Whether all lines are admitted, or the first question with a no.
-#[derive(Drop)]
+#[derive(Clone, Copy)]
 pub enum Gates {
     Done,
     Refused(u8),

@@ -13,7 +13,7 @@ use read_header::head::{Head, read_opening_in};
 use read_text::cursor::Cursor;
 
 // The numbers of the header of a netlist that the tables now hold, or the first question with a no.
-#[derive(Drop)]
+#[derive(Clone, Copy)]
 pub enum Reading {
     Done(HeaderNumbers),
     Refused(u8),

@@ -8,20 +8,20 @@ ghost use Rattle.read_text.specs.Answers.{EndIs};
 use crate::ends::{is_line_end, is_space};
 
 // A place in a text, at most its length.
-#[derive(Drop)]
+#[derive(Clone, Copy)]
 pub struct Cursor {
     pub at: usize,
 }
 
 // A word of a text: its first byte, and the one behind its last.
-#[derive(Drop)]
+#[derive(Clone, Copy)]
 pub struct Word {
     pub from: usize,
     pub to: usize,
 }
 
 // Whether a line has no words left, with the start of the next line.
-#[derive(Drop)]
+#[derive(Clone, Copy)]
 pub enum LineEnd {
     At(Cursor),
     More,

@@ -7,7 +7,7 @@ use crate::cursor::{Cursor, is_blank};
 use crate::ends::is_space;
 
 // A word as a number, with the place behind it.
-#[derive(Drop)]
+#[derive(Clone, Copy)]
 pub enum Number {
     Is(u32, Cursor),
     Not,

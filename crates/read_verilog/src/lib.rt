@@ -1,3 +1,5 @@
 // Equations in Verilog into lent tables.
+#![tactic(auto)]
+
 pub mod read;
 pub mod rules;

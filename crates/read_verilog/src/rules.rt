@@ -12,7 +12,7 @@ use verilog_tokens::next;
 
 // Whether a module keeps the rules, how many names it declares, how many of them are inputs and outputs, and the places of its
 // ports and of its assignments.
-#[derive(Drop)]
+#[derive(Clone, Copy)]
 pub struct Kept {
     pub good: bool,
     pub count: usize,

@@ -1,5 +1,7 @@
 // Sixty-four runs in one pass: a word for each input bit in, a word for each output bit out; bit j of every word belongs to
 // setting j. Questions 1 to 9 with the large limits, 11 (the list's length alone) and 14.
+#![tactic(auto)]
+
 ghost use Rattle.std.specs.Prelude.{◌≤◌, length};
 ghost use Rattle.netlist.specs.Netlist.{Netlist};
 ghost use Rattle.netlist.specs.Services.{Answers};

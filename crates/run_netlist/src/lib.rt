@@ -1,4 +1,6 @@
 // Questions 11 and 14 of a netlist that was read, and its output bits.
+#![tactic(auto)]
+
 ghost use Rattle.std.specs.Prelude.{◌≤◌, length};
 ghost use Rattle.netlist.specs.Netlist.{Netlist};
 ghost use Rattle.netlist.specs.Services.{run_outcome, Answers};

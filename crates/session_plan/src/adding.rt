@@ -9,7 +9,7 @@ use netlist::{Sizes, Twin};
 use session::Session;
 
 // The first question of 24 and 7 to 9 that gets a no, or 0, and the places of the operands' records.
-#[derive(Drop)]
+#[derive(Clone, Copy)]
 pub struct Asked {
     pub no: u8,
     pub first: usize,
@@ -17,7 +17,7 @@ pub struct Asked {
 }
 
 // Question 14, or 0; then what is written: the source record, and how many masked gates; and the session behind.
-#[derive(Drop)]
+#[derive(Clone, Copy)]
 pub struct Plan {
     pub no: u8,
     pub keep: SourceRecord,

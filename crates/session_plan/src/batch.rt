@@ -11,7 +11,7 @@ use netlist::Twin;
 
 // The kind 0 is an opening's gates. The others are the gate tables', of a source gate whose operands have the twins a and b. There are n
 // input bits, and c is the next wire.
-#[derive(Drop)]
+#[derive(Clone, Copy)]
 pub struct Batch {
     pub kind: u64,
     pub n: u32,
@@ -21,7 +21,7 @@ pub struct Batch {
 }
 
 // A gate of a batch, and the input bit behind the one that it is the gate of, where it is a public bit's.
-#[derive(Drop)]
+#[derive(Clone, Copy)]
 pub struct Made {
     pub gate: GateRecord,
     pub next: usize,

@@ -9,7 +9,7 @@ use netlist::{Sizes, Twin};
 use session::Session;
 
 // The question that gets a no, or 0; then the masked gates, how many, and the session.
-#[derive(Drop)]
+#[derive(Clone, Copy)]
 pub struct Opened {
     pub no: u8,
     pub steps: Batch,

@@ -1,4 +1,6 @@
 // The steps of a session over its lent lists: opening, adding a gate at the end, taking the last one off.
+#![tactic(auto)]
+
 ghost use Rattle.std.specs.Prelude.{◌≡◌, length, take};
 ghost use Rattle.std.proofs.lemmas.List.Edits.{sets};
 ghost use Rattle.session.specs.Lists.{lists_of, said, off_asked};

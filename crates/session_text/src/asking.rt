@@ -11,7 +11,7 @@ use netlist::{Limits, Sizes};
 use session_plan::opening::{positive, total};
 
 // The first question that gets a no, or 0; then how many input bits, output bits and gates there are, 0 of each where one gets a no.
-#[derive(Drop)]
+#[derive(Clone, Copy)]
 pub struct Asked {
     pub no: u8,
     pub inputs: usize,

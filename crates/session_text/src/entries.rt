@@ -6,7 +6,7 @@ use gate_table::{GateNumbers, entry_of};
 use session_plan::adding::gate_no;
 
 // The first question that gets a no, or 0 and then the entries of a gate.
-#[derive(Drop)]
+#[derive(Clone, Copy)]
 pub struct RecordEntry {
     pub no: u8,
     pub operands: u64,

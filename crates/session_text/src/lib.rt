@@ -1,5 +1,7 @@
 // What a session shows: the netlist of its records as text, and masked. The records' gates go into the lent tables, and the one writer and
 // Mask go on from there.
+#![tactic(auto)]
+
 pub mod asking;
 pub mod entries;
 pub mod results;

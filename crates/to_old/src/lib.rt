@@ -1,4 +1,6 @@
 // From Fashion to the older dialect, gates unchanged. Questions 1 to 9 with the large limits, 15 and 14.
+#![tactic(auto)]
+
 ghost use Rattle.to_old.specs.Promise.{Promise};
 
 use netlist::{Answer, Sizes};

@@ -1,5 +1,7 @@
 // The twins of the source wires: for each wire of a source netlist the wire that stands for it in the netlist that Mask writes for
 // the same input codes, and the code of its mask. Questions 1 to 9 with the small limits, 11 and 14.
+#![tactic(auto)]
+
 ghost use Rattle.std.specs.Prelude.{◌≤◌, length};
 ghost use Rattle.netlist.specs.declared.Sizes.TheVariants.{Whole};
 ghost use Rattle.netlist.specs.Netlist.{Netlist, small};

@@ -1,4 +1,6 @@
 // The assignments, for question 17: each reads names that may be read, and its target becomes one.
+#![tactic(auto)]
+
 ghost use Rattle.std.specs.Prelude.{◌≡◌, ◌≤◌, ◌<◌, length};
 ghost use Rattle.verilog_tokens.specs.Next.{between};
 ghost use Rattle.verilog_names.specs.Names.{Chained};
@@ -10,7 +12,7 @@ use verilog_rules::states::advance;
 use verilog_tokens::next;
 
 // Whether the names up to a semicolon are as they must be, and the place behind it.
-#[derive(Drop)]
+#[derive(Clone, Copy)]
 pub struct Part {
     pub good: bool,
     pub at: usize,

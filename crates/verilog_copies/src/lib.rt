@@ -1,4 +1,6 @@
 // The outputs, copied in port order behind all other gates.
+#![tactic(auto)]
+
 ghost use Rattle.std.specs.Prelude.{◌+◌, ◌-◌, ◌≤◌, ◌<◌, length};
 ghost use Rattle.netlist.specs.Table.{half, tables};
 ghost use Rattle.verilog_tokens.specs.Next.{between};

@@ -1,5 +1,7 @@
 // Question 16: whether a text is one of the subset, depth aside. One pass over its tokens, with a phase and a counter of open
 // parentheses.
+#![tactic(auto)]
+
 ghost use Rattle.std.specs.Prelude.{◌≡◌, ◌+◌, ◌≤◌, ◌<◌, max, length};
 ghost use Rattle.netlist.specs.Table.{half};
 ghost use Rattle.verilog_form.specs.Turns.{entry_of, after_close, after_end, after_open, stepped, step_said, operator_code, ScanIs};
@@ -7,14 +9,14 @@ ghost use Rattle.verilog_form.specs.Turns.{entry_of, after_close, after_end, aft
 use verilog_tokens::next;
 
 // A phase, and how many parentheses are open.
-#[derive(Drop)]
+#[derive(Clone, Copy)]
 pub struct Step {
     pub phase: u8,
     pub depth: usize,
 }
 
 // Whether question 16 says yes, the most parentheses that are open at once, and how many operators there are.
-#[derive(Drop)]
+#[derive(Clone, Copy)]
 pub struct Scan {
     pub good: bool,
     pub deepest: usize,

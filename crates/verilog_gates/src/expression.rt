@@ -12,7 +12,7 @@ use verilog_tokens::{Token, next as token_at};
 
 // What was read: the wire that holds its value, the next free wire, and the token behind it: its code, and the place behind
 // that.
-#[derive(Drop)]
+#[derive(Clone, Copy)]
 pub struct Value {
     pub wire: u32,
     pub next: u32,

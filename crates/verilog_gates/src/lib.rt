@@ -1,4 +1,6 @@
 // The gates of equations.
+#![tactic(auto)]
+
 pub mod equations;
 pub mod expression;
 pub mod gates;

@@ -1,4 +1,6 @@
 // Names of a text, found by chains of equal numbers in lent tables.
+#![tactic(auto)]
+
 ghost use Rattle.std.specs.Prelude.{◌≡◌, ◌≤◌, ◌<◌, length, ◌%◌, ◌/◌};
 ghost use Rattle.netlist.specs.Lists.{same_bytes};
 ghost use Rattle.netlist.specs.Table.{half};

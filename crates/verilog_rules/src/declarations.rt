@@ -10,7 +10,7 @@ use verilog_tokens::next;
 
 // Whether no name stands twice and the tables have room for all, how many names there are, and the place behind the
 // declarations.
-#[derive(Drop)]
+#[derive(Clone, Copy)]
 pub struct Declared {
     pub good: bool,
     pub count: usize,
@@ -18,7 +18,7 @@ pub struct Declared {
 }
 
 // How far the declarations are: whether all names are new, how many there are, and the kind of the next one.
-#[derive(Drop)]
+#[derive(Clone, Copy)]
 pub struct Names {
     pub good: bool,
     pub count: usize,

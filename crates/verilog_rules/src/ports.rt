@@ -10,7 +10,7 @@ use verilog_gates::wires::give;
 use verilog_tokens::next;
 
 // Whether every port so far is an input or an output for the first time, and how many there are of each.
-#[derive(Drop)]
+#[derive(Clone, Copy)]
 pub struct Ports {
     pub good: bool,
     pub inputs: u32,

@@ -1,4 +1,6 @@
 // The words and signs of a text of equations, one after another.
+#![tactic(auto)]
+
 ghost use Rattle.std.specs.Prelude.{◌≡◌, ◌≤◌, ◌<◌, ◌+◌, cond, leb, length, drop, get_or};
 ghost use Rattle.read_text.specs.Line.{Scanned};
 ghost use Rattle.netlist.specs.Number.{is_digit};
@@ -9,7 +11,7 @@ use read_text::bytes::same;
 
 // A token: its code, and its bytes. Codes 1 to 14 are the marks in the order of their list, the reserved words first; 15 is a
 // name, 0 the end of the text, 16 no token.
-#[derive(Drop)]
+#[derive(Clone, Copy)]
 pub struct Token {
     pub code: u8,
     pub from: usize,

@@ -1,4 +1,6 @@
 // Colours of inputs: given to the members of sets, and compared. A paint is an input's code and, times four, its colour.
+#![tactic(auto)]
+
 ghost use Rattle.std.specs.Prelude.{◌≡◌, true, ℕ, ◌+◌, ◌*◌, ◌%◌, ◌≤◌, ◌<◌, length, get_or, set, take};
 ghost use Rattle.wide.specs.Rule.{Different};
 ghost use Rattle.wide_sets.specs.Packed.{Items};

@@ -1,4 +1,6 @@
 // Questions 10, 11, 21 and 12 of a netlist with many inputs that was read, and the verdicts on its wires and on pairs of them.
+#![tactic(auto)]
+
 ghost use Rattle.std.specs.Prelude.{◌≡◌, true, false, ℕ, ◌+◌, ◌<◌, ◌≤◌, length, take, get_or};
 ghost use Rattle.netlist.specs.Lists.{sum};
 ghost use Rattle.netlist.specs.Netlist.{Netlist};
@@ -17,14 +19,14 @@ use wide_search::search::WideVerdict;
 use wide_sets::{members, reach, unite};
 
 // Both answers; or the first question that gets a no.
-#[derive(Drop)]
+#[derive(Clone, Copy)]
 pub enum CheckedWide {
     Done(WideVerdict, PairsVerdict),
     Refused(u8),
 }
 
 // An answer, and the input bits that are one in a leak's setting.
-#[derive(Drop)]
+#[derive(Clone, Copy)]
 pub struct WideAnswer {
     pub checked: CheckedWide,
     pub ones: [u32; 12],

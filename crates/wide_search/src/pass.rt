@@ -11,7 +11,7 @@ ghost use Rattle.wide_search.specs.Judging.{Given, Judging};
 use crate::item;
 
 // The lowest wire and the first pair that are known not to meet the rule, or the numbers of wires and pairs.
-#[derive(Drop)]
+#[derive(Clone, Copy)]
 pub struct Worst {
     pub wire: usize,
     pub pair: usize,

@@ -20,14 +20,14 @@ use wide_sets::members;
 use wide_sets::members::Members;
 
 // Clean, or a leak: its wire, how many input bits are one in its setting, its base's count and the setting's.
-#[derive(Drop)]
+#[derive(Clone, Copy)]
 pub enum WideVerdict {
     Clean,
     Leak(usize, usize, u8, u8),
 }
 
 // Both answers, and the input bits that are one in a leak's setting, rising.
-#[derive(Drop)]
+#[derive(Clone, Copy)]
 pub struct WideVerdicts {
     pub wires: WideVerdict,
     pub ones: [u32; 12],
@@ -35,7 +35,7 @@ pub struct WideVerdicts {
 }
 
 // The ones of a leak's setting, its base's count and the setting's.
-#[derive(Drop)]
+#[derive(Clone, Copy)]
 pub struct Told {
     pub ones: Members,
     pub base: u8,

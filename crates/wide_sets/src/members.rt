@@ -4,14 +4,14 @@ ghost use Rattle.std.specs.Prelude.{◌≡◌, true, ℕ, ◌≤◌, ◌<◌, le
 ghost use Rattle.wide_sets.specs.Packed.{list_in, count_in, sets, set_at, size_at, start_entry, start_set, Items, Holding, Put};
 
 // The first `count` items, rising.
-#[derive(Drop)]
+#[derive(Clone, Copy)]
 pub struct Members {
     pub items: [u32; 12],
     pub count: usize,
 }
 
 // The entries of a set.
-#[derive(Drop)]
+#[derive(Clone, Copy)]
 pub struct Entries {
     pub a: u64,
     pub b: u64,

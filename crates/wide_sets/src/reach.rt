@@ -12,7 +12,7 @@ use crate::{members, unite};
 use gate_table::Parts;
 
 // A wire whose set is that of two wires together: the other has none, or both have the same.
-#[derive(Drop)]
+#[derive(Clone, Copy)]
 pub enum One {
     Wire(usize),
     Neither,

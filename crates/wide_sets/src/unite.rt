@@ -6,7 +6,7 @@ ghost use Rattle.wide_sets.specs.Together.{Next, Unites, Together};
 use crate::members::Members;
 
 // The next number of two lists from places i and j on, and the places behind it.
-#[derive(Drop)]
+#[derive(Clone, Copy)]
 pub struct Head {
     pub value: u32,
     pub i: usize,
@@ -56,7 +56,7 @@ fn next(x: &[u32], i: usize, y: &[u32], j: usize) -> Head
 }
 
 // How many numbers the two lists have together, which stand at the front of `out`; or more than it can hold.
-#[derive(Drop)]
+#[derive(Clone, Copy)]
 pub enum United {
     Few(usize),
     Many,

@@ -2,6 +2,8 @@
 // buffer reaches and answers the next place in any case, so that one and the same pass measures a
 // text (on a buffer of one byte) and writes it; those of `store` are for callers that have seen that
 // there is room.
+#![tactic(auto)]
+
 pub mod digits;
 pub mod store;
 

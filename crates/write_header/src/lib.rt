@@ -1,5 +1,7 @@
 // Writes a netlist's header into a lent buffer, from a place on, in either dialect. Each function stores only where the buffer reaches
 // and answers the next place in any case.
+#![tactic(auto)]
+
 ghost use Rattle.std.specs.Prelude.{[], ◌∷◌, ◌≡◌, length, get_or};
 ghost use Rattle.netlist.specs.Write.{line, decimals};
 ghost use Rattle.write_buffer.specs.Wrote.{Wrote};

@@ -1,5 +1,7 @@
 // The written form of the netlist that the tables hold, in either dialect, in one pass where the buffer surely holds it, and otherwise measured
 // first.
+#![tactic(auto)]
+
 ghost use Rattle.std.specs.Prelude.{◌≤◌, ◌<◌, ◌≡◌, leb, length};
 ghost use Rattle.write_wires.specs.Packed.{WordTable, LowTable};
 ghost use Rattle.netlist.specs.Services.{Delivers};

@@ -1,5 +1,7 @@
 // The parts of gate lines. Where the buffer has room for the longest line they are stored straight, by words or digit by digit;
 // near its end a line is written byte by byte as far as it fits; behind it only the line's length is added.
+#![tactic(auto)]
+
 ghost use Rattle.std.specs.Prelude.{ℕ, ◌+◌, ◌≤◌, ◌<◌, ◌≡◌, true, false, [], ◌∷◌, length};
 ghost use Rattle.netlist.specs.Text.{lf};
 ghost use Rattle.netlist.specs.Number.{decimal};
