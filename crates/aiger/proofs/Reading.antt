@@ -1,18 +1,16 @@
 -- The netlist of an accepted AIGER file.
-use Prim.Native.Nat.{ℕ, ◌+◌, ◌≤◌}
+use Prim.Native.Nat.{ℕ}
 use mathlib.Core.Path.{◌≡◌, refl, sym, ap, subst, ◌∙◌}
-use mathlib.Core.Bool.{Bool, ◌&&◌}
+use mathlib.Core.Bool.{◌&&◌}
 use mathlib.Core.List.{List}
-use mathlib.Core.Option.{some}
 use lib.Dec.{T, eqb, leb, ltb, leb→le}
 use lib.ListN.{length, drop}
 use Rattle.netlist.specs.declared.Limits.{Limits}
 use Rattle.netlist.specs.Netlist.{Netlist, input_bits, output_bits}
 use Rattle.netlist.specs.Outcome.{done, ask, given, and_then}
 use Rattle.netlist.specs.Header.{within_limits}
-use Rattle.netlist.specs.Read.{read_netlist, header_of, WellFormed, Within}
+use Rattle.netlist.specs.Read.{read_netlist, header_of, Within}
 use Rattle.netlist.specs.Write.{write_netlist}
-use Rattle.netlist.specs.Eval.{outputs_of}
 use Rattle.netlist.specs.Services.{tables_long, holds, rewrite_outcome}
 use Rattle.netlist.proofs.Tests.{both, is_true}
 use Rattle.netlist.proofs.Questions.{done-same, ask-done, given-done, and_then-done}
@@ -20,7 +18,6 @@ use Rattle.netlist.proofs.Size.{Roomy, reads-back}
 use Rattle.aiger.specs.File.{File}
 use Rattle.aiger.specs.Lines.{opens, Head, head, head_good, lines_behind, output_line, input_line, file}
 use Rattle.aiger.specs.Rules.{rules_kept}
-use Rattle.aiger.specs.Outputs.{file_outputs}
 use Rattle.aiger.specs.Made.{netlist_made}
 use Rattle.aiger.specs.Delivered.{Stands, Reads, Delivered}
 use Rattle.aiger.specs.Call.{head_outcome, file_outcome, lines_outcome, read_aiger, aiger_call}

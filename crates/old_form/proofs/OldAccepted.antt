@@ -15,7 +15,7 @@ use Rattle.netlist.specs.Text.{word_lines}
 use Rattle.netlist.specs.Netlist.{Netlist, result}
 use Rattle.netlist.specs.Number.{number}
 use Rattle.netlist.specs.Outcome.{Outcome, done, ask, given, and_then}
-use Rattle.netlist.specs.Header.{Header, numbers, make_header, header, within_limits}
+use Rattle.netlist.specs.Header.{Header, numbers, make_header, within_limits}
 use Rattle.netlist.specs.Read.{bytes_allowed, counts_agree, operands_given, is_given, result_good, gate_lines, netlist_of, read_gates, gates_good}
 use Rattle.netlist.specs.Write.{one}
 use Rattle.netlist.proofs.Tests.{both, pair, true-T}

@@ -1,7 +1,7 @@
 -- A pair is clean exactly if the counts of its first wire, of its second and of their AND are those of the base; the test of a pair
 -- says whether it is clean, and the answer on a list of pairs is right.
-use Prim.Native.Nat.{ℕ, zero, suc, ◌+◌, ◌*◌, ◌^◌, ◌≤◌, ◌<◌}
-use mathlib.Core.Path.{◌≡◌, refl, sym, ap, ap₂, ◌∙◌, subst, transport}
+use Prim.Native.Nat.{ℕ, zero, suc, ◌+◌, ◌*◌, ◌^◌, ◌<◌}
+use mathlib.Core.Path.{◌≡◌, refl, sym, ap, ap₂, ◌∙◌, subst}
 use mathlib.Core.Bool.{Bool, true, false, ◌&&◌}
 use mathlib.Core.List.{List, [], ◌∷◌}
 use mathlib.Core.Option.{Option, none, some}
@@ -11,9 +11,9 @@ use lib.ListN.{length, get_or}
 use borrow.Author.Count.{below_more}
 use Rattle.netlist.specs.Netlist.{Netlist}
 use Rattle.netlist.specs.Leak.{public_only, setting}
-use Rattle.netlist.proofs.Tests.{on_bool, both, pair, is_true, true-T}
+use Rattle.netlist.proofs.Tests.{both, pair, true-T}
 use Rattle.netlist.proofs.Settings.{length-setting, length-public_only, public_only-twice, number_of, number_of-below, setting-number_of}
-use Rattle.pairs.specs.Pairs.{pair_count, CleanPair, each_value, same_as_base, all_below, clean_pair, onward, first_bad, CleanAt, BadAfter, PairsJudged}
+use Rattle.pairs.specs.Pairs.{pair_count, CleanPair, each_value, same_as_base, all_below, clean_pair, onward, first_bad, CleanAt, PairsJudged}
 use Rattle.pairs.proofs.PairCounts.{SameThree, shown-three, three-shown}
 
 -- a test of every number below k

@@ -6,7 +6,7 @@ use mathlib.Core.List.{List}
 use native.Mathlib.Omega.{arith}
 use Rattle.netlist.specs.Netlist.{Netlist}
 use Rattle.netlist.specs.Eval.{bits_at, wire_bits}
-use Rattle.netlist.specs.Leak.{masked, bit, count_of, count}
+use Rattle.netlist.specs.Leak.{masked, bit, count}
 use Rattle.pairs.specs.Pairs.{shows, pair_count, both_count}
 
 -- one mask setting shows one value pair

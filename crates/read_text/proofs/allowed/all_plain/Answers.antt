@@ -1,0 +1,14 @@
+-- The faults tell of the bytes tested.
+use mathlib.Core.Path.{refl}
+use borrow.Author.Rules.{rules}
+use Rattle.read_text.proofs.AllowedBytes.{testing-start, testing-end, plain-on}
+use Rattle.read_text.proofs.allowed.all_plain.Goals as goal
+
+pub loop-i-init : goal.loop-i-init
+loop-i-init c = testing-start _ _
+
+pub loop-i-preserved : goal.loop-i-preserved
+loop-i-preserved c = plain-on _ _ _ _ (search rules) c.fault-faults.ensures c.loop-i.invariant
+
+pub returns : goal.returns
+returns c = testing-end _ _ _ _ refl (search rules) c.loop-i.invariant

@@ -1,0 +1,12 @@
+-- A scan over the bytes of a word.
+use Prim.Native.Nat.{◌-◌}
+use lib.ListN.{length}
+use Rattle.read_text.specs.Line.{in_word}
+use Rattle.read_text.proofs.Scans.{Scanning}
+use Rattle.read_text.proofs.cursor.Cursor.take_word.Given as goal
+
+abbrev pub invariant-loop-i : goal.invariant-loop-i
+invariant-loop-i l = Scanning in_word l.text l.initial.i l.i
+
+abbrev pub decreases-loop-i : goal.decreases-loop-i
+decreases-loop-i l = length l.text - l.i
