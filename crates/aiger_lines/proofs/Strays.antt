@@ -1,22 +1,22 @@
 -- A CR that does not stand before LF: where a text has none, its lines are those that the line reader takes.
-use Prim.Native.Nat.{ℕ, zero, suc, ◌+◌, ◌-◌, ◌≤◌, ◌<◌}
-use mathlib.Core.Path.{◌≡◌, refl, sym, ap, ap₂, ◌∙◌, subst}
+use Prim.Native.Nat.{ℕ, zero, suc, ◌+◌, ◌≤◌, ◌<◌}
+use mathlib.Core.Path.{◌≡◌, refl, sym, ap, ◌∙◌}
 use mathlib.Core.Bool.{Bool, true, false, cond, not, ◌&&◌, ◌||◌}
 use mathlib.Core.List.{List, [], ◌∷◌, map}
 use mathlib.Core.Option.{Option, none, some}
 use native.Mathlib.Omega.{arith}
-use lib.Dec.{T, eqb, leb}
+use lib.Dec.{eqb, leb}
 use native.Mathlib.Numerals.{add-one}
 use lib.ListN.{length, drop, get_or, drop_of_length-le, get_or-eq_default}
 use lib.Seq.{drop-cons}
 use borrow.Author.Tests.{eqb-true}
-use Rattle.netlist.specs.Text.{space, lf, cr, at_lf, lf_ends, is_line_end, is_space, onto, split, filled, words, word_lines, space_words}
+use Rattle.netlist.specs.Text.{space, lf, cr, at_lf, lf_ends, is_line_end, onto, split, filled, word_lines, space_words}
 use Rattle.netlist.specs.Number.{is_digit, all_digits, no_leading_zero, max_digits, value_from, number}
 use Rattle.netlist.specs.Header.{cons_option, numbers}
-use Rattle.netlist.proofs.Tests.{All, empty, each, all_head, all_tail, all_map, on_bool, both, both_true, is_true, clash}
-use Rattle.netlist.proofs.Questions.{none-some, some_same, cond-some}
+use Rattle.netlist.proofs.Tests.{All, empty, each, all_head, all_tail, on_bool, both, both_true, is_true, clash}
+use Rattle.netlist.proofs.Questions.{none-some, cond-some}
 use Rattle.netlist.proofs.LineEnds.{NoCR, ends-alike, space-words}
-use Rattle.read_text.specs.Line.{is_blank, first_line, after_line, drop_while, line_words}
+use Rattle.read_text.specs.Line.{is_blank, first_line, after_line, line_words}
 use Rattle.read_text.proofs.Splitting.{add_line, first_step, lines_step}
 use Rattle.aiger.specs.Lines.{file_line, file_lines}
 use Rattle.aiger_lines.specs.Stray.{is_stray, stray_at, is_between, ToWord}

@@ -7,7 +7,7 @@ use mathlib.Core.Option.{Option, none, some}
 use native.Mathlib.Omega.{arith}
 use native.Mathlib.Numerals.{add-one}
 use lib.Dec.{T, eqb, leb, ltb, leb→le, le→leb, ltb→lt, eqb→eq}
-use lib.ListN.{length, get_or, set, take, length-append, length-map, length-set}
+use lib.ListN.{length, get_or, set, take, length-append, length-map}
 use lib.Seq.{take-suc-set, take_at, take-append-le, sets, sets-eq, get_or-take, get_or-set_same, get_or-set_other, length-take-le}
 use borrow.Author.Tests.{eq-eqb}
 use Rattle.netlist.specs.declared.Gate.{Gate}
@@ -18,13 +18,13 @@ use Rattle.netlist.specs.Netlist.{small, result}
 use Rattle.netlist.specs.Outcome.{Outcome, done, ask, given, and_then}
 use Rattle.netlist.specs.Read.{operands_given}
 use Rattle.netlist.specs.Mask.{State, no_twin, input_twins, emit, result_twin}
-use Rattle.netlist.proofs.Tests.{both, pair, is_true, clash}
+use Rattle.netlist.proofs.Tests.{both, is_true, clash}
 use Rattle.netlist.proofs.Questions.{ask-done, and_then-done}
 use Rattle.netlist.proofs.PublicGates.{length-input_twins}
 use Rattle.gate_records.specs.declared.GateRecord.{GateRecord}
 use Rattle.gate_records.specs.declared.SourceRecord.{SourceRecord}
 use Rattle.gate_records.specs.Records.{record_of, gate_of, source_record, blank_source, gate_in, twin_in}
-use Rattle.session.specs.Afresh.{open_gates, opened, afresh, behind}
+use Rattle.session.specs.Afresh.{afresh, behind}
 use Rattle.session.specs.Asked.{gate_good, gate_asked, place_left, adding}
 use Rattle.session.specs.Lists.{Lists, present, steps, room_for, most_masked, asked, added}
 use Rattle.session.specs.Rows.{Rising, Holds}

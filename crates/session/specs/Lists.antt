@@ -1,5 +1,5 @@
 -- A session with its lists as one state, and what each step makes of it, whatever the lists hold.
-use Rattle.std.specs.Prelude.{ℕ, ◌+◌, ◌-◌, Bool, cond, ◌&&◌, List, [], ◌∷◌, ◌++◌, map, leb, length, get_or, set}
+use Rattle.std.specs.Prelude.{ℕ, ◌+◌, ◌-◌, Bool, ◌&&◌, List, ◌++◌, map, leb, length, get_or, set}
 use Rattle.std.proofs.lemmas.List.Edits.{sets}
 use Rattle.netlist.specs.declared.Gate.{Gate}
 use Rattle.netlist.specs.declared.Sizes.{Sizes}

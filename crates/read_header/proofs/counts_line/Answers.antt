@@ -1,5 +1,4 @@
 -- Two numbers and the line's end.
-use borrow.Author.Rules.{rules}
 use Rattle.read_text.proofs.Answering.{number_is, number-not, end_is, end_more}
 use Rattle.read_header.proofs.Headers.{pair-first, pair-second, pair-more, pair-good}
 use Rattle.read_header.proofs.counts_line.Goals as goal

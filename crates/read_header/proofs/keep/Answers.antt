@@ -1,7 +1,6 @@
 -- A store past the end changes nothing.
 use mathlib.Core.Path.{sym}
 use lib.Seq.{set_out}
-use borrow.Author.Rules.{rules}
 use Rattle.read_header.proofs.keep.Goals as goal
 
 pub returns-else-n-table : goal.returns-else-n-table

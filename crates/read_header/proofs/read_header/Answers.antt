@@ -1,5 +1,4 @@
 -- Three lines, with blank lines between them.
-use borrow.Author.Rules.{rules}
 use Rattle.read_header.proofs.WidthLines.{widths-is, widths-not}
 use Rattle.read_header.proofs.Headers.{counts-is, counts-not, no-header-1, no-header-2, no-header-3, a-header}
 use Rattle.read_header.proofs.read_header.Goals as goal

@@ -1,11 +1,9 @@
 -- The widths so far and the rest of the line.
-use Prim.Native.Nat.{◌-◌}
-use mathlib.Core.Path.{◌≡◌, refl, ap, ◌∙◌}
+use mathlib.Core.Path.{refl, ap, ◌∙◌}
 use native.Mathlib.Omega.{arith}
 use lib.ListN.{length, length-set}
-use borrow.Author.Rules.{rules}
 use Rattle.read_text.proofs.Answering.{number_is, number-not, end_is, end_more}
-use Rattle.read_header.proofs.WidthLines.{Widening, widen-start, widen-on, widen-end, widen-not, widen-zero}
+use Rattle.read_header.proofs.WidthLines.{widen-start, widen-on, widen-end, widen-not, widen-zero}
 use Rattle.read_header.proofs.read_widths.Goals as goal
 
 pub loop-next-init : goal.loop-next-init

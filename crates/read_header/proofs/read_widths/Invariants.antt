@@ -1,11 +1,8 @@
 -- The widths so far and the rest of the line.
 use Prim.Native.Nat.{◌-◌}
-use mathlib.Core.Path.{◌≡◌, refl, ap, ◌∙◌}
-use native.Mathlib.Omega.{arith}
-use lib.ListN.{length, length-set}
-use borrow.Author.Rules.{rules}
-use Rattle.read_text.proofs.Answering.{number_is, number-not, end_is, end_more}
-use Rattle.read_header.proofs.WidthLines.{Widening, widen-start, widen-on, widen-end, widen-not, widen-zero}
+use mathlib.Core.Path.{◌≡◌}
+use lib.ListN.{length}
+use Rattle.read_header.proofs.WidthLines.{Widening}
 use Rattle.read_header.proofs.read_widths.Given as goal
 
 abbrev pub invariant-loop-next : goal.invariant-loop-next

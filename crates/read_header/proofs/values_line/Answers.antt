@@ -1,5 +1,4 @@
 -- How many, and the widths.
-use borrow.Author.Rules.{rules}
 use Rattle.read_text.proofs.Answering.{number_is, number-not}
 use Rattle.read_header.proofs.WidthLines.{widths-is, widths-not, values-off, values-bad, values-zero, values-count, values-good}
 use Rattle.read_header.proofs.values_line.Goals as goal

@@ -1,9 +1,6 @@
 -- `bytes`: the first i bytes are written.
-use Prim.Native.Nat.{◌-◌}
-use borrow.Author.Rules.{rules}
 use native.Mathlib.Omega.{arith}
-use lib.ListN.{length}
-use Rattle.write_buffer.proofs.Writing.{Copied, copied_none, copied_more, copied_all, wrote-length}
+use Rattle.write_buffer.proofs.Writing.{copied_none, copied_more, copied_all, wrote-length}
 use Rattle.write_buffer.proofs.bytes.Goals as goal
 
 pub loop-i-init : goal.loop-i-init

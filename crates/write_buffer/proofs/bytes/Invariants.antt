@@ -1,9 +1,7 @@
 -- `bytes`: the first i bytes are written.
 use Prim.Native.Nat.{◌-◌}
-use borrow.Author.Rules.{rules}
-use native.Mathlib.Omega.{arith}
 use lib.ListN.{length}
-use Rattle.write_buffer.proofs.Writing.{Copied, copied_none, copied_more, copied_all, wrote-length}
+use Rattle.write_buffer.proofs.Writing.{Copied}
 use Rattle.write_buffer.proofs.bytes.Given as goal
 
 abbrev pub invariant-loop-i : goal.invariant-loop-i

@@ -1,7 +1,6 @@
 -- `put`: a byte past the end only moves the place.
 use Rattle.write_buffer.proofs.Writing.{wrote-out}
 use native.Mathlib.Omega.{arith}
-use borrow.Author.Rules.{rules}
 use Rattle.write_buffer.proofs.put.Goals as goal
 
 pub returns : goal.returns

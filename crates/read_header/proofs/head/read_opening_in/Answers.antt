@@ -3,7 +3,6 @@ use mathlib.Core.Path.{sym, ◌∙◌}
 use borrow.Author.Tests.{not-true, not-false}
 use Rattle.read_header.proofs.Headers.{header_is, header-not}
 use Rattle.read_header.proofs.Heads.{bits_fit, head-2, head-3, head-4, head-5, head-6, head_at}
-use borrow.Author.Rules.{rules}
 use Rattle.read_header.proofs.head.read_opening_in.Goals as goal
 
 pub returns-then-l-text : goal.returns-then-l-text

@@ -1,7 +1,6 @@
 -- `within`: the five tests in order.
 use Rattle.read_header.specs.HeadAnswers.{within_numbers}
 use borrow.Author.Tests.{lt-leb, le-leb}
-use borrow.Author.Rules.{rules}
 use Rattle.read_header.proofs.head.within.Goals as goal
 
 pub returns-then-l-h : goal.returns-then-l-h

@@ -1,7 +1,5 @@
 -- `keep_inputs`: one value, or both.
 use Rattle.read_header.proofs.OldHeaders.{kept-one, kept-two}
-use native.Mathlib.Omega.{arith}
-use borrow.Author.Rules.{rules}
 use Rattle.read_header.proofs.old.keep_inputs.Goals as goal
 
 pub returns-then-p-eq0 : goal.returns-then-p-eq0

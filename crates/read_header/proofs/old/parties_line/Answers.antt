@@ -2,8 +2,6 @@
 use Rattle.read_text.proofs.Answering.{number_is, number-not}
 use Rattle.read_header.proofs.Headers.{counts-is, counts-not}
 use Rattle.read_header.proofs.OldHeaders.{parties-first, parties-rest, parties-no-one, parties-no-output, parties-good}
-use native.Mathlib.Omega.{arith}
-use borrow.Author.Rules.{rules}
 use Rattle.read_header.proofs.old.parties_line.Goals as goal
 
 pub returns-in_default : goal.returns-in_default

@@ -1,8 +1,6 @@
 -- `read_old_header`: two lines, with blank lines between them.
 use Rattle.read_header.proofs.Headers.{counts-is, counts-not}
 use Rattle.read_header.proofs.OldHeaders.{parties-is, parties-not, no-old-header-1, no-old-header-2, an-old-header}
-use native.Mathlib.Omega.{arith}
-use borrow.Author.Rules.{rules}
 use Rattle.read_header.proofs.old.read_old_header.Goals as goal
 
 pub returns-in_default : goal.returns-in_default

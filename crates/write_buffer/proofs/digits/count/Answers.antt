@@ -1,7 +1,6 @@
 -- `count`: five digits, and those before them.
 use Rattle.write_buffer.proofs.Decimals.{digits-high, counted}
 use native.Mathlib.Omega.{arith}
-use borrow.Author.Rules.{rules}
 use Rattle.write_buffer.proofs.digits.count.Goals as goal
 
 pub returns : goal.returns

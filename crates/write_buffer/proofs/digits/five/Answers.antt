@@ -3,7 +3,6 @@ use mathlib.Core.Path.{◌∙◌}
 use Prim.Native.Nat.{◌+◌}
 use Rattle.write_buffer.proofs.Decimals.{digits-five, counted}
 use native.Mathlib.Omega.{arith}
-use borrow.Author.Rules.{rules}
 use Rattle.write_buffer.proofs.digits.five.Goals as goal
 
 pub returns : goal.returns

@@ -1,6 +1,5 @@
 -- `four`: two bytes, and then two more.
 use Rattle.write_buffer.proofs.Writing.{wrote_then}
-use borrow.Author.Rules.{rules}
 use Rattle.write_buffer.proofs.store.four.Goals as goal
 
 pub returns : goal.returns

@@ -1,6 +1,5 @@
 -- `two`: one byte, and then one more.
 use Rattle.write_buffer.proofs.Writing.{wrote_then}
-use borrow.Author.Rules.{rules}
 use Rattle.write_buffer.proofs.store.two.Goals as goal
 
 pub returns : goal.returns
