@@ -1,6 +1,6 @@
 -- The joined netlist is one that questions 4 to 9 admit.
 use Prim.Native.Nat.{ℕ, ◌+◌, ◌-◌, ◌≤◌, ◌<◌}
-use mathlib.Core.Path.{◌≡◌}
+use mathlib.Core.Path.{◌≡◌, sym, subst}
 use mathlib.Core.Logic.{◌≢◌}
 use mathlib.Core.Bool.{not}
 use mathlib.Core.List.{List, [], ◌∷◌, ◌++◌, map}
@@ -72,7 +72,7 @@ module _ {A B : Netlist} (S : Seam A B) where
   moved-next : {rs rs' : List ℕ} (r : ℕ) → input_bits B ≤ r → Moved rs rs' → Moved (r ∷ rs) (f r ∷ rs')
   moved-next {rs} {rs'} r l M = record {
     under = λ w t. given-cases (input_bits B) rs r w t
-        (λ e. rw e (given-new (input_bits A) rs' (f r)))
+        (λ e. subst (λ (v : ℕ). T (is_given (input_bits A) (f r ∷ rs') (f v))) (sym e) (given-new (input_bits A) rs' (f r)))
         (λ ne g. given-more (input_bits A) rs' (f r) (f w) (M.under w g));
     over = λ w k t. on_bool (eqb w r)
         (λ e. absurd (rw e at t))
@@ -93,7 +93,7 @@ module _ {A B : Netlist} (S : Seam A B) where
       let e : f (result g) ≡ A.wires + result g - input_bits B = further-wire A B (result g) l in
       let fresh : T (not (member (result (renumbered f g)) rs')) = rw r (M.over (result g) l G.fresh) in
       let rest : T (gates_good (input_bits A) J.wires (result (renumbered f g) ∷ rs') (map (renumbered f) gs))
-      = rw r (second-good gs G.rest (moved-next (result g) l M)) in
+      = rw r (second-good {rs = result g ∷ rs} {rs' = f (result g) ∷ rs'} gs G.rest (moved-next (result g) l M)) in
       let H : GoodGate (input_bits A) J.wires rs' (renumbered f g) (map (renumbered f) gs) = record {
         operands = operands-renumbered (is_given (input_bits B) rs) (is_given (input_bits A) rs') f g M.under G.operands;
         low = omega arith;

@@ -7,7 +7,7 @@ use native.Mathlib.Omega.{arith}
 use lib.Pow.{shr-shr}
 use lib.ListN.{length, set, length-append}
 use lib.Seq.{sets, set-set, set_comm}
-use Rattle.write_buffer.specs.Wrote.{Wrote, top, cap}
+use Rattle.write_buffer.specs.Wrote.{Wrote, cap}
 use Rattle.write_buffer.proofs.Places.{sets-append}
 use Rattle.write_buffer.proofs.Writing.{wrote_as}
 use Rattle.write_wires.specs.Packed.{bytes_of, text, packed}

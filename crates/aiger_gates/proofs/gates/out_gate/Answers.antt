@@ -1,0 +1,18 @@
+-- A constant, or a gate of the variable's wire.
+use Prim.Native.Nat.{ℕ, ◌-◌}
+use mathlib.Core.Path.{refl, ap}
+use Rattle.aiger_gates.proofs.Adding.{out-constant, out-other}
+use native.Mathlib.Omega.{arith}
+use Rattle.aiger_gates.proofs.gates.out_gate.Goals as goal
+
+pub returns-then-x-lt2 : goal.returns-then-x-lt2
+returns-then-x-lt2 c = out-constant _ _ _ _ _ _ _ refl c.if-x-lt2.true c.keep.ensures
+
+pub overflow_sub-w : goal.overflow_sub-w
+overflow_sub-w c = omega (arith, c.entry-w.ensures, c.requires.1 c.if-x-lt2.false)
+
+pub returns : goal.returns
+returns c =
+    out-other _ _ _ _ _ _ _ refl _ _ c.if-x-lt2.false
+    (ap (λ (z : ℕ). z - 1) c.entry-w.ensures)
+    c.out_kind.ensures c.keep-2.ensures

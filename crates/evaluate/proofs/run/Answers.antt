@@ -1,0 +1,37 @@
+-- `evaluate::run` meets its contract.
+use Prim.Native.Nat.{◌-◌}
+use Rattle.netlist.specs.Table.{tables}
+use Rattle.evaluate.proofs.Steps.{ran-none, ran-all, Ahead, ahead_within, ahead_step}
+use borrow.Author.Rules.{rules}
+use native.Mathlib.Omega.{arith}
+use Rattle.evaluate.proofs.run.Goals as goal
+
+pub returns-then-count-eq0 : goal.returns-then-count-eq0
+returns-then-count-eq0 c = ran-all (ran-none (tables c.args.operands.now c.args.results.now) c.args.count c.args.words.now) (omega arith)
+
+pub loop-i-init : goal.loop-i-init
+loop-i-init c = record { ran = ran-none _ _ _; inside = omega arith; parts = c.split-next.ensures }
+
+pub overflow_add-i : goal.overflow_add-i
+overflow_add-i c = omega (arith, c.loop-i.invariant.inside)
+
+pub step-requires : goal.step-requires
+step-requires c = ahead_within c.loop-i.invariant c.requires
+
+pub loop-i-preserved : goal.loop-i-preserved
+loop-i-preserved c =
+    let step = c.step in
+    record {
+      ran = ahead_step c.loop-i.invariant step.new.words step.auto.0 step.ensures;
+      inside = omega (arith, c.loop-i-test.true);
+      parts = c.split-next-in-loop-i.ensures;
+    }
+
+pub step-requires-2 : goal.step-requires-2
+step-requires-2 c = ahead_within c.loop-i.invariant c.requires
+
+pub returns : goal.returns
+returns c =
+    let step = c.step-2 in
+    ran-all (ahead_step c.loop-i.invariant step.new.words step.auto.0 step.ensures)
+    c.loop-i-test.false

@@ -1,0 +1,13 @@
+-- `evaluate::run` meets its contract.
+use Prim.Native.Nat.{◌-◌}
+use Rattle.netlist.specs.Table.{tables}
+use Rattle.evaluate.proofs.Steps.{ran-none, ran-all, Ahead, ahead_within, ahead_step}
+use borrow.Author.Rules.{rules}
+use native.Mathlib.Omega.{arith}
+use Rattle.evaluate.proofs.run.Given as goal
+
+abbrev pub invariant-loop-i : goal.invariant-loop-i
+invariant-loop-i l = Ahead (tables l.operands l.results) l.count l.initial.words l.words l.i l.next
+
+abbrev pub decreases-loop-i : goal.decreases-loop-i
+decreases-loop-i l = l.count - l.i

@@ -1,0 +1,14 @@
+-- `next::next`: the places from p on took their last way.
+use Prim.Native.Nat.{◌+◌}
+use lib.ListN.{length}
+use Rattle.fewest_walk.specs.Advance.{ways_at}
+use Rattle.fewest_walk.proofs.Advancing.{ways-one, way-more, way-last, Advancing, advancing-none, advancing-more, advanced-at, advanced-none}
+use borrow.Author.Rules.{rules}
+use native.Mathlib.Omega.{arith}
+use Rattle.fewest_walk.proofs.next.next.Given as goal
+
+abbrev pub invariant-loop-p : goal.invariant-loop-p
+invariant-loop-p l = Advancing (ways_at l.codes l.results) (length l.codes + l.count) l.initial.way l.way l.p
+
+abbrev pub decreases-loop-p : goal.decreases-loop-p
+decreases-loop-p l = l.p

@@ -1,0 +1,26 @@
+-- `outputs::outputs`: the changes of the first i outputs.
+use Prim.Native.Nat.{◌-◌}
+use lib.ListN.{length}
+use Rattle.fewest_walk.proofs.Ending.{Ending, ending-none, ending-more, ending-small, ending-all}
+use borrow.Author.Rules.{rules}
+use native.Mathlib.Omega.{arith}
+use Rattle.fewest_walk.proofs.outputs.outputs.Goals as goal
+
+pub loop-i-init : goal.loop-i-init
+loop-i-init c = ending-none _ _ _
+
+pub bounds-code-from : goal.bounds-code-from
+bounds-code-from c = omega (arith, c.requires.0, c.loop-i-test.true)
+
+pub overflow_add-sum : goal.overflow_add-sum
+overflow_add-sum c =
+    let h = ending-small c.loop-i.invariant c.loop-i-test.true
+    c.requires.1 c.output-sum.ensures in omega arith
+
+pub loop-i-preserved : goal.loop-i-preserved
+loop-i-preserved c =
+    ending-more c.loop-i.invariant c.loop-i-test.true
+    c.requires.0 c.output-sum.ensures
+
+pub returns : goal.returns
+returns c = ending-all c.loop-i.invariant c.loop-i-test.false c.requires.0

@@ -1,0 +1,11 @@
+-- `counts`: two numbers.
+use Rattle.write_buffer.proofs.Writing.{wrote_then}
+use Rattle.write_header.proofs.counts.Goals as goal
+
+pub returns : goal.returns
+returns c =
+    wrote_then
+    c.number-space.ensures
+    (wrote_then
+    c.put-second.ensures
+    (wrote_then c.number-end.ensures c.put.ensures))

@@ -1,0 +1,15 @@
+-- `old_header`: two lines and a blank one.
+use Rattle.write_buffer.proofs.Writing.{wrote_then}
+use Rattle.write_header.proofs.Headers.{wrote-parties}
+use Rattle.write_header.proofs.old_header.Goals as goal
+
+pub returns : goal.returns
+returns c =
+    let s = c.args in
+    wrote_then c.counts-second.ensures
+    (wrote_then
+    (wrote-parties s.ins.now s.outs.now c.width_at-3.ensures
+    c.width_at.ensures
+    c.width_at-2.ensures
+    c.numbers-blank.ensures)
+    c.put.ensures)

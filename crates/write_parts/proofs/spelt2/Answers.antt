@@ -1,0 +1,22 @@
+-- `spelt2`: a test for each bound.
+use borrow.Author.Tests.{leb-false}
+use Rattle.write_parts.proofs.Lines.{untrue}
+use native.Mathlib.Omega.{arith}
+use Rattle.write_parts.proofs.spelt2.Goals as goal
+
+pub returns-then-end-a : goal.returns-then-end-a
+returns-then-end-a c = λ e. untrue e
+
+pub returns-then-end-b : goal.returns-then-end-b
+returns-then-end-b c = λ e. untrue e
+
+pub returns-then-c-lt-LEAST : goal.returns-then-c-lt-LEAST
+returns-then-c-lt-LEAST c = λ e. untrue e
+
+pub returns : goal.returns
+returns c = λ e. record {
+  left = c.reach-end.ensures _ (omega arith);
+  right = c.reach-end.ensures _ (omega arith);
+  result = c.reach-end.ensures _ (leb-false _ _ e);
+  least = omega arith;
+}

@@ -1,0 +1,8 @@
+-- `wire`: the word's bytes, and the place behind its text.
+use Rattle.write_wires.proofs.Spilling.{stored}
+use Rattle.write_wires.proofs.wire.wire.Goals as goal
+
+pub returns : goal.returns
+returns c =
+    let p = c.requires in
+    stored _ p.1.six p.2 c.look-w.ensures c.eight.ensures
