@@ -9,7 +9,7 @@ use Rattle.netlist.specs.declared.Limits.{Limits}
 use Rattle.netlist.specs.Netlist.{Netlist, input_bits, output_bits}
 use Rattle.netlist.specs.Outcome.{done, ask, given, and_then}
 use Rattle.netlist.specs.Header.{within_limits}
-use Rattle.netlist.specs.Read.{read_netlist, header_of_lem, Within}
+use Rattle.netlist.specs.Read.{read_netlist, header_of, Within}
 use Rattle.netlist.specs.Write.{write_netlist}
 use Rattle.netlist.specs.Services.{tables_long, holds, rewrite_outcome}
 use Rattle.netlist.proofs.Tests.{both, is_true}
@@ -24,7 +24,7 @@ use Rattle.aiger.specs.Call.{head_outcome, file_outcome, lines_outcome, read_aig
 use Rattle.aiger.proofs.Making.{Kept, kept, made-well_formed, made-computes}
 use Rattle.aiger.proofs.Forms.{formed-length, Formed, file-formed}
 
-made-within : (L : Limits) (N : Netlist) → T (within_limits L (header_of_lem N)) → Within L N
+made-within : (L : Limits) (N : Netlist) → T (within_limits L (header_of N)) → Within L N
 made-within L N t =
     let a = leb N.wires L.wires in
     let b = leb (length N.inputs) L.inputs in
@@ -78,8 +78,8 @@ aiger-read L t N e =
     let kf = and_then-done (given 19 (file H₁ (lines_behind t))) (file_outcome L) N kh.2 in
     let F : File = kf.0 in
     let M = netlist_made F in
-    let kr = ask-done 19 (rules_kept F) (ask 5 (within_limits L (header_of_lem M)) (done M)) N kf.2 in
-    let k₅ = ask-done 5 (within_limits L (header_of_lem M)) (done M) N kr.1 in
+    let kr = ask-done 19 (rules_kept F) (ask 5 (within_limits L (header_of M)) (done M)) N kf.2 in
+    let k₅ = ask-done 5 (within_limits L (header_of M)) (done M) N kr.1 in
     subst (Reads L t) (done-same M N k₅.1) (aiger-reads L t (record {
       size = k₂.0;
       opening = k₁₉.0;
@@ -105,7 +105,7 @@ aiger-accepted L t S =
       is_true (eqb S.header.latches 0) S.latches,
       S.lines,
       is_true (rules_kept S.is) S.rules,
-      is_true (within_limits L (header_of_lem (netlist_made S.is))) S.limits,
+      is_true (within_limits L (header_of (netlist_made S.is))) S.limits,
     )
 
 -- the written form reads back, under limits that leave room for it

@@ -5,7 +5,7 @@ use Rattle.netlist.specs.Netlist.{Netlist}
 use Rattle.netlist.specs.Outcome.{Outcome, done, ask, given, and_then}
 use Rattle.netlist.specs.Header.{within_limits}
 use Rattle.netlist.specs.Services.{tables_long, rewrite_outcome}
-use Rattle.netlist.specs.Read.{header_of_lem}
+use Rattle.netlist.specs.Read.{header_of}
 use Rattle.aiger.specs.File.{File}
 use Rattle.aiger.specs.Lines.{opens, Head, head, head_good, lines_behind, file}
 use Rattle.aiger.specs.Rules.{rules_kept}
@@ -24,7 +24,7 @@ head_outcome L t =
 abbrev pub file_outcome : Limits → File → Outcome Netlist
 file_outcome L F =
     ask 19 (rules_kept F)
-    (ask 5 (within_limits L (header_of_lem (netlist_made F)))
+    (ask 5 (within_limits L (header_of (netlist_made F)))
     (done (netlist_made F)))
 
 -- question 19 of the lines behind the header, and those that follow

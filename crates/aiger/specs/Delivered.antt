@@ -5,7 +5,7 @@ use Rattle.netlist.specs.declared.Limits.{Limits}
 use Rattle.netlist.specs.Netlist.{Netlist}
 use Rattle.netlist.specs.Outcome.{done}
 use Rattle.netlist.specs.Header.{within_limits}
-use Rattle.netlist.specs.Read.{read_netlist, header_of_lem, WellFormed, Within}
+use Rattle.netlist.specs.Read.{read_netlist, header_of, WellFormed, Within}
 use Rattle.netlist.specs.Write.{write_netlist}
 use Rattle.netlist.specs.Eval.{outputs_of}
 use Rattle.aiger.specs.File.{File}
@@ -25,7 +25,7 @@ pub record Stands (L : Limits) (t : List ℕ) : Type 0 where
   pub is : File
   pub lines : file header (lines_behind t) ≡ some is
   pub rules : T (rules_kept is)
-  pub limits : T (within_limits L (header_of_lem (netlist_made is)))
+  pub limits : T (within_limits L (header_of (netlist_made is)))
 
 -- its netlist, and what that computes
 pub record Reads (L : Limits) (t : List ℕ) (N : Netlist) : Type 0 where

@@ -23,7 +23,7 @@ use Rattle.gate_table.specs.Parts.{parts_of}
 use Rattle.fewest.specs.Choice.{Choice, chosen_gate}
 use Rattle.fewest.specs.Fewest.{twice, twices}
 use Rattle.fewest.specs.Codes.{code_at, second_code, gate_code, gate_change, coded, least_before}
-use Rattle.fewest_walk.specs.Walk.{code_by_lem, added_change, added_by, Stepped, codes_to, added_to, Done, Walked}
+use Rattle.fewest_walk.specs.Walk.{code_by, added_change, added_by, Stepped, codes_to, added_to, Done, Walked}
 use Rattle.fewest.proofs.Chosen.{chosen-result}
 use Rattle.fewest.proofs.Twices.{way-change, twice-change}
 use Rattle.fewest.proofs.Retried.{Ready, ready-next}
@@ -41,7 +41,7 @@ result_by k d a b c = chosen-result d (gate_of k a b c) ∙ go (eqb k 1) (eqb k 
     go false false false false true = refl
     go false false false false false = refl
 
-code_by_lem : (u : ℕ → ℕ) (k d a b c : ℕ) → gate_code u (chosen_gate d (gate_of k a b c)) ≡ code_by_lem k d (u a) (u b)
+code_by_lem : (u : ℕ → ℕ) (k d a b c : ℕ) → gate_code u (chosen_gate d (gate_of k a b c)) ≡ code_by k d (u a) (u b)
 code_by_lem u k d a b c = go (eqb k 1) (eqb k 2) (eqb k 3) (eqb k 4) (eqb k 5)
   where
     go : (p q r s t : Bool) → gate_code u (chosen_gate d (cond p (Xor a b c) (cond q (And a b c) (cond r (Inv a c) (cond s (Eqw a c) (cond t (Eq 0 c) (Eq 1 c)))))))
@@ -69,7 +69,7 @@ added-by u k a b c = go (eqb k 1) (eqb k 2) (eqb k 3) (eqb k 4) (eqb k 5) (eqb a
     go false false false false false true h = refl
     go false false false false false false h = refl
 
-pub stepped-is : (u : List ℕ) (d o r : ℕ) {g : Parts} {x y : ℕ} → g ≡ parts_of o r → x ≡ code_by_lem g.kind d (code_at u g.left) (code_at u g.right)
+pub stepped-is : (u : List ℕ) (d o r : ℕ) {g : Parts} {x y : ℕ} → g ≡ parts_of o r → x ≡ code_by g.kind d (code_at u g.left) (code_at u g.right)
     → y ≡ added_by g.kind g.left g.right (code_at u g.left) (code_at u g.right) → Stepped u d (gate_in o r) (set u g.result x) y
 stepped-is u d o r {g} e p q =
     let k : g.kind ≡ r / half = ap (λ (w : Parts). w.kind) e in
@@ -95,22 +95,22 @@ second-other e f n = sym (rw (ne_eqb e f n) refl)
 
 -- the kinds, as the code tells them apart
 module _ (k d e f : ℕ) where
-  pub code-xor : (g h : ℕ) → k ≡ 1 → g ≡ second_code e f → h ≡ third e g → h ≡ code_by_lem k d e f
+  pub code-xor : (g h : ℕ) → k ≡ 1 → g ≡ second_code e f → h ≡ third e g → h ≡ code_by k d e f
   code-xor g h p q r = r ∙ ap (third e) q ∙ sym (rw (eq-eqb k 1 p) refl)
 
-  pub code-swapped : (k ≡ 1 → ⊥) → k ≡ 2 → d ≡ 1 → f ≡ code_by_lem k d e f
+  pub code-swapped : (k ≡ 1 → ⊥) → k ≡ 2 → d ≡ 1 → f ≡ code_by k d e f
   code-swapped n p q = sym (rw (ne_eqb k 1 n, eq-eqb k 2 p, eq-eqb d 1 q) refl)
 
-  pub code-written : (k ≡ 1 → ⊥) → k ≡ 2 → (d ≡ 1 → ⊥) → e ≡ code_by_lem k d e f
+  pub code-written : (k ≡ 1 → ⊥) → k ≡ 2 → (d ≡ 1 → ⊥) → e ≡ code_by k d e f
   code-written n p q = sym (rw (ne_eqb k 1 n, eq-eqb k 2 p, ne_eqb d 1 q) refl)
 
-  pub code_copy : (k ≡ 1 → ⊥) → (k ≡ 2 → ⊥) → k ≡ 3 → e ≡ code_by_lem k d e f
+  pub code_copy : (k ≡ 1 → ⊥) → (k ≡ 2 → ⊥) → k ≡ 3 → e ≡ code_by k d e f
   code_copy n m p = sym (rw (ne_eqb k 1 n, ne_eqb k 2 m, eq-eqb k 3 p) refl)
 
-  pub code-four : (k ≡ 1 → ⊥) → (k ≡ 2 → ⊥) → (k ≡ 3 → ⊥) → k ≡ 4 → e ≡ code_by_lem k d e f
+  pub code-four : (k ≡ 1 → ⊥) → (k ≡ 2 → ⊥) → (k ≡ 3 → ⊥) → k ≡ 4 → e ≡ code_by k d e f
   code-four n m l p = sym (rw (ne_eqb k 1 n, ne_eqb k 2 m, ne_eqb k 3 l, eq-eqb k 4 p) refl)
 
-  pub code_one : (k ≡ 1 → ⊥) → (k ≡ 2 → ⊥) → (k ≡ 3 → ⊥) → (k ≡ 4 → ⊥) → 1 ≡ code_by_lem k d e f
+  pub code_one : (k ≡ 1 → ⊥) → (k ≡ 2 → ⊥) → (k ≡ 3 → ⊥) → (k ≡ 4 → ⊥) → 1 ≡ code_by k d e f
   code_one n m l o = sym (rw (ne_eqb k 1 n, ne_eqb k 2 m, ne_eqb k 3 l, ne_eqb k 4 o) refl)
 
 module _ (k a b e f : ℕ) where

@@ -9,8 +9,8 @@ use Rattle.fewest.specs.Fewest.{twice}
 use Rattle.fewest.specs.Codes.{code_at, second_code, gate_change, coded}
 
 -- the code of a result, by a gate's kind, its way and its operands' codes
-abbrev pub code_by_lem : ℕ → ℕ → ℕ → ℕ → ℕ
-code_by_lem k d e f = cond (eqb k 1) (third e (second_code e f)) (cond (eqb k 2) (cond (eqb d 1) f e) (cond (eqb k 3) e (cond (eqb k 4) e 1)))
+abbrev pub code_by : ℕ → ℕ → ℕ → ℕ → ℕ
+code_by k d e f = cond (eqb k 1) (third e (second_code e f)) (cond (eqb k 2) (cond (eqb d 1) f e) (cond (eqb k 3) e (cond (eqb k 4) e 1)))
 
 -- the change of a gate that does not name one wire twice: those that do are counted beforehand
 abbrev pub added_change : (ℕ → ℕ) → Gate → ℕ

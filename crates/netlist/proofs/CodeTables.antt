@@ -26,22 +26,22 @@ use Rattle.netlist.proofs.Shape.{start-placed, outs-placed}
 abbrev pub third_table : ℕ → ℕ → ℕ
 third_table e f = get_or (get_or ((0 ∷ 0 ∷ 0 ∷ 0 ∷ []) ∷ (0 ∷ 0 ∷ 3 ∷ 2 ∷ []) ∷ (0 ∷ 3 ∷ 0 ∷ 1 ∷ []) ∷ (0 ∷ 2 ∷ 1 ∷ 0 ∷ []) ∷ []) e []) f 0
 
-abbrev pub after_table_lem : ℕ → ℕ
-after_table_lem e = get_or (0 ∷ 2 ∷ 3 ∷ 1 ∷ []) e 0
+abbrev pub after_table : ℕ → ℕ
+after_table e = get_or (0 ∷ 2 ∷ 3 ∷ 1 ∷ []) e 0
 
 pub third-table : (e f : ℕ) → T (is_code e) → T (is_code f) → T (not (eqb e f)) → third_table e f ≡ third e f
 third-table e f c d n = eqb→eq _ _ (every_two-at (λ e f. eqb (third_table e f) (third e f)) tt e f c d n)
 
-pub after_table_lem : (e : ℕ) → T (is_code e) → after_table_lem e ≡ after e
-after_table_lem e c = eqb→eq _ _ (every_code-at (λ e. eqb (after_table_lem e) (after e)) tt e c)
+pub after_table_lem : (e : ℕ) → T (is_code e) → after_table e ≡ after e
+after_table_lem e c = eqb→eq _ _ (every_code-at (λ e. eqb (after_table e) (after e)) tt e c)
 
 -- ---- the masking steps with the codes looked up
 
 abbrev pub change_gates_t : ℕ → ℕ → Twin → Twin → List Gate
-change_gates_t n c A B = cond (changes A B) (Xor B.wire (mask_wire n (after_table_lem B.code)) c ∷ []) []
+change_gates_t n c A B = cond (changes A B) (Xor B.wire (mask_wire n (after_table B.code)) c ∷ []) []
 
 abbrev pub changed_t : ℕ → Twin → Twin → Twin
-changed_t c A B = cond (changes A B) (record { wire = c; code = third_table B.code (after_table_lem B.code) }) B
+changed_t c A B = cond (changes A B) (record { wire = c; code = third_table B.code (after_table B.code) }) B
 
 abbrev pub xor_gates_t : ℕ → ℕ → Twin → Twin → List Gate
 xor_gates_t n c A B = change_gates_t n c A B ++ (Xor A.wire (changed_t c A B).wire (past c A B) ∷ [])
@@ -125,7 +125,7 @@ module _ (n c : ℕ) (A B : Twin) (p : T (is_code A.code)) (q : T (is_code B.cod
   changed-same : changed_t c A B ≡ changed c A B
   changed-same =
       let e = B.code in
-      let a : third_table e (after_table_lem e) ≡ third e (after e) =
+      let a : third_table e (after_table e) ≡ third e (after e) =
       ap (third_table e) (after_table_lem e q) ∙ third-table e (after e) q (after-code e q) (after-other e q) in
       ap (λ (f : ℕ). cond (changes A B) (record { wire = c; code = f }) B) a
 

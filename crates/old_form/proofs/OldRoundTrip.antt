@@ -17,7 +17,7 @@ use Rattle.netlist.specs.Text.{space, lf, cr, at_lf, word_lines}
 use Rattle.netlist.specs.Number.{decimal, max_digits}
 use Rattle.netlist.specs.Netlist.{Netlist, input_bits, output_bits}
 use Rattle.netlist.specs.Outcome.{done}
-use Rattle.netlist.specs.Read.{byte_allowed, bytes_allowed, gate_lines, header_of_lem, WellFormed}
+use Rattle.netlist.specs.Read.{byte_allowed, bytes_allowed, gate_lines, header_of, WellFormed}
 use Rattle.netlist.specs.Write.{line, gate_words, gate_text, decimals, write_netlist}
 use Rattle.netlist.proofs.Tests.{clash, All, empty, each, all_map, all_tail, both, both_true, is_true}
 use Rattle.netlist.proofs.Words.{Inner, Word, word, word_lines-line, word_lines-blank}
@@ -243,11 +243,11 @@ module _ {L : Limits} (R : Roomy L) (N : Netlist) (a : Accepted L N) (o : has_ol
       let s = shorter N.inputs N.outputs F.some_input (leb-true _ _ tests.1) F.some_output (leb-true _ _ tests.2) in
       le_trans (one-for-two c b i u (gate_text N.gates) s) (written-within R N F a.within)
 
-  old-header-of : old_header (word_lines (write_old N)) ≡ some (header_of_lem N)
+  old-header-of : old_header (word_lines (write_old N)) ≡ some (header_of N)
   old-header-of = rw (old-written-lines, numbers_of fit.first, numbers_of bits_fit, bits.read, bits.inputs, bits.outputs)
 
   -- questions 2 to 6
-  old-opening-written : old_opening L (write_old N) ≡ done (header_of_lem N)
+  old-opening-written : old_opening L (write_old N) ≡ done (header_of N)
   unfolding old_opening
   old-opening-written =
       rw (

@@ -18,7 +18,7 @@ use Rattle.check_counts.proofs.Paints.{length-codes_of, length-paint, paint-at}
 use Rattle.pairs.specs.Pairs.{clean_pair}
 use Rattle.pairs.proofs.PairCheck.{ThreeAsBase, passes-three, three-passes}
 use Rattle.wide.specs.Reach.{reaches, marks}
-use Rattle.wide.specs.Sets.{reach_set, pair_set_lem}
+use Rattle.wide.specs.Sets.{reach_set, pair_set}
 use Rattle.wide.specs.Rule.{Level, Different}
 use Rattle.wide.proofs.Alike.{Alike, base-alike, count-alike, both-alike}
 use Rattle.wide.proofs.Marks.{length-marks, marks-at}
@@ -150,7 +150,7 @@ module _ (N : Netlist) (ps : List ℕ) where
         ∙ h (number r ps K R upto (setting (length codes) s)) (number-below r ps K R upto (setting (length codes) s))
         ∙ sym (count-alike N codes fits A)
 
-    pub painted-clean : (u v : ℕ) → Different (pair_set_lem N (length ps) u v) ps → ((t : ℕ) → t < 2 ^ K → ThreeAsBase N codes u v (paint ps t))
+    pub painted-clean : (u v : ℕ) → Different (pair_set N (length ps) u v) ps → ((t : ℕ) → t < 2 ^ K → ThreeAsBase N codes u v (paint ps t))
         → T (clean_pair N codes u v)
     painted-clean u v D h = three-passes N codes u v λ s l.
         let r : ℕ → Bool = λ i. reaches N i u || reaches N i v in

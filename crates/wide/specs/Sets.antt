@@ -28,8 +28,8 @@ abbrev pub reach_set : Netlist → ℕ → ℕ → List ℕ
 reach_set N n w = places 0 (reach N n w)
 
 -- the first n input bits that reach one of two wires
-abbrev pub pair_set_lem : Netlist → ℕ → ℕ → ℕ → List ℕ
-pair_set_lem N n u v = merge (reach_set N n u) (reach_set N n v)
+abbrev pub pair_set : Netlist → ℕ → ℕ → ℕ → List ℕ
+pair_set N n u v = merge (reach_set N n u) (reach_set N n v)
 
 -- of a list, those whose bit of a number is one
 abbrev pub picked : List ℕ → ℕ → List ℕ
