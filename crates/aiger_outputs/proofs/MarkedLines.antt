@@ -6,7 +6,7 @@ use mathlib.Core.List.{List, [], ◌∷◌, ◌++◌}
 use mathlib.Core.Option.{some}
 use native.Mathlib.Omega.{arith}
 use lib.Dec.{eqb, ltb}
-use lib.ListN.{length, drop, get_or, set, replicate, length-set}
+use lib.ListN.{length, drop, get_or, set, replicate}
 use lib.Seq.{get_or-set_same, get_or-set_other}
 use borrow.Author.Count.{below_more}
 use borrow.Author.Tests.{eqb-true, eqb-false, ltb-true, ltb-false}
@@ -22,7 +22,7 @@ use Rattle.aiger_gates.specs.Places.{Places}
 use Rattle.aiger_gates.proofs.Placing.{literal-low, literal-readable, place-wire}
 use Rattle.aiger_ands.proofs.LineByLine.{Split, formed-split}
 use Rattle.aiger_ands.proofs.InputLines.{zeros-at}
-use Rattle.aiger_outputs.specs.OutAnswers.{LiteralsAt, marked, AllGiven, PutOut, UpTo, MarksAt}
+use Rattle.aiger_outputs.specs.OutAnswers.{marked, PutOut, UpTo, MarksAt}
 use Rattle.aiger_outputs.proofs.OutLines.{output-line, literals-start, literals-more, literals-no, every-snoc, every_front, every_here}
 
 -- ---- marks

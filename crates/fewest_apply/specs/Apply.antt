@@ -1,6 +1,6 @@
 -- A choice put to use, in tables.
 use Rattle.std.specs.Prelude.{ℕ, ◌+◌, ◌%◌, ◌/◌, ◌≤◌, ◌<◌, cond, List, ◌≡◌, length, get_or}
-use Rattle.netlist.specs.Table.{tables, half, gate_in}
+use Rattle.netlist.specs.Table.{half, gate_in}
 use Rattle.fewest.specs.Choice.{is_free, chosen_gate}
 
 -- the entry o of a gate's operands becomes r: the gate is the one of its way d, and it names the same wires

@@ -29,7 +29,7 @@ use Rattle.fewest.proofs.Order.{moved_before, moved_at, moved-behind, moved_same
 use Rattle.fewest.proofs.Cuts.{cut, idle}
 use Rattle.fewest_walk.specs.Advance.{ways_at, choice_of, Advanced}
 use Rattle.fewest_walk.specs.Walk.{codes_to, added_to}
-use Rattle.fewest_walk.specs.Span.{span_of, most, capped, Spanned}
+use Rattle.fewest_walk.specs.Span.{span_of, capped, Spanned}
 use Rattle.fewest_walk.proofs.Walking.{gate-at, ready_walked}
 use Rattle.fewest_walk.proofs.Filling.{filled-first}
 use Rattle.fewest_walk.proofs.Spanning.{span-product}

@@ -14,7 +14,7 @@ use Rattle.netlist.specs.Netlist.{Netlist, input_bits}
 use Rattle.netlist.specs.Table.{Tables, gates_of}
 use Rattle.netlist.proofs.Tests.{on_bool}
 use Rattle.fewest.specs.Choice.{Choice, chosen_gates, ways, product, choices, chosen_inputs, choice}
-use Rattle.fewest.specs.Fewest.{twices, changes_at, floor}
+use Rattle.fewest.specs.Fewest.{twices, changes_at}
 use Rattle.fewest.specs.Codes.{code_at, coded, code_changes, first_codes, least_before}
 use Rattle.fewest.proofs.Chosen.{length-chosen_gates}
 use Rattle.fewest.proofs.Twices.{twices-below}

@@ -5,7 +5,7 @@ use mathlib.Core.Bool.{Bool, true, false, ◌&&◌}
 use mathlib.Core.List.{List, [], ◌∷◌, ◌++◌, map}
 use mathlib.Core.Option.{Option, none, some}
 use native.Mathlib.Omega.{arith}
-use lib.Dec.{T, eqb, leb, ltb, eqb→eq, ltb→lt, leb→le, le→leb, lt→ltb}
+use lib.Dec.{T, eqb, leb, ltb, eqb→eq, ltb→lt}
 use lib.ListN.{length, get_or, take, length-map, get_or-append, get_or-map}
 use lib.Seq.{get_or-append-add}
 use borrow.Author.Tests.{ne_eqb, eq-eqb, ltb-false, lt-ltb, le-ltb, le-leb, lt-leb}
@@ -14,11 +14,11 @@ use Rattle.netlist.specs.declared.Gate.TheVariants.{Xor, And, Inv, Eqw, Eq}
 use Rattle.netlist.specs.declared.Sizes.{Sizes}
 use Rattle.netlist.specs.declared.Twin.{Twin}
 use Rattle.netlist.specs.Netlist.{small, result}
-use Rattle.netlist.specs.Outcome.{Outcome, refused, done, ask, given, and_then}
+use Rattle.netlist.specs.Outcome.{Outcome, done, ask, given}
 use Rattle.netlist.specs.Read.{operands_given}
 use Rattle.netlist.specs.Table.{gate_of as table_gate}
 use Rattle.netlist.specs.Mask.{State, no_twin, twin, input_twin, input_twins, past_public, past_publics, emit, result_twin}
-use Rattle.netlist.proofs.Tests.{on_bool, both, is_true, true-T, clash}
+use Rattle.netlist.proofs.Tests.{on_bool, both, true-T, clash}
 use Rattle.netlist.proofs.Questions.{ask-done, and_then-done, given-done}
 use Rattle.netlist.proofs.GateCount.{next-emit, next-most}
 use Rattle.netlist.proofs.PublicGates.{length-input_twins}
@@ -27,12 +27,11 @@ use Rattle.gate_records.specs.declared.SourceRecord.{SourceRecord}
 use Rattle.gate_records.specs.Records.{record_of, gate_of, single, record4, source_record, blank_source, twin_in}
 use Rattle.mask_rule.specs.Rule.{operands, steps_of, twin_of, Many}
 use Rattle.session.specs.declared.Session.{Session}
-use Rattle.session.specs.Asked.{gate_good, place_left}
+use Rattle.session.specs.Asked.{gate_good}
 use Rattle.session.specs.Lists.{Lists, lists_of, session_of, present, steps, room_for, most_masked}
 use Rattle.session_plan.specs.declared.batch.Batch.{Batch}
 use Rattle.session_plan.specs.declared.adding.Plan.{Plan}
-use Rattle.session_plan.specs.declared.adding.Asked.{Asked}
-use Rattle.session_plan.specs.Batch.{PublicCount, Ready, Places, batch_gates}
+use Rattle.session_plan.specs.Batch.{PublicCount, batch_gates}
 use Rattle.session_plan.specs.Plan.{NoIs, table_kind, PlaceIs, AskedIs, operand_twin, RecordOf, PlanIs}
 use Rattle.session_plan.proofs.Plans.{gate-one, gate-two, gate-three, gate-four, gate-five}
 

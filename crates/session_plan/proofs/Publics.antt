@@ -1,13 +1,12 @@
 -- Public bits found and counted, and the gates of an opening one by one.
 use Prim.Native.Nat.{ℕ, zero, suc, ◌+◌, ◌-◌, ◌≤◌, ◌<◌}
 use mathlib.Core.Path.{◌≡◌, refl, sym, ap, ◌∙◌}
-use mathlib.Core.Bool.{Bool, true, false}
 use mathlib.Core.List.{List, [], ◌∷◌, ◌++◌, map}
 use native.Mathlib.Omega.{arith}
 use native.Mathlib.Numerals.{add-one}
-use lib.Dec.{eqb, ltb, ltb→lt}
+use lib.Dec.{ltb, ltb→lt}
 use lib.ListN.{length, get_or, take, drop, length-append, length-map, length-drop, drop_of_length-le}
-use lib.Seq.{drop-cons, take-suc, get_or-drop}
+use lib.Seq.{drop-cons, take-suc}
 use borrow.Author.Tests.{eq-eqb, ne_eqb, ltb-false}
 use Rattle.netlist.proofs.Tests.{on_bool, true-T, clash}
 use Rattle.netlist.specs.declared.Gate.{Gate}
@@ -22,7 +21,7 @@ use Rattle.session.proofs.More.{past-publics}
 use Rattle.netlist.proofs.PublicGates.{past-within}
 use Rattle.session_plan.specs.declared.batch.Batch.{Batch}
 use Rattle.session_plan.specs.declared.batch.Made.{Made}
-use Rattle.session_plan.specs.Batch.{batch_gates, open_rest, GoesOn, PublicFrom, PublicCount, OpenMade, MadeIs}
+use Rattle.session_plan.specs.Batch.{batch_gates, GoesOn, PublicFrom, PublicCount, OpenMade, MadeIs}
 
 -- no public bit from w to v
 abbrev pub Passed : List ℕ → ℕ → ℕ → Type 0

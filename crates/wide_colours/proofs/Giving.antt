@@ -1,6 +1,6 @@
 -- Colours given one after the other, and compared.
 use Prim.Native.Nat.{ℕ, zero, suc, ◌+◌, ◌*◌, ◌/◌, ◌%◌, ◌≤◌, ◌<◌}
-use mathlib.Core.Path.{◌≡◌, refl, sym, ap, ap₂, ◌∙◌, subst}
+use mathlib.Core.Path.{◌≡◌, refl, sym, ap, ◌∙◌, subst}
 use mathlib.Core.List.{List, [], ◌∷◌}
 use mathlib.Core.Logic.{◌≢◌}
 use native.Mathlib.Omega.{arith}
@@ -12,7 +12,7 @@ use borrow.Author.Tests.{eqb-true, eqb-false, ltb-true, ltb-false}
 use Rattle.netlist.proofs.Tests.{on_bool}
 use Rattle.check_counts.specs.Paint.{code_of, colour_of, codes_of}
 use Rattle.wide.specs.Rule.{colour_at, Different}
-use Rattle.wide_colours.specs.Colours.{Upto, Coloured, Kept, Inputs, Seeded}
+use Rattle.wide_colours.specs.Colours.{Coloured, Kept, Inputs, Seeded}
 
 -- ---- one colour given
 

@@ -1,0 +1,12 @@
+-- `turn::weigh`.
+use lib.ListN.{drop, length}
+use Prim.Native.Nat.{◌-◌}
+use Rattle.fewest_walk.proofs.Ending.{ends-most}
+use native.Mathlib.Omega.{arith}
+use Rattle.fewest_search.proofs.turn.weigh.Goals as goal
+
+pub overflow_add-result : goal.overflow_add-result
+overflow_add-result c =
+    let a = c.args in let h = ends-most
+    (drop (length a.code.now - length a.wanted.now) a.code.now) a.wanted.now in
+    omega (arith, c.outputs.ensures, c.requires.2, c.requires.3)

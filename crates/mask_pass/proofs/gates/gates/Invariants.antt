@@ -1,0 +1,18 @@
+-- `mask_pass::gates::gates` meets its contract.
+use Prim.Native.Nat.{◌-◌}
+use lib.ListN.{length}
+use Rattle.netlist.specs.Table.{tables}
+use Rattle.write_buffer.proofs.Writing.{wrote-length}
+use Rattle.mask_twins.specs.State.{state_of}
+use Rattle.mask_pass.proofs.States.{Emitting, emitting-none, emitting-more, emitting-all}
+use borrow.Author.Rules.{rules}
+use native.Mathlib.Omega.{arith}
+use Rattle.mask_pass.proofs.gates.gates.Given as goal
+
+abbrev pub invariant-loop-i : goal.invariant-loop-i
+invariant-loop-i l =
+    Emitting l.initial.out l.at l.n (tables l.operands l.results) l.count
+    (state_of l.c l.initial.wire l.initial.code) l.out l.place l.next (length l.initial.wire) l.wire l.code l.i
+
+abbrev pub decreases-loop-i : goal.decreases-loop-i
+decreases-loop-i l = l.count - l.i

@@ -1,0 +1,11 @@
+-- `mask_pass::masks` meets its contract.
+use Rattle.write_gates.proofs.GateLines.{gates-then}
+use borrow.Author.Rules.{rules}
+use Rattle.mask_pass.proofs.masks.Goals as goal
+
+pub returns : goal.returns
+returns c =
+    gates-then
+    (gates-then c.xor-second.ensures
+    c.and-third.ensures)
+    c.xor.ensures

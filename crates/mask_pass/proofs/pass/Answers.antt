@@ -1,0 +1,95 @@
+-- `mask_pass::pass` meets its contract.
+use mathlib.Core.Path.{◌∙◌}
+use lib.ListN.{length}
+use Rattle.netlist.specs.Table.{tables}
+use Rattle.netlist.proofs.Puts.{wired-same}
+use Rattle.mask_twins.proofs.Starts.{started-most}
+use Rattle.mask_pass.proofs.Passes.{pass-made}
+use native.Mathlib.Omega.{arith}
+use borrow.Author.Rules.{rules}
+use Rattle.mask_pass.proofs.pass.Goals as goal
+
+pub gates-t-requires : goal.gates-t-requires
+gates-t-requires c =
+    let p = c.requires in
+    let s = c.start-next in
+    record { word_table = p.word_table; n_bound = omega (arith, p.ready.small, p.ready.ins, started-most s.ensures); wired = (wired-same s.auto.wire p.ready.wired, omega (arith, p.ready.codes, s.auto.wire, s.auto.code)) }
+
+pub overflow_sub-from : goal.overflow_sub-from
+overflow_sub-from c =
+    omega (
+  arith,
+  c.requires.ready.outs,
+  c.start-next.auto.wire,
+  c.gates-t.auto.wire,
+)
+
+pub outs-end-requires : goal.outs-end-requires
+outs-end-requires c =
+    let p = c.requires.ready
+    in
+    let s = c.start-next in
+    let g = c.gates-t in
+    record { word_table = c.requires.word_table; n_bound = omega (
+        arith,
+        p.small,
+        p.ins,
+        p.outs,
+        p.codes,
+        started-most s.ensures,
+        s.auto.wire,
+        s.auto.code,
+        g.auto.wire,
+        g.auto.code,
+        g.ensures.grown,
+      ); wanted_value = omega (
+        arith,
+        p.small,
+        p.ins,
+        p.outs,
+        p.codes,
+        started-most s.ensures,
+        s.auto.wire,
+        s.auto.code,
+        g.auto.wire,
+        g.auto.code,
+        g.ensures.grown,
+      ) }
+
+pub overflow_cast-result : goal.overflow_cast-result
+overflow_cast-result c =
+    let p = c.requires.ready in
+    omega (arith, p.small, p.outs)
+
+pub overflow_add-result : goal.overflow_add-result
+overflow_add-result c =
+    let p = c.requires.ready in
+    omega (
+      arith,
+      p.small,
+      p.ins,
+      p.outs,
+      started-most
+          c.start-next.ensures,
+      c.gates-t.ensures.grown,
+    )
+
+pub shape_of-wire : goal.shape_of-wire
+shape_of-wire c = c.gates-t.auto.wire ∙ c.start-next.auto.wire
+
+pub shape_of-code : goal.shape_of-code
+shape_of-code c = c.gates-t.auto.code ∙ c.start-next.auto.code
+
+pub returns : goal.returns
+returns c =
+    let a = c.args in
+    let p = c.requires.ready in
+    let s = c.start-next in
+    let g = c.gates-t in
+    let wires = g.auto.wire ∙ s.auto.wire in
+    let codes = g.auto.code ∙ s.auto.code ∙ p.codes in
+    λ N h. pass-made (tables a.operands.now a.results.now) a.count (length a.wire.now) s.result a.codes.now a.wanted.now
+    s.new.wire s.new.code g.new.wire g.new.code N h g.result
+    p.outs wires codes s.ensures
+    c.masks-second.ensures
+    c.publics-third.ensures g.ensures c.outs-end.ensures

@@ -1,0 +1,14 @@
+-- `publics::publics`: the gates of the first i inputs were written.
+use Prim.Native.Nat.{◌-◌}
+use lib.ListN.{length}
+use Rattle.write_buffer.proofs.Writing.{wrote-length}
+use Rattle.mask_pass.proofs.PublicBits.{Opened, opened-none, opened-more, opened-all}
+use borrow.Author.Rules.{rules}
+use native.Mathlib.Omega.{arith}
+use Rattle.mask_pass.proofs.publics.publics.Given as goal
+
+abbrev pub invariant-loop-i : goal.invariant-loop-i
+invariant-loop-i l = Opened l.initial.out l.at l.n l.c l.codes l.out l.place l.next l.w l.i
+
+abbrev pub decreases-loop-i : goal.decreases-loop-i
+decreases-loop-i l = length l.codes - l.i

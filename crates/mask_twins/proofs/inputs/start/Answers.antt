@@ -1,0 +1,9 @@
+-- `inputs::start` meets its contract.
+use Rattle.mask_twins.proofs.Starts.{started}
+use Rattle.mask_twins.proofs.inputs.start.Goals as goal
+
+pub returns : goal.returns
+returns c =
+    started c.args.c c.args.codes.now c.args.wire.now c.args.code.now c.requires.0
+    c.wires.ensures
+    c.bytes.ensures c.inputs.ensures

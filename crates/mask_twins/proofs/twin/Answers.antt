@@ -1,0 +1,6 @@
+-- `twin` meets its contract.
+use Rattle.mask_twins.proofs.States.{twins-at}
+use Rattle.mask_twins.proofs.twin.Goals as goal
+
+pub returns : goal.returns
+returns c = let a = c.args in twins-at a.wire.now a.code.now a.w c.requires.0 c.requires.1
