@@ -1,8 +1,6 @@
 -- One class after another.
 use mathlib.Core.Path.{sym, ◌∙◌}
 use Rattle.verilog_tokens.proofs.Classes.{class-letter, class-digit, class-space, class-lf, class-cr, class-sign}
-use native.Mathlib.Omega.{arith}
-use borrow.Author.Rules.{rules}
 use Rattle.verilog_tokens.proofs.class.Goals as goal
 
 pub returns-then-is_letter : goal.returns-then-is_letter

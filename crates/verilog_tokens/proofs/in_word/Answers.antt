@@ -3,11 +3,6 @@ use mathlib.Core.Path.{sym, ap, ◌∙◌}
 use lib.Dec.{eqb}
 use borrow.Author.Tests.{eq-eqb}
 use Rattle.verilog_tokens.proofs.Classes.{word-letter, word-other}
-use native.Mathlib.Omega.{arith}
-use borrow.Author.Rules.{rules}
-use Rattle.verilog_tokens.proofs.in_word.Reads as reads
-use Rattle.verilog_tokens.proofs.in_word.Lts as lts
-use Rattle.verilog_tokens.proofs.class.Reads as class-reads
 use Rattle.verilog_tokens.proofs.in_word.Goals as goal
 
 pub returns-then-c-eq15 : goal.returns-then-c-eq15

@@ -1,7 +1,6 @@
 -- Below the digits, or not.
 use Rattle.verilog_tokens.proofs.Classes.{digit_low, digit-high}
 use native.Mathlib.Omega.{arith}
-use borrow.Author.Rules.{rules}
 use Rattle.verilog_tokens.proofs.is_digit.Goals as goal
 
 pub returns-then-b-lt48 : goal.returns-then-b-lt48

@@ -1,7 +1,6 @@
 -- Below the capitals, among them, between, among the small ones.
 use Rattle.verilog_tokens.proofs.Classes.{letter-low, letter-capital, letter-between, letter-small}
 use native.Mathlib.Omega.{arith}
-use borrow.Author.Rules.{rules}
 use Rattle.verilog_tokens.proofs.is_letter.Goals as goal
 
 pub returns-then-b-lt65 : goal.returns-then-b-lt65

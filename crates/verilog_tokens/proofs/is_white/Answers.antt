@@ -1,18 +1,14 @@
 -- By the class of the byte, and the byte behind a CR.
 use Prim.Native.Nat.{◌+◌}
 use mathlib.Core.Path.{◌≡◌, sym, ap, ◌∙◌}
-use mathlib.Core.List.{[], ◌∷◌}
+use mathlib.Core.List.{[]}
 use lib.Dec.{eqb}
-use lib.ListN.{length, drop, get_or, drop_of_length-le}
+use lib.ListN.{drop, get_or, drop_of_length-le}
 use Rattle.netlist.specs.Text.{lf}
 use Rattle.verilog.specs.Tokens.{starts}
 use Rattle.verilog_tokens.proofs.Classes.{white-plain, white-none, white-cr}
 use Rattle.verilog_tokens.proofs.Nexts.{here, eqb-other}
-use native.Mathlib.Omega.{arith}
 use borrow.Author.Rules.{rules}
-use Rattle.verilog_tokens.proofs.is_white.Reads as reads
-use Rattle.verilog_tokens.proofs.is_white.Lts as lts
-use Rattle.verilog_tokens.proofs.class.Reads as class-reads
 use Rattle.verilog_tokens.proofs.is_white.Goals as goal
 
 pub returns-then-c-eq17 : goal.returns-then-c-eq17

@@ -5,16 +5,7 @@ use mathlib.Core.Bool.{cond}
 use lib.Dec.{leb}
 use Rattle.verilog_tokens.specs.Next.{TokenAt}
 use Rattle.verilog_tokens.proofs.Nexts.{at-end, at-word, at_sign, word_on}
-use native.Mathlib.Omega.{arith}
 use borrow.Author.Rules.{rules}
-use Rattle.verilog_tokens.proofs.next.Reads as reads
-use Rattle.verilog_tokens.proofs.next.Lts as lts
-use Rattle.verilog_tokens.proofs.class.Reads as class-reads
-use Rattle.verilog_tokens.proofs.in_word.Reads as in-word-reads
-use Rattle.verilog_tokens.proofs.sign_code.Reads as sign-code-reads
-use Rattle.verilog_tokens.proofs.skip_white.Reads as skip-white-reads
-use Rattle.verilog_tokens.proofs.word_code.Reads as word-code-reads
-use Rattle.verilog_tokens.proofs.word_end.Reads as word-end-reads
 use Rattle.verilog_tokens.proofs.next.Goals as goal
 
 pub returns-then-text-from : goal.returns-then-text-from

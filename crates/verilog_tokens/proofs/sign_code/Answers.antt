@@ -1,9 +1,5 @@
 -- Either way.
 use borrow.Author.Tests.{le-leb, lt-leb}
-use borrow.Author.Rules.{rules}
-use native.Mathlib.Omega.{arith}
-use Rattle.verilog_tokens.proofs.sign_code.Reads as reads
-use Rattle.verilog_tokens.proofs.sign_code.Lts as lts
 use Rattle.verilog_tokens.proofs.sign_code.Goals as goal
 
 pub returns-then-c-ge15 : goal.returns-then-c-ge15

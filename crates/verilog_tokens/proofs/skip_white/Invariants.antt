@@ -1,14 +1,7 @@
 -- A scan over white bytes.
 use Prim.Native.Nat.{◌-◌}
-use mathlib.Core.Path.{sym, ap, ◌∙◌}
 use lib.ListN.{length}
-use Rattle.verilog_tokens.proofs.Nexts.{Skipping, skip-start, skip-on, skip_stop, skip-end}
-use borrow.Author.Rules.{rules}
-use borrow.Author.Tests.{not-true, not-false}
-use native.Mathlib.Omega.{arith}
-use Rattle.verilog_tokens.proofs.skip_white.Reads as reads
-use Rattle.verilog_tokens.proofs.skip_white.Lts as lts
-use Rattle.verilog_tokens.proofs.is_white.Reads as is-white-reads
+use Rattle.verilog_tokens.proofs.Nexts.{Skipping}
 use Rattle.verilog_tokens.proofs.skip_white.Given as goal
 
 abbrev pub invariant-loop-i : goal.invariant-loop-i

@@ -1,14 +1,8 @@
 -- One word after another.
-use mathlib.Core.Path.{sym, ap, ◌∙◌}
-use borrow.Author.Tests.{eq-eqb, ne_eqb, le-leb, lt-leb}
+use mathlib.Core.Path.{sym, ◌∙◌}
 use Rattle.verilog_tokens.specs.Next.{word_code}
 use Rattle.verilog_tokens.proofs.Nexts.{long-coded, letter-coded, other-coded}
-use native.Mathlib.Omega.{arith}
 use borrow.Author.Rules.{rules}
-use Rattle.verilog_tokens.proofs.word_code.Reads as reads
-use Rattle.verilog_tokens.proofs.word_code.Lts as lts
-use Rattle.read_text.proofs.bytes.same.Reads as same_Reads
-use Rattle.verilog_tokens.proofs.class.Reads as class-reads
 use Rattle.verilog_tokens.proofs.word_code.Goals as goal
 
 pub returns-then-same : goal.returns-then-same
@@ -23,59 +17,59 @@ pub returns-then-same-3 : goal.returns-then-same-3
 unfolding word_code
 returns-then-same-3 c =
     rw (
-  sym c.same.ensures ∙ c.if-same.false,
-  sym c.same-2.ensures ∙ c.if-same-2.false,
-  sym c.same-3.ensures ∙ c.if-same-3.true,
-)
+      sym c.same.ensures ∙ c.if-same.false,
+      sym c.same-2.ensures ∙ c.if-same-2.false,
+      sym c.same-3.ensures ∙ c.if-same-3.true,
+    )
 
 pub returns-then-same-4 : goal.returns-then-same-4
 unfolding word_code
 returns-then-same-4 c =
     rw (
-  sym c.same.ensures ∙
-      c.if-same.false,
-  sym
-      c.same-2.ensures ∙ c.if-same-2.false,
-  sym
-      c.same-3.ensures ∙ c.if-same-3.false,
-  sym c.same-4.ensures ∙ c.if-same-4.true,
-)
+      sym c.same.ensures ∙
+          c.if-same.false,
+      sym
+          c.same-2.ensures ∙ c.if-same-2.false,
+      sym
+          c.same-3.ensures ∙ c.if-same-3.false,
+      sym c.same-4.ensures ∙ c.if-same-4.true,
+    )
 
 pub returns-then-same-5 : goal.returns-then-same-5
 unfolding word_code
 returns-then-same-5 c =
     rw (
-  sym c.same.ensures ∙
-      c.if-same.false,
-  sym
-      c.same-2.ensures ∙
-      c.if-same-2.false,
-  sym
-      c.same-3.ensures ∙ c.if-same-3.false,
-  sym
-      c.same-4.ensures ∙ c.if-same-4.false,
-  sym c.same-5.ensures ∙ c.if-same-5.true,
-)
+      sym c.same.ensures ∙
+          c.if-same.false,
+      sym
+          c.same-2.ensures ∙
+          c.if-same-2.false,
+      sym
+          c.same-3.ensures ∙ c.if-same-3.false,
+      sym
+          c.same-4.ensures ∙ c.if-same-4.false,
+      sym c.same-5.ensures ∙ c.if-same-5.true,
+    )
 
 pub returns-then-same-6 : goal.returns-then-same-6
 unfolding word_code
 returns-then-same-6 c =
     rw (
-  sym
-      c.same.ensures ∙
-      c.if-same.false,
-  sym
-      c.same-2.ensures ∙
-      c.if-same-2.false,
-  sym
-      c.same-3.ensures ∙
-      c.if-same-3.false,
-  sym
-      c.same-4.ensures ∙ c.if-same-4.false,
-  sym
-      c.same-5.ensures ∙ c.if-same-5.false,
-  sym c.same-6.ensures ∙ c.if-same-6.true,
-)
+      sym
+          c.same.ensures ∙
+          c.if-same.false,
+      sym
+          c.same-2.ensures ∙
+          c.if-same-2.false,
+      sym
+          c.same-3.ensures ∙
+          c.if-same-3.false,
+      sym
+          c.same-4.ensures ∙ c.if-same-4.false,
+      sym
+          c.same-5.ensures ∙ c.if-same-5.false,
+      sym c.same-6.ensures ∙ c.if-same-6.true,
+    )
 
 pub returns-then-w-gt16 : goal.returns-then-w-gt16
 returns-then-w-gt16 c =
