@@ -7,7 +7,7 @@ use native.Mathlib.Omega.{arith}
 use lib.ListN.{length, get_or, take, drop, replicate, length-map, length-drop, drop_of_length-le}
 use lib.Seq.{sets, length-sets, length-take-le, take_all, get_or-drop}
 use borrow.Rule.Slice.PartMut.{put_mid, mid_of, mid_len, Post-is}
-use Rattle.netlist.specs.Netlist.{Netlist, output_bits}
+use Rattle.netlist.specs.Netlist.{Netlist}
 use Rattle.netlist.specs.Eval.{run_gates, wire_bits, outputs_of}
 use Rattle.netlist.specs.Leak.{bit}
 use Rattle.netlist.specs.Services.{is_one, bools, output_list}

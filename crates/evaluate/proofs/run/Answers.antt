@@ -1,8 +1,6 @@
 -- `evaluate::run` meets its contract.
-use Prim.Native.Nat.{◌-◌}
 use Rattle.netlist.specs.Table.{tables}
-use Rattle.evaluate.proofs.Steps.{ran-none, ran-all, Ahead, ahead_within, ahead_step}
-use borrow.Author.Rules.{rules}
+use Rattle.evaluate.proofs.Steps.{ran-none, ran-all, ahead_within, ahead_step}
 use native.Mathlib.Omega.{arith}
 use Rattle.evaluate.proofs.run.Goals as goal
 
@@ -22,7 +20,7 @@ pub loop-i-preserved : goal.loop-i-preserved
 loop-i-preserved c =
     let step = c.step in
     record {
-      ran = ahead_step c.loop-i.invariant step.new.words step.auto.0 step.ensures;
+      ran = ahead_step c.loop-i.invariant step.new.words step.auto.words step.ensures;
       inside = omega (arith, c.loop-i-test.true);
       parts = c.split-next-in-loop-i.ensures;
     }
@@ -33,5 +31,5 @@ step-requires-2 c = ahead_within c.loop-i.invariant c.requires
 pub returns : goal.returns
 returns c =
     let step = c.step-2 in
-    ran-all (ahead_step c.loop-i.invariant step.new.words step.auto.0 step.ensures)
+    ran-all (ahead_step c.loop-i.invariant step.new.words step.auto.words step.ensures)
     c.loop-i-test.false

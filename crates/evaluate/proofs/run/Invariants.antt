@@ -1,9 +1,7 @@
 -- `evaluate::run` meets its contract.
 use Prim.Native.Nat.{◌-◌}
 use Rattle.netlist.specs.Table.{tables}
-use Rattle.evaluate.proofs.Steps.{ran-none, ran-all, Ahead, ahead_within, ahead_step}
-use borrow.Author.Rules.{rules}
-use native.Mathlib.Omega.{arith}
+use Rattle.evaluate.proofs.Steps.{Ahead}
 use Rattle.evaluate.proofs.run.Given as goal
 
 abbrev pub invariant-loop-i : goal.invariant-loop-i

@@ -2,7 +2,6 @@
 use Prim.Native.Nat.{◌-◌}
 use lib.ListN.{length}
 use borrow.Rule.Slice.PartMut.{same_len_mid}
-use borrow.Author.Rules.{rules}
 use Rattle.netlist.specs.Table.{tables}
 use Rattle.netlist.proofs.Puts.{wired-same}
 use Rattle.evaluate.proofs.Runs.{wires-law}
@@ -12,7 +11,7 @@ pub run-requires : goal.run-requires
 run-requires c =
     let ws = c.args.words.now in
     let clear = c.words in
-    wired-same (same_len_mid c.args.ins (length ws - c.args.ins) ws clear.new.words clear.auto.0) c.requires.wired
+    wired-same (same_len_mid c.args.ins (length ws - c.args.ins) ws clear.new.words clear.auto.words) c.requires.wired
 
 pub returns : goal.returns
 returns c j l =

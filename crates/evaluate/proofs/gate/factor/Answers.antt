@@ -1,7 +1,6 @@
 -- `evaluate::gate::factor` meets its contract.
 use mathlib.Core.Path.{refl}
 use borrow.Author.Tests.{eq-eqb, ne_eqb}
-use borrow.Author.Rules.{rules}
 use Rattle.evaluate.proofs.gate.factor.Goals as goal
 
 pub returns-then-kind-eq2 : goal.returns-then-kind-eq2

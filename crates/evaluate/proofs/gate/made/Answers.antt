@@ -1,5 +1,4 @@
 -- `evaluate::gate::made` meets its contract.
-use borrow.Author.Rules.{rules}
 use Rattle.evaluate.proofs.Made.{made-law}
 use Rattle.evaluate.proofs.gate.made.Goals as goal
 

@@ -2,7 +2,6 @@
 use Prim.Native.Nat.{◌/◌, ◌^◌}
 use native.Mathlib.Omega.{arith}
 use lib.Bits.{and_le_r}
-use borrow.Author.Rules.{rules}
 use Rattle.evaluate.proofs.Made.{spread-law}
 use Rattle.evaluate.proofs.gate.spread.Goals as goal
 

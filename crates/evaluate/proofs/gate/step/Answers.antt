@@ -1,5 +1,4 @@
 -- `evaluate::gate::step` meets its contract.
-use borrow.Author.Rules.{rules}
 use Rattle.evaluate.proofs.Steps.{step-lanes}
 use Rattle.evaluate.proofs.gate.step.Goals as goal
 

@@ -1,7 +1,6 @@
 -- `evaluate::gate::term` meets its contract.
 use mathlib.Core.Path.{refl}
 use borrow.Author.Tests.{eq-eqb, ne_eqb}
-use borrow.Author.Rules.{rules}
 use Rattle.evaluate.proofs.gate.term.Goals as goal
 
 pub returns-then-kind-eq1 : goal.returns-then-kind-eq1

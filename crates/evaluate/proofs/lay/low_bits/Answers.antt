@@ -1,13 +1,10 @@
 -- `evaluate::lay::low_bits` meets its contract.
 use mathlib.Core.Path.{refl, ◌∙◌}
-use mathlib.Core.List.{map}
-use Prim.Native.Nat.{◌-◌}
 use native.Mathlib.Omega.{arith}
 use lib.Bits.{and_le_r}
-use lib.ListN.{length, get_or}
-use Rattle.netlist.specs.Leak.{bit}
-use Rattle.clear.proofs.Laid.{Laid, laid_none, laid_more}
-use Rattle.evaluate.specs.Lane.{lane, lanes}
+use lib.ListN.{get_or}
+use Rattle.clear.proofs.Laid.{laid_none, laid_more}
+use Rattle.evaluate.specs.Lane.{lane}
 use Rattle.evaluate.proofs.Lanes.{bit-first}
 use Rattle.evaluate.proofs.Fronts.{laid-front, bits-long, bits_at}
 use Rattle.evaluate.proofs.lay.low_bits.Goals as goal

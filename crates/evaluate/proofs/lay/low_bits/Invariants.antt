@@ -1,15 +1,10 @@
 -- `evaluate::lay::low_bits` meets its contract.
-use mathlib.Core.Path.{refl, ◌∙◌}
 use mathlib.Core.List.{map}
 use Prim.Native.Nat.{◌-◌}
-use native.Mathlib.Omega.{arith}
-use lib.Bits.{and_le_r}
-use lib.ListN.{length, get_or}
+use lib.ListN.{length}
 use Rattle.netlist.specs.Leak.{bit}
-use Rattle.clear.proofs.Laid.{Laid, laid_none, laid_more}
-use Rattle.evaluate.specs.Lane.{lane, lanes}
-use Rattle.evaluate.proofs.Lanes.{bit-first}
-use Rattle.evaluate.proofs.Fronts.{laid-front, bits-long, bits_at}
+use Rattle.clear.proofs.Laid.{Laid}
+use Rattle.evaluate.specs.Lane.{lanes}
 use Rattle.evaluate.proofs.lay.low_bits.Given as goal
 
 abbrev pub invariant-loop-i : goal.invariant-loop-i

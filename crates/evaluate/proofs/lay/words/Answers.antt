@@ -1,9 +1,7 @@
 -- `evaluate::lay::words` meets its contract.
 use mathlib.Core.Path.{refl}
-use Prim.Native.Nat.{◌-◌}
 use native.Mathlib.Omega.{arith}
-use lib.ListN.{length}
-use Rattle.clear.proofs.Laid.{Laid, laid_none, laid_more}
+use Rattle.clear.proofs.Laid.{laid_none, laid_more}
 use Rattle.evaluate.proofs.Fronts.{laid-front}
 use Rattle.evaluate.proofs.lay.words.Goals as goal
 

@@ -1,10 +1,7 @@
 -- `evaluate::lay::words` meets its contract.
-use mathlib.Core.Path.{refl}
 use Prim.Native.Nat.{◌-◌}
-use native.Mathlib.Omega.{arith}
 use lib.ListN.{length}
-use Rattle.clear.proofs.Laid.{Laid, laid_none, laid_more}
-use Rattle.evaluate.proofs.Fronts.{laid-front}
+use Rattle.clear.proofs.Laid.{Laid}
 use Rattle.evaluate.proofs.lay.words.Given as goal
 
 abbrev pub invariant-loop-i : goal.invariant-loop-i

@@ -10,10 +10,8 @@ use Rattle.fewest_walk.proofs.walk.walk.Lts as lts
 use Rattle.fewest_walk.proofs.walk.step.Reads as step-reads
 use Rattle.fewest_walk.proofs.walk.walk.Goals as goal
 
-}
-
 pub bounds-lows-from : goal.bounds-lows-from
-bounds-lows-from c = omega (arith, c.requires.1.1, c.requires.count_in_bounds.2)
+bounds-lows-from c = omega (arith, c.requires.count_in_bounds.1, c.requires.count_in_bounds.2)
 
 pub loop-i-init : goal.loop-i-init
 loop-i-init c = record {
@@ -22,6 +20,7 @@ loop-i-init c = record {
   high = c.requires.count_in_bounds.2;
   entry = refl;
   room = omega (arith, c.requires.count_in_bounds.3);
+}
 
 pub step-low-requires : goal.step-low-requires
 step-low-requires c =
@@ -42,7 +41,7 @@ pub bounds-lows-i : goal.bounds-lows-i
 bounds-lows-i c =
     omega (
   arith,
-  c.requires.1.1,
+  c.requires.count_in_bounds.1,
   c.loop-i-test.true,
   c.loop-i.invariant.so.low_length,
 )
@@ -50,20 +49,20 @@ bounds-lows-i c =
 pub shape_of-code-then-bound-low : goal.shape_of-code-then-bound-low
 shape_of-code-then-bound-low c = (walking-more c.loop-i.invariant
     c.loop-i-test.true
-    c.requires.1.1
+    c.requires.count_in_bounds.1
     c.step-low.ensures).so.code_length
 
 pub shape_of-lows-then-bound-low : goal.shape_of-lows-then-bound-low
 shape_of-lows-then-bound-low c = (walking-more c.loop-i.invariant
     c.loop-i-test.true
-    c.requires.1.1
+    c.requires.count_in_bounds.1
     c.step-low.ensures).so.low_length
 
 pub returns-then-bound-low : goal.returns-then-bound-low
 returns-then-bound-low c =
     let I = walking-more c.loop-i.invariant
     c.loop-i-test.true
-    c.requires.1.1
+    c.requires.count_in_bounds.1
     c.step-low.ensures in
     walked-cut I (omega (arith, c.loop-i.invariant.after)) c.if-bound-low.true
 
@@ -71,7 +70,7 @@ pub loop-i-preserved : goal.loop-i-preserved
 loop-i-preserved c =
     walking-more c.loop-i.invariant
     c.loop-i-test.true
-    c.requires.1.1
+    c.requires.count_in_bounds.1
     c.step-low.ensures
 
 pub shape_of-code : goal.shape_of-code
