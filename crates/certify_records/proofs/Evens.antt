@@ -1,5 +1,5 @@
 -- Counts by the nibbles of a record's table.
-use mathlib.Core.Path.{◌≡◌, refl, sym, ap, ap₂, ◌∙◌}
+use mathlib.Core.Path.{◌≡◌, sym, ap, ap₂, ◌∙◌}
 use mathlib.Core.Bool.{Bool, true, false, not}
 use Prim.Native.Nat.{ℕ, ◌+◌, ◌*◌, ◌<◌}
 use native.Mathlib.Omega.{arith}
@@ -8,7 +8,7 @@ use Rattle.netlist.proofs.Tests.{on_bool, clash}
 use Rattle.evaluate.specs.Lane.{lane}
 use Rattle.check_counts.specs.Block.{nibble, ones}
 use Rattle.certify_records.specs.declared.Record.{Record}
-use Rattle.certify_records.specs.Record.{Has, At, Right}
+use Rattle.certify_records.specs.Record.{At, Right}
 use Rattle.certify_records.specs.Even.{Even, atom_setting}
 use Rattle.certify_records.proofs.Records.{on_pair}
 use Rattle.certify_records.proofs.Places.{place-below, place-m0, place-m1, place-first, place-second, place-third, place-fourth, setting-below, Free, free-first, free-second, free-third, free-fourth}

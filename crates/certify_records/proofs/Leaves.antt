@@ -1,10 +1,9 @@
 -- A table of two nibbles by the bit that tells them apart.
 use mathlib.Core.Path.{◌≡◌, refl, sym, ap, ap₂, ◌∙◌}
-use mathlib.Core.Bool.{Bool, true, false, not, ◌&&◌}
+use mathlib.Core.Bool.{Bool, true, false, ◌&&◌}
 use Prim.Native.Nat.{ℕ, zero, suc, ◌+◌, ◌*◌, ◌/◌, ◌%◌, ◌^◌, ◌≤◌, ◌<◌}
 use native.Mathlib.Nat.{div-one}
 use native.Mathlib.Omega.{arith}
-use lib.Dec.{T, eqb}
 use lib.Bits.{bit_and, bit_xor}
 use lib.Pow.{shr-shr}
 use Rattle.netlist.specs.Eval.{differs}
@@ -17,11 +16,11 @@ use Rattle.evaluate.proofs.Words.{word_same}
 use Rattle.check_counts.specs.Block.{nibble}
 use Rattle.check_counts.proofs.Numbers.{lane-shift}
 use Rattle.certify_records.specs.declared.Record.{Record}
-use Rattle.certify_records.specs.declared.Joined.TheVariants.{One, None}
+use Rattle.certify_records.specs.declared.Joined.TheVariants.{One}
 use Rattle.certify_records.specs.declared.leaf.Two.{Two}
-use Rattle.certify_records.specs.declared.leaf.Two.TheVariants.{Chosen, More}
-use Rattle.certify_records.specs.Record.{Has, At, Right, no_atom}
-use Rattle.certify_records.specs.Leaf.{Own, Decides, TwoIs, LeafIs}
+use Rattle.certify_records.specs.declared.leaf.Two.TheVariants.{Chosen}
+use Rattle.certify_records.specs.Record.{no_atom}
+use Rattle.certify_records.specs.Leaf.{Decides, TwoIs, LeafIs}
 use Rattle.certify_records.proofs.Tables.{lane-mod, and_no, and_yes}
 use Rattle.certify_records.proofs.Records.{rec}
 use Rattle.certify_records.proofs.Places.{nibble-word, setting-below}

@@ -1,14 +1,10 @@
 -- Places by their parts: the mask setting and the setting of the atoms; and nibbles by their lanes.
-use mathlib.Core.Path.{◌≡◌, refl, sym, ap, ◌∙◌}
-use mathlib.Core.Bool.{Bool, true, false, not, ◌&&◌}
-use Prim.Native.Nat.{ℕ, zero, suc, ◌+◌, ◌*◌, ◌/◌, ◌%◌, ◌^◌, ◌≤◌, ◌<◌}
-use native.Mathlib.Omega.{arith}
+use mathlib.Core.Path.{◌≡◌, sym, ap, ◌∙◌}
+use mathlib.Core.Bool.{Bool, not}
+use Prim.Native.Nat.{ℕ, ◌+◌, ◌*◌, ◌/◌, ◌^◌, ◌<◌}
 use lib.Dec.{T, eqb, ltb, eqb→eq, ltb→lt}
-use lib.Pow.{shr-shr}
-use Rattle.netlist.specs.Leak.{bit}
 use Rattle.netlist.specs.Lists.{below}
 use Rattle.netlist.proofs.Codes.{below_at, every4, every4-at, same, same-eq}
-use Rattle.netlist.proofs.Tests.{both}
 use Rattle.evaluate.specs.Lane.{lane, word}
 use Rattle.evaluate.proofs.Words.{word_lanes, word_same}
 use Rattle.check_counts.specs.Block.{nibble}

@@ -12,7 +12,7 @@ use Rattle.netlist.specs.Eval.{differs}
 use Rattle.evaluate.specs.Lane.{lane}
 use Rattle.certify_records.specs.declared.Record.{Record}
 use Rattle.certify_records.specs.Place.{exchanged, turned}
-use Rattle.certify_records.specs.declared.Joined.TheVariants.{One, None}
+use Rattle.certify_records.specs.declared.Joined.TheVariants.{One}
 use Rattle.certify_records.specs.Record.{Has, At, Right, Says, JoinIs, either_of, no_atom}
 use Rattle.certify_records.proofs.Tables.{exchanged-bit, exchanged-mask, exchanged-below, turned_bit, turned-mask, turned-below}
 

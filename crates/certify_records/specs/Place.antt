@@ -1,5 +1,5 @@
 -- The places of a record's table: bits 0 and 1 of a place are the mask setting, bits 2 to 5 the bits of the record's four atoms.
-use Rattle.std.specs.Prelude.{ℕ, ◌+◌, ◌-◌, ◌^◌, Bool, cond, not, ◌&&◌, eqb, leb}
+use Rattle.std.specs.Prelude.{ℕ, ◌+◌, ◌-◌, Bool, cond, not, ◌&&◌, eqb, leb}
 use Rattle.netlist.specs.Eval.{differs}
 use Rattle.netlist.specs.Lists.{below}
 use Rattle.evaluate.specs.Lane.{lane, word}

@@ -1,6 +1,6 @@
 -- What a record says of a wire. An atom is a bit that the input setting alone decides; a record has up to four atoms and a table of
 -- what the wire is at each mask setting for each setting of these atoms.
-use Rattle.std.specs.Prelude.{ℕ, ◌<◌, Bool, true, false, cond, eqb, ◌≡◌, ◌≢◌}
+use Rattle.std.specs.Prelude.{ℕ, ◌<◌, Bool, cond, eqb, ◌≡◌, ◌≢◌}
 use Rattle.netlist.specs.Table.{made_of}
 use Rattle.evaluate.specs.Lane.{lane}
 use Rattle.certify_records.specs.declared.Record.{Record}

@@ -8,7 +8,7 @@ use lib.ListN.{get_or}
 use Rattle.netlist.specs.Netlist.{Netlist}
 use Rattle.netlist.specs.Eval.{bits_at, wire_bits}
 use Rattle.netlist.specs.Leak.{bit, masked, count}
-use Rattle.evaluate.specs.Lane.{lane, lanes}
+use Rattle.evaluate.specs.Lane.{lane}
 use Rattle.evaluate.proofs.Steps.{get_d-lanes}
 use Rattle.check_counts.specs.Paint.{codes_of, paint}
 use Rattle.check_counts.specs.Base.{part}

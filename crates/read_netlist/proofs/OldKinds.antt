@@ -1,5 +1,4 @@
 -- The kinds of gates that the older dialect has.
-use Prim.Native.Nat.{ℕ}
 use mathlib.Core.Path.{◌≡◌, refl, ap}
 use mathlib.Core.Bool.{true, false}
 use lib.Dec.{ltb}

@@ -1,5 +1,5 @@
 -- What the answers of the gate lines' reader mean: questions 6 to 9.
-use Rattle.std.specs.Prelude.{ℕ, ◌+◌, ◌≡◌, List, [], ◌∷◌, ◌++◌, eqb, length, drop}
+use Rattle.std.specs.Prelude.{ℕ, ◌≡◌, List, [], ◌∷◌, eqb, length, drop}
 use Rattle.netlist.specs.declared.Gate.{Gate}
 use Rattle.netlist.specs.Netlist.{result}
 use Rattle.netlist.specs.Outcome.{Outcome, refused, done, ask, and_then}

@@ -1,6 +1,6 @@
 -- Different colours of a set of inputs, by its marks and by its list.
-use Prim.Native.Nat.{ℕ, zero, suc, ◌+◌, ◌≤◌, ◌<◌}
-use mathlib.Core.Path.{◌≡◌, refl, sym, ap, ◌∙◌}
+use Prim.Native.Nat.{ℕ, zero, suc, ◌+◌, ◌<◌}
+use mathlib.Core.Path.{◌≡◌, sym, ap, ◌∙◌}
 use mathlib.Core.Bool.{Bool, true, false}
 use mathlib.Core.List.{List, [], ◌∷◌}
 use native.Mathlib.Omega.{arith}
@@ -8,8 +8,8 @@ use lib.Dec.{T}
 use lib.ListN.{length, get_or}
 use Rattle.check_counts.specs.Paint.{colour_of}
 use Rattle.wide.specs.Reach.{marks, places}
-use Rattle.wide.specs.Rule.{colour_at, Different}
-use Rattle.wide.proofs.Marks.{length-marks, marks-at}
+use Rattle.wide.specs.Rule.{Different}
+use Rattle.wide.proofs.Marks.{marks-at}
 
 -- the inputs of a set have colours, each its own
 pub record Rainbow (within : ℕ → Bool) (ps : List ℕ) : Type 0 where

@@ -1,15 +1,15 @@
 -- The leak of the lowest wire that does not meet the rule, from the first painted setting that differs.
 use Prim.Native.Nat.{ℕ, zero, suc, ◌+◌, ◌*◌, ◌/◌, ◌%◌, ◌^◌, ◌≤◌, ◌<◌}
-use mathlib.Core.Path.{◌≡◌, refl, sym, ap, ◌∙◌, subst}
+use mathlib.Core.Path.{◌≡◌, sym, ap, ◌∙◌, subst}
 use mathlib.Core.Bool.{Bool, true, false}
 use mathlib.Core.List.{List, [], ◌∷◌}
-use mathlib.Core.Option.{Option, none, some}
+use mathlib.Core.Option.{none, some}
 use native.Mathlib.Omega.{arith}
 use lib.Dec.{T, eqb, ltb}
 use lib.ListN.{length, get_or}
 use borrow.Author.Tests.{ltb-true, ltb-false}
 use Rattle.netlist.specs.Netlist.{Netlist}
-use Rattle.netlist.specs.Leak.{setting, Found, first_wire, count_at, base_at, leak}
+use Rattle.netlist.specs.Leak.{setting, count_at, base_at, leak}
 use Rattle.netlist.proofs.Tests.{on_bool}
 use Rattle.netlist.proofs.Settings.{length-setting}
 use Rattle.netlist.proofs.Search.{search_is}
@@ -17,10 +17,10 @@ use Rattle.evaluate.specs.Lane.{lane}
 use Rattle.check_counts.specs.Paint.{colour_of, codes_of, shade, paint}
 use Rattle.check_counts.specs.Base.{count_in}
 use Rattle.check_counts.proofs.Paints.{length-codes_of, length-paint, paint-at}
-use Rattle.wide.specs.Reach.{reaches, marks, size, places, reach}
+use Rattle.wide.specs.Reach.{reaches, size, places, reach}
 use Rattle.wide.specs.Sets.{reach_set, picked}
 use Rattle.wide.specs.Rule.{Level, colour_at}
-use Rattle.wide.specs.Wide.{WideLeak, listed}
+use Rattle.wide.specs.Wide.{listed}
 use Rattle.wide.proofs.Alike.{Alike, base-alike, count-alike}
 use Rattle.wide.proofs.Marks.{length-marks, marks-at}
 use Rattle.wide.proofs.Spread.{spread, gather, spread-below, gather-below, spread-upto, gathered-at}

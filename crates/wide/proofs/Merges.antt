@@ -5,7 +5,6 @@ use mathlib.Core.Bool.{Bool, true, false, cond, ◌||◌}
 use mathlib.Core.List.{List, [], ◌∷◌, ◌++◌}
 use native.Mathlib.Omega.{arith}
 use lib.Dec.{eqb, ltb}
-use lib.ListN.{length, get_or}
 use borrow.Author.Tests.{lt-ltb, le-ltb, eqb-true, eqb-false, ne_eqb}
 use Rattle.netlist.specs.declared.Gate.{Gate}
 use Rattle.netlist.specs.declared.Gate.TheVariants.{Xor, And, Inv, Eqw, Eq}
@@ -13,7 +12,7 @@ use Rattle.netlist.specs.Netlist.{Netlist, result, input_bits}
 use Rattle.netlist.specs.Read.{WellFormed}
 use Rattle.netlist.proofs.Tests.{on_bool, All, all_head, all_split}
 use Rattle.wide.specs.Reach.{touched, reaches, marks, places}
-use Rattle.wide.specs.Sets.{merge_onto, merge, gate_set, reach_set}
+use Rattle.wide.specs.Sets.{merge, gate_set, reach_set}
 use Rattle.wide.proofs.Marks.{reach-gates, reach-input}
 
 -- a list does not begin with i or less

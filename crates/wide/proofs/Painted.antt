@@ -2,7 +2,7 @@
 use Prim.Native.Nat.{ℕ, zero, suc, ◌+◌, ◌-◌, ◌/◌, ◌^◌, ◌≤◌, ◌<◌}
 use mathlib.Core.Path.{◌≡◌, refl, sym, ap, ◌∙◌, subst}
 use mathlib.Core.Bool.{Bool, true, false, ◌&&◌, ◌||◌}
-use mathlib.Core.List.{List, [], ◌∷◌}
+use mathlib.Core.List.{List}
 use native.Mathlib.Omega.{arith}
 use lib.Dec.{T, eqb, ltb, eqb→eq, eqb_refl}
 use lib.ListN.{length, get_or}
@@ -16,9 +16,8 @@ use Rattle.check_counts.specs.Paint.{colour_of, codes_of, shade, paint}
 use Rattle.check_counts.specs.Base.{count_in}
 use Rattle.check_counts.proofs.Paints.{length-codes_of, length-paint, paint-at}
 use Rattle.pairs.specs.Pairs.{clean_pair}
-use Rattle.pairs.proofs.PairCounts.{SameThree}
 use Rattle.pairs.proofs.PairCheck.{ThreeAsBase, passes-three, three-passes}
-use Rattle.wide.specs.Reach.{reaches, marks, reach, reach_pair}
+use Rattle.wide.specs.Reach.{reaches, marks}
 use Rattle.wide.specs.Sets.{reach_set, pair_set}
 use Rattle.wide.specs.Rule.{Level, Different}
 use Rattle.wide.proofs.Alike.{Alike, base-alike, count-alike, both-alike}

@@ -1,11 +1,11 @@
 -- The list of the places of marks: different numbers, below the number of marks.
 use Prim.Native.Nat.{ℕ, zero, suc, ◌+◌, ◌≤◌, ◌<◌}
-use mathlib.Core.Path.{◌≡◌, refl, ap, ◌∙◌}
+use mathlib.Core.Path.{◌≡◌, refl, ap}
 use mathlib.Core.Bool.{Bool, true, false}
 use mathlib.Core.List.{List, [], ◌∷◌}
 use native.Mathlib.Omega.{arith}
 use lib.ListN.{length, get_or}
-use Rattle.wide.specs.Reach.{size, places}
+use Rattle.wide.specs.Reach.{places}
 
 pub place-from : (k : ℕ) (ks : List Bool) (a : ℕ) → a < length (places k ks) → k ≤ get_or (places k ks) a 0
 place-from k [] a l = absurd (omega arith)

@@ -1,0 +1,10 @@
+-- `certify_records::reduce::without_first` meets its contract.
+use Rattle.certify_records.proofs.Records.{says_then, without-first}
+use Rattle.certify_records.proofs.reduce.without_first.Goals as goal
+
+pub returns-then-alike : goal.returns-then-alike
+returns-then-alike c =
+    let r = c.args.r in
+    says_then (without-first r.table r.first r.second r.third r.fourth
+    (c.alike.ensures c.if-alike.true 0 tt))
+    (says_then c.low.ensures (says_then c.middle.ensures c.high.ensures))

@@ -1,0 +1,25 @@
+-- `leak::block::tally` meets its contract.
+use mathlib.Core.Path.{ap, ◌∙◌}
+use Prim.Native.Nat.{ℕ}
+use native.Mathlib.Nat.{le_refl}
+use Rattle.check_counts.specs.Block.{ones}
+use Rattle.check_counts.proofs.Tallies.{tallied-none, tallied-more, tallied-all, ones-past}
+use native.Mathlib.Omega.{arith}
+use Rattle.check_counts.proofs.block.tally.Goals as goal
+
+pub loop-w-init : goal.loop-w-init
+loop-w-init c = tallied-none _ _
+
+pub loop-w-preserved : goal.loop-w-preserved
+loop-w-preserved c =
+    let at = c.loop-w in
+    tallied-more c.counts.result at.invariant (omega arith)
+    (λ s l. c.counts.ensures s l ∙ ap (λ (x : ℕ). ones x s) (at.invariant.rest at.w (le_refl _)))
+
+pub shape_of-words : goal.shape_of-words
+shape_of-words c = c.loop-w.invariant.long
+
+pub returns : goal.returns
+returns c =
+    let words = c.args.words.now in
+    tallied-all c.loop-w.invariant (omega arith) (ones-past words)
