@@ -1,5 +1,5 @@
 -- What marks and right records show of a wire.
-use mathlib.Core.Path.{◌≡◌, refl, sym, ap, ap₂, ◌∙◌}
+use mathlib.Core.Path.{◌≡◌, refl, sym, ap, ◌∙◌}
 use mathlib.Core.Bool.{Bool, true, false, cond}
 use mathlib.Core.List.{List}
 use mathlib.Core.Logic.{◌≢◌}
@@ -8,7 +8,7 @@ use lib.Bits.{bit_and}
 use native.Mathlib.Omega.{arith}
 use lib.Dec.{eqb}
 use lib.ListN.{get_or}
-use borrow.Author.Tests.{eqb-true, eqb-false, ne_eqb}
+use borrow.Author.Tests.{eqb-false, ne_eqb}
 use Rattle.netlist.specs.Netlist.{Netlist}
 use Rattle.netlist.specs.Eval.{differs}
 use Rattle.netlist.specs.Leak.{bit, count, SamePublic, EqualCounts}
@@ -16,7 +16,7 @@ use Rattle.evaluate.proofs.Lanes.{bit-low}
 use Rattle.netlist.proofs.Tests.{on_bool}
 use Rattle.evaluate.specs.Lane.{lane}
 use Rattle.certify_records.specs.declared.Record.{Record}
-use Rattle.certify_records.specs.Record.{Has, At, Right, no_atom}
+use Rattle.certify_records.specs.Record.{Has, Right, no_atom}
 use Rattle.certify_records.specs.Even.{Even, atom_setting}
 use Rattle.certify_records.proofs.Evens.{setting_of, shown}
 use Rattle.certify_wires.specs.Known.{bit_of, atom_bit, Known, Open}

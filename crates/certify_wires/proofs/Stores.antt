@@ -1,6 +1,5 @@
 -- Records put into a table, and what stays known of the table.
-use mathlib.Core.Path.{◌≡◌, refl, sym, ap, ap₂, ◌∙◌, subst}
-use mathlib.Core.Bool.{Bool, true, false}
+use mathlib.Core.Path.{◌≡◌, refl, sym, ap, ◌∙◌, subst}
 use mathlib.Core.List.{List}
 use mathlib.Core.Logic.{◌≢◌, ◌⊎◌, inl, inr, ⊎_elim}
 use Prim.Native.Nat.{ℕ, ◌+◌, ◌*◌, ◌/◌, ◌%◌, ◌≤◌, ◌<◌}
@@ -17,7 +16,7 @@ use Rattle.certify_records.proofs.Records.{rec}
 use Rattle.certify_wires.specs.Known.{Known}
 use Rattle.certify_wires.specs.Store.{record_at, PutAt, Present, Recorded, Carries}
 use Rattle.certify_wires.specs.declared.keep.Kept.{Kept}
-use Rattle.certify_wires.specs.declared.keep.Kept.TheVariants.{Stored, Carried}
+use Rattle.certify_wires.specs.declared.keep.Kept.TheVariants.{Carried}
 
 -- equal parts, equal records
 same_parts : {t u a b c d a' b' c' d' : ℕ} → t ≡ u → a ≡ a' → b ≡ b' → c ≡ c' → d ≡ d' → rec t a b c d ≡ rec u a' b' c' d'

@@ -1,5 +1,5 @@
 -- Records and marks in lent tables: five records a wire, of three entries each, and a mark: bit 0 for clean, bit 1 for public.
-use Rattle.std.specs.Prelude.{ℕ, ◌+◌, ◌*◌, ◌/◌, ◌%◌, ◌≤◌, ◌<◌, Bool, true, cond, List, ◌≡◌, ◌≢◌, eqb, length, get_or}
+use Rattle.std.specs.Prelude.{ℕ, ◌+◌, ◌*◌, ◌/◌, ◌%◌, ◌≤◌, Bool, true, cond, List, ◌≡◌, ◌≢◌, eqb, length, get_or}
 use Rattle.netlist.specs.Netlist.{Netlist}
 use Rattle.netlist.specs.Table.{half}
 use Rattle.netlist.specs.Leak.{EqualCounts}

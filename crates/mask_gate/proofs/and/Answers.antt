@@ -1,0 +1,23 @@
+-- `mask_gate::and` meets its contract.
+use Rattle.mask_gate.proofs.Emits.{and-made}
+use Rattle.mask_rule.proofs.Twins.{past-most}
+use native.Mathlib.Omega.{arith}
+use Rattle.mask_gate.proofs.and.Goals as goal
+
+pub steps-end-requires : goal.steps-end-requires
+steps-end-requires c =
+    let a = c.args in
+    record {
+      word_table = c.requires.word_table;
+      c_bound = omega
+          (arith, c.past-next.ensures, past-most a.c a.a a.b);
+    }
+
+pub returns : goal.returns
+returns c =
+    let a = c.args in
+    and-made a.n a.c a.a a.b c.change-from.ensures
+    c.changed-second.ensures
+    c.past-next.ensures c.mask_wire-p.ensures
+    c.mask_wire-q.ensures
+    c.steps-end.ensures c.and_twin-twin.ensures

@@ -1,0 +1,32 @@
+-- `level`: the difference of both wires together, and those of each.
+use mathlib.Core.Path.{sym, subst, ◌∙◌}
+use lib.Dec.{T}
+use borrow.Author.Tests.{eqb-true, eq-eqb}
+use Rattle.pairs_search.proofs.Levels.{agreed-level, level-agreed, none-level, level-none}
+use native.Mathlib.Omega.{arith}
+use borrow.Author.Rules.{rules}
+use Rattle.pairs_search.proofs.pair.level.Goals as goal
+
+pub returns-then-agreed : goal.returns-then-agreed
+returns-then-agreed c =
+    let a = c.args in
+    let held = c.counts-held in
+    let both = c.differ-both in (
+      λ e. agreed-level a.words.now a.bases.now a.base.now a.u a.v held.result both.result held.ensures both.ensures
+          (c.requires.4 c.if-agreed.true) c.requires.0 c.requires.1 (eqb-true _ 0 e),
+      λ e all. subst T (sym (eq-eqb _ 0 (level-agreed a.words.now a.bases.now a.base.now a.u a.v held.result both.result held.ensures
+          both.ensures (search rules) all)) ∙ e) tt,
+    )
+
+pub returns : goal.returns
+returns c =
+    let a = c.args in
+    let held = c.counts-held in
+    let both = c.differ-both in
+    let one = c.differ-first in
+    let two = c.differ-second in (
+      λ e. none-level a.words.now a.bases.now a.base.now a.u a.v held.result both.result held.ensures both.ensures
+          one.result two.result one.ensures two.ensures (eqb-true _ 0 e),
+      λ e all. subst T (sym (eq-eqb _ 0 (level-none a.words.now a.bases.now a.base.now a.u a.v held.result both.result held.ensures
+          both.ensures one.result two.result one.ensures two.ensures (search rules) (search rules) (search rules) all)) ∙ e) tt,
+    )

@@ -1,0 +1,18 @@
+-- `find`: block by block.
+use mathlib.Core.Path.{refl, sym, subst, ◌∙◌}
+use Prim.Native.Nat.{ℕ, ◌-◌}
+use lib.ListN.{length}
+use Rattle.netlist.specs.Table.{tables}
+use Rattle.netlist.proofs.Puts.{wired-same}
+use Rattle.evaluate.specs.Bare.{bare}
+use Rattle.pairs_search.specs.Bases.{HeldOn}
+use Rattle.pairs_search.proofs.Finds.{Finding, find_none, find-more, find-all}
+use borrow.Author.Rules.{rules}
+use native.Mathlib.Omega.{arith}
+use Rattle.pairs_search.proofs.search.find.Given as goal
+
+abbrev pub invariant-loop-block : goal.invariant-loop-block
+invariant-loop-block l = Finding (tables l.operands l.results) l.count (length l.initial.words) l.limit l.paints l.pairs l.publics l.blocks l.words l.bases l.base l.best l.block
+
+abbrev pub decreases-loop-block : goal.decreases-loop-block
+decreases-loop-block l = l.blocks - l.block

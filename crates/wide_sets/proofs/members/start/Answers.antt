@@ -1,0 +1,39 @@
+-- `members::start`: wire by wire.
+use Prim.Native.Nat.{◌-◌}
+use lib.ListN.{length}
+use Rattle.wide_sets.proofs.Starts.{Started, started_none, started-more, started-all, started-count}
+use borrow.Author.Rules.{rules}
+use native.Mathlib.Omega.{arith}
+use Rattle.wide_sets.proofs.members.start.Reads as reads
+use Rattle.wide_sets.proofs.members.start.Lts as lts
+use Rattle.wide_sets.proofs.members.start_entry.Reads as start-entry-reads
+use Rattle.wide_sets.proofs.members.start.Goals as goal
+
+pub loop-w-init : goal.loop-w-init
+loop-w-init c = started_none _ _
+
+pub start_entry-requires : goal.start_entry-requires
+start_entry-requires c = c.requires
+
+pub offset_bounds-set0-w : goal.offset_bounds-set0-w
+offset_bounds-set0-w c = omega (arith, c.loop-w.invariant.long)
+
+pub bounds-set0-w : goal.bounds-set0-w
+bounds-set0-w c = omega (arith, c.loop-w.invariant.long)
+
+pub overflow_add-w : goal.overflow_add-w
+overflow_add-w c = omega (arith, c.loop-w.invariant.long)
+
+pub loop-w-smaller : goal.loop-w-smaller
+loop-w-smaller c = omega (arith, c.loop-w.invariant.long)
+
+pub loop-w-preserved : goal.loop-w-preserved
+loop-w-preserved c = started-more _ c.loop-w.invariant (omega (arith, c.loop-w.invariant.long)) c.start_entry.ensures
+
+pub shape_of-set0 : goal.shape_of-set0
+shape_of-set0 c = c.loop-w.invariant.long
+
+pub returns : goal.returns
+returns c =
+    let h = c.loop-w.invariant in
+    (started-all h (omega (arith, h.long)) c.requires, started-count h (omega (arith, h.long)) c.requires)

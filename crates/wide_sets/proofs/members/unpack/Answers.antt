@@ -1,0 +1,18 @@
+-- `members::unpack`: an array of the entries' numbers.
+use mathlib.Core.Path.{refl}
+use mathlib.Core.List.{[]}
+use Rattle.wide_sets.specs.Packed.{three_of}
+use Rattle.wide_sets.proofs.Packing.{small-none, small-three}
+use native.Mathlib.Omega.{arith}
+use borrow.Author.Rules.{rules}
+use Rattle.wide_sets.proofs.members.unpack.Reads as reads
+use Rattle.wide_sets.proofs.members.unpack.Lts as lts
+use Rattle.wide_sets.proofs.members.unpack.Goals as goal
+
+pub returns : goal.returns
+returns c =
+    let a = c.args in
+    let z = three_of a.d [] in
+    let y = three_of a.c z in
+    let x = three_of a.b y in
+    (refl, refl, record { long = refl; small = small-three a.a x (small-three a.b y (small-three a.c z (small-three a.d [] small-none))) })

@@ -1,0 +1,17 @@
+-- `holds`: the header is measured; where the longest lines do not fit behind it, so is the whole text.
+use mathlib.Core.Path.{sym, ◌∙◌}
+use native.Mathlib.Omega.{arith}
+use Rattle.write_gates.proofs.Delivering.{measured-holds}
+use Rattle.write_netlist.proofs.Forms.{form-ample}
+use Rattle.write_netlist.proofs.holds.Goals as goal
+
+pub returns-then-ample : goal.returns-then-ample
+returns-then-ample c =
+    let a = c.args in
+    sym (form-ample a.dialect a.count a.wires a.ins.now a.outs.now (omega (arith, c.ranges.wires)) c.requires.wired.0
+    c.header_in-header.ensures c.requires.wired.1 (sym c.ample.ensures ∙ c.if-ample.true))
+
+pub returns : goal.returns
+returns c =
+    measured-holds c.write.ensures
+    c.requires.wired.1

@@ -1,0 +1,6 @@
+-- `write`: the header, and behind it the gate lines.
+use Rattle.write_buffer.proofs.Writing.{wrote_then}
+use Rattle.write_netlist.proofs.write.Goals as goal
+
+pub returns : goal.returns
+returns c = wrote_then c.header_in-at.ensures c.gates.ensures.wrote
