@@ -1,32 +1,31 @@
 -- The answers on a whole text.
-use Prim.Native.Nat.{ℕ, ◌+◌, ◌*◌, ◌≤◌, ◌<◌}
+use Prim.Native.Nat.{ℕ, ◌+◌, ◌≤◌, ◌<◌}
 use mathlib.Core.Path.{◌≡◌, refl, sym, ap, ap₂, subst, ◌∙◌}
 use mathlib.Core.Bool.{Bool, true, false, ◌&&◌}
 use mathlib.Core.List.{List, [], ◌∷◌}
 use mathlib.Core.Option.{Option, none, some}
 use native.Mathlib.Omega.{arith}
-use lib.Dec.{T, leb}
+use lib.Dec.{leb}
 use lib.ListN.{length}
 use borrow.Author.Tests.{le-leb, lt-leb}
 use Rattle.netlist.specs.declared.Limits.{Limits}
-use Rattle.netlist.specs.declared.Gate.{Gate}
 use Rattle.netlist.specs.Lists.{sum}
-use Rattle.netlist.specs.Netlist.{Netlist, input_bits, output_bits}
-use Rattle.netlist.specs.Outcome.{Outcome, refused, done, ask, given, and_then}
+use Rattle.netlist.specs.Netlist.{input_bits, output_bits}
+use Rattle.netlist.specs.Outcome.{refused, done, ask}
 use Rattle.netlist.specs.Header.{within_limits}
 use Rattle.netlist.specs.Read.{header_of}
 use Rattle.netlist.specs.Table.{Tables, half, gates_of, Wired}
-use Rattle.netlist.proofs.Tests.{on_bool, true-T}
+use Rattle.netlist.proofs.Tests.{true-T}
 use Rattle.netlist.proofs.Questions.{some_same}
 use Rattle.netlist.proofs.Order.{ordered-length}
-use Rattle.verilog.specs.Tokens.{Token, tokens}
+use Rattle.verilog.specs.Tokens.{Token}
 use Rattle.verilog.specs.Syntax.{Module, Stands, module_tokens}
 use Rattle.verilog.specs.Parse.{parse}
 use Rattle.verilog.specs.Depth.{assigns_depth, max_depth, shallow}
 use Rattle.verilog.specs.Rules.{rules_kept}
-use Rattle.verilog.specs.Equations.{input_ports, output_ports}
+use Rattle.verilog.specs.Equations.{input_ports}
 use Rattle.verilog.specs.Made.{built, netlist_made}
-use Rattle.verilog.specs.Walk.{flat, on_module, accepted, deepest, operators_in}
+use Rattle.verilog.specs.Walk.{flat, on_module, deepest, operators_in}
 use Rattle.verilog.specs.Call.{made_outcome, read_equations}
 use Rattle.verilog.proofs.Parsing.{parse-sound}
 use Rattle.verilog.proofs.Naming.{kept}
@@ -37,9 +36,8 @@ use Rattle.verilog.proofs.Counting.{wires-counted}
 use Rattle.verilog.proofs.Room.{operators-few}
 use Rattle.verilog_tokens.proofs.Firsts.{never}
 use Rattle.verilog_form.specs.declared.Scan.{Scan}
-use Rattle.verilog_form.specs.Turns.{Counted, ScanIs}
+use Rattle.verilog_form.specs.Turns.{ScanIs}
 use Rattle.verilog_gates.specs.Puts.{put_gates}
-use Rattle.read_aiger.specs.declared.read.NetlistNumbers.{NetlistNumbers}
 use Rattle.read_aiger.specs.WholeAnswers.{NetlistAt}
 use Rattle.read_verilog.specs.declared.rules.Kept.{Kept as Answer}
 use Rattle.read_verilog.specs.Kept.{KeptAt, RulesSay, RulesAre}

@@ -1,16 +1,16 @@
 -- The declared names of a module in text order, each with its kind, and the lists of question 17.
-use Prim.Native.Nat.{ℕ, zero, suc, ◌+◌, ◌≤◌, ◌<◌}
+use Prim.Native.Nat.{ℕ, ◌+◌, ◌≤◌, ◌<◌}
 use mathlib.Core.Path.{◌≡◌, refl, sym, ap, ap₂, ◌∙◌}
 use mathlib.Core.Bool.{Bool, true, false, cond, not, ◌&&◌, ◌||◌}
 use mathlib.Core.List.{List, [], ◌∷◌, ◌++◌, append_assoc, append-nil}
 use native.Mathlib.Omega.{arith}
-use lib.Dec.{T, eqb, leb}
+use lib.Dec.{T, eqb}
 use lib.ListN.{length, length-append}
 use borrow.Author.Tests.{eq-eqb, eqb-true, eqb-false}
-use Rattle.netlist.specs.Lists.{every, same_bytes, ascii}
+use Rattle.netlist.specs.Lists.{same_bytes, ascii}
 use Rattle.netlist.proofs.Tests.{on_bool, is_true, true-T}
 use Rattle.verilog.specs.Tokens.{Token, name, mark, elem}
-use Rattle.verilog.specs.Syntax.{Names, Kind, input, output, wire, Declaration, Assign, Module, expr_tokens, comma_tokens, names_tokens, kind_word, declaration_tokens, assign_tokens, each_tokens, module_tokens}
+use Rattle.verilog.specs.Syntax.{Names, Kind, input, output, wire, Declaration, Assign, Module, comma_tokens, names_tokens, kind_word, declaration_tokens, assign_tokens, each_tokens, module_tokens}
 use Rattle.verilog.specs.Rules.{distinct, all_names, declared_as, inputs, outputs, wires}
 use Rattle.verilog.specs.EachName.{times}
 use Rattle.verilog.specs.Equations.{Entry, entry}
@@ -22,9 +22,9 @@ use Rattle.verilog_tokens.proofs.Firsts.{never}
 use Rattle.verilog_names.specs.Names.{names_of}
 use Rattle.verilog_gates.specs.Wires.{wire_of}
 use Rattle.verilog_rules.specs.Stages.{declared_from, behind_declared, keys, kinds, fresh, Loaded}
-use Rattle.verilog_rules.specs.Ports.{behind_port, ports_left}
+use Rattle.verilog_rules.specs.Ports.{ports_left}
 use Rattle.verilog_assigns.specs.Settled.{assigns_left}
-use Rattle.read_verilog.proofs.Entries.{Once, valued, valued-append, keys-append, entries_in, entries-are, value_in, or-false}
+use Rattle.read_verilog.proofs.Entries.{Once, valued, valued-append, keys-append, entries_in, entries-are, value_in}
 
 abbrev pub kind_number : Kind → ℕ
 kind_number input = 1

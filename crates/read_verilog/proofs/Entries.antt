@@ -4,23 +4,22 @@ use mathlib.Core.Path.{◌≡◌, refl, sym, ap, ap₂, ◌∙◌}
 use mathlib.Core.Bool.{Bool, true, false, cond, not, ◌&&◌, ◌||◌}
 use mathlib.Core.List.{List, [], ◌∷◌, ◌++◌}
 use native.Mathlib.Omega.{arith}
-use lib.Dec.{T, eqb, leb}
+use lib.Dec.{eqb, leb}
 use lib.ListN.{length, get_or, set, take, length-set}
 use lib.Seq.{get_or-set_same, get_or-set_other}
 use borrow.Author.Tests.{eq-eqb, ne_eqb, eqb-true, eqb-false}
 use Rattle.netlist.specs.Lists.{every, same_bytes}
 use Rattle.netlist.proofs.Tests.{on_bool}
 use Rattle.verilog.specs.Tokens.{elem}
-use Rattle.verilog.specs.Rules.{distinct}
 use Rattle.verilog.specs.Equations.{Entry, entry}
 use Rattle.verilog.proofs.Listing.{same-equal, same_self}
 use Rattle.verilog_tokens.proofs.Firsts.{never}
 use Rattle.verilog_names.specs.Names.{name_at, names_of, found}
 use Rattle.verilog_names.proofs.Chains.{found_within}
-use Rattle.verilog_gates.specs.Wires.{before, wire_of, set_before, given}
+use Rattle.verilog_gates.specs.Wires.{wire_of, set_before, given}
 use Rattle.verilog_rules.specs.States.{becomes, all_from}
 use Rattle.verilog_rules.specs.Stages.{keys, kinds, fresh}
-use Rattle.verilog_rules.proofs.Declaring.{elem-snoc, same-other, found-elem}
+use Rattle.verilog_rules.proofs.Declaring.{same-other, found-elem}
 use Rattle.verilog_rules.proofs.Moves.{found_name, state-none, state-some, every_take}
 
 -- ---- words that are the same

@@ -1,19 +1,16 @@
 -- The recogniser over a module up to its assignments, and assignments that are read in its text.
 use Prim.Native.Nat.{ℕ}
-use mathlib.Core.Path.{◌≡◌, refl, sym, ap, subst, ◌∙◌}
-use mathlib.Core.Bool.{Bool, true, false}
+use mathlib.Core.Path.{◌≡◌, refl, sym, ap, ◌∙◌}
+use mathlib.Core.Bool.{true}
 use mathlib.Core.List.{List, [], ◌∷◌, ◌++◌, append_assoc}
-use mathlib.Core.Option.{Option, none, some}
-use native.Mathlib.Omega.{arith}
-use lib.Dec.{T}
-use lib.ListN.{drop}
+use mathlib.Core.Option.{Option, some}
 use Rattle.netlist.specs.Lists.{same_bytes, ascii}
 use Rattle.netlist.proofs.Tests.{on_bool, true-T}
 use Rattle.verilog.specs.Tokens.{Token, name, mark, tokens}
-use Rattle.verilog.specs.Syntax.{Names, Kind, input, output, wire, Declaration, Assign, Module, Stands, comma_tokens, names_tokens, declaration_tokens, assign_tokens, each_tokens, module_tokens}
+use Rattle.verilog.specs.Syntax.{Names, Kind, input, output, wire, Declaration, Assign, Module, Stands, comma_tokens, declaration_tokens, each_tokens, module_tokens}
 use Rattle.verilog.specs.Rules.{all_names}
-use Rattle.verilog.specs.Parse.{if_some, parse}
-use Rattle.verilog.specs.Walk.{Shape, flat, walk, well_ended, accepted, on_module, on_item, on_assign, behind_port, behind_name, on_nothing}
+use Rattle.verilog.specs.Parse.{if_some}
+use Rattle.verilog.specs.Walk.{flat, walk, well_ended, accepted, on_module, on_item, on_assign, behind_port, behind_name, on_nothing}
 use Rattle.verilog.specs.Reading.{Accepts}
 use Rattle.verilog.proofs.Listing.{same-equal}
 use Rattle.verilog.proofs.Parsing.{parse-complete, unambiguous}

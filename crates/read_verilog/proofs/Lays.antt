@@ -1,7 +1,7 @@
 -- The gates of assignments: from a table of wires, and from a list of entries.
 use Prim.Native.Nat.{ℕ, ◌≤◌, ◌<◌}
-use mathlib.Core.Path.{◌≡◌, refl, sym, ap, ap₂, subst, ◌∙◌}
-use mathlib.Core.Bool.{Bool, cond}
+use mathlib.Core.Path.{◌≡◌, refl, sym, ap, ◌∙◌}
+use mathlib.Core.Bool.{cond}
 use mathlib.Core.List.{List, [], ◌∷◌, ◌++◌, append_assoc, append-nil}
 use native.Mathlib.Omega.{arith}
 use lib.Dec.{T}
@@ -16,7 +16,7 @@ use Rattle.verilog.specs.Equations.{Entry, entry, look}
 use Rattle.verilog.specs.Made.{Made, expr_made, Built, build}
 use Rattle.verilog_names.specs.Names.{found}
 use Rattle.verilog_gates.specs.Wires.{wire_of, given}
-use Rattle.verilog_gates.specs.Equations.{Laid, lay, lay_all}
+use Rattle.verilog_gates.specs.Equations.{Laid, lay_all}
 use Rattle.read_verilog.proofs.Entries.{wire-given, length-given}
 
 module _ (t words : List ℕ) (n : ℕ) (targets : List (List ℕ)) (declared : (w : List ℕ) → T (elem w targets) → 0 < found t words w n) where

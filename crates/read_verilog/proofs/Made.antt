@@ -1,30 +1,26 @@
 -- The gates that assignments and copies put into the tables are those of the netlist made.
-use Prim.Native.Nat.{ℕ, ◌<◌}
-use mathlib.Core.Path.{◌≡◌, refl, sym, ap, ap₂, subst, ◌∙◌}
+use Prim.Native.Nat.{ℕ}
+use mathlib.Core.Path.{◌≡◌, refl, sym, ap, ap₂, ◌∙◌}
 use mathlib.Core.Bool.{Bool}
 use mathlib.Core.List.{List, [], ◌∷◌, ◌++◌, map}
 use mathlib.Core.Option.{some}
-use native.Mathlib.Omega.{arith}
 use lib.Dec.{T, eqb}
-use lib.ListN.{length, drop}
-use Rattle.netlist.specs.declared.Gate.{Gate}
 use Rattle.netlist.specs.Lists.{ascii}
 use Rattle.netlist.specs.Table.{Tables}
 use Rattle.netlist.proofs.Tests.{is_true}
-use Rattle.verilog.specs.Tokens.{Token, mark, elem, tokens}
-use Rattle.verilog.specs.Syntax.{Assign, Module, Stands, assign_tokens, each_tokens}
+use Rattle.verilog.specs.Tokens.{Token, mark, elem}
+use Rattle.verilog.specs.Syntax.{Module, Stands, assign_tokens, each_tokens}
 use Rattle.verilog.specs.Rules.{all_names, inputs, outputs, wires, rules_kept}
-use Rattle.verilog.specs.Equations.{chosen, input_ports, output_ports, Entry, look}
+use Rattle.verilog.specs.Equations.{chosen, input_ports, output_ports, look}
 use Rattle.verilog.specs.Made.{Built, build, numbered, copies, built, netlist_made}
-use Rattle.verilog.proofs.Naming.{Kept, kept}
+use Rattle.verilog.proofs.Naming.{kept}
 use Rattle.verilog.proofs.NameByName.{each-good}
-use Rattle.verilog_tokens.specs.Next.{between, TokenAt}
+use Rattle.verilog_tokens.specs.Next.{between}
 use Rattle.verilog_tokens.proofs.Firsts.{token-code}
 use Rattle.verilog_gates.specs.Puts.{put_gates}
 use Rattle.verilog_gates.specs.Wires.{wire_of}
 use Rattle.verilog_gates.specs.Equations.{Laid, lay_all, unlaid, Laying, EquationsIs}
 use Rattle.verilog_gates.proofs.Joins.{puts-append}
-use Rattle.verilog_rules.specs.Ports.{ports_left}
 use Rattle.verilog_rules.proofs.Seating.{known}
 use Rattle.verilog_assigns.specs.Settled.{assigns_left}
 use Rattle.verilog_copies.specs.Copies.{output_copies, CopiesIs}
@@ -32,7 +28,7 @@ use Rattle.read_verilog.specs.declared.rules.Kept.{Kept as Answer}
 use Rattle.read_verilog.specs.Kept.{KeptAt}
 use Rattle.read_verilog.specs.Gates.{GatesPut}
 use Rattle.read_verilog.proofs.Items.{assigns-accepted, end-only, assigns-same}
-use Rattle.read_verilog.proofs.Lays.{Laid', lay-build}
+use Rattle.read_verilog.proofs.Lays.{lay-build}
 
 made-gates : (m : Module) → (netlist_made m).gates ≡ (built m).gates ++ copies (built m).next (map (look 0 (built m).names) (output_ports m))
 unfolding netlist_made

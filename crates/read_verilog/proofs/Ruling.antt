@@ -1,34 +1,34 @@
 -- Question 17 of a module, from the states of its names.
-use Prim.Native.Nat.{ℕ, zero, suc, ◌+◌, ◌-◌, ◌*◌, ◌≤◌, ◌<◌}
-use mathlib.Core.Path.{◌≡◌, refl, sym, ap, ap₂, subst, ◌∙◌}
+use Prim.Native.Nat.{ℕ, zero, suc, ◌+◌, ◌-◌, ◌≤◌, ◌<◌}
+use mathlib.Core.Path.{◌≡◌, refl, sym, ap, ap₂, ◌∙◌}
 use mathlib.Core.Bool.{Bool, true, false, cond, not, ◌&&◌, ◌||◌}
-use mathlib.Core.List.{List, [], ◌∷◌, ◌++◌, append_assoc}
+use mathlib.Core.List.{List, [], ◌∷◌, ◌++◌}
 use native.Mathlib.Omega.{arith}
 use lib.Dec.{T, eqb, leb}
-use lib.ListN.{length, get_or, replicate, length-append}
-use borrow.Author.Tests.{eq-eqb, ne_eqb, eqb-true, eqb-false, le-leb, leb-true}
+use lib.ListN.{length, get_or, replicate}
+use borrow.Author.Tests.{eqb-true, eqb-false, le-leb, leb-true}
 use Rattle.netlist.specs.Lists.{every, same_bytes}
-use Rattle.netlist.proofs.Tests.{on_bool, both_true, pair, or_right, is_true, true-T}
+use Rattle.netlist.proofs.Tests.{on_bool, both_true, is_true, true-T}
 use Rattle.verilog.specs.Tokens.{elem}
-use Rattle.verilog.specs.Syntax.{Kind, input, output, wire, Module}
-use Rattle.verilog.specs.Rules.{distinct, all_names, inputs, outputs, wires, assigns_good, rules_kept}
+use Rattle.verilog.specs.Syntax.{input, output, wire, Module}
+use Rattle.verilog.specs.Rules.{distinct, all_names, inputs, outputs, wires, assigns_good}
 use Rattle.verilog.specs.EachName.{times}
-use Rattle.verilog.specs.Equations.{chosen, Entry, look, input_ports, output_ports}
+use Rattle.verilog.specs.Equations.{chosen, look, input_ports, output_ports}
 use Rattle.verilog.specs.Made.{numbered}
-use Rattle.verilog.proofs.Naming.{elem-here, elem-left, elem-right, elem-append, every-elem, all-every, elem-chosen, chosen-pass, Kept, some-input, some-output}
+use Rattle.verilog.proofs.Naming.{every-elem, all-every, Kept, some-input, some-output}
 use Rattle.verilog.proofs.NameByName.{times_none, times-some, some-times}
 use Rattle.verilog_tokens.proofs.Firsts.{never}
 use Rattle.verilog_names.specs.Names.{names_of, found}
 use Rattle.verilog_gates.specs.Wires.{wire_of}
 use Rattle.verilog_rules.specs.States.{all_from}
-use Rattle.verilog_rules.specs.Stages.{keys, Loaded}
+use Rattle.verilog_rules.specs.Stages.{Loaded}
 use Rattle.verilog_rules.specs.Ports.{Seated, seat_all, unseated}
 use Rattle.verilog_rules.proofs.Declaring.{found-elem}
 use Rattle.verilog_rules.proofs.Moves.{state-none, state-some}
 use Rattle.verilog_assigns.specs.Settled.{Settled, settle_all, unsettled, is_open}
 use Rattle.read_verilog.specs.Kept.{ports_done, assigns_done}
 use Rattle.read_verilog.proofs.Entries.{all_named, every-same, valued_found, elem-found}
-use Rattle.read_verilog.proofs.Declared.{kind_number, entries_of, items_left, elem-or, times-append, times-declared, loaded-names, loaded-once, loaded-kind, loaded-low}
+use Rattle.read_verilog.proofs.Declared.{items_left, elem-or, times-append, times-declared, loaded-names, loaded-once, loaded-kind, loaded-low}
 use Rattle.read_verilog.proofs.Seats.{moved, is_port, is_input, is_output, Seen, ports_ok, ports-distinct, ports-every, ports-from, Sat, seat-good, good-seat}
 use Rattle.read_verilog.proofs.Settles.{is_out, Known, Done, settle-good, good-settle}
 

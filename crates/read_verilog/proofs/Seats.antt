@@ -1,22 +1,21 @@
 -- The port list: what the states of names, the wires of inputs and the counts are behind it.
-use Prim.Native.Nat.{ℕ, zero, suc, ◌+◌, ◌≤◌, ◌<◌}
+use Prim.Native.Nat.{ℕ, ◌+◌, ◌≤◌}
 use mathlib.Core.Path.{◌≡◌, refl, sym, ap, ap₂, subst, ◌∙◌}
 use mathlib.Core.Bool.{Bool, true, false, cond, not, ◌&&◌, ◌||◌}
-use mathlib.Core.List.{List, [], ◌∷◌, ◌++◌}
+use mathlib.Core.List.{List, [], ◌∷◌}
 use native.Mathlib.Omega.{arith}
-use lib.Dec.{T, eqb, leb, not_T}
+use lib.Dec.{T, eqb}
 use lib.ListN.{length}
-use borrow.Author.Tests.{eq-eqb, ne_eqb, eqb-true, eqb-false}
+use borrow.Author.Tests.{eq-eqb, eqb-true}
 use Rattle.netlist.specs.Lists.{every, same_bytes}
-use Rattle.netlist.proofs.Tests.{on_bool, both, pair, or_left, or_right, is_true, is_false, true-T, false-T}
+use Rattle.netlist.proofs.Tests.{on_bool, both, pair, or_right, is_true, is_false, true-T, false-T}
 use Rattle.verilog.specs.Tokens.{elem}
 use Rattle.verilog.specs.Rules.{distinct}
-use Rattle.verilog.specs.Equations.{chosen, Entry, entry, look}
+use Rattle.verilog.specs.Equations.{chosen, look}
 use Rattle.verilog.specs.Made.{numbered}
-use Rattle.verilog.proofs.Listing.{same-equal, same_self}
+use Rattle.verilog.proofs.Listing.{same-equal}
 use Rattle.verilog.proofs.Naming.{elem-here, elem-chosen}
 use Rattle.verilog_tokens.proofs.Firsts.{never}
-use Rattle.verilog_names.specs.Names.{found}
 use Rattle.verilog_gates.specs.Wires.{wire_of, given}
 use Rattle.verilog_rules.specs.States.{becomes}
 use Rattle.verilog_rules.specs.Ports.{Seated, seat, seat_all}

@@ -1,14 +1,14 @@
 -- The assignments: the states of names behind them, and question 17.
-use Prim.Native.Nat.{ℕ, zero, suc, ◌+◌, ◌≤◌, ◌<◌}
+use Prim.Native.Nat.{ℕ, ◌≤◌}
 use mathlib.Core.Path.{◌≡◌, refl, sym, ap, ap₂, subst, ◌∙◌}
 use mathlib.Core.Bool.{Bool, true, false, cond, not, ◌&&◌, ◌||◌}
-use mathlib.Core.List.{List, [], ◌∷◌, ◌++◌}
+use mathlib.Core.List.{List, [], ◌∷◌}
 use native.Mathlib.Omega.{arith}
 use lib.Dec.{T, eqb, leb}
 use lib.ListN.{length}
-use borrow.Author.Tests.{eq-eqb, ne_eqb, eqb-true, eqb-false}
+use borrow.Author.Tests.{eqb-true}
 use Rattle.netlist.specs.Lists.{every, same_bytes}
-use Rattle.netlist.proofs.Tests.{on_bool, both, both_true, pair, or_right, is_true, is_false, true-T, false-T}
+use Rattle.netlist.proofs.Tests.{on_bool, both_true, pair, or_right, is_true, true-T}
 use Rattle.verilog.specs.Tokens.{elem}
 use Rattle.verilog.specs.Syntax.{Assign}
 use Rattle.verilog.specs.Rules.{expr_reads, assigns_good}

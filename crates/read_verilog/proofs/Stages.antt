@@ -1,7 +1,7 @@
 -- The stages of question 17 put together.
-use Prim.Native.Nat.{ℕ, zero, suc, ◌+◌, ◌*◌, ◌≤◌, ◌<◌}
+use Prim.Native.Nat.{ℕ, ◌*◌, ◌≤◌, ◌<◌}
 use mathlib.Core.Path.{◌≡◌, refl, sym, ap, ap₂, subst, ◌∙◌}
-use mathlib.Core.Bool.{Bool, true, false, cond, ◌&&◌}
+use mathlib.Core.Bool.{Bool, true, false, ◌&&◌}
 use mathlib.Core.List.{List, [], ◌∷◌, ◌++◌}
 use mathlib.Core.Option.{some}
 use native.Mathlib.Omega.{arith}
@@ -12,7 +12,7 @@ use Rattle.netlist.specs.Lists.{ascii}
 use Rattle.netlist.specs.Table.{half}
 use Rattle.netlist.proofs.Tests.{on_bool, is_true, true-T}
 use Rattle.verilog.specs.Tokens.{Token, name, mark, elem, tokens}
-use Rattle.verilog.specs.Syntax.{Assign, Module, Stands, comma_tokens}
+use Rattle.verilog.specs.Syntax.{Module, Stands, comma_tokens}
 use Rattle.verilog.specs.Rules.{distinct, all_names, inputs, outputs, wires, rules_kept}
 use Rattle.verilog.specs.Equations.{Entry}
 use Rattle.verilog.proofs.Naming.{Kept, kept, rules}
@@ -22,17 +22,17 @@ use Rattle.verilog_tokens.proofs.Firsts.{never}
 use Rattle.verilog_names.specs.Names.{newest, Chained}
 use Rattle.verilog_gates.specs.Wires.{wire_of}
 use Rattle.verilog_rules.specs.States.{all_from}
-use Rattle.verilog_rules.specs.Stages.{declared_from, behind_declared, keys, fresh, Loaded, AllDeclared, NotDeclared, DeclaredBy, DeclaredIs}
+use Rattle.verilog_rules.specs.Stages.{declared_from, keys, fresh, Loaded, AllDeclared, NotDeclared, DeclaredBy, DeclaredIs}
 use Rattle.verilog_rules.specs.declared.declarations.Declared.{Declared}
-use Rattle.verilog_rules.specs.Ports.{Seated, seat_all, unseated, ports_left, PortsSay, PortsIs}
+use Rattle.verilog_rules.specs.Ports.{seat_all, unseated, ports_left, PortsSay, PortsIs}
 use Rattle.verilog_rules.specs.declared.ports.Ports.{Ports}
 use Rattle.verilog_rules.proofs.Seating.{known}
 use Rattle.verilog_assigns.specs.Parts.{names_pass, behind_end, any, PastIs}
-use Rattle.verilog_assigns.specs.Settled.{Settled, settle_all, unsettled, assigns_left, AssignsSay, AssignsIs}
+use Rattle.verilog_assigns.specs.Settled.{settle_all, unsettled, assigns_left, AssignsSay, AssignsIs}
 use Rattle.read_verilog.specs.declared.rules.Kept.{Kept as Answer}
-use Rattle.read_verilog.specs.Kept.{PlaceIs, ports_done, PortsKept, assigns_done, AssignsKept, KeptAt, RulesSay, RulesAre}
-use Rattle.read_verilog.proofs.Declared.{entries_of, items_left, module-parts, items-declared, items-behind, fresh-once, count-declared}
-use Rattle.read_verilog.proofs.Ruling.{get_d-zeros, wire-zero, target_found, Ported, kept-ported, good-ported, ported-good, ported-inputs, ported-outputs, ported-wired, ported-wires, kept-settled, settled-kept, settled-outputs}
+use Rattle.read_verilog.specs.Kept.{PlaceIs, ports_done, PortsKept, assigns_done, AssignsKept, RulesAre}
+use Rattle.read_verilog.proofs.Declared.{items_left, module-parts, items-declared, items-behind, fresh-once, count-declared}
+use Rattle.read_verilog.proofs.Ruling.{get_d-zeros, wire-zero, target_found, kept-ported, good-ported, ported-good, ported-inputs, ported-outputs, ported-wires, kept-settled, settled-kept, settled-outputs}
 
 -- ---- places
 

@@ -1,5 +1,5 @@
 -- The parts of question 17, and what the tables hold of a module that keeps the rules.
-use Rattle.std.specs.Prelude.{ℕ, ◌≤◌, ◌<◌, ◌≡◌, Bool, true, ◌&&◌, List, [], ◌∷◌, ◌++◌, T, eqb, leb, length, drop}
+use Rattle.std.specs.Prelude.{ℕ, ◌≤◌, ◌<◌, ◌≡◌, Bool, true, ◌&&◌, List, [], ◌∷◌, ◌++◌, eqb, leb, length, drop}
 use Rattle.std.proofs.Math.Option.{some}
 use Rattle.netlist.specs.Lists.{ascii}
 use Rattle.verilog.specs.Tokens.{Token, name, mark, elem, tokens}

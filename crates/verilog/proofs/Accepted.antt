@@ -1,7 +1,7 @@
 -- The netlist of an accepted text of equations.
 use Prim.Native.Nat.{ℕ, ◌≤◌}
 use mathlib.Core.Path.{◌≡◌, sym, ap, subst, ◌∙◌}
-use mathlib.Core.Bool.{Bool, ◌&&◌}
+use mathlib.Core.Bool.{◌&&◌}
 use mathlib.Core.List.{List}
 use lib.Dec.{T, leb, leb→le}
 use lib.ListN.{length}
@@ -10,9 +10,8 @@ use Rattle.netlist.specs.declared.Sizes.{Sizes}
 use Rattle.netlist.specs.Netlist.{Netlist, input_bits, output_bits, small}
 use Rattle.netlist.specs.Outcome.{done, ask, given, and_then}
 use Rattle.netlist.specs.Header.{within_limits}
-use Rattle.netlist.specs.Read.{read_netlist, header_of, WellFormed, Within}
+use Rattle.netlist.specs.Read.{read_netlist, header_of, Within}
 use Rattle.netlist.specs.Write.{write_netlist}
-use Rattle.netlist.specs.Eval.{outputs_of}
 use Rattle.netlist.specs.Services.{tables_long, holds, rewrite_outcome}
 use borrow.Author.Tests.{le-leb}
 use Rattle.netlist.proofs.Tests.{both, is_true}
@@ -22,7 +21,6 @@ use Rattle.verilog.specs.Syntax.{Module, Stands}
 use Rattle.verilog.specs.Parse.{parse}
 use Rattle.verilog.specs.Depth.{shallow}
 use Rattle.verilog.specs.Rules.{rules_kept}
-use Rattle.verilog.specs.Equations.{input_ports, equation_outputs}
 use Rattle.verilog.specs.Made.{netlist_made}
 use Rattle.verilog.specs.Call.{made_outcome, read_equations, equations_call}
 use Rattle.verilog.specs.Delivered.{Reads, Delivered}

@@ -1,12 +1,12 @@
 -- Tokens passed one after another, up to a semicolon.
-use Prim.Native.Nat.{ℕ, ◌+◌, ◌-◌, ◌≤◌, ◌<◌}
+use Prim.Native.Nat.{ℕ, ◌≤◌, ◌<◌}
 use mathlib.Core.Path.{◌≡◌, refl, sym, ap, ◌∙◌}
 use mathlib.Core.Bool.{Bool, true, false, cond, ◌&&◌}
 use mathlib.Core.List.{List, [], ◌∷◌, ◌++◌, append_assoc}
 use mathlib.Core.Option.{some}
 use native.Mathlib.Omega.{arith}
 use lib.Dec.{eqb, leb}
-use lib.ListN.{length, drop}
+use lib.ListN.{drop}
 use borrow.Author.Tests.{eq-eqb, ne_eqb, eqb-true, eqb-false}
 use Rattle.netlist.specs.Lists.{every, ascii}
 use Rattle.netlist.proofs.Tests.{on_bool}
@@ -15,12 +15,11 @@ use Rattle.verilog.specs.Tokens.{Token, name, mark, tokens}
 use Rattle.verilog.specs.Syntax.{Expr, Term, Factor, term, xor, factor, and, read, group, tilde, expr_tokens, term_tokens, factor_tokens}
 use Rattle.verilog.specs.Rules.{expr_reads, term_reads, factor_reads}
 use Rattle.verilog_tokens.specs.Next.{code_of, token_of, between, TokenAt}
-use Rattle.verilog_tokens.proofs.Firsts.{never, token-code, First, first, none_left}
+use Rattle.verilog_tokens.proofs.Firsts.{never, token-code, first, none_left}
 use Rattle.verilog_gates.specs.Wires.{wire_of}
 use Rattle.verilog_gates.proofs.Joins.{left}
 use Rattle.verilog_rules.proofs.Seating.{name-marked}
-use Rattle.verilog_assigns.specs.Parts.{readable, token_passes, names_pass, behind_end, PartSays, PartIs, any, PastIs}
-use Rattle.verilog_assigns.specs.declared.Part.{Part}
+use Rattle.verilog_assigns.specs.Parts.{readable, token_passes, names_pass, behind_end, PartIs, any, PastIs}
 
 -- ---- one token
 

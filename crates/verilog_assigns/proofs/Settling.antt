@@ -1,20 +1,19 @@
 -- Assignments settled one after another.
-use Prim.Native.Nat.{ℕ, ◌+◌, ◌-◌, ◌≤◌, ◌<◌}
-use mathlib.Core.Path.{◌≡◌, refl, sym, ap, subst, ◌∙◌}
-use mathlib.Core.Bool.{Bool, true, false, cond, ◌&&◌, ◌||◌}
+use Prim.Native.Nat.{ℕ, ◌<◌}
+use mathlib.Core.Path.{◌≡◌, refl, sym, ap, ◌∙◌}
+use mathlib.Core.Bool.{Bool, true, false, ◌&&◌}
 use mathlib.Core.List.{List, [], ◌∷◌, ◌++◌, append_assoc}
 use mathlib.Core.Option.{some}
 use native.Mathlib.Omega.{arith}
 use lib.Dec.{eqb}
 use lib.ListN.{length, drop}
-use borrow.Author.Tests.{eq-eqb, ne_eqb, eqb-true, eqb-false}
 use Rattle.netlist.specs.Lists.{every, ascii}
-use Rattle.netlist.proofs.Tests.{on_bool, both_true}
+use Rattle.netlist.proofs.Tests.{on_bool}
 use Rattle.netlist.proofs.Questions.{some_same}
 use Rattle.verilog.specs.Tokens.{Token, name, mark, tokens}
 use Rattle.verilog.specs.Syntax.{Assign, expr_tokens, assign_tokens, each_tokens}
 use Rattle.verilog.specs.Rules.{expr_reads}
-use Rattle.verilog_tokens.specs.Next.{code_of, token_of, between, TokenAt}
+use Rattle.verilog_tokens.specs.Next.{token_of, between, TokenAt}
 use Rattle.verilog_tokens.proofs.Firsts.{never, token-code}
 use Rattle.verilog_gates.specs.Wires.{wire_of}
 use Rattle.verilog_gates.proofs.Joins.{left}
@@ -23,7 +22,7 @@ use Rattle.verilog_rules.proofs.Moves.{stays}
 use Rattle.verilog_rules.proofs.Seating.{known, name-marked, same_name}
 use Rattle.verilog_assigns.specs.declared.Part.{Part}
 use Rattle.verilog_assigns.specs.Parts.{readable, names_pass, behind_end, PartIs}
-use Rattle.verilog_assigns.specs.Settled.{is_open, settled, TargetIs, Settled, settle, settle_all, unsettled, assigns_left, AssignsSay, AssignsIs}
+use Rattle.verilog_assigns.specs.Settled.{is_open, settled, TargetIs, Settled, settle, settle_all, unsettled, assigns_left, AssignsIs}
 use Rattle.verilog_assigns.proofs.Passing.{expr-pass, expr-behind}
 
 -- ---- one target

@@ -1,13 +1,13 @@
 -- Outputs copied one after another.
-use Prim.Native.Nat.{ℕ, ◌+◌, ◌-◌, ◌≤◌, ◌<◌}
+use Prim.Native.Nat.{ℕ, ◌+◌, ◌≤◌, ◌<◌}
 use mathlib.Core.Path.{◌≡◌, refl, sym, ap, ◌∙◌}
-use mathlib.Core.Bool.{Bool, true, false, cond}
+use mathlib.Core.Bool.{Bool, false, cond}
 use mathlib.Core.List.{List, [], ◌∷◌, map}
 use mathlib.Core.Option.{some}
 use native.Mathlib.Omega.{arith}
 use lib.Dec.{eqb}
 use lib.ListN.{length, drop}
-use borrow.Author.Tests.{eq-eqb, ne_eqb, eqb-true, eqb-false}
+use borrow.Author.Tests.{eqb-true, eqb-false}
 use Rattle.netlist.specs.declared.Gate.{Gate}
 use Rattle.netlist.specs.declared.Gate.TheVariants.{Eqw}
 use Rattle.netlist.specs.Table.{Tables, tables, half}
@@ -18,7 +18,7 @@ use Rattle.verilog.specs.Made.{copies}
 use Rattle.verilog_tokens.specs.Next.{between, TokenAt}
 use Rattle.verilog_gates.specs.Puts.{packed, put_gate, put_gates}
 use Rattle.verilog_gates.specs.Wires.{wire_of}
-use Rattle.verilog_rules.specs.Ports.{ports_left, behind_port}
+use Rattle.verilog_rules.specs.Ports.{ports_left}
 use Rattle.verilog_rules.proofs.Seating.{port-here, port-next, port-none}
 use Rattle.verilog_copies.specs.Copies.{CopyIs, output_copies, CopiesIs}
 

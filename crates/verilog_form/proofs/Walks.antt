@@ -1,25 +1,22 @@
 -- The loop over the tokens of a text.
-use Prim.Native.Nat.{ℕ, suc, ◌+◌, ◌*◌, ◌-◌, ◌≤◌, ◌<◌, max}
-use mathlib.Core.Path.{◌≡◌, refl, sym, ap, subst, ◌∙◌}
+use Prim.Native.Nat.{ℕ, ◌+◌, ◌*◌, ◌-◌, ◌≤◌, ◌<◌, max}
+use mathlib.Core.Path.{◌≡◌, refl, sym, ap, ◌∙◌}
 use mathlib.Core.Bool.{Bool, true, false, cond}
 use mathlib.Core.List.{List, [], ◌∷◌}
 use mathlib.Core.Option.{Option, none, some}
 use native.Mathlib.Omega.{arith}
 use lib.Dec.{eqb, leb}
 use lib.ListN.{length, drop}
-use borrow.Author.Tests.{eq-eqb, ne_eqb, eqb-true, eqb-false}
-use Rattle.netlist.specs.Table.{half}
+use borrow.Author.Tests.{eq-eqb, ne_eqb}
 use Rattle.netlist.proofs.Tests.{on_bool}
-use Rattle.netlist.proofs.Questions.{none-some, some_same}
 use Rattle.verilog.specs.Tokens.{Token, cons_token, tokens}
 use Rattle.verilog.specs.Parse.{if_some}
 use Rattle.verilog.specs.Walk.{Phase, Shape, at, flat, turn, walk, is_end, well_ended, accepted, unfollowed, deepest, operators_in, on_module}
 use Rattle.verilog.proofs.Scanning.{behind_turn, behind_token, behind-token}
 use Rattle.verilog_tokens.specs.Next.{token_of, between, TokenAt}
 use Rattle.verilog_tokens.proofs.Firsts.{never, some-token, no-token}
-use Rattle.verilog_form.specs.Turns.{phase_of, kept, stepped, step_said, operator_code, Counted, ScanIs}
+use Rattle.verilog_form.specs.Turns.{phase_of, stepped, step_said, operator_code, ScanIs}
 use Rattle.verilog_form.specs.declared.Step.{Step}
-use Rattle.verilog_form.specs.declared.Scan.{Scan}
 use Rattle.verilog_form.proofs.Machine.{number, depth_of, turned, turn-steady, number-phase, number-low, end-phase, operator-coded}
 
 -- ---- one token

@@ -1,5 +1,5 @@
 -- The recogniser in numbers: a phase by its place in the list of phases, a token by its code.
-use Rattle.std.specs.Prelude.{ℕ, zero, suc, ◌+◌, ◌*◌, ◌≡◌, Bool, true, cond, ◌&&◌, List, [], ◌∷◌, eqb, leb, get_or}
+use Rattle.std.specs.Prelude.{ℕ, zero, suc, ◌+◌, ◌*◌, ◌≡◌, true, cond, List, [], ◌∷◌, eqb, leb, get_or}
 use Rattle.std.proofs.Math.Option.{Option, none, some}
 use Rattle.verilog.specs.Tokens.{Token, tokens}
 use Rattle.verilog.specs.Walk.{Phase, Shape, at, flat, accepted, deepest, operators_in, on_module, on_title, on_ports, on_port, behind_port, on_head_end, on_item, on_assign, on_name, behind_name, on_target, on_equals, on_operand, on_negated, behind_operand, on_nothing}

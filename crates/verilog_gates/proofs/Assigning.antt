@@ -1,29 +1,29 @@
 -- Assignments read one after another.
-use Prim.Native.Nat.{ℕ, zero, suc, ◌+◌, ◌*◌, ◌-◌, ◌≤◌, ◌<◌}
+use Prim.Native.Nat.{ℕ, zero, suc, ◌≤◌, ◌<◌}
 use mathlib.Core.Path.{◌≡◌, refl, sym, ap, ◌∙◌, subst}
-use mathlib.Core.Bool.{Bool, true, false, cond}
+use mathlib.Core.Bool.{true}
 use mathlib.Core.List.{List, [], ◌∷◌, ◌++◌, append_assoc}
-use mathlib.Core.Option.{Option, none, some}
+use mathlib.Core.Option.{some}
 use native.Mathlib.Omega.{arith}
-use lib.Dec.{T, eqb}
-use lib.ListN.{length, drop, set, length-set}
+use lib.Dec.{eqb}
+use lib.ListN.{length, drop, length-set}
 use Rattle.netlist.specs.Lists.{same_bytes, ascii}
-use Rattle.netlist.specs.Table.{Tables, tables, half}
+use Rattle.netlist.specs.Table.{Tables, tables}
 use Rattle.netlist.proofs.Tests.{on_bool}
 use Rattle.netlist.proofs.Questions.{some_same}
 use Rattle.verilog.specs.Tokens.{Token, name, mark, tokens}
 use Rattle.verilog.specs.Syntax.{Expr, Assign, expr_tokens, assign_tokens, each_tokens}
 use Rattle.verilog.specs.Made.{Made, expr_made}
-use Rattle.verilog.specs.Walk.{Shape, at, flat, walk, on_assign, on_target, on_equals, on_operand, behind_operand}
-use Rattle.verilog.specs.Reading.{Accepts, Read}
+use Rattle.verilog.specs.Walk.{at, flat, walk, on_assign, on_target, on_equals, on_operand, behind_operand}
+use Rattle.verilog.specs.Reading.{Accepts}
 use Rattle.verilog.proofs.Listing.{same-equal, each_snoc}
 use Rattle.verilog.proofs.Descent.{behind-cases}
 use Rattle.verilog_tokens.specs.Next.{code_of, token_of, between, TokenAt}
 use Rattle.verilog_tokens.proofs.Firsts.{never, token-code, First, first, none_left}
 use Rattle.verilog_names.specs.Names.{found}
 use Rattle.verilog_gates.specs.Puts.{put_gates}
-use Rattle.verilog_gates.specs.Wires.{before, wire_of, set_before, given}
-use Rattle.verilog_gates.specs.Operands.{Ready, Gives, no_operator, ExprIs}
+use Rattle.verilog_gates.specs.Wires.{wire_of, set_before, given}
+use Rattle.verilog_gates.specs.Operands.{Ready, no_operator, ExprIs}
 use Rattle.verilog_gates.specs.Equations.{Laid, lay, lay_all, unlaid, Laying, EquationsIs}
 use Rattle.verilog_gates.specs.declared.expression.Value.{Value}
 use Rattle.verilog_gates.proofs.Joins.{puts-append, mark-first, head-same, some-behind, left, sign-some}

@@ -1,23 +1,23 @@
 -- Operands with signs between them, and factors.
-use Prim.Native.Nat.{ℕ, zero, suc, ◌+◌, ◌*◌, ◌-◌, ◌≤◌, ◌<◌}
+use Prim.Native.Nat.{ℕ, suc, ◌+◌, ◌*◌, ◌-◌, ◌≤◌, ◌<◌}
 use mathlib.Core.Path.{◌≡◌, refl, sym, ap, ◌∙◌, subst}
 use mathlib.Core.Bool.{Bool, true, false, cond}
 use mathlib.Core.List.{List, [], ◌∷◌, ◌++◌}
-use mathlib.Core.Option.{Option, none, some}
+use mathlib.Core.Option.{some}
 use native.Mathlib.Omega.{arith}
-use lib.Dec.{T, eqb}
+use lib.Dec.{eqb}
 use lib.ListN.{length, drop}
-use borrow.Author.Tests.{eq-eqb, ne_eqb, eqb-true, eqb-false}
+use borrow.Author.Tests.{ne_eqb, eqb-true, eqb-false}
 use Rattle.netlist.specs.declared.Gate.{Gate}
 use Rattle.netlist.specs.declared.Gate.TheVariants.{Xor, And, Inv}
 use Rattle.netlist.specs.Lists.{ascii}
 use Rattle.netlist.specs.Table.{Tables, tables}
 use Rattle.netlist.proofs.Tests.{on_bool}
-use Rattle.netlist.proofs.Questions.{none-some, some_same}
+use Rattle.netlist.proofs.Questions.{some_same}
 use Rattle.verilog.specs.Tokens.{Token, name, mark, tokens}
-use Rattle.verilog.specs.Syntax.{Expr, Term, Factor, tilde, expr_tokens, term_tokens, factor_tokens}
+use Rattle.verilog.specs.Syntax.{tilde, expr_tokens, term_tokens, factor_tokens}
 use Rattle.verilog.specs.Made.{Made, plain, operate, invert, expr_made, term_made, factor_made}
-use Rattle.verilog.specs.Walk.{Phase, at, walk, on_operand, on_negated, behind_operand}
+use Rattle.verilog.specs.Walk.{at, walk, on_operand, on_negated, behind_operand}
 use Rattle.verilog.specs.Reading.{Accepts, Read}
 use Rattle.verilog.proofs.Walking.{operand_phase}
 use Rattle.verilog.proofs.Descent.{name-read, group-read, term-first, expr-first, term-more, expr-more, operand_cases, negated-cases, behind-cases}

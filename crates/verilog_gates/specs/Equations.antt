@@ -1,11 +1,11 @@
 -- Equations one after another, with the wires of names in a table.
-use Rattle.std.specs.Prelude.{ℕ, ◌≤◌, ◌≡◌, List, [], ◌∷◌, ◌++◌, length, drop}
+use Rattle.std.specs.Prelude.{ℕ, ◌≤◌, ◌≡◌, List, [], ◌∷◌, ◌++◌, drop}
 use Rattle.std.proofs.Math.Option.{some}
 use Rattle.netlist.specs.declared.Gate.{Gate}
 use Rattle.netlist.specs.Table.{Tables}
 use Rattle.verilog.specs.Tokens.{Token, tokens}
 use Rattle.verilog.specs.Syntax.{Assign, assign_tokens, each_tokens}
-use Rattle.verilog.specs.Made.{Made, expr_made}
+use Rattle.verilog.specs.Made.{expr_made}
 use Rattle.verilog.specs.Walk.{flat, on_assign}
 use Rattle.verilog.specs.Reading.{Accepts}
 use Rattle.verilog_tokens.specs.Next.{TokenAt}

@@ -1,19 +1,19 @@
 -- One name more in the tables.
-use Prim.Native.Nat.{ℕ, zero, suc, ◌+◌, ◌*◌, ◌-◌, ◌/◌, ◌%◌, ◌≤◌, ◌<◌}
+use Prim.Native.Nat.{ℕ, zero, suc, ◌+◌, ◌/◌, ◌%◌, ◌≤◌, ◌<◌}
 use mathlib.Core.Path.{◌≡◌, refl, sym, ap, ap₂, subst, ◌∙◌}
-use mathlib.Core.Bool.{Bool, true, false, cond}
+use mathlib.Core.Bool.{cond}
 use mathlib.Core.List.{List, [], ◌∷◌, ◌++◌}
 use native.Mathlib.Omega.{arith}
 use native.Mathlib.Nat.{mod-lt}
 use lib.Dec.{eqb}
 use lib.ListN.{length, get_or, set, length-set}
 use lib.Seq.{get_or-set_same, get_or-set_other}
-use borrow.Author.Tests.{eq-eqb, ne_eqb, eqb-true, eqb-false}
+use borrow.Author.Tests.{eqb-true, eqb-false}
 use Rattle.netlist.specs.Table.{half}
 use Rattle.netlist.proofs.Tests.{on_bool}
 use Rattle.netlist.proofs.Puts.{entry-low, entry-high}
 use Rattle.verilog_tokens.specs.Next.{between}
-use Rattle.verilog_names.specs.Names.{number, name_at, names_of, chain_at, newest, found, Chained, entry_of, chain_of, Added}
+use Rattle.verilog_names.specs.Names.{number, name_at, names_of, chain_at, newest, Chained, entry_of, chain_of, Added}
 
 -- tables of words that agree before an entry name the same
 module _ (t words words' : List ℕ) where

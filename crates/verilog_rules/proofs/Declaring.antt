@@ -1,11 +1,11 @@
 -- Declarations loaded into the tables, one token after another.
-use Prim.Native.Nat.{ℕ, zero, suc, ◌+◌, ◌*◌, ◌-◌, ◌≤◌, ◌<◌}
-use mathlib.Core.Path.{◌≡◌, refl, sym, ap, ap₂, subst, ◌∙◌}
-use mathlib.Core.Bool.{Bool, true, false, cond, not, ◌&&◌, ◌||◌}
-use mathlib.Core.List.{List, [], ◌∷◌, ◌++◌, append_assoc, append-nil, map}
+use Prim.Native.Nat.{ℕ, zero, suc, ◌+◌, ◌≤◌, ◌<◌}
+use mathlib.Core.Path.{◌≡◌, refl, sym, ap, ◌∙◌}
+use mathlib.Core.Bool.{Bool, true, false, not, ◌&&◌, ◌||◌}
+use mathlib.Core.List.{List, [], ◌∷◌, ◌++◌, append_assoc, append-nil}
 use mathlib.Core.Option.{some}
 use native.Mathlib.Omega.{arith}
-use lib.Dec.{T, eqb, leb}
+use lib.Dec.{eqb, leb}
 use lib.ListN.{length, take, drop, set, length-append}
 use borrow.Author.Tests.{eq-eqb, ne_eqb, eqb-true, eqb-false, le-leb, lt-leb, leb-true, leb-false}
 use Rattle.netlist.specs.Lists.{same_bytes}
@@ -16,12 +16,11 @@ use Rattle.verilog.specs.Tokens.{Token, name, mark, elem, tokens}
 use Rattle.verilog.specs.Equations.{Entry, entry}
 use Rattle.verilog.proofs.Listing.{same-equal, same_self}
 use Rattle.verilog_tokens.specs.Next.{code_of, token_of, between, TokenAt}
-use Rattle.verilog_tokens.proofs.Firsts.{never, token-code, First, first, none_left}
+use Rattle.verilog_tokens.proofs.Firsts.{never, token-code, first, none_left}
 use Rattle.verilog_names.specs.Names.{name_at, names_of, found, Chained, Added}
-use Rattle.verilog_names.proofs.Chains.{found_within}
 use Rattle.verilog_names.proofs.Adding.{chained_more, names-added}
 use Rattle.verilog_gates.proofs.Joins.{left}
-use Rattle.verilog_rules.specs.Stages.{declares, kind_behind, declared_from, behind_declared, keys, kinds, fresh, Loaded, AllDeclared, NotDeclared}
+use Rattle.verilog_rules.specs.Stages.{declares, kind_behind, declared_from, behind_declared, keys, kinds, fresh, AllDeclared, NotDeclared}
 use Rattle.verilog_rules.specs.One.{NameIs, OneIs}
 
 -- ---- one name

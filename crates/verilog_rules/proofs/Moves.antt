@@ -1,19 +1,16 @@
 -- A name's state, and what a move changes.
 use Prim.Native.Nat.{ℕ, zero, suc, ◌+◌, ◌-◌, ◌≤◌, ◌<◌}
 use mathlib.Core.Path.{◌≡◌, refl, sym, ap, subst, ◌∙◌}
-use mathlib.Core.Bool.{Bool, true, false, cond, ◌&&◌}
-use mathlib.Core.List.{List, [], ◌∷◌, ◌++◌}
+use mathlib.Core.Bool.{Bool, true, false, ◌&&◌}
+use mathlib.Core.List.{List, [], ◌∷◌}
 use native.Mathlib.Omega.{arith}
-use native.Mathlib.Numerals.{add-one}
-use lib.Dec.{T, eqb, leb}
-use lib.ListN.{length, get_or, set, take, drop, length-set, drop_of_length-le}
-use lib.Seq.{drop-cons}
+use lib.Dec.{eqb, leb}
+use lib.ListN.{length, get_or, set, take}
 use borrow.Author.Tests.{eq-eqb, ne_eqb, eqb-true, eqb-false, lt-leb, le-leb}
 use Rattle.netlist.specs.Lists.{every, same_bytes}
 use Rattle.netlist.proofs.Tests.{on_bool}
-use Rattle.verilog.proofs.Listing.{same-equal, same_self}
+use Rattle.verilog.proofs.Listing.{same-equal}
 use Rattle.verilog_names.specs.Names.{name_at, found}
-use Rattle.verilog_names.proofs.Chains.{found_within}
 use Rattle.verilog_gates.specs.Wires.{before, wire_of, given}
 use Rattle.verilog_rules.specs.States.{becomes, all_from}
 use Rattle.verilog_rules.specs.Ports.{PortIs}

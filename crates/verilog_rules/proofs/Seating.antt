@@ -1,24 +1,23 @@
 -- Ports seated one after another.
-use Prim.Native.Nat.{ℕ, zero, suc, ◌+◌, ◌*◌, ◌-◌, ◌≤◌, ◌<◌}
-use mathlib.Core.Path.{◌≡◌, refl, sym, ap, subst, ◌∙◌}
-use mathlib.Core.Bool.{Bool, true, false, cond, ◌&&◌}
-use mathlib.Core.List.{List, [], ◌∷◌, ◌++◌}
+use Prim.Native.Nat.{ℕ, ◌+◌, ◌≤◌, ◌<◌}
+use mathlib.Core.Path.{◌≡◌, refl, sym, ap, ◌∙◌}
+use mathlib.Core.Bool.{Bool, true, false, cond}
+use mathlib.Core.List.{List, [], ◌∷◌}
 use mathlib.Core.Option.{some}
 use native.Mathlib.Omega.{arith}
 use lib.Dec.{eqb}
 use lib.ListN.{length, drop}
-use borrow.Author.Tests.{eq-eqb, ne_eqb, eqb-true, eqb-false}
+use borrow.Author.Tests.{eqb-true, eqb-false}
 use Rattle.netlist.specs.Lists.{ascii}
-use Rattle.netlist.specs.Table.{half}
 use Rattle.netlist.proofs.Tests.{on_bool}
-use Rattle.netlist.proofs.Questions.{none-some, some_same}
+use Rattle.netlist.proofs.Questions.{some_same}
 use Rattle.verilog.specs.Tokens.{Token, name, mark, tokens}
-use Rattle.verilog_tokens.specs.Next.{code_of, token_of, between, TokenAt}
-use Rattle.verilog_tokens.proofs.Firsts.{never, token-code, First, first, none_left}
+use Rattle.verilog_tokens.specs.Next.{token_of, between, TokenAt}
+use Rattle.verilog_tokens.proofs.Firsts.{never, token-code, first, none_left}
 use Rattle.verilog_gates.specs.Wires.{wire_of, given}
 use Rattle.verilog_gates.proofs.Joins.{left, head-same}
 use Rattle.verilog_rules.specs.States.{becomes}
-use Rattle.verilog_rules.specs.Ports.{PortIs, Seated, seat, seat_all, unseated, behind_port, ports_left, PortsSay, PortsIs}
+use Rattle.verilog_rules.specs.Ports.{PortIs, Seated, seat, seat_all, unseated, behind_port, ports_left, PortsIs}
 use Rattle.verilog_rules.specs.declared.ports.Ports.{Ports}
 
 abbrev pub seated : List ℕ → List ℕ → ℕ → ℕ → Seated

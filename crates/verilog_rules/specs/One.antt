@@ -1,5 +1,5 @@
 -- One token among declarations.
-use Rattle.std.specs.Prelude.{ℕ, ◌+◌, ◌≤◌, ◌≡◌, Bool, true, false, ◌&&◌, List, eqb, leb, set}
+use Rattle.std.specs.Prelude.{ℕ, ◌+◌, ◌≡◌, Bool, true, ◌&&◌, List, eqb, leb, set}
 use Rattle.verilog_tokens.specs.Next.{between}
 use Rattle.verilog_names.specs.Names.{found, Added}
 use Rattle.verilog_rules.specs.Stages.{kind_behind}

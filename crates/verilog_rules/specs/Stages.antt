@@ -1,5 +1,5 @@
 -- The names that stand in the parts of a module, token by token.
-use Rattle.std.specs.Prelude.{ℕ, ◌-◌, ◌≤◌, ◌<◌, ◌≡◌, Bool, true, false, cond, not, ◌&&◌, ◌||◌, List, [], ◌∷◌, ◌++◌, map, eqb, leb, length, take, drop}
+use Rattle.std.specs.Prelude.{ℕ, ◌-◌, ◌≤◌, ◌≡◌, Bool, true, false, cond, not, ◌&&◌, ◌||◌, List, [], ◌∷◌, ◌++◌, map, eqb, leb, length, take, drop}
 use Rattle.std.proofs.Math.Option.{some}
 use Rattle.verilog.specs.Tokens.{Token, name, mark, elem, tokens}
 use Rattle.verilog.specs.Equations.{Entry, entry}

@@ -1,5 +1,5 @@
 -- States of names in a lent table, entry i that of the i-th name.
-use Rattle.std.specs.Prelude.{ℕ, zero, suc, ◌-◌, Bool, true, cond, ◌&&◌, List, eqb, leb, get_or, set, take}
+use Rattle.std.specs.Prelude.{ℕ, ◌-◌, Bool, cond, List, eqb, leb, set, take}
 use Rattle.netlist.specs.Lists.{every}
 use Rattle.verilog_names.specs.Names.{found}
 use Rattle.verilog_gates.specs.Wires.{wire_of}

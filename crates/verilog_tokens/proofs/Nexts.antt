@@ -1,9 +1,9 @@
 -- White bytes skipped, and the token that follows.
 use Prim.Native.Nat.{ℕ, ◌+◌, ◌-◌, ◌≤◌, ◌<◌}
 use mathlib.Core.Path.{◌≡◌, refl, subst, sym, ap, ◌∙◌}
-use mathlib.Core.Bool.{Bool, true, false, cond, not, ◌&&◌, ◌||◌}
-use mathlib.Core.List.{List, [], ◌∷◌, ◌++◌}
-use mathlib.Core.Option.{Option, none, some}
+use mathlib.Core.Bool.{Bool, true, false, cond, ◌&&◌, ◌||◌}
+use mathlib.Core.List.{List, [], ◌∷◌}
+use mathlib.Core.Option.{Option}
 use native.Mathlib.Numerals.{add-one}
 use native.Mathlib.Omega.{arith}
 use lib.Dec.{T, eqb, leb}
@@ -12,10 +12,10 @@ use lib.ListN.{length, take, drop, get_or, drop_of_length-le}
 use lib.Seq.{drop-cons}
 use Rattle.netlist.specs.Lists.{every, same_bytes, ascii}
 use Rattle.netlist.specs.Text.{space, lf}
-use Rattle.netlist.proofs.Tests.{on_bool, both, pair, is_true, true-T}
+use Rattle.netlist.proofs.Tests.{on_bool, pair, is_true, true-T}
 use Rattle.read_text.specs.Line.{take_while, drop_while, Scanned}
-use Rattle.read_text.proofs.Scans.{front-back, scan-front, dropped-head}
-use Rattle.verilog.specs.Tokens.{is_letter, in_word, is_sign, starts, is_white, elem, marks, is_name, Token, token, name, cons_token, tokens}
+use Rattle.read_text.proofs.Scans.{front-back, scan-front}
+use Rattle.verilog.specs.Tokens.{is_letter, in_word, is_sign, starts, is_white, Token, token, cons_token, tokens}
 use Rattle.verilog.proofs.Listing.{same-equal}
 use Rattle.verilog.proofs.Texts.{end-tokens, word-tokens, sign-tokens, white-tokens, other-tokens}
 use Rattle.verilog_tokens.specs.Next.{sign_code, class_of, word_code, token_of, between, White, tokens_from, TokenAt}

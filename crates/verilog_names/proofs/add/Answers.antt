@@ -1,0 +1,16 @@
+-- Three stores.
+use Prim.Native.Nat.{ℕ, ◌+◌}
+use mathlib.Core.Path.{refl, ap}
+use lib.ListN.{set, get_or}
+use Rattle.verilog_names.proofs.add.Goals as goal
+
+pub returns : goal.returns
+returns c = record {
+  headed = ap (λ (k : ℕ). set c.args.heads.now k
+      (c.args.count + 1)) c.chain_of-k.ensures.0;
+  worded = refl;
+  linked = ap
+      (λ (k : ℕ). set c.args.links.now
+      c.args.count (get_or c.args.heads.now
+      k 0)) c.chain_of-k.ensures.0;
+}
