@@ -1,5 +1,5 @@
 -- From the bytes of two files to the line that *check* prints.
-use Prim.Native.Nat.{ℕ, zero, suc, ◌/◌, ◌≤◌, ◌<◌}
+use Prim.Native.Nat.{ℕ, zero, suc, ◌/◌, ◌≤◌}
 use mathlib.Core.Path.{◌≡◌, sym, ap, ◌∙◌}
 use mathlib.Core.Bool.{Bool, true}
 use mathlib.Core.List.{List, [], ◌∷◌}
@@ -7,7 +7,7 @@ use mathlib.Core.Option.{Option, none, some}
 use native.Mathlib.Omega.{arith}
 use lib.Dec.{leb, lit≤}
 use lib.ListN.{length, take, length-append}
-use borrow.Author.Tests.{le-leb, lt-leb}
+use borrow.Author.Tests.{le-leb}
 use Rattle.netlist.specs.declared.Sizes.TheVariants.{Old}
 use Rattle.netlist.specs.Netlist.{large}
 use Rattle.netlist.specs.Number.{digits, decimal}
@@ -29,9 +29,6 @@ use Rattle.cli_check.specs.Report.{Roomy}
 -- what the program asks of the bytes of its two files
 abbrev pub asked : List ℕ → List ℕ → Outcome (Option Found)
 asked netlist inputs = readable netlist (check_call (large Old) [] netlist (list_file inputs))
-
-pub asked-long : (netlist inputs : List ℕ) → file_limit < length netlist → refused 2 ≡ asked netlist inputs
-asked-long netlist inputs h = sym (rw (lt-leb (length netlist) file_limit h))
 
 -- tables that are long enough
 call-roomy : {o r g w b : List ℕ} (text codes : List ℕ) → Roomy o r g w b → call Old text codes o r g w b ≡ check_call (large Old) [] text codes

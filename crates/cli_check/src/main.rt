@@ -1,3 +1,5 @@
+#![tactic(auto)]
+
 // *check*: reads netlist.txt and inputs.txt, and prints whether the netlist is clean under those codes, or its leak, or the question
 // that refuses it.
 ghost use Rattle.std.specs.Prelude.{◌≡◌, [], ◌≤◌, length, take};
@@ -10,9 +12,10 @@ ghost use Rattle.check_netlist.specs.Judge.{outcome_of};
 ghost use Rattle.cli_check.specs.Report.{Roomy};
 
 use check_netlist::Checked;
-use libc::STDOUT_FILENO;
 use netlist::Sizes;
 use program_text::{FILE_LIMIT, LARGE_TABLE};
+use std::io;
+use std::io::Write;
 
 // The answer, from the bytes of the two files; the list takes the place of its file's bytes.
 fn answer(
@@ -75,7 +78,7 @@ fn report(
     print(out, a)
 }
 
-fn main() {
+fn main(rt: HostRuntime) -> io::Result<()> {
     // one byte more than is taken, to notice a longer file
     let mut netlist = [0u8; FILE_LIMIT + 1];
     let mut inputs = [0u8; FILE_LIMIT];
@@ -85,8 +88,8 @@ fn main() {
     let mut words = [0u64; LARGE_TABLE];
     let mut base = [0u64; LARGE_TABLE];
     let mut out = [0u8; 128];
-    let bytes = program_files::read(b"netlist.txt", &mut netlist);
-    let entries = program_files::read(b"inputs.txt", &mut inputs);
+    let bytes = program_files::read(&rt, b"netlist.txt", &mut netlist);
+    let entries = program_files::read(&rt, b"inputs.txt", &mut inputs);
     let n = report(
         &mut out,
         &netlist[..bytes],
@@ -97,5 +100,5 @@ fn main() {
         &mut words,
         &mut base,
     );
-    io::write_all(STDOUT_FILENO, &out[..n]);
+    io::writer(&rt).write_all(&out[..n])
 }

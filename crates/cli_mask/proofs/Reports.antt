@@ -1,5 +1,5 @@
 -- From the bytes of the three files to what *mask* prints.
-use Prim.Native.Nat.{ℕ, ◌≤◌, ◌<◌}
+use Prim.Native.Nat.{ℕ, ◌≤◌}
 use mathlib.Core.Path.{◌≡◌, refl, sym, ap, ap₂, ◌∙◌, subst}
 use mathlib.Core.Bool.{Bool, true}
 use mathlib.Core.List.{List, [], ◌∷◌, ◌++◌, append_assoc, append-nil}
@@ -24,7 +24,7 @@ use Rattle.mask_twins.proofs.Made.{made}
 use Rattle.mask_text.specs.Whole.{MaskAnswers}
 use Rattle.mask.specs.Promise.{call}
 use Rattle.program_text.specs.Front.{Front}
-use Rattle.program_text.proofs.Reporting.{readable-long, readable-short, answered}
+use Rattle.program_text.proofs.Reporting.{readable-short, answered}
 use Rattle.cli_mask.specs.declared.Printed.{Printed}
 use Rattle.cli_mask.specs.Report.{Roomy, outcome, outcome_of, Answered, Prints}
 
@@ -38,11 +38,6 @@ answered-refused x y k q p = record {
   outcome = ap (outcome_of x (take k y)) p;
   counted = λ n d. clash (cc);
 }
-
--- question 2
-pub answer-long : (netlist codes wanted text out_codes : List ℕ) → file_limit < length netlist
-    → Answered (outcome netlist codes wanted) text out_codes (length wanted) (Refused 2)
-answer-long netlist codes wanted text out_codes h = answered-as (sym (readable-long netlist _ h)) (answered-refused text out_codes (length wanted) 2 refl)
 
 module _ (netlist codes wanted : List ℕ) {t e o r w m : List ℕ} (room : Roomy t e o r w m) where
   -- the tables and the buffers are long enough

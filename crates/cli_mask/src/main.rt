@@ -1,12 +1,15 @@
+#![tactic(auto)]
+
 // *mask*: reads netlist.txt, inputs.txt and outputs.txt, and prints the output codes and the masked netlist, or the question that
 // refuses them.
 ghost use Rattle.std.specs.Prelude.{◌+◌, ◌*◌, ◌≤◌, length, take};
 ghost use Rattle.netlist.specs.Programs.{print_mask, mask_program};
 ghost use Rattle.cli_mask.specs.Report.{Roomy, outcome, outcome_of, Answered, Counted, Prints};
 
-use libc::STDOUT_FILENO;
 use netlist::{Answer, Sizes};
 use program_text::{FILE_LIMIT, SMALL_TABLE};
+use std::io;
+use std::io::Write;
 
 // What is printed: so many bytes of the line, and then so many of the masked text.
 #[derive(Drop)]
@@ -100,7 +103,7 @@ fn report(
     print(line, text, out_codes, m, a)
 }
 
-fn main() {
+fn main(rt: HostRuntime) -> io::Result<()> {
     // one byte more than is taken, to notice a longer file
     let mut netlist = [0u8; FILE_LIMIT + 1];
     let mut inputs = [0u8; FILE_LIMIT];
@@ -112,9 +115,9 @@ fn main() {
     let mut wires = [0u32; SMALL_TABLE];
     let mut marks = [0u8; SMALL_TABLE];
     let mut line = [0u8; 8192];
-    let bytes = program_files::read(b"netlist.txt", &mut netlist);
-    let codes = program_files::read(b"inputs.txt", &mut inputs);
-    let wanted = program_files::read(b"outputs.txt", &mut outputs);
+    let bytes = program_files::read(&rt, b"netlist.txt", &mut netlist);
+    let codes = program_files::read(&rt, b"inputs.txt", &mut inputs);
+    let wanted = program_files::read(&rt, b"outputs.txt", &mut outputs);
     let p = report(
         &mut line,
         &mut text,
@@ -129,6 +132,6 @@ fn main() {
     );
     let n = p.line;
     let m = p.text;
-    io::write_all(STDOUT_FILENO, &line[..n]);
-    io::write_all(STDOUT_FILENO, &text[..m]);
+    io::writer(&rt).write_all(&line[..n])?;
+    io::writer(&rt).write_all(&text[..m])
 }

@@ -1,5 +1,5 @@
 -- From the file's bytes to what *rewrite* prints.
-use Prim.Native.Nat.{ℕ, ◌≤◌, ◌<◌}
+use Prim.Native.Nat.{ℕ, ◌≤◌}
 use mathlib.Core.Path.{◌≡◌, sym, ap, ◌∙◌}
 use mathlib.Core.Bool.{Bool, true}
 use mathlib.Core.List.{List, [], ◌∷◌}
@@ -8,19 +8,14 @@ use borrow.Author.Tests.{le-leb}
 use Rattle.netlist.specs.declared.Answer.{Answer}
 use Rattle.netlist.specs.declared.Sizes.TheVariants.{Old}
 use Rattle.netlist.specs.Netlist.{large}
-use Rattle.netlist.specs.declared.Answer.TheVariants.{Refused}
 use Rattle.netlist.specs.Outcome.{Outcome, ask, and_then}
 use Rattle.netlist.specs.Read.{read_netlist}
 use Rattle.netlist.specs.Services.{tables_long, outcome_of, Answers, rewrite_outcome, rewrite_call}
 use Rattle.netlist.specs.Programs.{print_rewrite, rewrite_program, file_limit}
 use Rattle.rewrite.specs.Promise.{call}
 use Rattle.program_text.specs.Front.{Front, Answered}
-use Rattle.program_text.proofs.Reporting.{readable-long, readable-short, answered, answered-as, answered-refused}
+use Rattle.program_text.proofs.Reporting.{readable-short, answered, answered-as}
 use Rattle.cli_rewrite.specs.Report.{Roomy, outcome}
-
--- question 2
-pub answer-long : (netlist out : List ℕ) → file_limit < length netlist → Answered (outcome netlist) out (Refused 2)
-answer-long netlist out h = answered-as (sym (readable-long netlist _ h)) (answered-refused out 2)
 
 -- the tables and the buffer are long enough
 call-roomy : (netlist : List ℕ) {b o r g : List ℕ} → Roomy b o r g → length netlist ≤ file_limit → call Old netlist b o r g ≡ outcome netlist

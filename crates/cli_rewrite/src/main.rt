@@ -1,3 +1,5 @@
+#![tactic(auto)]
+
 // *rewrite*: reads netlist.txt and prints the same netlist in the written form, or the question that refuses it.
 ghost use Rattle.std.specs.Prelude.{◌≤◌, length};
 ghost use Rattle.netlist.specs.Programs.{print_rewrite, rewrite_program};
@@ -5,9 +7,10 @@ ghost use Rattle.netlist.specs.Services.{outcome_of};
 ghost use Rattle.program_text.specs.Front.{Front, Counted, Answered};
 ghost use Rattle.cli_rewrite.specs.Report.{Roomy, outcome};
 
-use libc::STDOUT_FILENO;
 use netlist::{Answer, Sizes};
 use program_text::{FILE_LIMIT, LARGE_TABLE};
+use std::io;
+use std::io::Write;
 
 // The answer to the file's bytes.
 fn answer(
@@ -52,14 +55,14 @@ fn report(
     print(out, a)
 }
 
-fn main() {
+fn main(rt: HostRuntime) -> io::Result<()> {
     // one byte more than is taken, to notice a longer file
     let mut netlist = [0u8; FILE_LIMIT + 1];
     let mut out = [0u8; 500000];
     let mut operands = [0u64; LARGE_TABLE];
     let mut results = [0u64; LARGE_TABLE];
     let mut marks = [0u8; LARGE_TABLE];
-    let bytes = program_files::read(b"netlist.txt", &mut netlist);
+    let bytes = program_files::read(&rt, b"netlist.txt", &mut netlist);
     let n = report(
         &mut out,
         &netlist[..bytes],
@@ -67,5 +70,5 @@ fn main() {
         &mut results,
         &mut marks,
     );
-    io::write_all(STDOUT_FILENO, &out[..n]);
+    io::writer(&rt).write_all(&out[..n])
 }

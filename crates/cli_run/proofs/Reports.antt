@@ -1,12 +1,11 @@
 -- From the bytes of the two files to what *run* prints.
-use Prim.Native.Nat.{ℕ, ◌≤◌, ◌<◌}
+use Prim.Native.Nat.{ℕ, ◌≤◌}
 use mathlib.Core.Path.{◌≡◌, sym, ap, ◌∙◌}
 use mathlib.Core.Bool.{Bool, true}
 use mathlib.Core.List.{List, [], ◌∷◌}
 use lib.ListN.{length}
 use borrow.Author.Tests.{le-leb}
 use Rattle.netlist.specs.declared.Answer.{Answer}
-use Rattle.netlist.specs.declared.Answer.TheVariants.{Refused}
 use Rattle.netlist.specs.declared.Sizes.TheVariants.{Old}
 use Rattle.netlist.specs.Netlist.{large}
 use Rattle.netlist.specs.Outcome.{Outcome, ask, and_then}
@@ -15,12 +14,8 @@ use Rattle.netlist.specs.Services.{tables_long, outcome_of, Answers, run_outcome
 use Rattle.netlist.specs.Programs.{list_file, print_run, run_program, file_limit}
 use Rattle.run.specs.Promise.{call}
 use Rattle.program_text.specs.Front.{Front, Answered}
-use Rattle.program_text.proofs.Reporting.{readable-long, readable-short, answered, answered-as, answered-refused}
+use Rattle.program_text.proofs.Reporting.{readable-short, answered, answered-as}
 use Rattle.cli_run.specs.Report.{Roomy, outcome}
-
--- question 2
-pub answer-long : (netlist inputs bits : List ℕ) → file_limit < length netlist → Answered (outcome netlist inputs) bits (Refused 2)
-answer-long netlist inputs bits h = answered-as (sym (readable-long netlist _ h)) (answered-refused bits 2)
 
 -- the tables and the buffer are long enough
 call-roomy : (netlist inputs : List ℕ) {list b o r g w : List ℕ} → Roomy b o r g w → length netlist ≤ file_limit → list ≡ list_file inputs

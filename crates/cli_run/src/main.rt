@@ -1,3 +1,5 @@
+#![tactic(auto)]
+
 // *run*: reads netlist.txt and inputs.txt, whose entries are bits, and prints the netlist's output bits, or the question that
 // refuses it.
 ghost use Rattle.std.specs.Prelude.{◌+◌, ◌*◌, ◌≤◌, length};
@@ -6,9 +8,10 @@ ghost use Rattle.netlist.specs.Services.{outcome_of};
 ghost use Rattle.program_text.specs.Front.{Front, Counted, Answered};
 ghost use Rattle.cli_run.specs.Report.{Roomy, outcome};
 
-use libc::STDOUT_FILENO;
 use netlist::{Answer, Sizes};
 use program_text::{FILE_LIMIT, LARGE_TABLE};
+use std::io;
+use std::io::Write;
 
 // The answer, from the bytes of the two files; the list takes the place of its file's bytes.
 fn answer(
@@ -68,7 +71,7 @@ fn report(
     print(out, bits, a)
 }
 
-fn main() {
+fn main(rt: HostRuntime) -> io::Result<()> {
     // one byte more than is taken, to notice a longer file
     let mut netlist = [0u8; FILE_LIMIT + 1];
     let mut inputs = [0u8; FILE_LIMIT];
@@ -78,8 +81,8 @@ fn main() {
     let mut marks = [0u8; LARGE_TABLE];
     let mut words = [0u64; LARGE_TABLE];
     let mut out = [0u8; FILE_LIMIT];
-    let bytes = program_files::read(b"netlist.txt", &mut netlist);
-    let entries = program_files::read(b"inputs.txt", &mut inputs);
+    let bytes = program_files::read(&rt, b"netlist.txt", &mut netlist);
+    let entries = program_files::read(&rt, b"inputs.txt", &mut inputs);
     let n = report(
         &mut out,
         &netlist[..bytes],
@@ -90,5 +93,5 @@ fn main() {
         &mut marks,
         &mut words,
     );
-    io::write_all(STDOUT_FILENO, &out[..n]);
+    io::writer(&rt).write_all(&out[..n])
 }

@@ -1,4 +1,3 @@
 pub mod Files
 pub mod Printing
 pub mod Reporting
-pub mod Fronts

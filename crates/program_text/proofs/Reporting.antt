@@ -1,14 +1,14 @@
 -- From a call's outcome to what a program prints.
-use Prim.Native.Nat.{ℕ, zero, suc, ◌/◌, ◌≤◌, ◌<◌}
-use mathlib.Core.Path.{◌≡◌, refl, sym, ap, ◌∙◌}
+use Prim.Native.Nat.{ℕ, zero, suc, ◌/◌, ◌≤◌}
+use mathlib.Core.Path.{◌≡◌, sym, ap, ◌∙◌}
 use mathlib.Core.List.{List}
 use native.Mathlib.Omega.{arith}
 use lib.Dec.{leb}
 use lib.ListN.{length, take, length-append, length-take}
-use borrow.Author.Tests.{le-leb, lt-leb}
+use borrow.Author.Tests.{le-leb}
 use Rattle.netlist.specs.Number.{digits, decimal}
 use Rattle.netlist.specs.declared.Answer.{Answer}
-use Rattle.netlist.specs.declared.Answer.TheVariants.{Done, Refused}
+use Rattle.netlist.specs.declared.Answer.TheVariants.{Done}
 use Rattle.netlist.specs.Outcome.{Outcome, refused, done}
 use Rattle.netlist.specs.Services.{outcome_of, answer_of, Answers}
 use Rattle.netlist.specs.Programs.{readable, print_refused, file_limit}
@@ -19,9 +19,6 @@ use Rattle.write_buffer.proofs.Writing.{wrote-front, front-within}
 use Rattle.program_text.specs.Front.{Front, Answered}
 
 -- ---- question 2, put to a netlist file
-
-pub readable-long : {A : Type 0} (file : List ℕ) (o : Outcome A) → file_limit < length file → readable file o ≡ refused 2
-readable-long file o h = rw (lt-leb (length file) file_limit h)
 
 pub readable-short : {A : Type 0} (file : List ℕ) (o : Outcome A) → length file ≤ file_limit → readable file o ≡ o
 readable-short file o h = rw (le-leb (length file) file_limit h)
@@ -40,9 +37,6 @@ answered {o} {x = x} w = record { outcome = w.outcome; counted = λ n. counted-d
 
 pub answered-as : {o p : Outcome (List ℕ)} {x : List ℕ} {a : Answer} → o ≡ p → Answered o x a → Answered p x a
 answered-as e w = rw e at w
-
-pub answered-refused : (x : List ℕ) (q : ℕ) → Answered (refused q) x (Refused q)
-answered-refused x q = record { outcome = refl; counted = λ n d. clash (cc) }
 
 -- ---- lines in a buffer that holds them
 

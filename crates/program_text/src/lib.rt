@@ -1,6 +1,7 @@
+#![tactic(auto)]
+
 // What the programs make of a list file's bytes, and the lines that they print.
-ghost use Rattle.std.specs.Prelude.{◌≡◌, [], ◌∷◌, ◌++◌, ◌+◌, ◌*◌, min, length, take};
-ghost use Rattle.io.specs.Counts.{IsPrefixLen};
+ghost use Rattle.std.specs.Prelude.{◌≡◌, [], ◌∷◌, ◌++◌, ◌+◌, ◌*◌, ◌≤◌, min, length, take};
 ghost use Rattle.netlist.specs.Text.{space, lf};
 ghost use Rattle.netlist.specs.Number.{decimal};
 ghost use Rattle.netlist.specs.Programs.{list_bytes, entry as entry_of, list_file, print_list, print_refused, print_clean, print_leak};
@@ -33,7 +34,8 @@ fn entry(b: u8) -> u8
 // How many bytes of a buffer its first n are.
 pub fn front(buffer: &[u8], n: usize) -> usize
     ensures value { (result ≡ min n (length buffer.now)) × Front buffer.now result (take n buffer.now) }
-    ensures prefix_len { IsPrefixLen result buffer.now }
+    ensures within { result ≤ length buffer.now }
+    ensures front { result ≡ length (take result buffer.now) }
 {
     if buffer.len() < n {
         return buffer.len();
@@ -54,10 +56,8 @@ pub fn list(file: &mut [u8]) -> usize
     ensures { Front file.new result (list_file file.old) }
 {
     let n = counted(file);
-    let mut i = 0;
-    while i < n {
+    for i in 0..n {
         file[i] = entry(file[i]);
-        i += 1;
     }
     n
 }
@@ -110,10 +110,8 @@ pub fn digits(out: &mut [u8], list: &[u8]) -> usize
         out.new result }
 {
     let mut at = 0;
-    let mut i = 0;
-    while i < list.len() {
-        at = write_buffer::number(out, at, wide(list[i]));
-        i += 1;
+    for entry in list {
+        at = write_buffer::number(out, at, wide(*entry));
     }
     write_buffer::put(out, at, 10)
 }

@@ -1,3 +1,5 @@
+#![tactic(auto)]
+
 // The line that a test program prints for a group of cases.
 ghost use Rattle.write_buffer.specs.Wrote.{Wrote};
 ghost use Rattle.test_report.specs.Line.{tally_line};

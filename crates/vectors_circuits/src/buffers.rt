@@ -1,6 +1,11 @@
 // Buffers and tables. An array that a function answers is lent at no cost to the proofs; one that is made in place has its length computed
 // each time that it is lent.
 
+// As long as the list of the circuits' names may be.
+pub(crate) fn names() -> [u8; 4096] {
+    [0; 4096]
+}
+
 // As long as the longest text.
 pub(crate) fn text() -> [u8; 500000] {
     [0; 500000]

@@ -4,7 +4,7 @@ use crate::{buffers, codes, second, words};
 
 // The lowest wire that leaks, the smallest setting that shows it, and the counts of setting 0 and of that setting; the number of wires
 // in place of a wire where none leaks.
-#[derive(Drop)]
+#[derive(Clone, Copy)]
 pub(crate) struct Leak {
     pub(crate) wire: usize,
     pub(crate) setting: usize,

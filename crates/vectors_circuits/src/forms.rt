@@ -7,7 +7,7 @@ use netlist::Answer;
 fn becomes(text: &[u8], form: &[u8]) -> bool {
     let mut out = buffers::text();
     match services::rewrite(text, &mut out) {
-        Answer::Done(n) => check::same(words::part(&out, 0, n), form),
+        Answer::Done(n) => words::part(&out, 0, n) == form,
         Answer::Refused(_) => false,
     }
 }

@@ -5,7 +5,7 @@ use crate::{buffers, codes, forms, score, second, services, vectors, verdicts, w
 use netlist::Answer;
 
 // The scores of a masked netlist.
-#[derive(Drop)]
+#[derive(Clone, Copy)]
 pub(crate) struct Masked {
     pub(crate) mask: Score,
     pub(crate) rewrite: Score,

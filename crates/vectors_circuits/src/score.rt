@@ -1,6 +1,6 @@
 // How many cases of a group agreed, and how many it has.
 
-#[derive(Drop)]
+#[derive(Clone, Copy)]
 pub(crate) struct Score {
     pub(crate) agreed: usize,
     pub(crate) cases: usize,

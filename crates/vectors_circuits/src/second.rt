@@ -3,7 +3,7 @@
 use crate::words;
 
 // A header: how many gates and wires there are, how many input and output bits, and where the gates begin.
-#[derive(Drop)]
+#[derive(Clone, Copy)]
 pub(crate) struct Shape {
     pub(crate) gates: usize,
     pub(crate) wires: usize,
@@ -13,7 +13,7 @@ pub(crate) struct Shape {
 }
 
 // A number, and the place behind it.
-#[derive(Drop)]
+#[derive(Clone, Copy)]
 struct Step {
     value: usize,
     at: usize,

@@ -5,7 +5,7 @@ use crate::{counts, score, second, services, words};
 use check_netlist::Checked;
 
 // The edited netlists: how many of them both judge alike, and how many leak.
-#[derive(Drop)]
+#[derive(Clone, Copy)]
 pub(crate) struct Edited {
     pub(crate) alike: Score,
     pub(crate) leaks: Score,

@@ -1,0 +1,9 @@
+-- The answer to a netlist file that is too long, and the service's to one that is not, and to its list.
+use Rattle.std.proofs.Common.{arith}
+use Rattle.cli_check.proofs.Reporting.{asked-short}
+use Rattle.cli_check.proofs.answer.Goals as goal
+
+pub returns : goal.returns
+returns c =
+    asked-short c.args.netlist.now c.args.inputs.now _ c.requires (omega arith)
+    c.list-n.ensures.same c.check.ensures.outcome

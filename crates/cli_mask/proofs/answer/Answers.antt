@@ -1,0 +1,8 @@
+-- The service's answer to a netlist file that is short enough.
+use Rattle.std.proofs.Common.{arith}
+use Rattle.cli_mask.proofs.Reports.{answer-short}
+use Rattle.cli_mask.proofs.answer.Goals as goal
+
+pub returns : goal.returns
+returns c =
+    answer-short c.args.netlist.now c.args.codes.now c.args.wanted.now c.requires (omega arith) c.mask.ensures.answers

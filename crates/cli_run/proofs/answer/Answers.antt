@@ -1,0 +1,9 @@
+-- The service's answer to a file that is short enough, and to its list.
+use Rattle.std.proofs.Common.{arith}
+use Rattle.cli_run.proofs.Reports.{answer-short}
+use Rattle.cli_run.proofs.answer.Goals as goal
+
+pub returns : goal.returns
+returns c =
+    answer-short c.args.netlist.now c.args.inputs.now _ c.requires (omega arith)
+    c.list-n.ensures.same c.run.ensures.answers
