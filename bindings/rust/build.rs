@@ -1,4 +1,4 @@
-//! Links the proved static library, `target/staticlib/libcapi.a` of the repository (`rt staticlib capi`
+//! Links the proved static library, `target/staticlib/libcapi.a` of the repository (`./build library`
 //! writes it), or the archive that the environment variable `FIDROVELJ_LIB` names.
 
 use std::env;
@@ -13,7 +13,7 @@ fn main() {
     };
     println!("cargo:rerun-if-changed={}", archive.display());
     if !archive.is_file() {
-        println!("cargo:warning={} is missing: run `rt staticlib capi` before linking", archive.display());
+        println!("cargo:warning={} is missing: run `./build library` before linking", archive.display());
     }
     let folder = archive.parent().expect("an archive stands in a folder");
     let stem = archive.file_stem().and_then(|stem| stem.to_str()).expect("an archive has a name");
