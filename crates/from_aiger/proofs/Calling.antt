@@ -36,7 +36,11 @@ form-same {tabs = tabs} {m = m} a =
     let N = a.is in
     let g : length N.gates ≡ m.gates = ap length a.gates ∙ length-gates tabs m.gates in
     let p : header_text m.gates m.wires (m.inputs ∷ []) (m.outputs ∷ []) ≡ header_text (length N.gates) N.wires N.inputs N.outputs
-    = rw (g, a.wires, a.inputs, a.outputs) refl in
+    = let h = header_text m.gates m.wires (m.inputs ∷ []) (m.outputs ∷ []) in
+    subst (λ (k : ℕ). h ≡ header_text k N.wires N.inputs N.outputs) (sym g)
+    (subst (λ (w : ℕ). h ≡ header_text m.gates w N.inputs N.outputs) (sym a.wires)
+    (subst (λ (is : List ℕ). h ≡ header_text m.gates m.wires is N.outputs) (sym a.inputs)
+    (subst (λ (os : List ℕ). h ≡ header_text m.gates m.wires (m.inputs ∷ []) os) (sym a.outputs) refl))) in
     ap₂ ◌++◌ p (ap gate_text (sym a.gates)) ∙ header-gates N
 
 -- questions 2, 19, 20, 19, 5 and 14

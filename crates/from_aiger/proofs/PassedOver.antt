@@ -10,7 +10,7 @@ use lib.ListN.{length, take, drop}
 use borrow.Author.Tests.{le-leb}
 use Rattle.netlist.specs.declared.Limits.{Limits}
 use Rattle.netlist.specs.Lists.{ascii, same_bytes}
-use Rattle.netlist.specs.Text.{lf, cr, at_lf, lf_ends, is_line_end, onto, split, filled, space_words}
+use Rattle.netlist.specs.Text.{lf, cr, lf_ends, is_line_end, onto, split, filled, space_words}
 use Rattle.netlist.specs.Header.{numbers}
 use Rattle.netlist.specs.Netlist.{Netlist}
 use Rattle.netlist.specs.Outcome.{done}
