@@ -1,24 +1,23 @@
 -- What is known of the input wires.
-use mathlib.Core.Path.{◌≡◌, refl, sym, ap, ap₂, ◌∙◌, subst}
+use mathlib.Core.Path.{◌≡◌, refl, sym, ap, ap₂, ◌∙◌}
 use mathlib.Core.Bool.{Bool, true, false, cond, ◌&&◌}
 use mathlib.Core.List.{List}
 use Prim.Native.Nat.{ℕ, suc, ◌+◌, ◌*◌, ◌<◌, ◌≤◌}
 use native.Mathlib.Omega.{arith}
-use lib.Dec.{T, eqb}
+use lib.Dec.{eqb}
 use lib.Bits.{bit_xor}
 use lib.ListN.{length, get_or}
-use Rattle.netlist.specs.Netlist.{Netlist, input_bits}
-use Rattle.netlist.specs.Eval.{differs, bits_at, wire_bits}
+use Rattle.netlist.specs.Netlist.{Netlist}
+use Rattle.netlist.specs.Eval.{differs}
 use Rattle.netlist.specs.Mask.{is_public}
-use Rattle.netlist.specs.Leak.{mask_of, masked, public_only, SamePublic}
+use Rattle.netlist.specs.Leak.{mask_of, masked, public_only}
 use Rattle.netlist.proofs.Codes.{same-below}
 use Rattle.netlist.proofs.Models.{bits-inputs}
 use Rattle.netlist.proofs.Settings.{public_only-at}
 use Rattle.evaluate.specs.Lane.{lane}
 use Rattle.evaluate.proofs.Lanes.{lane_xor}
 use Rattle.check_counts.proofs.Inputs.{masked-long, masked-at, masked-m0, masked-m1}
-use Rattle.certify_records.specs.declared.Record.{Record}
-use Rattle.certify_records.specs.Record.{At, Right, no_atom}
+use Rattle.certify_records.specs.Record.{no_atom}
 use Rattle.certify_records.proofs.Records.{rec}
 use Rattle.certify_wires.specs.Known.{bit_of, atom_bit, Known, Open}
 use Rattle.certify_pass.specs.Pass.{Holding, Masked, InputStep}

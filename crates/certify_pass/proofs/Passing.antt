@@ -1,7 +1,7 @@
 -- The pass, gate by gate.
-use mathlib.Core.Path.{◌≡◌, refl, sym, ap, ap₂, ◌∙◌, subst}
-use mathlib.Core.Bool.{Bool, true, false}
-use mathlib.Core.List.{List, [], ◌∷◌, ◌++◌}
+use mathlib.Core.Path.{◌≡◌, refl, sym, ap, ◌∙◌, subst}
+use mathlib.Core.Bool.{Bool, true}
+use mathlib.Core.List.{List}
 use Prim.Native.Nat.{ℕ, zero, suc, ◌+◌, ◌*◌, ◌/◌, ◌%◌, ◌<◌, ◌≤◌}
 use native.Mathlib.Omega.{arith}
 use lib.Dec.{eqb}
@@ -14,14 +14,13 @@ use lib.Bits.{bit_and}
 use Rattle.netlist.specs.Leak.{masked, bit}
 use Rattle.evaluate.specs.Lane.{lane}
 use Rattle.evaluate.proofs.Lanes.{bit-first}
-use Rattle.netlist.specs.Table.{Tables, gate_at, gates_of, gate_of, made_of, half, Wired, Holds}
+use Rattle.netlist.specs.Table.{Tables, gate_at, gates_of, half, Wired, Holds}
 use Rattle.netlist.proofs.Models.{Models, bits-satisfy}
 use Rattle.netlist.proofs.Tests.{on_bool, All, all_head, all_split}
 use Rattle.evaluate.proofs.Steps.{by_kind}
 use Rattle.gate_table.specs.declared.Parts.{Parts}
 use Rattle.gate_table.specs.Parts.{parts_of, Within}
 use Rattle.certify_records.proofs.Evens.{no}
-use Rattle.certify_wires.specs.Known.{bit_of, Makes}
 use Rattle.certify_pass.specs.Pass.{Holding, Masked, GateMakes, GateStep}
 
 -- what holds of all gates holds of each

@@ -1,9 +1,9 @@
 -- What is known of a gate's result.
-use mathlib.Core.Path.{◌≡◌, refl, sym, ap, ap₂, ◌∙◌, subst}
-use mathlib.Core.Bool.{Bool, true, false, ◌&&◌}
+use mathlib.Core.Path.{◌≡◌, refl, sym, ap, ◌∙◌, subst}
+use mathlib.Core.Bool.{Bool, true, false}
 use mathlib.Core.List.{List}
 use mathlib.Core.Logic.{◌≢◌}
-use Prim.Native.Nat.{ℕ, ◌+◌, ◌*◌, ◌/◌, ◌%◌, ◌<◌, ◌≤◌}
+use Prim.Native.Nat.{ℕ, ◌+◌, ◌*◌, ◌/◌, ◌<◌, ◌≤◌}
 use native.Mathlib.Omega.{arith}
 use lib.Dec.{T, eqb}
 use lib.ListN.{length, get_or, set}
@@ -11,8 +11,7 @@ use lib.Seq.{get_or-set_same, get_or-set_other}
 use borrow.Author.Tests.{eqb-true, eqb-false}
 use Rattle.netlist.specs.Netlist.{Netlist}
 use Rattle.netlist.specs.Eval.{differs}
-use Rattle.netlist.specs.Table.{made_of}
-use Rattle.netlist.specs.Leak.{bit, count, count_of, SamePublic, EqualCounts}
+use Rattle.netlist.specs.Leak.{bit, count, EqualCounts}
 use Rattle.netlist.specs.Lists.{below}
 use Rattle.netlist.proofs.Codes.{below_at, every_bit, every_bit-at, same, same-eq}
 use Rattle.netlist.proofs.Tests.{on_bool}
@@ -23,13 +22,13 @@ use Rattle.gate_table.specs.Parts.{Within}
 use Rattle.certify_records.specs.declared.Record.{Record}
 use Rattle.certify_records.specs.declared.Joined.{Joined}
 use Rattle.certify_records.specs.declared.Joined.TheVariants.{One, None}
-use Rattle.certify_records.specs.Record.{Right, JoinIs}
+use Rattle.certify_records.specs.Record.{JoinIs}
 use Rattle.certify_records.specs.Leaf.{Own, LeafIs}
 use Rattle.certify_records.proofs.Evens.{no}
 use Rattle.certify_wires.specs.Known.{bit_of, atom_bit, Known, Open, Makes}
 use Rattle.certify_wires.specs.Store.{record_at, Present, PutAt, Recorded, Marked}
 use Rattle.certify_wires.proofs.Stores.{known_at, wire-of, recorded-put}
-use Rattle.certify_pass.specs.Pass.{Holding, KnownIf, GateMakes, GateStep}
+use Rattle.certify_pass.specs.Pass.{Holding, KnownIf, GateMakes}
 
 -- a public wire has equal counts
 pub open-equal : {N : Netlist} {codes : List ℕ} {w : ℕ} → Open N codes w → EqualCounts N codes w

@@ -20,7 +20,7 @@ use Rattle.aiger.specs.Lines.{file_line, opens, Head, head_of, head, head_good}
 use Rattle.aiger.specs.Call.{head_outcome}
 use Rattle.aiger_lines.specs.Stray.{stray_at}
 use Rattle.aiger_lines.specs.LineAnswers.{NotSoMany, FileLineAt, FileLineIs}
-use Rattle.read_aiger.specs.HeadAnswers.{head_said, head_asked, LowHead, HeadAt}
+use Rattle.read_aiger.specs.HeadAnswers.{head_said, head_asked, HeadAt}
 use Rattle.read_aiger.specs.declared.head.HeadNumbers.{HeadNumbers}
 use Rattle.aiger_lines.specs.declared.numbers.Line.{Line}
 use Rattle.aiger_lines.specs.declared.numbers.Line.TheVariants as L

@@ -1,17 +1,16 @@
 -- From a header and the lines behind it to the questions of a whole file.
 use Prim.Native.Nat.{ℕ, ◌+◌, ◌≤◌, ◌<◌}
 use mathlib.Core.Path.{◌≡◌, refl, sym, ap, ◌∙◌, subst}
-use mathlib.Core.Bool.{Bool, true, false, ◌&&◌}
+use mathlib.Core.Bool.{Bool, true}
 use mathlib.Core.List.{List, [], ◌∷◌}
 use mathlib.Core.Option.{Option, none, some}
 use native.Mathlib.Omega.{arith}
-use lib.Dec.{leb}
 use lib.ListN.{length, drop}
 use borrow.Author.Tests.{le-leb, lt-leb}
 use Rattle.netlist.specs.declared.Limits.{Limits}
 use Rattle.netlist.specs.Lists.{sum}
 use Rattle.netlist.specs.Netlist.{Netlist}
-use Rattle.netlist.specs.Outcome.{Outcome, refused, done, ask, given, and_then}
+use Rattle.netlist.specs.Outcome.{Outcome, refused, ask, given, and_then}
 use Rattle.netlist.specs.Header.{within_limits}
 use Rattle.netlist.specs.Read.{header_of}
 use Rattle.netlist.specs.Services.{tables_long}
@@ -24,7 +23,7 @@ use Rattle.aiger.specs.Rules.{rules_kept}
 use Rattle.aiger.specs.Made.{netlist_made}
 use Rattle.aiger.specs.Call.{head_outcome, file_outcome, lines_read, lines_outcome, read_aiger}
 use Rattle.read_aiger.specs.HeadAnswers.{head_said, HeadAt, HeadIs}
-use Rattle.read_aiger.specs.WholeAnswers.{asked_aiger, LinesAt, LinesIs, gates_made, NetlistAt, NetlistIs}
+use Rattle.read_aiger.specs.WholeAnswers.{asked_aiger, LinesAt, LinesIs, NetlistAt, NetlistIs}
 use Rattle.read_aiger.specs.declared.head.HeadNumbers.{HeadNumbers}
 use Rattle.read_aiger.specs.declared.head.HeadStep.{HeadStep}
 use Rattle.read_aiger.specs.declared.head.HeadStep.TheVariants as S
