@@ -1,18 +1,18 @@
 -- From a witness to a leak that is told.
-use mathlib.Core.Path.{◌≡◌, refl, sym, ap, ap₂, ◌∙◌, subst}
-use mathlib.Core.Bool.{Bool, true, false, cond}
+use mathlib.Core.Path.{◌≡◌, refl, sym, ap, ap₂, ◌∙◌}
+use mathlib.Core.Bool.{Bool, false, cond}
 use mathlib.Core.List.{List, [], ◌∷◌, ◌++◌}
-use Prim.Native.Nat.{ℕ, zero, suc, ◌+◌, ◌*◌, ◌<◌, ◌≤◌}
+use Prim.Native.Nat.{ℕ, zero, suc, ◌*◌, ◌<◌, ◌≤◌}
 use native.Mathlib.Omega.{arith}
 use mathlib.Core.Logic.{◌⊎◌, inl, inr, ⊎_elim}
 use lib.ListN.{length, get_or, take, set, length-map}
 use lib.Seq.{length-take-le, get_or-take, sets}
-use Rattle.netlist.specs.Netlist.{Netlist, input_bits}
+use Rattle.netlist.specs.Netlist.{Netlist}
 use Rattle.netlist.specs.Lists.{sum}
 use Rattle.netlist.specs.Outcome.{Outcome, refused, done}
 use Rattle.netlist.specs.Read.{WellFormed}
 use Rattle.netlist.proofs.Tests.{clash}
-use Rattle.evaluate.specs.Lane.{lane, lanes}
+use Rattle.evaluate.specs.Lane.{lane}
 use Rattle.evaluate.proofs.Steps.{get_d-lanes}
 use Rattle.check_leak.specs.declared.difference.Difference.{Difference}
 use Rattle.check_netlist.specs.Judge.{codes_asked, asked_of}

@@ -1,14 +1,14 @@
 -- From the judged items to both answers.
 use Prim.Native.Nat.{ℕ, zero, suc, ◌+◌, ◌-◌, ◌*◌, ◌/◌, ◌%◌, ◌^◌, ◌≤◌, ◌<◌}
 use mathlib.Core.Path.{◌≡◌, refl, sym, ap, ◌∙◌, subst}
-use mathlib.Core.Bool.{Bool, true, false, not, cond}
+use mathlib.Core.Bool.{Bool, true, false}
 use mathlib.Core.List.{List, [], ◌∷◌, ◌++◌, append_assoc, append-nil}
-use mathlib.Core.Option.{Option, none, some}
+use mathlib.Core.Option.{none, some}
 use native.Mathlib.Numerals.{add-one}
 use native.Mathlib.Omega.{arith}
 use lib.Dec.{T, eqb, ltb}
-use lib.ListN.{length, get_or, set, take, drop, replicate, length-set, drop_of_length-le, length-append}
-use lib.Seq.{take-suc-set, drop-cons, length-take-le}
+use lib.ListN.{length, get_or, set, take, drop, replicate, length-set, drop_of_length-le}
+use lib.Seq.{take-suc-set, drop-cons}
 use borrow.Author.Tests.{ltb-true, ltb-false, eqb-true, eqb-false}
 use Rattle.netlist.specs.Netlist.{Netlist}
 use Rattle.netlist.specs.Table.{Tables}
@@ -17,7 +17,6 @@ use Rattle.netlist.proofs.Tests.{on_bool}
 use Rattle.evaluate.specs.Bare.{bare}
 use Rattle.check_counts.specs.Paint.{codes_of, paint}
 use Rattle.check_counts.specs.Base.{part, count_in}
-use Rattle.check_counts.proofs.Paints.{length-codes_of}
 use Rattle.check_leak.specs.declared.difference.Difference.{Difference}
 use Rattle.check_leak.specs.Difference.{LowestDifference}
 use Rattle.pairs.specs.Pairs.{clean_pair, first_bad}
@@ -27,7 +26,7 @@ use Rattle.pairs_search.proofs.Finds.{one-bare}
 use Rattle.wide.specs.Reach.{size, reach}
 use Rattle.wide.specs.Rule.{Level, colour_at}
 use Rattle.wide.specs.Sets.{reach_set, picked}
-use Rattle.wide.specs.Wide.{WideLeak, listed}
+use Rattle.wide.specs.Wide.{listed}
 use Rattle.wide.proofs.Painted.{level-painted}
 use Rattle.wide.proofs.Picked.{length-places}
 use Rattle.wide.proofs.Lowest.{level-clean, ranked-level, lowest-listed}

@@ -10,10 +10,10 @@ use lib.ListN.{length, get_or, take, get_or-eq_default}
 use lib.Seq.{length-take-le, get_or-take}
 use borrow.Author.Tests.{ltb-true, ltb-false}
 use Rattle.netlist.specs.Netlist.{Netlist}
-use Rattle.netlist.specs.Table.{Tables, Holds}
+use Rattle.netlist.specs.Table.{Tables}
 use Rattle.netlist.proofs.Tests.{on_bool}
 use Rattle.evaluate.specs.Bare.{bare}
-use Rattle.check_counts.specs.Paint.{code_of, codes_of, paint}
+use Rattle.check_counts.specs.Paint.{codes_of, paint}
 use Rattle.check_counts.specs.Base.{part, count_in}
 use Rattle.check_counts.proofs.Paints.{length-codes_of}
 use Rattle.pairs.specs.Pairs.{clean_pair}
@@ -29,10 +29,10 @@ use Rattle.wide.proofs.Marks.{length-marks}
 use Rattle.wide.proofs.Merges.{merge-marks}
 use Rattle.wide.proofs.Places.{place-below, places-apart}
 use Rattle.wide.proofs.Painted.{level-painted, clean-painted, painted-level, painted-clean}
-use Rattle.wide_sets.specs.Packed.{Sets, set_at}
+use Rattle.wide_sets.specs.Packed.{Sets}
 use Rattle.wide_colours.specs.Colours.{Upto, Inputs, Seeded}
 use Rattle.wide_colours.proofs.Giving.{different-kept, seeded-different}
-use Rattle.wide_search.specs.Items.{pair_at, item_set, is_marked, Serving}
+use Rattle.wide_search.specs.Items.{item_set, is_marked, Serving}
 use Rattle.wide_search.specs.Judging.{Given, CleanAt, Judged, Judging}
 use Rattle.wide_search.proofs.ItemSets.{item-wire, item-pair}
 

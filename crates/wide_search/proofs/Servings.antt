@@ -1,12 +1,11 @@
 -- Items that get colours one after the other.
-use Prim.Native.Nat.{ℕ, ◌+◌, ◌≤◌, ◌<◌}
-use mathlib.Core.Path.{◌≡◌, refl, sym, ap, ◌∙◌, subst}
-use mathlib.Core.Bool.{Bool, true, false, not}
+use Prim.Native.Nat.{ℕ, ◌+◌}
+use mathlib.Core.Path.{sym, ap, ◌∙◌, subst}
+use mathlib.Core.Bool.{not}
 use mathlib.Core.List.{List}
-use mathlib.Core.Logic.{◌⊎◌, inl, inr, ⊎_elim}
-use native.Mathlib.Omega.{arith}
+use mathlib.Core.Logic.{inl, inr, ⊎_elim}
 use lib.Dec.{eqb}
-use lib.ListN.{length, get_or, set}
+use lib.ListN.{set}
 use lib.Seq.{get_or-set_other}
 use borrow.Author.Tests.{eqb-true, eqb-false}
 use Rattle.netlist.proofs.Tests.{on_bool}
@@ -14,7 +13,7 @@ use Rattle.wide.specs.Rule.{Different}
 use Rattle.wide_colours.specs.Colours.{Kept}
 use Rattle.wide_colours.proofs.Giving.{kept-none, kept_then, different-kept}
 use Rattle.wide_sets.specs.Packed.{Sets}
-use Rattle.wide_search.specs.Items.{item_set, is_marked, Serving}
+use Rattle.wide_search.specs.Items.{item_set, Serving}
 
 module _ {S : Sets} {ws : List ℕ} {W start : ℕ} where
   pub serving-none : (marks ps : List ℕ) → Serving S ws W start marks marks ps ps

@@ -1,5 +1,5 @@
 -- Wires and pairs as items that a run of all gates serves.
-use Rattle.std.specs.Prelude.{ℕ, ◌+◌, ◌-◌, ◌*◌, ◌/◌, ◌≤◌, ◌<◌, Bool, true, false, cond, not, List, ◌⊎◌, ◌≡◌, eqb, ltb, length, get_or}
+use Rattle.std.specs.Prelude.{ℕ, ◌+◌, ◌-◌, ◌*◌, ◌/◌, ◌≤◌, ◌<◌, Bool, true, cond, not, List, ◌⊎◌, ◌≡◌, eqb, ltb, length, get_or}
 use Rattle.wide.specs.Rule.{Different}
 use Rattle.wide.specs.Sets.{merge}
 use Rattle.wide_colours.specs.Colours.{Kept}

@@ -1,0 +1,8 @@
+-- `write`: the header, and the gates behind it.
+use Rattle.mask_text.proofs.Wholes.{write-made}
+use Rattle.mask_text.proofs.write.Goals as goal
+
+pub returns : goal.returns
+returns c =
+    let s = c.args in
+    λ N a z. write-made a s.codes.now s.wanted.now z c.header-at.ensures (c.pass-t.ensures N a.holds)
