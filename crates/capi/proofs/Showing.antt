@@ -23,10 +23,6 @@ use Rattle.session_text.proofs.Showing.{stands, fits, third-long, fourth-long}
 use Rattle.session_text.proofs.Calling.{text-promised, masked-promised}
 use Rattle.capi_answers.specs.Number.{Told}
 
-pub count_fits : {z : Sizes} {a b c d : ℕ} {widths outputs : List ℕ} {gates places : ℕ} {q : Asked} → AskedIs z a b c d widths outputs gates places q →
-    q.inputs + q.count < 2 ^ 32
-count_fits A = omega (arith, A.few)
-
 module _ {z : Sizes} {a b c d : ℕ} {widths outputs : List ℕ} {gates : ℕ} {source : List SourceRecord} {q : Asked} {t : Tables} {n : ℕ}
     (A : AskedIs z a b c d widths outputs gates (length source) q) (F : FilledIs source q t n) where
   pub ready : Ready widths outputs q t n
@@ -82,16 +78,3 @@ module _ (s : Session) (source : List SourceRecord) {z : Sizes} {widths outputs 
         });
         told = B.told;
       }
-
--- ---- one gate
-
-module _ (s : Session) (k : ℕ) (source : List SourceRecord) {at : ℕ} (e : at ≡ cond (ltb k s.gates) k (length source)) where
-  pub gate-there : at < length source → get_or source at blank_source ≡ gate_shown s k source
-  gate-there l = on_bool (ltb k s.gates)
-      (λ h. let p : at ≡ k = rw h at e in rw h (ap (λ (i : ℕ). get_or source i blank_source) p))
-      (λ h. let p : at ≡ length source = rw h at e in absurd (omega (arith, p, l)))
-
-  pub gate-none : length source ≤ at → blank_source ≡ gate_shown s k source
-  gate-none l = on_bool (ltb k s.gates)
-      (λ h. let p : at ≡ k = rw h at e in rw h (sym (get_or-eq_default source blank_source (omega (arith, p, l)))))
-      (λ h. rw h refl)
