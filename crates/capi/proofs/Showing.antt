@@ -1,24 +1,19 @@
 -- From the parts of a call that shows a session to what it promises.
-use Prim.Native.Nat.{ℕ, ◌+◌, ◌^◌, ◌≤◌, ◌<◌}
-use mathlib.Core.Path.{◌≡◌, refl, sym, ap, ◌∙◌}
-use mathlib.Core.Bool.{Bool, true, false, cond}
+use Prim.Native.Nat.{ℕ, ◌+◌, ◌≤◌}
+use mathlib.Core.Path.{◌≡◌, ap, ◌∙◌}
 use mathlib.Core.List.{List, [], ◌∷◌}
-use native.Mathlib.Omega.{arith}
-use lib.Dec.{ltb}
 use lib.IntN.{ℤ}
-use lib.ListN.{length, get_or, replicate, get_or-eq_default}
+use lib.ListN.{length, replicate}
 use Rattle.netlist.specs.declared.Sizes.{Sizes}
 use Rattle.netlist.specs.Netlist.{Netlist, small}
 use Rattle.netlist.specs.Outcome.{Outcome}
 use Rattle.netlist.specs.Table.{Tables, tables}
-use Rattle.netlist.proofs.Tests.{on_bool}
 use Rattle.gate_records.specs.declared.SourceRecord.{SourceRecord}
-use Rattle.gate_records.specs.Records.{blank_source}
 use Rattle.session.specs.declared.Session.{Session}
 use Rattle.session_text.specs.declared.asking.Asked.{Asked}
 use Rattle.session_text.specs.Shown.{netlist_shown}
 use Rattle.session_text.specs.Parts.{AskedIs, FilledIs, Stands, Ready, TextIs, MaskedIs}
-use Rattle.session_text.specs.Promise.{gate_shown, TextPromise, MaskedPromise}
+use Rattle.session_text.specs.Promise.{TextPromise, MaskedPromise}
 use Rattle.session_text.proofs.Showing.{stands, fits, third-long, fourth-long}
 use Rattle.session_text.proofs.Calling.{text-promised, masked-promised}
 use Rattle.capi_answers.specs.Number.{Told}
