@@ -1,11 +1,9 @@
 -- What a call of the check of netlists with many inputs from C gets for its answers.
 use Rattle.std.specs.Prelude.{ℕ, min, cond, ◌≡◌, List, [], leb, ℤ, length, take}
 use Rattle.std.proofs.lemmas.List.Edits.{sets}
-use Rattle.pairs_search.specs.declared.search.WiresVerdict.{WiresVerdict}
 use Rattle.pairs_search.specs.declared.search.WiresVerdict.TheVariants as wires
 use Rattle.pairs_judge.specs.declared.CheckedPairs.{CheckedPairs}
 use Rattle.pairs_judge.specs.declared.CheckedPairs.TheVariants.{Done, Refused}
-use Rattle.wide_search.specs.declared.search.WideVerdict.{WideVerdict}
 use Rattle.wide_search.specs.declared.search.WideVerdict.TheVariants as many
 use Rattle.wide_judge.specs.declared.CheckedWide.{CheckedWide}
 use Rattle.wide_judge.specs.declared.CheckedWide.TheVariants as wide

@@ -3,7 +3,6 @@ use Prim.Native.Nat.{ℕ, min}
 use mathlib.Core.Path.{◌≡◌, refl, sym, ap, ◌∙◌}
 use mathlib.Core.Bool.{Bool, true, false, ◌&&◌}
 use mathlib.Core.List.{List, [], ◌∷◌}
-use mathlib.Core.Option.{Option, none, some}
 use lib.Dec.{leb}
 use lib.ListN.{length, take}
 use Rattle.netlist.specs.declared.Limits.{Limits}
@@ -23,7 +22,7 @@ use Rattle.pairs_search.specs.declared.search.WiresVerdict.{WiresVerdict}
 use Rattle.pairs_search.specs.declared.search.WiresVerdict.TheVariants.{Clean, Leak}
 use Rattle.check_netlist.specs.Judge.{found}
 use Rattle.checker.proofs.Calling.{shorter-long, outcome-leak}
-use Rattle.pairs.specs.Pairs.{clean_pair, first_bad, PairsJudged}
+use Rattle.pairs.specs.Pairs.{PairsJudged}
 use Rattle.pairs.specs.Call.{BothAnswers, pairs_outcome, pairs_call}
 use Rattle.pairs.proofs.PairCalls.{pairs-done}
 use Rattle.pairs.proofs.PairCheck.{pairs-judged}

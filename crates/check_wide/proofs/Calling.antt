@@ -14,7 +14,6 @@ use Rattle.netlist.specs.Outcome.{Outcome, refused, done, ask, and_then}
 use Rattle.netlist.specs.Read.{read_netlist, WellFormed}
 use Rattle.netlist.specs.Mask.{is_input_code}
 use Rattle.netlist.specs.Leak.{Found, leak}
-use Rattle.netlist.specs.Leak as L
 use Rattle.netlist.specs.Services.{tables_long, list_good, ends_in_masks}
 use Rattle.netlist.specs.Table.{Tables, Holds}
 use Rattle.netlist.proofs.Accepted.{accepted}
@@ -25,10 +24,8 @@ use Rattle.netlist.proofs.Tests.{clash}
 use Rattle.checker.proofs.Calling.{shorter-long}
 use Rattle.read_header.specs.declared.HeaderNumbers.{HeaderNumbers}
 use Rattle.read_netlist.specs.Whole.{ReadAt}
-use Rattle.pairs.specs.Pairs.{clean_pair, first_bad, PairsJudged}
 use Rattle.pairs.specs.Call.{BothAnswers, pairs_good}
 use Rattle.pairs.proofs.PairCheck.{pairs-judged}
-use Rattle.pairs_search.specs.declared.search.PairsVerdict.{PairsVerdict}
 use Rattle.pairs_search.specs.Search.{bad_of}
 use Rattle.wide.specs.Wide.{WideLeak, listed, few_reach, wide_answers, wide_outcome, wide_call}
 use Rattle.wide_search.specs.declared.search.WideVerdict.{WideVerdict}

@@ -1,5 +1,5 @@
 -- The stages of a call: the choice that is given, question 14 and the results.
-use Prim.Native.Nat.{ℕ, ◌+◌, ◌-◌, ◌≤◌}
+use Prim.Native.Nat.{ℕ, ◌+◌, ◌≤◌}
 use mathlib.Core.Path.{◌≡◌, refl, sym, ap, ◌∙◌}
 use mathlib.Core.Bool.{Bool, true, false, ◌&&◌}
 use mathlib.Core.List.{List, [], ◌∷◌, ◌++◌}
@@ -20,7 +20,7 @@ use Rattle.netlist.specs.Table.{Tables, tables, Wired}
 use Rattle.netlist.proofs.Tests.{both, on_bool, clash}
 use Rattle.netlist.proofs.Puts.{wired-same, length-gates}
 use Rattle.mask_text.specs.Whole.{MaskAnswers, Source as MaskSource}
-use Rattle.fewest.specs.Choice.{Agree, ways, choice, chosen_gates}
+use Rattle.fewest.specs.Choice.{Agree, choice, chosen_gates}
 use Rattle.fewest.specs.Fewest.{given as given_number}
 use Rattle.fewest.specs.Call.{room_for, deliver}
 use Rattle.fewest.proofs.Chosen.{input-ways}

@@ -3,12 +3,12 @@ use Prim.Native.Nat.{ℕ, ◌+◌, ◌-◌, ◌≤◌}
 use mathlib.Core.Path.{◌≡◌, sym, ap, ap₂, ◌∙◌}
 use mathlib.Core.List.{List, ◌++◌}
 use native.Mathlib.Omega.{arith}
-use lib.ListN.{length, drop, replicate, length-append, length-drop}
+use lib.ListN.{length, drop, length-append, length-drop}
 use Rattle.netlist.specs.declared.Gate.{Gate}
 use Rattle.netlist.specs.declared.Twin.{Twin}
 use Rattle.netlist.specs.Netlist.{Netlist, output_bits}
 use Rattle.netlist.specs.Table.{Tables, gates_of, Holds}
-use Rattle.netlist.specs.Mask.{State, mask_netlist, mask_gates, public_gates, past_publics, emit_all, advance_all, out_gates, out_codes, start, finish, input_twins, no_twin}
+use Rattle.netlist.specs.Mask.{State, mask_netlist, mask_gates, public_gates, past_publics, emit_all, advance_all, out_gates, out_codes, start, finish}
 use Rattle.netlist.proofs.GateCount.{next-emit_all}
 use Rattle.netlist.proofs.OutputGates.{length-out_gates, length-out_codes}
 use Rattle.write_gates.specs.Gates.{WroteGates}

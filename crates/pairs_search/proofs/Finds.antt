@@ -1,8 +1,8 @@
 -- The search over the blocks, and its two answers.
-use mathlib.Core.Path.{◌≡◌, refl, sym, ap, ap₂, ◌∙◌, subst}
+use mathlib.Core.Path.{◌≡◌, sym, ap, ap₂, ◌∙◌, subst}
 use mathlib.Core.Bool.{Bool, true, false}
 use mathlib.Core.List.{List}
-use mathlib.Core.Option.{Option, none, some}
+use mathlib.Core.Option.{none, some}
 use Prim.Native.Nat.{ℕ, ◌+◌, ◌*◌, ◌/◌, ◌%◌, ◌^◌, ◌≤◌, ◌<◌}
 use native.Mathlib.Nat.{mod-lt}
 use native.Mathlib.Omega.{arith}
@@ -26,8 +26,7 @@ use Rattle.check_leak.specs.declared.difference.Difference.{Difference}
 use Rattle.check_leak.specs.Difference.{LowestDifference, from}
 use Rattle.check_leak.proofs.Differences.{difference-none, difference-same}
 use Rattle.pairs.specs.Pairs.{both_count, clean_pair, first_bad}
-use Rattle.pairs.proofs.PairCounts.{SameThree}
-use Rattle.pairs.proofs.PairCheck.{ThreeAsBase, passes-three, three-passes, Tested, first-is}
+use Rattle.pairs.proofs.PairCheck.{ThreeAsBase, passes-three, three-passes, first-is}
 use Rattle.pairs_search.specs.declared.search.Best.{Best}
 use Rattle.pairs_search.specs.Level.{Counts, counts_of, held_in, held_base, on_from, Alike, Level, LevelAt, FirstUneven}
 use Rattle.pairs_search.specs.Bases.{Based, HeldOn}

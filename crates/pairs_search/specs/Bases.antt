@@ -1,5 +1,5 @@
 -- The words and the counts of the bases of a block's settings.
-use Rattle.std.specs.Prelude.{ℕ, ◌<◌, Bool, true, false, List, ◌≢◌, ◌≡◌}
+use Rattle.std.specs.Prelude.{ℕ, ◌<◌, Bool, false, List, ◌≢◌, ◌≡◌}
 use Rattle.netlist.specs.Netlist.{Netlist}
 use Rattle.netlist.specs.Leak.{Secret}
 use Rattle.check_counts.specs.Paint.{codes_of}

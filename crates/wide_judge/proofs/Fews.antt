@@ -1,18 +1,17 @@
 -- Question 12: at most twelve inputs reach each wire and each listed pair.
 use Prim.Native.Nat.{ℕ, zero, suc, ◌+◌, ◌*◌, ◌/◌, ◌≤◌, ◌<◌}
 use mathlib.Core.Path.{◌≡◌, refl, sym, ap, ap₂, ◌∙◌, subst}
-use mathlib.Core.Bool.{Bool, true, false, ◌&&◌, ◌||◌}
+use mathlib.Core.Bool.{Bool, true, false}
 use mathlib.Core.List.{List, [], ◌∷◌}
 use mathlib.Core.Option.{Option}
 use native.Mathlib.Omega.{arith}
-use lib.Dec.{T, eqb, leb, leb→le}
+use lib.Dec.{T, leb→le}
 use lib.ListN.{length, get_or, take}
 use borrow.Author.Tests.{le-leb}
-use Rattle.netlist.specs.Netlist.{Netlist, input_bits}
+use Rattle.netlist.specs.Netlist.{Netlist}
 use Rattle.netlist.specs.Outcome.{Outcome, refused, done, ask}
-use Rattle.netlist.specs.Read.{WellFormed}
 use Rattle.netlist.specs.Table.{Tables, Holds}
-use Rattle.netlist.proofs.Tests.{on_bool, both, pair, is_true, true-T}
+use Rattle.netlist.proofs.Tests.{both, pair, is_true, true-T}
 use Rattle.pairs.specs.Pairs.{all_below}
 use Rattle.pairs.specs.Call.{BothAnswers}
 use Rattle.pairs.proofs.PairCheck.{below_all, all-below}

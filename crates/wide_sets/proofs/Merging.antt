@@ -4,7 +4,7 @@ use mathlib.Core.Path.{◌≡◌, refl, sym, ap, ap₂, ◌∙◌, subst}
 use mathlib.Core.List.{List, [], ◌∷◌, ◌++◌, append_assoc, append-nil}
 use native.Mathlib.Numerals.{add-one}
 use native.Mathlib.Omega.{arith}
-use lib.ListN.{length, get_or, set, take, drop, replicate, length-set, length-append, drop_of_length-le}
+use lib.ListN.{length, set, take, drop, replicate, length-set, length-append, drop_of_length-le}
 use lib.Seq.{take-suc-set, length-take-le}
 use Rattle.wide.specs.Sets.{merge}
 use Rattle.wide_sets.specs.declared.unite.Head.{Head}

@@ -1,16 +1,14 @@
 -- The next number of two rising lists, in each of its cases.
 use Prim.Native.Nat.{ℕ, ◌+◌, ◌≤◌, ◌<◌}
-use mathlib.Core.Path.{◌≡◌, refl, sym, ap, ap₂, ◌∙◌}
+use mathlib.Core.Path.{◌≡◌, sym, ap, ap₂, ◌∙◌}
 use mathlib.Core.List.{List, [], ◌∷◌}
 use native.Mathlib.Numerals.{add-one}
 use native.Mathlib.Omega.{arith}
-use lib.Dec.{ltb}
 use lib.ListN.{length, get_or, drop, drop_of_length-le}
 use lib.Seq.{drop-cons}
 use borrow.Author.Tests.{lt-ltb, le-ltb}
 use Rattle.wide.specs.Sets.{merge}
 use Rattle.wide.proofs.Merges.{merge_none}
-use Rattle.wide_sets.specs.declared.unite.Head.{Head}
 use Rattle.wide_sets.specs.Together.{Next}
 
 -- the list from a place on begins with the place's entry

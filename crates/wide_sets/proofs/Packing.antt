@@ -1,15 +1,14 @@
 -- Sets in entries: packed and unpacked.
-use Prim.Native.Nat.{ℕ, zero, suc, ◌+◌, ◌*◌, ◌/◌, ◌%◌, ◌≤◌, ◌<◌}
-use mathlib.Core.Path.{◌≡◌, refl, sym, ap, ap₂, ◌∙◌}
+use Prim.Native.Nat.{ℕ, zero, suc, ◌+◌, ◌*◌, ◌≤◌, ◌<◌}
+use mathlib.Core.Path.{◌≡◌, refl, ap, ap₂, ◌∙◌}
 use mathlib.Core.List.{List, [], ◌∷◌}
-use mathlib.Core.Logic.{◌≢◌}
 use native.Mathlib.Omega.{arith}
 use lib.Dec.{eqb}
 use borrow.Author.Tests.{eqb-true, eqb-false}
 use Rattle.netlist.proofs.Tests.{on_bool}
 use lib.ListN.{length, get_or, take, set, length-set}
 use lib.Seq.{get_or-set_same, get_or-set_other}
-use Rattle.wide_sets.specs.Packed.{second, third, above, three_of, count_in, list_in, Sets, sets, set_at, size_at, Sized, Small, Holding, Put}
+use Rattle.wide_sets.specs.Packed.{above, three_of, count_in, list_in, Sets, sets, set_at, Small, Holding, Put}
 
 pub small-none : Small []
 small-none a = omega arith

@@ -1,5 +1,5 @@
 -- Sets of inputs in four tables: entry w of each belongs to wire w.
-use Rattle.std.specs.Prelude.{ℕ, ◌+◌, ◌*◌, ◌/◌, ◌%◌, ◌≤◌, ◌<◌, cond, ◌&&◌, List, [], ◌∷◌, ◌≢◌, ◌≡◌, ltb, length, get_or, take}
+use Rattle.std.specs.Prelude.{ℕ, ◌+◌, ◌/◌, ◌%◌, ◌≤◌, ◌<◌, cond, ◌&&◌, List, [], ◌∷◌, ◌≢◌, ◌≡◌, ltb, length, get_or, take}
 
 -- 2^20, 2^40 and 2^60
 abbrev pub second : ℕ

@@ -4,7 +4,7 @@ use Rattle.netlist.specs.Netlist.{Netlist}
 use Rattle.wide.specs.Sets.{merge, reach_set}
 use Rattle.wide_sets.specs.declared.reach.One.{One}
 use Rattle.wide_sets.specs.declared.reach.One.TheVariants.{Wire, Neither}
-use Rattle.wide_sets.specs.Packed.{Sets, set_at, Sized, Put}
+use Rattle.wide_sets.specs.Packed.{Sets, set_at, Put}
 
 -- the set of a wire below W is that of two wires together
 abbrev pub OneOf : Sets → ℕ → ℕ → ℕ → One → Type 0

@@ -1,6 +1,5 @@
 -- `mask_pass::masks` meets its contract.
 use Rattle.write_gates.proofs.GateLines.{gates-then}
-use borrow.Author.Rules.{rules}
 use Rattle.mask_pass.proofs.masks.Goals as goal
 
 pub returns : goal.returns

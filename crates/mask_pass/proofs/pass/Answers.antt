@@ -6,7 +6,6 @@ use Rattle.netlist.proofs.Puts.{wired-same}
 use Rattle.mask_twins.proofs.Starts.{started-most}
 use Rattle.mask_pass.proofs.Passes.{pass-made}
 use native.Mathlib.Omega.{arith}
-use borrow.Author.Rules.{rules}
 use Rattle.mask_pass.proofs.pass.Goals as goal
 
 pub gates-t-requires : goal.gates-t-requires
@@ -18,11 +17,11 @@ gates-t-requires c =
 pub overflow_sub-from : goal.overflow_sub-from
 overflow_sub-from c =
     omega (
-  arith,
-  c.requires.ready.outs,
-  c.start-next.auto.wire,
-  c.gates-t.auto.wire,
-)
+      arith,
+      c.requires.ready.outs,
+      c.start-next.auto.wire,
+      c.gates-t.auto.wire,
+    )
 
 pub outs-end-requires : goal.outs-end-requires
 outs-end-requires c =
@@ -30,7 +29,9 @@ outs-end-requires c =
     in
     let s = c.start-next in
     let g = c.gates-t in
-    record { word_table = c.requires.word_table; n_bound = omega (
+    record {
+      word_table = c.requires.word_table;
+      n_bound = omega (
         arith,
         p.small,
         p.ins,
@@ -42,7 +43,8 @@ outs-end-requires c =
         g.auto.wire,
         g.auto.code,
         g.ensures.grown,
-      ); wanted_value = omega (
+      );
+      wanted_value = omega (
         arith,
         p.small,
         p.ins,
@@ -54,7 +56,8 @@ outs-end-requires c =
         g.auto.wire,
         g.auto.code,
         g.ensures.grown,
-      ) }
+      );
+    }
 
 pub overflow_cast-result : goal.overflow_cast-result
 overflow_cast-result c =

@@ -8,7 +8,6 @@ use Rattle.netlist.proofs.Answering.{table_at}
 use Rattle.read_netlist.proofs.Wholes.{read_is, readable-large}
 use Rattle.run.proofs.Running.{call-not, call-read}
 use native.Mathlib.Omega.{arith}
-use borrow.Author.Rules.{rules}
 use Rattle.run.proofs.answer.Goals as goal
 
 pub read-requires : goal.read-requires

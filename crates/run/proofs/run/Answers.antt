@@ -1,7 +1,6 @@
 -- `run`: the answer, and then zero in every table.
 use Rattle.clear.proofs.Filled.{zeros-same}
 use Rattle.run.proofs.Running.{call-bits}
-use borrow.Author.Rules.{rules}
 use Rattle.run.proofs.run.Goals as goal
 
 pub returns : goal.returns

@@ -1,6 +1,5 @@
 -- `inputs::input`.
 use Rattle.fewest_walk.proofs.Filling.{way-public, way-free, way-fixed}
-use borrow.Author.Rules.{rules}
 use Rattle.fewest_walk.proofs.inputs.input.Goals as goal
 
 pub returns-then-e-eq0 : goal.returns-then-e-eq0

@@ -1,12 +1,6 @@
 -- `inputs::inputs`: the first i inputs are filled.
-use Prim.Native.Nat.{◌-◌}
-use lib.ListN.{length}
-use Rattle.fewest_walk.proofs.Filling.{Filling, filling-none, filling-more, filling-all}
-use borrow.Author.Rules.{rules}
+use Rattle.fewest_walk.proofs.Filling.{filling-none, filling-more, filling-all}
 use native.Mathlib.Omega.{arith}
-use Rattle.fewest_walk.proofs.inputs.inputs.Reads as reads
-use Rattle.fewest_walk.proofs.inputs.inputs.Lts as lts
-use Rattle.fewest_walk.proofs.inputs.input.Reads as input-reads
 use Rattle.fewest_walk.proofs.inputs.inputs.Goals as goal
 
 pub loop-i-init : goal.loop-i-init
@@ -18,11 +12,11 @@ bounds-way-i c = omega (arith, c.requires.0, c.loop-i-test.true)
 pub bounds-code-i : goal.bounds-code-i
 bounds-code-i c =
     omega (
-  arith,
-  c.requires.1,
-  c.loop-i-test.true,
-  c.loop-i.invariant.so.size,
-)
+      arith,
+      c.requires.1,
+      c.loop-i-test.true,
+      c.loop-i.invariant.so.size,
+    )
 
 pub loop-i-preserved : goal.loop-i-preserved
 loop-i-preserved c =

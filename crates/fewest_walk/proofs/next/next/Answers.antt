@@ -1,9 +1,5 @@
 -- `next::next`: the places from p on took their last way.
-use Prim.Native.Nat.{◌+◌}
-use lib.ListN.{length}
-use Rattle.fewest_walk.specs.Advance.{ways_at}
-use Rattle.fewest_walk.proofs.Advancing.{ways-one, way-more, way-last, Advancing, advancing-none, advancing-more, advanced-at, advanced-none}
-use borrow.Author.Rules.{rules}
+use Rattle.fewest_walk.proofs.Advancing.{ways-one, way-more, way-last, advancing-none, advancing-more, advanced-at, advanced-none}
 use native.Mathlib.Omega.{arith}
 use Rattle.fewest_walk.proofs.next.next.Goals as goal
 
@@ -13,12 +9,12 @@ loop-p-init c = advancing-none _ _ _
 pub bounds-way-q : goal.bounds-way-q
 bounds-way-q c =
     omega (
-  arith,
-  c.requires.1,
-  c.loop-p.invariant.within,
-  c.loop-p.invariant.size,
-  c.loop-p-test.true,
-)
+      arith,
+      c.requires.1,
+      c.loop-p.invariant.within,
+      c.loop-p.invariant.size,
+      c.loop-p-test.true,
+    )
 
 pub ways-w-requires : goal.ways-w-requires
 ways-w-requires c = omega (arith, c.requires.0, c.loop-p.invariant.within, c.loop-p-test.true)
@@ -31,12 +27,12 @@ overflow_sub-w c =
 pub bounds-way-q-then-d-w : goal.bounds-way-q-then-d-w
 bounds-way-q-then-d-w c =
     omega (
-  arith,
-  c.requires.1,
-  c.loop-p.invariant.within,
-  c.loop-p.invariant.size,
-  c.loop-p-test.true,
-)
+      arith,
+      c.requires.1,
+      c.loop-p.invariant.within,
+      c.loop-p.invariant.size,
+      c.loop-p-test.true,
+    )
 
 pub returns-then-d-w : goal.returns-then-d-w
 returns-then-d-w c =
@@ -46,12 +42,12 @@ returns-then-d-w c =
 pub bounds-way-q-in-loop-p : goal.bounds-way-q-in-loop-p
 bounds-way-q-in-loop-p c =
     omega (
-  arith,
-  c.requires.1,
-  c.loop-p.invariant.within,
-  c.loop-p.invariant.size,
-  c.loop-p-test.true,
-)
+      arith,
+      c.requires.1,
+      c.loop-p.invariant.within,
+      c.loop-p.invariant.size,
+      c.loop-p-test.true,
+    )
 
 pub loop-p-preserved : goal.loop-p-preserved
 loop-p-preserved c =

@@ -2,9 +2,7 @@
 use Prim.Native.Nat.{◌+◌}
 use lib.ListN.{length}
 use Rattle.fewest_walk.specs.Advance.{ways_at}
-use Rattle.fewest_walk.proofs.Advancing.{ways-one, way-more, way-last, Advancing, advancing-none, advancing-more, advanced-at, advanced-none}
-use borrow.Author.Rules.{rules}
-use native.Mathlib.Omega.{arith}
+use Rattle.fewest_walk.proofs.Advancing.{Advancing}
 use Rattle.fewest_walk.proofs.next.next.Given as goal
 
 abbrev pub invariant-loop-p : goal.invariant-loop-p

@@ -1,6 +1,5 @@
 -- `next::ways`.
 use Rattle.fewest_walk.proofs.Advancing.{ways-free, ways-fixed, ways-and, ways-other}
-use borrow.Author.Rules.{rules}
 use Rattle.fewest_walk.proofs.next.ways.Goals as goal
 
 pub returns-then-codes-p-eq4 : goal.returns-then-codes-p-eq4

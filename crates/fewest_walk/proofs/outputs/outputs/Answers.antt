@@ -1,8 +1,5 @@
 -- `outputs::outputs`: the changes of the first i outputs.
-use Prim.Native.Nat.{◌-◌}
-use lib.ListN.{length}
-use Rattle.fewest_walk.proofs.Ending.{Ending, ending-none, ending-more, ending-small, ending-all}
-use borrow.Author.Rules.{rules}
+use Rattle.fewest_walk.proofs.Ending.{ending-none, ending-more, ending-small, ending-all}
 use native.Mathlib.Omega.{arith}
 use Rattle.fewest_walk.proofs.outputs.outputs.Goals as goal
 

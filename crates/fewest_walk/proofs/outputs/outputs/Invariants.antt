@@ -1,9 +1,7 @@
 -- `outputs::outputs`: the changes of the first i outputs.
 use Prim.Native.Nat.{◌-◌}
 use lib.ListN.{length}
-use Rattle.fewest_walk.proofs.Ending.{Ending, ending-none, ending-more, ending-small, ending-all}
-use borrow.Author.Rules.{rules}
-use native.Mathlib.Omega.{arith}
+use Rattle.fewest_walk.proofs.Ending.{Ending}
 use Rattle.fewest_walk.proofs.outputs.outputs.Given as goal
 
 abbrev pub invariant-loop-i : goal.invariant-loop-i

@@ -1,9 +1,6 @@
 -- `spans::times`.
 use Rattle.fewest_walk.proofs.Spanning.{times-most, times-fits, times-room}
 use native.Mathlib.Omega.{arith}
-use borrow.Author.Rules.{rules}
-use Rattle.fewest_walk.proofs.spans.times.Reads as reads
-use Rattle.fewest_walk.proofs.spans.times.Lts as lts
 use Rattle.fewest_walk.proofs.spans.times.Goals as goal
 
 pub returns-then-w-span : goal.returns-then-w-span

@@ -1,9 +1,5 @@
 -- `twices::twice`, by kind.
 use Rattle.fewest_walk.proofs.Counting.{twice-xor, twice-and, twice-none}
-use borrow.Author.Rules.{rules}
-use Rattle.fewest_walk.proofs.twices.twice.Reads as reads
-use Rattle.fewest_walk.proofs.twices.twice.Lts as lts
-use Rattle.gate_table.proofs.split.Reads as split-reads
 use Rattle.fewest_walk.proofs.twices.twice.Goals as goal
 
 pub returns-then-kind-eq-XOR : goal.returns-then-kind-eq-XOR

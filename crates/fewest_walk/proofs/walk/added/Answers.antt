@@ -1,8 +1,5 @@
 -- `walk::added`, by kind.
 use Rattle.fewest_walk.proofs.Walking.{added_twice, added-xor, added-and, added_none}
-use borrow.Author.Rules.{rules}
-use Rattle.fewest_walk.proofs.walk.added.Reads as reads
-use Rattle.fewest_walk.proofs.walk.added.Lts as lts
 use Rattle.fewest_walk.proofs.walk.added.Goals as goal
 
 pub returns-then-a-b : goal.returns-then-a-b

@@ -1,6 +1,5 @@
 -- `walk::result_code`, by kind.
 use Rattle.fewest_walk.proofs.Walking.{code-xor, code-swapped, code-written, code_copy, code-four, code_one}
-use borrow.Author.Rules.{rules}
 use Rattle.fewest_walk.proofs.walk.result_code.Goals as goal
 
 pub returns-then-kind-eq-XOR : goal.returns-then-kind-eq-XOR

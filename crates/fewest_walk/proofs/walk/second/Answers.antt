@@ -1,6 +1,5 @@
 -- `walk::second`.
 use Rattle.fewest_walk.proofs.Walking.{second-same, second-other}
-use borrow.Author.Rules.{rules}
 use Rattle.fewest_walk.proofs.walk.second.Goals as goal
 
 pub returns-then-e-f : goal.returns-then-e-f

@@ -1,12 +1,6 @@
 -- `walk::step`.
 use Rattle.gate_table.proofs.Splitting.{parts_within}
 use Rattle.fewest_walk.proofs.Walking.{stepped-is}
-use borrow.Author.Rules.{rules}
-use Rattle.fewest_walk.proofs.walk.step.Reads as reads
-use Rattle.fewest_walk.proofs.walk.step.Lts as lts
-use Rattle.fewest_walk.proofs.walk.added.Reads as added-reads
-use Rattle.fewest_walk.proofs.walk.result_code.Reads as result-code-reads
-use Rattle.gate_table.proofs.split.Reads as split-reads
 use Rattle.fewest_walk.proofs.walk.step.Goals as goal
 
 pub bounds-code-left : goal.bounds-code-left

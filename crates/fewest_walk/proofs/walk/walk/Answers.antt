@@ -1,13 +1,7 @@
 -- `walk::walk`: the gates from one on up to gate i are done.
-use Prim.Native.Nat.{◌-◌}
 use mathlib.Core.Path.{refl}
-use Rattle.netlist.specs.Table.{tables}
-use Rattle.fewest_walk.proofs.Walking.{stepped-small, Walking, done_none, walking-more, walked-cut, walked_all}
-use borrow.Author.Rules.{rules}
+use Rattle.fewest_walk.proofs.Walking.{stepped-small, done_none, walking-more, walked-cut, walked_all}
 use native.Mathlib.Omega.{arith}
-use Rattle.fewest_walk.proofs.walk.walk.Reads as reads
-use Rattle.fewest_walk.proofs.walk.walk.Lts as lts
-use Rattle.fewest_walk.proofs.walk.step.Reads as step-reads
 use Rattle.fewest_walk.proofs.walk.walk.Goals as goal
 
 pub bounds-lows-from : goal.bounds-lows-from
@@ -31,20 +25,20 @@ step-low-requires c =
 pub overflow_add-low : goal.overflow_add-low
 overflow_add-low c =
     omega (
-  arith,
-  stepped-small c.step-low.ensures,
-  c.loop-i.invariant.room,
-  c.loop-i-test.true,
-)
+      arith,
+      stepped-small c.step-low.ensures,
+      c.loop-i.invariant.room,
+      c.loop-i-test.true,
+    )
 
 pub bounds-lows-i : goal.bounds-lows-i
 bounds-lows-i c =
     omega (
-  arith,
-  c.requires.count_in_bounds.1,
-  c.loop-i-test.true,
-  c.loop-i.invariant.so.low_length,
-)
+      arith,
+      c.requires.count_in_bounds.1,
+      c.loop-i-test.true,
+      c.loop-i.invariant.so.low_length,
+    )
 
 pub shape_of-code-then-bound-low : goal.shape_of-code-then-bound-low
 shape_of-code-then-bound-low c = (walking-more c.loop-i.invariant

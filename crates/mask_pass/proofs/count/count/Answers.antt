@@ -3,7 +3,6 @@ use mathlib.Core.Path.{◌∙◌}
 use lib.ListN.{length}
 use Rattle.netlist.specs.Table.{tables}
 use Rattle.mask_pass.proofs.Passes.{pass-count}
-use borrow.Author.Rules.{rules}
 use Rattle.mask_pass.proofs.count.count.Goals as goal
 
 pub returns : goal.returns

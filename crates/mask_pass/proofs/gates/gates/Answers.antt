@@ -1,11 +1,6 @@
 -- `mask_pass::gates::gates` meets its contract.
-use Prim.Native.Nat.{◌-◌}
-use lib.ListN.{length}
-use Rattle.netlist.specs.Table.{tables}
 use Rattle.write_buffer.proofs.Writing.{wrote-length}
-use Rattle.mask_twins.specs.State.{state_of}
-use Rattle.mask_pass.proofs.States.{Emitting, emitting-none, emitting-more, emitting-all}
-use borrow.Author.Rules.{rules}
+use Rattle.mask_pass.proofs.States.{emitting-none, emitting-more, emitting-all}
 use native.Mathlib.Omega.{arith}
 use Rattle.mask_pass.proofs.gates.gates.Goals as goal
 

@@ -2,11 +2,8 @@
 use Prim.Native.Nat.{◌-◌}
 use lib.ListN.{length}
 use Rattle.netlist.specs.Table.{tables}
-use Rattle.write_buffer.proofs.Writing.{wrote-length}
 use Rattle.mask_twins.specs.State.{state_of}
-use Rattle.mask_pass.proofs.States.{Emitting, emitting-none, emitting-more, emitting-all}
-use borrow.Author.Rules.{rules}
-use native.Mathlib.Omega.{arith}
+use Rattle.mask_pass.proofs.States.{Emitting}
 use Rattle.mask_pass.proofs.gates.gates.Given as goal
 
 abbrev pub invariant-loop-i : goal.invariant-loop-i

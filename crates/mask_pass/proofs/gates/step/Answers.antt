@@ -3,7 +3,6 @@ use Rattle.gate_table.proofs.Splitting.{right_of, result-of, parts_within}
 use Rattle.mask_gate.proofs.Emits.{kind-small}
 use Rattle.mask_pass.proofs.States.{step-parts}
 use native.Mathlib.Omega.{arith}
-use borrow.Author.Rules.{rules}
 use Rattle.mask_pass.proofs.gates.step.Goals as goal
 
 pub twin-a-requires : goal.twin-a-requires
@@ -37,10 +36,10 @@ bounds-code-result c =
 pub overflow_add-result : goal.overflow_add-result
 overflow_add-result c =
     omega (
-  arith,
-  kind-small c.emit-made.ensures,
-  c.requires.n_bound.1,
-)
+      arith,
+      kind-small c.emit-made.ensures,
+      c.requires.n_bound.1,
+    )
 
 pub returns : goal.returns
 returns c =

@@ -1,10 +1,7 @@
 -- `mask_pass::outs::codes` meets its contract.
 use Prim.Native.Nat.{◌-◌}
 use lib.ListN.{length}
-use Rattle.write_buffer.proofs.Writing.{wrote-length}
-use Rattle.mask_pass.proofs.Outputs.{Picked, picked_none, picked_more, picked_all}
-use borrow.Author.Rules.{rules}
-use native.Mathlib.Omega.{arith}
+use Rattle.mask_pass.proofs.Outputs.{Picked}
 use Rattle.mask_pass.proofs.outs.codes.Given as goal
 
 abbrev pub invariant-loop-i : goal.invariant-loop-i

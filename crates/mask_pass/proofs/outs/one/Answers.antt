@@ -1,7 +1,6 @@
 -- `mask_pass::outs::one` meets its contract.
 use Rattle.mask_pass.proofs.Outputs.{out-changed}
 use borrow.Author.Tests.{eq-eqb, ne_eqb}
-use borrow.Author.Rules.{rules}
 use Rattle.mask_pass.proofs.outs.one.Goals as goal
 
 pub returns-then-want-eq0 : goal.returns-then-want-eq0

@@ -1,9 +1,6 @@
 -- `mask_pass::outs::outs` meets its contract.
-use Prim.Native.Nat.{◌-◌}
-use lib.ListN.{length}
 use Rattle.write_buffer.proofs.Writing.{wrote-length}
-use Rattle.mask_pass.proofs.Outputs.{Outed, outed-none, outed-more, outed-all}
-use borrow.Author.Rules.{rules}
+use Rattle.mask_pass.proofs.Outputs.{outed-none, outed-more, outed-all}
 use native.Mathlib.Omega.{arith}
 use Rattle.mask_pass.proofs.outs.outs.Goals as goal
 

@@ -1,10 +1,7 @@
 -- `mask_pass::outs::outs` meets its contract.
 use Prim.Native.Nat.{◌-◌}
 use lib.ListN.{length}
-use Rattle.write_buffer.proofs.Writing.{wrote-length}
-use Rattle.mask_pass.proofs.Outputs.{Outed, outed-none, outed-more, outed-all}
-use borrow.Author.Rules.{rules}
-use native.Mathlib.Omega.{arith}
+use Rattle.mask_pass.proofs.Outputs.{Outed}
 use Rattle.mask_pass.proofs.outs.outs.Given as goal
 
 abbrev pub invariant-loop-i : goal.invariant-loop-i

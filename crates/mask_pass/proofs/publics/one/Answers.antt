@@ -2,7 +2,6 @@
 use borrow.Author.Tests.{eq-eqb, ne_eqb}
 use Rattle.write_gates.proofs.GateLines.{gates-none}
 use native.Mathlib.Omega.{arith}
-use borrow.Author.Rules.{rules}
 use Rattle.mask_pass.proofs.publics.one.Goals as goal
 
 pub returns-then-e-ne0 : goal.returns-then-e-ne0

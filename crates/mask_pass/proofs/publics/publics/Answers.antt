@@ -1,9 +1,6 @@
 -- `publics::publics`: the gates of the first i inputs were written.
-use Prim.Native.Nat.{◌-◌}
-use lib.ListN.{length}
 use Rattle.write_buffer.proofs.Writing.{wrote-length}
-use Rattle.mask_pass.proofs.PublicBits.{Opened, opened-none, opened-more, opened-all}
-use borrow.Author.Rules.{rules}
+use Rattle.mask_pass.proofs.PublicBits.{opened-none, opened-more, opened-all}
 use native.Mathlib.Omega.{arith}
 use Rattle.mask_pass.proofs.publics.publics.Goals as goal
 

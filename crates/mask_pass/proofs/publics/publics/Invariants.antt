@@ -1,10 +1,7 @@
 -- `publics::publics`: the gates of the first i inputs were written.
 use Prim.Native.Nat.{◌-◌}
 use lib.ListN.{length}
-use Rattle.write_buffer.proofs.Writing.{wrote-length}
-use Rattle.mask_pass.proofs.PublicBits.{Opened, opened-none, opened-more, opened-all}
-use borrow.Author.Rules.{rules}
-use native.Mathlib.Omega.{arith}
+use Rattle.mask_pass.proofs.PublicBits.{Opened}
 use Rattle.mask_pass.proofs.publics.publics.Given as goal
 
 abbrev pub invariant-loop-i : goal.invariant-loop-i

@@ -1,8 +1,5 @@
 -- `repeat`: the first setting's lanes, wire by wire.
-use Prim.Native.Nat.{◌-◌}
-use lib.ListN.{length}
-use Rattle.pairs_search.proofs.Lanes.{Repeated, repeated-none, repeated-more, repeated-all}
-use borrow.Author.Rules.{rules}
+use Rattle.pairs_search.proofs.Lanes.{repeated-none, repeated-more, repeated-all}
 use native.Mathlib.Omega.{arith}
 use Rattle.pairs_search.proofs.base.repeat.Goals as goal
 

@@ -1,9 +1,7 @@
 -- `repeat`: the first setting's lanes, wire by wire.
 use Prim.Native.Nat.{◌-◌}
 use lib.ListN.{length}
-use Rattle.pairs_search.proofs.Lanes.{Repeated, repeated-none, repeated-more, repeated-all}
-use borrow.Author.Rules.{rules}
-use native.Mathlib.Omega.{arith}
+use Rattle.pairs_search.proofs.Lanes.{Repeated}
 use Rattle.pairs_search.proofs.base.repeat.Given as goal
 
 abbrev pub invariant-loop-w : goal.invariant-loop-w

@@ -1,9 +1,5 @@
 -- `tally`: the counts of words, wire by wire.
-use Prim.Native.Nat.{◌-◌}
-use lib.ListN.{length}
-use Rattle.check_counts.specs.Block.{ones_of}
-use Rattle.check_counts.proofs.Tallies.{Tallied, tallied-none, tallied-more, tallied-all, ones-past}
-use borrow.Author.Rules.{rules}
+use Rattle.check_counts.proofs.Tallies.{tallied-none, tallied-more, tallied-all, ones-past}
 use native.Mathlib.Omega.{arith}
 use Rattle.pairs_search.proofs.base.tally.Goals as goal
 

@@ -2,9 +2,7 @@
 use Prim.Native.Nat.{◌-◌}
 use lib.ListN.{length}
 use Rattle.check_counts.specs.Block.{ones_of}
-use Rattle.check_counts.proofs.Tallies.{Tallied, tallied-none, tallied-more, tallied-all, ones-past}
-use borrow.Author.Rules.{rules}
-use native.Mathlib.Omega.{arith}
+use Rattle.check_counts.proofs.Tallies.{Tallied}
 use Rattle.pairs_search.proofs.base.tally.Given as goal
 
 abbrev pub invariant-loop-w : goal.invariant-loop-w

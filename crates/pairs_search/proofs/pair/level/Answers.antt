@@ -3,7 +3,6 @@ use mathlib.Core.Path.{sym, subst, ◌∙◌}
 use lib.Dec.{T}
 use borrow.Author.Tests.{eqb-true, eq-eqb}
 use Rattle.pairs_search.proofs.Levels.{agreed-level, level-agreed, none-level, level-none}
-use native.Mathlib.Omega.{arith}
 use borrow.Author.Rules.{rules}
 use Rattle.pairs_search.proofs.pair.level.Goals as goal
 

@@ -1,8 +1,7 @@
 -- `scan`: the pairs before this one are level.
-use Prim.Native.Nat.{ℕ, ◌-◌, ◌+◌, ◌*◌, ◌≤◌, ◌<◌}
+use Prim.Native.Nat.{◌+◌, ◌*◌}
 use borrow.Author.Count.{below_none, below_more}
 use borrow.Author.Tests.{not-true, not-false}
-use Rattle.pairs_search.specs.Level.{held_in, held_base, LevelAt}
 use native.Mathlib.Omega.{arith}
 use Rattle.pairs_search.proofs.pair.scan.Goals as goal
 

@@ -1,9 +1,6 @@
 -- `scan`: the pairs before this one are level.
-use Prim.Native.Nat.{ℕ, ◌-◌, ◌+◌, ◌*◌, ◌≤◌, ◌<◌}
-use borrow.Author.Count.{below_none, below_more}
-use borrow.Author.Tests.{not-true, not-false}
+use Prim.Native.Nat.{ℕ, ◌-◌, ◌≤◌, ◌<◌}
 use Rattle.pairs_search.specs.Level.{held_in, held_base, LevelAt}
-use native.Mathlib.Omega.{arith}
 use Rattle.pairs_search.proofs.pair.scan.Given as goal
 
 abbrev pub invariant-loop-j : goal.invariant-loop-j

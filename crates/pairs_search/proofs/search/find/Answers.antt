@@ -1,13 +1,11 @@
 -- `find`: block by block.
 use mathlib.Core.Path.{refl, sym, subst, ◌∙◌}
-use Prim.Native.Nat.{ℕ, ◌-◌}
-use lib.ListN.{length}
+use Prim.Native.Nat.{ℕ}
 use Rattle.netlist.specs.Table.{tables}
 use Rattle.netlist.proofs.Puts.{wired-same}
 use Rattle.evaluate.specs.Bare.{bare}
 use Rattle.pairs_search.specs.Bases.{HeldOn}
-use Rattle.pairs_search.proofs.Finds.{Finding, find_none, find-more, find-all}
-use borrow.Author.Rules.{rules}
+use Rattle.pairs_search.proofs.Finds.{find_none, find-more, find-all}
 use native.Mathlib.Omega.{arith}
 use Rattle.pairs_search.proofs.search.find.Goals as goal
 
@@ -21,7 +19,9 @@ run-requires c =
     let at = c.loop-block in
     let t = tables c.args.operands.now c.args.results.now in
     let w = at.invariant.long-words in
-    record { wired = wired-same w c.requires.wired; paints_in_bounds = (
+    record {
+      wired = wired-same w c.requires.wired;
+      paints_in_bounds = (
         omega (arith, c.requires.paints_in_bounds.0, w),
         at.invariant.long-bases ∙ sym w,
         at.invariant.long-base ∙ sym w,
@@ -29,7 +29,8 @@ run-requires c =
             (λ (W : ℕ). HeldOn c.public-publics.result (bare t c.args.count W) c.args.paints.now
             at.bases at.base at.block)
             (sym w) at.invariant.held,
-      ) }
+      );
+    }
 
 pub look-best-requires : goal.look-best-requires
 look-best-requires c =
@@ -47,10 +48,10 @@ look-best-requires c =
 pub overflow_add-block : goal.overflow_add-block
 overflow_add-block c =
     omega (
-  arith,
-  c.requires.paints_in_bounds.3,
-  c.loop-block-test.true,
-)
+      arith,
+      c.requires.paints_in_bounds.3,
+      c.loop-block-test.true,
+    )
 
 pub loop-block-smaller : goal.loop-block-smaller
 loop-block-smaller c = omega (arith, c.loop-block-test.true)

@@ -1,14 +1,8 @@
 -- `find`: block by block.
-use mathlib.Core.Path.{refl, sym, subst, ◌∙◌}
-use Prim.Native.Nat.{ℕ, ◌-◌}
+use Prim.Native.Nat.{◌-◌}
 use lib.ListN.{length}
 use Rattle.netlist.specs.Table.{tables}
-use Rattle.netlist.proofs.Puts.{wired-same}
-use Rattle.evaluate.specs.Bare.{bare}
-use Rattle.pairs_search.specs.Bases.{HeldOn}
-use Rattle.pairs_search.proofs.Finds.{Finding, find_none, find-more, find-all}
-use borrow.Author.Rules.{rules}
-use native.Mathlib.Omega.{arith}
+use Rattle.pairs_search.proofs.Finds.{Finding}
 use Rattle.pairs_search.proofs.search.find.Given as goal
 
 abbrev pub invariant-loop-block : goal.invariant-loop-block

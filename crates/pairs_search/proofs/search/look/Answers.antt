@@ -1,12 +1,10 @@
 -- `look`: a block's lowest difference and its first uneven pair.
-use mathlib.Core.Path.{◌≡◌, subst}
+use mathlib.Core.Path.{subst}
 use Prim.Native.Nat.{ℕ}
 use lib.ListN.{length}
 use borrow.Author.Tests.{eqb-true}
 use Rattle.check_counts.specs.Block.{ones_of, nibbles_of, Agree}
 use Rattle.pairs_search.proofs.Finds.{look-law}
-use native.Mathlib.Omega.{arith}
-use borrow.Author.Rules.{rules}
 use Rattle.pairs_search.proofs.search.look.Goals as goal
 
 pub scan-pair-requires : goal.scan-pair-requires

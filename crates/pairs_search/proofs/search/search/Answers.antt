@@ -1,5 +1,5 @@
 -- `search`: both answers, from what was found with a colour for each input.
-use mathlib.Core.Path.{◌≡◌, sym, ap, subst, ◌∙◌}
+use mathlib.Core.Path.{sym, ap, subst, ◌∙◌}
 use mathlib.Core.Bool.{true, false}
 use mathlib.Core.List.{List}
 use Prim.Native.Nat.{ℕ, ◌*◌, ◌/◌}
@@ -13,14 +13,6 @@ use Rattle.pairs_search.specs.Level.{counts_of}
 use Rattle.pairs_search.specs.Search.{Found}
 use Rattle.pairs_search.proofs.Finds.{tells-pairs}
 use native.Mathlib.Omega.{arith}
-use borrow.Author.Rules.{rules}
-use Rattle.pairs_search.proofs.search.search.Reads as reads
-use Rattle.pairs_search.proofs.search.search.Lts as lts
-use Rattle.check_counts.proofs.paint.each.Reads as each-reads
-use Rattle.check_leak.proofs.search.blocks_of.Reads as blocks-of-reads
-use Rattle.pairs_search.proofs.search.wires_verdict_of.Reads as wires-verdict-of-reads
-use Rattle.pairs_search.proofs.search.find.Reads as find-reads
-use Rattle.pairs_search.proofs.search.pairs_verdict_of.Reads as pairs-verdict-of-reads
 use Rattle.pairs_search.proofs.search.search.Goals as goal
 
 pub slice_bounds-find-end : goal.slice_bounds-find-end

@@ -2,10 +2,6 @@
 use mathlib.Core.Path.{refl}
 use Rattle.wide_sets.specs.Packed.{sets}
 use Rattle.wide_sets.proofs.Packing.{stored}
-use native.Mathlib.Omega.{arith}
-use borrow.Author.Rules.{rules}
-use Rattle.wide_sets.proofs.members.copy.Reads as reads
-use Rattle.wide_sets.proofs.members.copy.Lts as lts
 use Rattle.wide_sets.proofs.members.copy.Goals as goal
 
 pub returns : goal.returns

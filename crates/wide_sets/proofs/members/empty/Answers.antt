@@ -1,5 +1,4 @@
 -- `members::empty`: the count in the first entry.
-use borrow.Author.Rules.{rules}
 use borrow.Author.Tests.{ltb-true}
 use lib.ListN.{get_or}
 use Rattle.wide_sets.proofs.Packing.{none-listed}

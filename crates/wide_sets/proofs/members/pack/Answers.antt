@@ -1,10 +1,5 @@
 -- `members::pack`: three members an entry, and the count above the first three.
 use Rattle.wide_sets.proofs.Packing.{held-above, packed-list}
-use native.Mathlib.Omega.{arith}
-use borrow.Author.Rules.{rules}
-use Rattle.wide_sets.proofs.members.pack.Reads as reads
-use Rattle.wide_sets.proofs.members.pack.Lts as lts
-use Rattle.wide_sets.proofs.members.three.Reads as three-reads
 use Rattle.wide_sets.proofs.members.pack.Goals as goal
 
 pub three-requires : goal.three-requires

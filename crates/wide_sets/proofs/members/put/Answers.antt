@@ -1,12 +1,7 @@
 -- `members::put`: four stores.
-use mathlib.Core.Path.{refl}
 use Rattle.wide_sets.specs.Packed.{sets}
 use Rattle.wide_sets.proofs.Packing.{stored}
 use native.Mathlib.Omega.{arith}
-use borrow.Author.Rules.{rules}
-use Rattle.wide_sets.proofs.members.put.Reads as reads
-use Rattle.wide_sets.proofs.members.put.Lts as lts
-use Rattle.wide_sets.proofs.members.pack.Reads as pack-reads
 use Rattle.wide_sets.proofs.members.put.Goals as goal
 
 pub returns : goal.returns

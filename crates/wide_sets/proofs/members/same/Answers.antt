@@ -5,7 +5,6 @@ use lib.ListN.{get_or}
 use borrow.Author.Tests.{eqb-true}
 use Rattle.wide_sets.specs.Packed.{sets}
 use Rattle.wide_sets.proofs.Packing.{same-listed}
-use borrow.Author.Rules.{rules}
 use Rattle.wide_sets.proofs.members.same.Goals as goal
 
 pub returns-then-set0-a : goal.returns-then-set0-a

@@ -1,12 +1,6 @@
 -- `members::start`: wire by wire.
-use Prim.Native.Nat.{◌-◌}
-use lib.ListN.{length}
-use Rattle.wide_sets.proofs.Starts.{Started, started_none, started-more, started-all, started-count}
-use borrow.Author.Rules.{rules}
+use Rattle.wide_sets.proofs.Starts.{started_none, started-more, started-all, started-count}
 use native.Mathlib.Omega.{arith}
-use Rattle.wide_sets.proofs.members.start.Reads as reads
-use Rattle.wide_sets.proofs.members.start.Lts as lts
-use Rattle.wide_sets.proofs.members.start_entry.Reads as start-entry-reads
 use Rattle.wide_sets.proofs.members.start.Goals as goal
 
 pub loop-w-init : goal.loop-w-init

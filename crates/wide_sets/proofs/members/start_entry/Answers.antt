@@ -1,10 +1,6 @@
 -- `members::start_entry`: by the test.
 use mathlib.Core.Path.{sym}
 use borrow.Author.Tests.{lt-ltb, le-ltb}
-use native.Mathlib.Omega.{arith}
-use borrow.Author.Rules.{rules}
-use Rattle.wide_sets.proofs.members.start_entry.Reads as reads
-use Rattle.wide_sets.proofs.members.start_entry.Lts as lts
 use Rattle.wide_sets.proofs.members.start_entry.Goals as goal
 
 pub returns-then-w-n : goal.returns-then-w-n

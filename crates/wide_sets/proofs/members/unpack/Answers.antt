@@ -3,10 +3,6 @@ use mathlib.Core.Path.{refl}
 use mathlib.Core.List.{[]}
 use Rattle.wide_sets.specs.Packed.{three_of}
 use Rattle.wide_sets.proofs.Packing.{small-none, small-three}
-use native.Mathlib.Omega.{arith}
-use borrow.Author.Rules.{rules}
-use Rattle.wide_sets.proofs.members.unpack.Reads as reads
-use Rattle.wide_sets.proofs.members.unpack.Lts as lts
 use Rattle.wide_sets.proofs.members.unpack.Goals as goal
 
 pub returns : goal.returns

@@ -5,7 +5,6 @@ use lib.ListN.{length}
 use Rattle.wide_sets.specs.Packed.{sets, Put}
 use Rattle.wide_sets.specs.Reached.{OneOf}
 use native.Mathlib.Omega.{arith}
-use borrow.Author.Rules.{rules}
 use Rattle.wide_sets.proofs.reach.join.Goals as goal
 
 pub copy-requires : goal.copy-requires

@@ -6,12 +6,6 @@ use Rattle.wide_sets.specs.Packed.{sets, set_at}
 use Rattle.wide_sets.specs.Reached.{Lined}
 use Rattle.wide_sets.proofs.Reaching.{set-none, set-one, set-two, set-zero, told-put}
 use native.Mathlib.Omega.{arith}
-use borrow.Author.Rules.{rules}
-use Rattle.wide_sets.proofs.reach.line.Reads as reads
-use Rattle.wide_sets.proofs.reach.line.Lts as lts
-use Rattle.wide_sets.proofs.members.copy.Reads as copy-reads
-use Rattle.wide_sets.proofs.members.none.Reads as none_reads
-use Rattle.wide_sets.proofs.reach.join.Reads as join-reads
 use Rattle.wide_sets.proofs.reach.line.Goals as goal
 
 pub returns-then-kind-gt4 : goal.returns-then-kind-gt4

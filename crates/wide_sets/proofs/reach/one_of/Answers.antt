@@ -5,7 +5,6 @@ use Prim.Native.Nat.{ℕ}
 use Rattle.wide.specs.Sets.{merge}
 use Rattle.wide.proofs.Merges.{merge_none, merge-same}
 use Rattle.wide_sets.specs.Packed.{sets, set_at}
-use borrow.Author.Rules.{rules}
 use Rattle.wide_sets.proofs.reach.one_of.Goals as goal
 
 pub returns-then-empty : goal.returns-then-empty

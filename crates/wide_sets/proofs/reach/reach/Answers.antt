@@ -1,21 +1,13 @@
 -- `reach::reach`: line by line.
-use mathlib.Core.Path.{◌≡◌, refl, sym, ap, subst, ◌∙◌}
-use mathlib.Core.Bool.{true}
-use Prim.Native.Nat.{ℕ, ◌+◌, ◌-◌, ◌≤◌}
+use mathlib.Core.Path.{refl, sym, ap, subst, ◌∙◌}
+use Prim.Native.Nat.{ℕ, ◌+◌}
 use lib.Dec.{T}
-use lib.ListN.{length}
 use borrow.Author.Tests.{not-true, not-false}
 use Rattle.netlist.specs.Table.{tables, Holds}
 use Rattle.gate_table.specs.Parts.{Within}
 use Rattle.wide_sets.specs.Packed.{sets, start_set, Sized}
-use Rattle.wide_sets.proofs.Reaching.{Reaching, reaching-none, reaching-all, line-within, line-more, line-full}
-use borrow.Author.Rules.{rules}
+use Rattle.wide_sets.proofs.Reaching.{reaching-none, reaching-all, line-within, line-more, line-full}
 use native.Mathlib.Omega.{arith}
-use Rattle.wide_sets.proofs.reach.reach.Reads as reads
-use Rattle.wide_sets.proofs.reach.reach.Lts as lts
-use Rattle.gate_table.proofs.split.Reads as split-reads
-use Rattle.wide_sets.proofs.members.start.Reads as start-reads
-use Rattle.wide_sets.proofs.reach.line.Reads as line_reads_lem
 use Rattle.wide_sets.proofs.reach.reach.Goals as goal
 
 pub start-requires : goal.start-requires
@@ -84,16 +76,16 @@ returns-then-not-line c =
 pub overflow_add-i : goal.overflow_add-i
 overflow_add-i c =
     omega (
-  arith,
-  c.loop-i-test.true,
-)
+      arith,
+      c.loop-i-test.true,
+    )
 
 pub loop-i-smaller : goal.loop-i-smaller
 loop-i-smaller c =
     omega (
-  arith,
-  c.loop-i-test.true,
-)
+      arith,
+      c.loop-i-test.true,
+    )
 
 pub loop-i-preserved : goal.loop-i-preserved
 loop-i-preserved c =

@@ -1,18 +1,12 @@
 -- `reach::unite_sets`: two sets put together, where they are at most twelve.
-use mathlib.Core.Path.{◌≡◌, sym, ap₂, subst, ◌∙◌}
+use mathlib.Core.Path.{sym, ap₂, subst, ◌∙◌}
 use mathlib.Core.List.{List}
 use Prim.Native.Nat.{ℕ, ◌<◌}
 use lib.Dec.{T}
 use lib.ListN.{length}
 use Rattle.wide.specs.Sets.{merge}
-use Rattle.wide_sets.specs.Packed.{sets, Put}
+use Rattle.wide_sets.specs.Packed.{Put}
 use native.Mathlib.Omega.{arith}
-use borrow.Author.Rules.{rules}
-use Rattle.wide_sets.proofs.reach.unite_sets.Reads as reads
-use Rattle.wide_sets.proofs.reach.unite_sets.Lts as lts
-use Rattle.wide_sets.proofs.members.get.Reads as get-reads
-use Rattle.wide_sets.proofs.members.put.Reads as put_reads
-use Rattle.wide_sets.proofs.unite.both.Reads as both-reads
 use Rattle.wide_sets.proofs.reach.unite_sets.Goals as goal
 
 pub both-u-requires : goal.both-u-requires

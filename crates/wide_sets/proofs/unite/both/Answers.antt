@@ -1,14 +1,9 @@
 -- `both`: the two lists put together in an array of twelve.
-use mathlib.Core.Path.{sym, ◌∙◌}
+use mathlib.Core.Path.{sym}
 use lib.Seq.{length-take-le}
-use lib.ListN.{length-replicate}
 use Rattle.wide_sets.specs.declared.unite.United.TheVariants.{Few, Many}
 use Rattle.wide_sets.proofs.Merging.{together}
 use native.Mathlib.Omega.{arith}
-use borrow.Author.Rules.{rules}
-use Rattle.wide_sets.proofs.unite.both.Reads as reads
-use Rattle.wide_sets.proofs.unite.both.Lts as lts
-use Rattle.wide_sets.proofs.unite.unite.Reads as unite-reads
 use Rattle.wide_sets.proofs.unite.both.Goals as goal
 
 pub slice_bounds-unite-end : goal.slice_bounds-unite-end

@@ -1,9 +1,6 @@
 -- `next`: by its cases.
 use native.Mathlib.Omega.{arith}
-use borrow.Author.Rules.{rules}
 use Rattle.wide_sets.proofs.Nexts.{next-first, next-second, next-less, next_more, next-same}
-use Rattle.wide_sets.proofs.unite.next.Reads as reads
-use Rattle.wide_sets.proofs.unite.next.Lts as lts
 use Rattle.wide_sets.proofs.unite.next.Goals as goal
 
 pub returns-then-j-y : goal.returns-then-j-y

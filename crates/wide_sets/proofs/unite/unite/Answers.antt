@@ -1,12 +1,6 @@
 -- `unite`: number by number.
-use borrow.Author.Rules.{rules}
 use native.Mathlib.Omega.{arith}
-use Prim.Native.Nat.{◌+◌, ◌-◌}
-use lib.ListN.{length}
-use Rattle.wide_sets.proofs.Merging.{Merging, merging-none, merging-more, merging-all, merging-full}
-use Rattle.wide_sets.proofs.unite.unite.Reads as reads
-use Rattle.wide_sets.proofs.unite.unite.Lts as lts
-use Rattle.wide_sets.proofs.unite.next.Reads as next-reads
+use Rattle.wide_sets.proofs.Merging.{merging-none, merging-more, merging-all, merging-full}
 use Rattle.wide_sets.proofs.unite.unite.Goals as goal
 
 pub loop-i-init : goal.loop-i-init

@@ -1,0 +1,75 @@
+-- `choose`: the search on the fronts of the tables, and its choice put to use.
+use mathlib.Core.Path.{sym, ◌∙◌}
+use lib.ListN.{take}
+use lib.Seq.{length-take-le, length_front}
+use Rattle.fewest_apply.proofs.Applying.{wired-chosen}
+use Rattle.mask_fewest.proofs.Giving.{places, fits-fronts, chose}
+use native.Mathlib.Omega.{arith}
+use Rattle.mask_fewest.proofs.choose.Goals as goal
+
+pub slice_bounds-search-end-2 : goal.slice_bounds-search-end-2
+slice_bounds-search-end-2 c =
+    sym
+    (length-take-le _ _ c.requires.0.ways)
+
+pub slice_bounds-search-end-4 : goal.slice_bounds-search-end-4
+slice_bounds-search-end-4 c =
+    sym
+    (length-take-le _ _ c.requires.0.best)
+
+pub slice_bounds-search-end-6 : goal.slice_bounds-search-end-6
+slice_bounds-search-end-6 c =
+    sym
+    (length-take-le _ _ c.requires.0.fronts.marks)
+
+pub slice_bounds-search-end-8 : goal.slice_bounds-search-end-8
+slice_bounds-search-end-8 c =
+    sym
+    (length-take-le _ _ c.requires.0.fronts.wires)
+
+pub slice_bounds-search-end-10 : goal.slice_bounds-search-end-10
+slice_bounds-search-end-10 c =
+    sym
+    (length-take-le _ _ c.requires.0.spans)
+
+pub search-r-requires : goal.search-r-requires
+search-r-requires c =
+    let a = c.args in let p = c.requires.0 in let W = a.h.wires in let m = length-take-le W a.marks.now p.fronts.marks in (
+      record {
+        fits = fits-fronts (take W a.ways.now) (take W a.best.now) (take W a.marks.now) (take W a.wires.now) p.source
+            p.fronts.wired p.fronts.few (length-take-le W a.ways.now p.ways) (length-take-le W a.best.now p.best) m
+            (length-take-le W a.wires.now p.fronts.wires);
+        spanned = length-take-le W a.spans.now p.spans ∙ sym m;
+        netlist = p.netlist;
+        source = rw m
+            p.source;
+      },
+      c.requires.1,
+    )
+
+pub swap-requires : goal.swap-requires
+swap-requires c =
+    let p = c.requires.0 in
+    let R = c.search-r in
+    let f = length_front c.args.best.now R.new.best c.args.h.wires R.auto.best in
+    let pl = places p.source in (p.fronts.wired.operands, p.fronts.wired.results, omega (arith, p.best))
+
+pub codes-requires : goal.codes-requires
+codes-requires c =
+    let p = c.requires.0 in
+    let R = c.search-r in
+    let f = length_front c.args.best.now R.new.best c.args.h.wires R.auto.best in
+    let g = length_front c.args.ways.now R.new.way c.args.h.wires R.auto.way in
+    let pl = places p.source in (omega (arith, p.best), omega (arith, p.ways))
+
+pub returns : goal.returns
+returns c =
+    let a = c.args in let p = c.requires.0 in let W = a.h.wires in
+    let R = c.search-r in let m = length-take-le W a.marks.now p.fronts.marks in
+    let g = length_front a.ways.now R.new.way W R.auto.way in let pl = places p.source in (
+      wired-chosen c.swap.ensures p.fronts.wired,
+      λ N Q. chose N
+          R.new.best a.best.now Q c.requires.1 (R.auto.best ∙ length-take-le W a.best.now p.best)
+          (R.ensures N (rw m Q)) c.swap.ensures c.codes.ensures
+          (omega (arith, p.ways)),
+    )
