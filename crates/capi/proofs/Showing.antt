@@ -1,31 +1,22 @@
 -- From the parts of a call that shows a session to what it promises.
-use Prim.Native.Nat.{ℕ, ◌+◌, ◌^◌, ◌≤◌, ◌<◌}
-use mathlib.Core.Path.{◌≡◌, refl, sym, ap, ◌∙◌}
-use mathlib.Core.Bool.{Bool, true, false, cond}
+use Prim.Native.Nat.{ℕ, ◌+◌, ◌≤◌}
+use mathlib.Core.Path.{◌≡◌, ap, ◌∙◌}
 use mathlib.Core.List.{List, [], ◌∷◌}
-use native.Mathlib.Omega.{arith}
-use lib.Dec.{ltb}
 use lib.IntN.{ℤ}
-use lib.ListN.{length, get_or, replicate, get_or-eq_default}
+use lib.ListN.{length, replicate}
 use Rattle.netlist.specs.declared.Sizes.{Sizes}
 use Rattle.netlist.specs.Netlist.{Netlist, small}
 use Rattle.netlist.specs.Outcome.{Outcome}
 use Rattle.netlist.specs.Table.{Tables, tables}
-use Rattle.netlist.proofs.Tests.{on_bool}
 use Rattle.gate_records.specs.declared.SourceRecord.{SourceRecord}
-use Rattle.gate_records.specs.Records.{blank_source}
 use Rattle.session.specs.declared.Session.{Session}
 use Rattle.session_text.specs.declared.asking.Asked.{Asked}
 use Rattle.session_text.specs.Shown.{netlist_shown}
 use Rattle.session_text.specs.Parts.{AskedIs, FilledIs, Stands, Ready, TextIs, MaskedIs}
-use Rattle.session_text.specs.Promise.{gate_shown, TextPromise, MaskedPromise}
+use Rattle.session_text.specs.Promise.{TextPromise, MaskedPromise}
 use Rattle.session_text.proofs.Showing.{stands, fits, third-long, fourth-long}
 use Rattle.session_text.proofs.Calling.{text-promised, masked-promised}
 use Rattle.capi_answers.specs.Number.{Told}
-
-pub count_fits : {z : Sizes} {a b c d : ℕ} {widths outputs : List ℕ} {gates places : ℕ} {q : Asked} → AskedIs z a b c d widths outputs gates places q →
-    q.inputs + q.count < 2 ^ 32
-count_fits A = omega (arith, A.few)
 
 module _ {z : Sizes} {a b c d : ℕ} {widths outputs : List ℕ} {gates : ℕ} {source : List SourceRecord} {q : Asked} {t : Tables} {n : ℕ}
     (A : AskedIs z a b c d widths outputs gates (length source) q) (F : FilledIs source q t n) where
@@ -82,16 +73,3 @@ module _ (s : Session) (source : List SourceRecord) {z : Sizes} {widths outputs 
         });
         told = B.told;
       }
-
--- ---- one gate
-
-module _ (s : Session) (k : ℕ) (source : List SourceRecord) {at : ℕ} (e : at ≡ cond (ltb k s.gates) k (length source)) where
-  pub gate-there : at < length source → get_or source at blank_source ≡ gate_shown s k source
-  gate-there l = on_bool (ltb k s.gates)
-      (λ h. let p : at ≡ k = rw h at e in rw h (ap (λ (i : ℕ). get_or source i blank_source) p))
-      (λ h. let p : at ≡ length source = rw h at e in absurd (omega (arith, p, l)))
-
-  pub gate-none : length source ≤ at → blank_source ≡ gate_shown s k source
-  gate-none l = on_bool (ltb k s.gates)
-      (λ h. let p : at ≡ k = rw h at e in rw h (sym (get_or-eq_default source blank_source (omega (arith, p, l)))))
-      (λ h. rw h refl)

@@ -1,19 +1,17 @@
 -- The answers of opening and adding, from what the plans say.
-use Prim.Native.Nat.{ℕ, zero, suc, ◌+◌, ◌-◌, ◌≤◌, ◌<◌}
+use Prim.Native.Nat.{ℕ, zero, suc, ◌+◌, ◌-◌, ◌≤◌}
 use mathlib.Core.Path.{◌≡◌, refl, sym, ap, ap₂, ◌∙◌}
-use mathlib.Core.Bool.{Bool, true, false, not, ◌&&◌}
-use mathlib.Core.List.{List, [], ◌∷◌, map}
+use mathlib.Core.Bool.{Bool, true, false}
+use mathlib.Core.List.{List, [], ◌∷◌}
 use native.Mathlib.Omega.{arith}
-use lib.Dec.{T, eqb, leb, ltb, ltb→lt, eqb→eq}
-use borrow.Author.Tests.{eq-eqb, ltb-false}
+use lib.Dec.{T, leb, ltb}
 use lib.ListN.{length, get_or, set, take, length-map}
 use lib.Seq.{sets, take_all}
 use Rattle.netlist.specs.declared.Gate.{Gate}
 use Rattle.netlist.specs.declared.Sizes.{Sizes}
-use Rattle.netlist.specs.declared.Sizes.TheVariants.{Old, Whole}
 use Rattle.netlist.specs.Netlist.{small}
 use Rattle.netlist.specs.Outcome.{Outcome, refused, done, ask, and_then}
-use Rattle.netlist.proofs.Tests.{both, is_false}
+use Rattle.netlist.proofs.Tests.{both}
 use Rattle.netlist.proofs.Questions.{ask-done}
 use Rattle.gate_records.specs.declared.GateRecord.{GateRecord}
 use Rattle.gate_records.specs.declared.SourceRecord.{SourceRecord}
@@ -22,12 +20,12 @@ use Rattle.session.specs.declared.Session.{Session}
 use Rattle.session.specs.declared.Step.{Step}
 use Rattle.session.specs.Afresh.{open_gates}
 use Rattle.session.specs.Asked.{opening, gate_good, place_left}
-use Rattle.session.specs.Lists.{Lists, lists_of, session_of, step_of, said, left, session_in, steps, room_for, asked, added, add_outcome, open_outcome, off_asked, shorter}
+use Rattle.session.specs.Lists.{Lists, lists_of, session_of, step_of, said, steps, room_for, asked, off_asked}
 use Rattle.session_plan.specs.declared.adding.Asked.{Asked}
 use Rattle.session_plan.specs.declared.adding.Plan.{Plan}
 use Rattle.session_plan.specs.declared.opening.Opened.{Opened}
 use Rattle.session_plan.specs.Batch.{batch_gates, Places}
-use Rattle.session_plan.specs.Plan.{NoIs, first_asked, PlaceIs, AskedIs, RecordOf, PlanIs, PlanOf, OpenedIs}
+use Rattle.session_plan.specs.Plan.{NoIs, first_asked, AskedIs, PlanIs, PlanOf, OpenedIs}
 use Rattle.session_steps.specs.Promise.{OpenIs, AddIs}
 
 -- an outcome by its number
@@ -68,10 +66,6 @@ open_is {z} {widths} {codes} {masked} {masked'} {p} P w = go (opening z widths c
               (w ∙ all_of masked (batch_gates codes p.steps) 0 l ∙ ap (sets masked 0) (P.gates h)));
         }
 
-few : (z : Sizes) → (small z).wires ≤ 100000
-few Old = omega arith
-few Whole = omega arith
-
 -- adding, refused by the first questions
 module _ (z : Sizes) (codes : List ℕ) (s : Session) (source : List SourceRecord) (masked : List GateRecord) (r : GateRecord) (q : Asked)
     (Q : AskedIs z (length codes) s.gates (length source) r q) where
@@ -106,18 +100,6 @@ module _ (z : Sizes) (codes : List ℕ) (s : Session) (source : List SourceRecor
     yes24 : T (ltb s.gates (length source)) × T (ltb (length codes + s.gates) (small z).wires)
     yes24 = both (ltb s.gates (length source)) (ltb (length codes + s.gates) (small z).wires) q24.0
 
-    pub few-gates : length codes + s.gates < 536870912
-    few-gates = omega (arith, few z, ltb→lt (length codes + s.gates) (small z).wires yes24.1)
-
-    pub last-place : s.gates < length source
-    last-place = ltb→lt s.gates (length source) yes24.0
-
-    pub first-place : q.first < length source
-    first-place = omega (arith, last-place, (Q.first zero).within)
-
-    pub second-place : q.second < length source
-    second-place = omega (arith, last-place, (Q.second zero).within)
-
     module _ {p : Plan} (P : PlanOf s codes (length masked) (get_or source q.first blank_source) (get_or source q.second blank_source) r p) where
       abbrev g : Gate
       g = Y.value
@@ -145,20 +127,6 @@ module _ (z : Sizes) (codes : List ℕ) (s : Session) (source : List SourceRecor
           let k = es ∙ ap (set source s.gates) (PI.keep n) in
           let m = em ∙ all_of masked (batch_gates codes p.steps) s.masked l ∙ ap (sets masked s.masked) (PI.gates n) in
           record { answer = rw e (ap (λ (t : Session). step_of t 0) (PI.session n)); lists = rw e (λ i. lists_of (PI.session n i) (k i) (m i)) }
-
--- a number's test against 0
-pub not-zero : (n : ℕ) → T (not (eqb n 0)) → (n ≡ 0 → ⊥)
-not-zero n t e = absurd (rw (eq-eqb n 0 e) at t)
-
-pub is_zero : (n : ℕ) → T (not (not (eqb n 0))) → n ≡ 0
-is_zero n t = eqb→eq n 0 (go (eqb n 0) t)
-  where
-    go : (b : Bool) → T (not (not b)) → T b
-    go true t = tt
-    go false t = absurd t
-
-pub nltb→le : (m n : ℕ) → T (not (ltb m n)) → n ≤ m
-nltb→le m n t = ltb-false m n (is_false (ltb m n) t)
 
 get_d_beyond : (l : List SourceRecord) (i : ℕ) → length l ≤ i → get_or l i blank_source ≡ blank_source
 get_d_beyond [] i h = refl

@@ -1,5 +1,5 @@
 -- A list written record by record.
-use Prim.Native.Nat.{ℕ, suc, ◌+◌, ◌≤◌, ◌<◌, ◌*◌, ◌^◌}
+use Prim.Native.Nat.{ℕ, suc, ◌+◌, ◌≤◌, ◌<◌}
 use mathlib.Core.Path.{◌≡◌, refl, sym, ap, ap₂, ◌∙◌}
 use mathlib.Core.List.{List, [], ◌∷◌, ◌++◌}
 use native.Mathlib.Omega.{arith}
@@ -41,10 +41,3 @@ wrote-more {ys} {rs} {at} {m} {k} {zs} {g} w l i a =
 
 pub wrote-all : {ys rs : List GateRecord} {at m k : ℕ} {zs : List GateRecord} → Wrote ys rs at m k zs → m ≤ k → zs ≡ sets ys at (take m rs)
 wrote-all {ys} {rs} {at} {m} {k} w l = let e : k ≡ m = omega (arith, w.few) in rw e at w.list
-
--- the byte offset of a record that is there fits
-pub offset-fits : (n i : ℕ) → i < n → n * 16 < 2 ^ 63 → i * 16 < 2 ^ 64
-offset-fits n i l r = omega arith
-
-pub source_fits : (n i : ℕ) → i < n → n * 28 < 2 ^ 63 → i * 28 < 2 ^ 64
-source_fits n i l r = omega arith

@@ -9,7 +9,6 @@ use lib.ListN.{length}
 use borrow.Author.Tests.{le-leb, lt-leb}
 use Rattle.netlist.specs.declared.Limits.{Limits}
 use Rattle.netlist.specs.declared.Sizes.{Sizes}
-use Rattle.netlist.specs.declared.Sizes.TheVariants.{Whole}
 use Rattle.netlist.specs.Lists.{every, sum}
 use Rattle.netlist.specs.Netlist.{small}
 use Rattle.netlist.specs.Header.{Header, within_limits}
@@ -21,7 +20,6 @@ use Rattle.netlist.proofs.Answering.{table_at}
 use Rattle.netlist.proofs.Size.{small-fits}
 use Rattle.session.specs.Asked.{widths_good}
 use Rattle.session_plan.specs.Plan.{NoIs}
-use Rattle.session_text.specs.declared.asking.Asked.{Asked}
 use Rattle.session_text.specs.Shown.{head_of, head_asked}
 use Rattle.session_text.specs.Parts.{AskedIs}
 use Rattle.session_text.proofs.Noes.{no_zero}

@@ -1,5 +1,5 @@
 -- From the results of the parts to what is promised.
-use Prim.Native.Nat.{ℕ, ◌+◌, ◌^◌, ◌≤◌, ◌<◌}
+use Prim.Native.Nat.{ℕ, ◌+◌, ◌≤◌}
 use mathlib.Core.Path.{◌≡◌, refl, sym, ap, ap₂, ◌∙◌, subst}
 use mathlib.Core.Bool.{Bool, true, false, ◌&&◌}
 use mathlib.Core.List.{List, [], ◌∷◌, ◌++◌}
@@ -8,16 +8,15 @@ use lib.Dec.{leb}
 use lib.ListN.{length, take, drop, replicate}
 use lib.Seq.{take_at}
 use Rattle.netlist.specs.declared.Answer.{Answer}
-use Rattle.netlist.specs.declared.Answer.TheVariants.{Done, Refused}
+use Rattle.netlist.specs.declared.Answer.TheVariants.{Refused}
 use Rattle.netlist.specs.declared.Limits.{Limits}
 use Rattle.netlist.specs.declared.Sizes.{Sizes}
 use Rattle.netlist.specs.Lists.{sum}
 use Rattle.netlist.specs.Netlist.{Netlist, small}
-use Rattle.netlist.specs.Header.{Header}
-use Rattle.netlist.specs.Outcome.{Outcome, refused, done, ask, and_then}
+use Rattle.netlist.specs.Outcome.{Outcome, done, and_then}
 use Rattle.netlist.specs.Read.{read_netlist}
 use Rattle.netlist.specs.Write.{write_netlist, gate_text}
-use Rattle.netlist.specs.Services.{MaskedText, tables_long, holds, rewrite_outcome, mask_outcome, mask_call, outcome_of, Answers, Delivers}
+use Rattle.netlist.specs.Services.{tables_long, holds, rewrite_outcome, mask_outcome, mask_call, outcome_of, Answers, Delivers}
 use Rattle.netlist.specs.Table.{Tables}
 use Rattle.netlist.proofs.Questions.{ask-done, done-same, and_then-done}
 use Rattle.netlist.proofs.Answering.{answers-as, answers-refused, call-goes-on}
@@ -33,7 +32,7 @@ use Rattle.mask_text.specs.Whole.{text_in, MaskAnswers}
 use Rattle.mask.proofs.Promised.{mask-as, mask-refused, call-masks}
 use Rattle.session.specs.declared.Session.{Session}
 use Rattle.session_text.specs.declared.asking.Asked.{Asked}
-use Rattle.session_text.specs.Shown.{head_asked, record_gates, netlist_shown, text_call, masked_call}
+use Rattle.session_text.specs.Shown.{netlist_shown, text_call, masked_call}
 use Rattle.session_text.specs.Parts.{NetlistAt, Stands, Fits, TextIs, MaskedIs}
 use Rattle.session_text.specs.Promise.{Shows, TextPromise, MaskedPromise}
 use Rattle.session_text.proofs.Noes.{no-some}
@@ -47,7 +46,7 @@ form-same {o} {widths} {outputs} {q} {t} a =
     let N = a.is in
     let g : length N.gates ≡ q.count = ap length a.gates ∙ length-gates t q.count in
     let p : header_text q.count (q.inputs + q.count) widths outputs ≡ header_text (length N.gates) N.wires N.inputs N.outputs
-    = rw (g, a.wires, a.inputs, a.outputs) refl in
+    = λ i. header_text (sym g i) (sym a.wires i) (sym a.inputs i) (sym a.outputs i) in
     ap₂ ◌++◌ p (ap gate_text (sym a.gates)) ∙ header-gates N
 
 pub text-written : {o : Outcome Netlist} {widths outputs : List ℕ} {q : Asked} {t : Tables} {no : ℕ} {e x : List ℕ} {r : Answer} → no ≡ 0 → Stands o widths outputs q t no

@@ -1,12 +1,11 @@
 -- The records' gates in the tables, record by record.
-use Prim.Native.Nat.{ℕ, suc, ◌+◌, ◌*◌, ◌^◌, ◌≤◌, ◌<◌}
+use Prim.Native.Nat.{ℕ, ◌+◌, ◌≤◌, ◌<◌}
 use mathlib.Core.Path.{◌≡◌, refl, sym, ap, ◌∙◌, subst}
-use mathlib.Core.Bool.{Bool}
 use mathlib.Core.List.{List, [], ◌∷◌, ◌++◌}
 use native.Mathlib.Omega.{arith}
 use native.Mathlib.Numerals.{add-one}
 use lib.Dec.{eqb}
-use lib.ListN.{length, get_or}
+use lib.ListN.{get_or}
 use borrow.Author.Tests.{eqb-true, eqb-false}
 use Rattle.netlist.specs.declared.Gate.{Gate}
 use Rattle.netlist.specs.Outcome.{Outcome, refused, done, and_then}
@@ -91,10 +90,3 @@ filled-all {source} {q} {k} {t} {no} f l =
       gates = λ z y. subst (λ (j : ℕ). record_gates q.inputs source j ≡ done (gates_of t j)) e (f.gates z y);
       wired = λ z y. subst (λ (j : ℕ). Wired t (q.inputs + q.count) j) e (f.wired z y);
     }
-
--- the byte offsets of a record and of a word that are there fit
-pub source_fits : (n i : ℕ) → i < n → n * 28 < 2 ^ 63 → i * 28 < 2 ^ 64
-source_fits n i l r = omega arith
-
-pub word_fits : (n i : ℕ) → i < n → n * 8 < 2 ^ 63 → i * 8 < 2 ^ 64
-word_fits n i l r = omega arith

@@ -1,14 +1,14 @@
 -- A record's gate, and its entries.
-use Prim.Native.Nat.{ℕ, zero, suc, ◌+◌, ◌≤◌, ◌<◌}
-use mathlib.Core.Path.{◌≡◌, refl, sym, ap, ◌∙◌, subst}
-use mathlib.Core.Bool.{Bool, true, false, cond, ◌&&◌}
-use mathlib.Core.Option.{Option, none, some}
+use Prim.Native.Nat.{ℕ, ◌<◌}
+use mathlib.Core.Path.{◌≡◌, refl, subst}
+use mathlib.Core.Bool.{Bool, true, false, cond}
+use mathlib.Core.Option.{none, some}
 use native.Mathlib.Omega.{arith}
 use lib.Dec.{T, eqb, ltb, ltb→lt, eqb→eq}
 use Rattle.netlist.specs.declared.Gate.{Gate}
 use Rattle.netlist.specs.declared.Gate.TheVariants.{Xor, And, Inv, Eqw, Eq}
 use Rattle.netlist.specs.Netlist.{result}
-use Rattle.netlist.specs.Outcome.{done, ask, given, and_then}
+use Rattle.netlist.specs.Outcome.{done, ask, given}
 use Rattle.netlist.specs.Read.{operands_given}
 use Rattle.netlist.specs.Table.{half}
 use Rattle.netlist.proofs.Tests.{both, clash}
@@ -23,7 +23,6 @@ use Rattle.gate_table.specs.Entry.{entry_of, Entered}
 use Rattle.gate_table.proofs.Entries.{gate-entered}
 use Rattle.session.specs.Asked.{gate_good}
 use Rattle.session_plan.specs.Plan.{NoIs}
-use Rattle.session_text.specs.declared.entries.RecordEntry.{RecordEntry}
 use Rattle.session_text.specs.Parts.{RecordIs}
 
 -- what questions 7 to 9 say of a gate that they admit

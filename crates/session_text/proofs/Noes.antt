@@ -1,6 +1,6 @@
 -- The first no of an outcome, as a number.
 use Prim.Native.Nat.{ℕ, ◌≤◌}
-use mathlib.Core.Path.{◌≡◌, refl, sym, ◌∙◌}
+use mathlib.Core.Path.{◌≡◌, refl}
 use native.Mathlib.Omega.{arith}
 use Rattle.netlist.specs.Outcome.{Outcome, refused, done, and_then}
 use Rattle.session_plan.specs.Plan.{NoIs}

@@ -1,10 +1,9 @@
 -- The netlist that a session's records stand for is well formed, and is the one that the tables hold.
-use Prim.Native.Nat.{ℕ, zero, suc, ◌+◌, ◌-◌, ◌≤◌}
+use Prim.Native.Nat.{ℕ, zero, suc, ◌+◌, ◌≤◌}
 use mathlib.Core.Path.{◌≡◌, refl, sym, ap, ◌∙◌, subst}
-use mathlib.Core.Bool.{Bool, true}
 use mathlib.Core.List.{List, [], ◌∷◌, ◌++◌}
 use native.Mathlib.Omega.{arith}
-use lib.Dec.{T, eqb, leb, leb→le, lit<}
+use lib.Dec.{eqb, leb, leb→le, lit<}
 use lib.ListN.{length, get_or}
 use borrow.Author.Tests.{eqb-true, eqb-false}
 use Rattle.netlist.specs.declared.Gate.{Gate}
@@ -13,7 +12,7 @@ use Rattle.netlist.specs.declared.Sizes.{Sizes}
 use Rattle.netlist.specs.Lists.{every, sum}
 use Rattle.netlist.specs.Netlist.{Netlist, small}
 use Rattle.netlist.specs.Header.{Header}
-use Rattle.netlist.specs.Outcome.{Outcome, refused, done, and_then}
+use Rattle.netlist.specs.Outcome.{Outcome, done, and_then}
 use Rattle.netlist.specs.Read.{netlist_of, WellFormed, Within}
 use Rattle.netlist.specs.Table.{Tables, gates_of}
 use Rattle.netlist.proofs.Tests.{on_bool, true-T, both}
@@ -26,7 +25,7 @@ use Rattle.session.specs.Asked.{widths_good, gate_good}
 use Rattle.session_plan.specs.Plan.{NoIs}
 use Rattle.session_text.specs.declared.asking.Asked.{Asked}
 use Rattle.session_text.specs.Shown.{head_of, head_asked, record_gates, netlist_shown}
-use Rattle.session_text.specs.Parts.{AskedIs, FilledIs, NetlistAt, Stands, Fits}
+use Rattle.session_text.specs.Parts.{AskedIs, FilledIs, Stands, Fits}
 use Rattle.session_text.proofs.Noes.{no-some, no-made, no-kept, no-done}
 use Rattle.session_text.proofs.Askings.{Yes, head-yes}
 use Rattle.session_text.proofs.Gates.{admitted}

@@ -1,5 +1,5 @@
 -- What showing a session promises, whatever session and lists are handed in.
-use Rattle.std.specs.Prelude.{ℕ, ◌≡◌, cond, ◌&&◌, List, [], ◌∷◌, ltb, length, get_or, take}
+use Rattle.std.specs.Prelude.{ℕ, ◌≡◌, cond, List, [], ◌∷◌, ltb, length, get_or, take}
 use Rattle.netlist.specs.declared.Answer.{Answer}
 use Rattle.netlist.specs.declared.Answer.TheVariants.{Done}
 use Rattle.netlist.specs.declared.Sizes.{Sizes}
