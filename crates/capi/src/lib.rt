@@ -3,11 +3,11 @@
 #![tactic(auto)]
 
 mod certified;
-mod fewest;
-mod pairs;
+mod fewest_calls;
+mod pair_calls;
 mod sessions;
 mod shown;
-mod wide;
+mod wide_calls;
 
 ghost use Rattle.rewrite.specs.Promise.{Promise as RewritePromise};
 ghost use Rattle.from_old.specs.Promise.{Promise as FromOldPromise};

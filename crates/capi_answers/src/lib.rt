@@ -3,8 +3,8 @@
 #![tactic(auto)]
 
 pub mod certified;
-pub mod pairs;
-pub mod wide;
+pub mod pair_answers;
+pub mod wide_answers;
 
 ghost use Rattle.std.specs.Prelude.{◌≡◌, [], ◌∷◌, pos, neg_ℤ, set};
 ghost use Rattle.std.proofs.lemmas.List.Edits.{sets};
