@@ -1,16 +1,17 @@
 -- How many entries a result has is below 2^63, since its buffer has as many.
+use Rattle.std.specs.Prelude.{Result}
 use Prim.Native.Nat.{ℕ, ◌^◌, ◌<◌}
 use mathlib.Core.Path.{◌≡◌, sym, ap, subst}
 use mathlib.Core.List.{List}
 use native.Mathlib.Omega.{arith}
 use lib.ListN.{length, take, length-take}
 use lib.Seq.{length-sets}
-use Rattle.netlist.specs.declared.Answer.{Answer}
+use Rattle.netlist.specs.declared.Question.{Question}
 use Rattle.netlist.specs.Outcome.{Outcome, refused, done}
 use Rattle.netlist.specs.Services.{answer_of, Answers}
 use Rattle.capi_answers.specs.Number.{Countable}
 
-pub countable : {call : Outcome (List ℕ)} {e x : List ℕ} {a : Answer} → Answers call e x a → length e < 2 ^ 63 → Countable a
+pub countable : {call : Outcome (List ℕ)} {e x : List ℕ} {a : Result ℕ Question} → Answers call e x a → length e < 2 ^ 63 → Countable a
 countable {call} {e} {x} {a} h small = subst Countable (sym h.answer) (of call h)
   where
     of : (o : Outcome (List ℕ)) → Answers o e x a → Countable (answer_of o)

@@ -1,10 +1,9 @@
 -- The number that a call from C gets for an answer.
-use Rattle.std.specs.Prelude.{ℕ, ◌^◌, ◌<◌, ◌≡◌, List, [], ◌∷◌, ℤ, pos, neg_ℤ, cond, eqb, leb, length}
+use Rattle.std.specs.Prelude.{Err, Ok, Result, ℕ, ◌^◌, ◌<◌, ◌≡◌, List, [], ◌∷◌, ℤ, pos, neg_ℤ, cond, eqb, leb, length}
 use Rattle.std.proofs.lemmas.List.Edits.{sets}
 use Rattle.netlist.specs.declared.Sizes.{Sizes}
 use Rattle.netlist.specs.declared.Sizes.TheVariants.{Old, Whole}
-use Rattle.netlist.specs.declared.Answer.{Answer}
-use Rattle.netlist.specs.declared.Answer.TheVariants as answer
+use Rattle.netlist.specs.declared.Question.{Question}
 use Rattle.check_netlist.specs.declared.Checked.{Checked}
 use Rattle.check_netlist.specs.declared.Checked.TheVariants as checked
 
@@ -14,13 +13,13 @@ sizes_of whole = cond (eqb whole 0) Old Whole
 
 -- how many entries the result has, or minus the number of the question
 abbrev pub number : Answer → ℤ
-number (answer.Done n) = pos n
-number (answer.Refused q) = neg_ℤ (pos q)
+number (Ok n) = pos n
+number (Err q) = neg_ℤ (pos q)
 
 -- the number of a result fits an i64
 abbrev pub Countable : Answer → Type 0
-Countable (answer.Done n) = n < 2 ^ 63
-Countable (answer.Refused q) = Unit
+Countable (Ok n) = n < 2 ^ 63
+Countable (Err q) = Unit
 
 -- what a call promises of its answer, which the caller gets as a number
 pub record Told (Promise : Answer → Type 0) (r : ℤ) : Type 0 where

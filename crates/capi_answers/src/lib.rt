@@ -26,8 +26,8 @@ pub fn number(a: Answer) -> i64
     ensures { result ≡ number_of a }
 {
     match a {
-        Answer::Done(n) => n as i64,
-        Answer::Refused(question) => minus(question),
+        Ok(n) => n as i64,
+        Err(question) => minus(question),
     }
 }
 

@@ -26,7 +26,7 @@ fn answer(
         marks.old words.old base.old records.old) codes.now leak.old
         leak.new ones.old ones.new result }
 {
-    let l = netlist::large(sizes);
+    let l = sizes.large();
     let mut inputs = [0u32; 17];
     let mut outputs = [0u32; 16];
     let two = checker::shorter(words.len(), base.len());

@@ -26,7 +26,7 @@ fn answer(
     ensures { outcome_of result ≡ call sizes text.now codes.now pairs.now operands.old
         results.old marks.old words.old base.old bases.old }
 {
-    let l = netlist::large(sizes);
+    let l = sizes.large();
     let mut inputs = [0u32; 17];
     let mut outputs = [0u32; 16];
     let two = checker::shorter(words.len(), base.len());

@@ -46,7 +46,7 @@ fn answer(
         results.old marks.old words.old base.old bases.old set0.old
         set1.old set2.old set3.old paints.old }
 {
-    let l = netlist::large(sizes);
+    let l = sizes.large();
     let mut inputs = [0u32; 17];
     let mut outputs = [0u32; 16];
     let least = shortest(

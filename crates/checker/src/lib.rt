@@ -33,7 +33,7 @@ fn answer(
     ensures { outcome_of result ≡ call sizes text.now codes.now operands.old results.old
         marks.old words.old base.old }
 {
-    let l = netlist::large(sizes);
+    let l = sizes.large();
     let mut inputs = [0u32; 17];
     let mut outputs = [0u32; 16];
     let shortest = shorter(words.len(), base.len());

@@ -1,4 +1,5 @@
 -- From the bytes of the three files to what *mask* prints.
+use Rattle.std.specs.Prelude.{Err, Result}
 use Prim.Native.Nat.{ℕ, ◌≤◌}
 use mathlib.Core.Path.{◌≡◌, refl, sym, ap, ap₂, ◌∙◌, subst}
 use mathlib.Core.Bool.{Bool, true}
@@ -7,8 +8,7 @@ use native.Mathlib.Omega.{arith}
 use lib.ListN.{length, take}
 use lib.Seq.{length-sets}
 use borrow.Author.Tests.{le-leb}
-use Rattle.netlist.specs.declared.Answer.{Answer}
-use Rattle.netlist.specs.declared.Answer.TheVariants.{Refused}
+use Rattle.netlist.specs.declared.Question.{Question}
 use Rattle.netlist.specs.Text.{lf}
 use Rattle.netlist.specs.declared.Sizes.TheVariants.{Old}
 use Rattle.netlist.specs.Netlist.{small}
@@ -30,10 +30,10 @@ use Rattle.cli_mask.specs.Report.{Roomy, outcome, outcome_of, Answered, Prints}
 
 -- ---- the answer
 
-answered-as : {c d : Outcome MaskedText} {x y : List ℕ} {k : ℕ} {a : Answer} → c ≡ d → Answered c x y k a → Answered d x y k a
+answered-as : {c d : Outcome MaskedText} {x y : List ℕ} {k : ℕ} {a : Result ℕ Question} → c ≡ d → Answered c x y k a → Answered d x y k a
 answered-as p h = rw p at h
 
-answered-refused : (x y : List ℕ) (k q : ℕ) {a : Answer} → a ≡ Refused q → Answered (refused q) x y k a
+answered-refused : (x y : List ℕ) (k q : ℕ) {a : Result ℕ Question} → a ≡ Err q → Answered (refused q) x y k a
 answered-refused x y k q p = record {
   outcome = ap (outcome_of x (take k y)) p;
   counted = λ n d. clash (cc);
@@ -56,7 +56,7 @@ module _ (netlist codes wanted : List ℕ) {t e o r w m : List ℕ} (room : Room
       ∙ sym (readable-short netlist _ h)
 
   -- there are as many output codes as wanted ones
-  masked-answered : {x y : List ℕ} {a : Answer} (c : Outcome MaskedText) → call Old netlist codes wanted t e o r w m ≡ c → MaskAnswers c t x e y a
+  masked-answered : {x y : List ℕ} {a : Result ℕ Question} (c : Outcome MaskedText) → call Old netlist codes wanted t e o r w m ≡ c → MaskAnswers c t x e y a
       → Answered c x y (length wanted) a
   masked-answered {x} {y} (refused q) p h = answered-refused x y (length wanted) q h.text.answer
   masked-answered {x} {y} (done R) p h =
@@ -72,13 +72,13 @@ module _ (netlist codes wanted : List ℕ) {t e o r w m : List ℕ} (room : Room
         counted = λ n d. ((answered h.text).counted n d, omega (arith, ap length h.codes ∙ length-sets e 0 R.codes));
       }
 
-  pub answer-short : {x y : List ℕ} {a : Answer} → length netlist ≤ file_limit → MaskAnswers (call Old netlist codes wanted t e o r w m) t x e y a
+  pub answer-short : {x y : List ℕ} {a : Result ℕ Question} → length netlist ≤ file_limit → MaskAnswers (call Old netlist codes wanted t e o r w m) t x e y a
       → Answered (outcome netlist codes wanted) x y (length wanted) a
   answer-short h k = answered-as (call-roomy h) (masked-answered _ refl k)
 
 -- ---- what it prints
 
-pub prints-as : {a : Answer} {l x : List ℕ} {p : Printed} (text codes : List ℕ) (b : Answer) → a ≡ b
+pub prints-as : {a : Result ℕ Question} {l x : List ℕ} {p : Printed} (text codes : List ℕ) (b : Result ℕ Question) → a ≡ b
     → Prints l x p (print_mask (outcome_of text codes b))
     → Prints l x p (print_mask (outcome_of text codes a))
 prints-as text codes b e f = rw e f

@@ -1,7 +1,7 @@
 -- The outcome of a call that reads a text in one dialect and writes its netlist in another.
-use Rattle.std.specs.Prelude.{ℕ, Bool, true, ◌&&◌, List, [], ◌∷◌, leb, length}
+use Rattle.std.specs.Prelude.{Result, ℕ, Bool, true, ◌&&◌, List, [], ◌∷◌, leb, length}
 use Rattle.netlist.specs.declared.Gate.{Gate}
-use Rattle.netlist.specs.declared.Answer.{Answer}
+use Rattle.netlist.specs.declared.Question.{Question}
 use Rattle.netlist.specs.declared.Limits.{Limits}
 use Rattle.netlist.specs.declared.Sizes.{Sizes}
 use Rattle.netlist.specs.Lists.{every}
@@ -33,7 +33,7 @@ abbrev pub call : Dialect → Dialect → Sizes → List ℕ → List ℕ → Li
 call from to s text out o r g = convert_call from to (large s) (length o ∷ length r ∷ length g ∷ []) text (length out)
 
 -- the answer and the result buffer are those of the outcome, and the tables are zero
-pub record Converts (from to : Dialect) (s : Sizes) (text out out' o o' r r' g g' : List ℕ) (a : Answer) : Type 0 where
+pub record Converts (from to : Dialect) (s : Sizes) (text out out' o o' r r' g g' : List ℕ) (a : Result ℕ Question) : Type 0 where
   pub answers : Answers (call from to s text out o r g) out out' a
   pub operands : Cleared o o'
   pub results : Cleared r r'

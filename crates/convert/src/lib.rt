@@ -12,7 +12,7 @@ ghost use Rattle.write_netlist.specs.Form.{form_text_in};
 ghost use Rattle.convert.specs.Convert.{call, has_form, Converts};
 
 use crate::question::has_form;
-use netlist::{Answer, Sizes};
+use netlist::{Answer, Question, Sizes};
 use old_form::Dialect;
 use read_header::HeaderNumbers;
 use read_netlist::read::Reading;
@@ -70,7 +70,7 @@ fn write(
         h.output_values,
         to,
     ) {
-        return Answer::Refused(15);
+        return Err(Question::OldForm);
     }
     deliver(out, h, inputs, outputs, operands, results, to)
 }
@@ -89,7 +89,7 @@ fn answer(
     ensures { Answers (call from to sizes text.now out.old operands.old results.old
         marks.old) out.old out.new result }
 {
-    let l = netlist::large(sizes);
+    let l = sizes.large();
     let mut inputs = [0u32; 17];
     let mut outputs = [0u32; 16];
     let shortest = marks.len();
@@ -104,7 +104,7 @@ fn answer(
         l,
         from,
     ) {
-        Reading::Refused(question) => Answer::Refused(question),
+        Reading::Refused(question) => Err(question),
         Reading::Done(h) => write(out, h, inputs, outputs, operands, results, to),
     }
 }

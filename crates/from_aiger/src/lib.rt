@@ -34,9 +34,9 @@ fn answer(
     ensures { Answers (call sizes text.now out.old operands.old results.old
         variables.old) out.old out.new result }
 {
-    let l = netlist::small(sizes);
+    let l = sizes.small();
     match read_aiger::read::read(text, operands, results, variables, l) {
-        Reading::Refused(question) => Answer::Refused(question),
+        Reading::Refused(question) => Err(question),
         Reading::Done(m) => write(out, m, operands, results),
     }
 }

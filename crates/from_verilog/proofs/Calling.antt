@@ -1,4 +1,5 @@
 -- From a text that was read to the promise.
+use Rattle.std.specs.Prelude.{Err, Ok, Result}
 use Prim.Native.Nat.{ℕ, ◌+◌, ◌*◌, ◌≤◌, ◌<◌}
 use mathlib.Core.Path.{◌≡◌, sym, ap, ◌∙◌, subst}
 use mathlib.Core.Bool.{true, false}
@@ -8,8 +9,7 @@ use lib.ListN.{length, take}
 use Rattle.netlist.specs.declared.Limits.{Limits}
 use Rattle.netlist.specs.declared.Sizes.{Sizes}
 use Rattle.netlist.specs.declared.Sizes.TheVariants.{Old, Whole}
-use Rattle.netlist.specs.declared.Answer.{Answer}
-use Rattle.netlist.specs.declared.Answer.TheVariants.{Done, Refused}
+use Rattle.netlist.specs.declared.Question.{Question}
 use Rattle.netlist.specs.Netlist.{small}
 use Rattle.netlist.specs.Outcome.{refused, and_then}
 use Rattle.netlist.specs.Services.{tables_long, rewrite_outcome, outcome_of, Answers}
@@ -90,12 +90,12 @@ long s a b c d e f g h =
 module _ (s : Sizes) (text out o r h w l st ws : List ℕ) where
   pub call-one : tables_long (small s) (length o ∷ length r ∷ entries_of (length h) ∷ entries_of (length w) ∷ entries_of (length l) ∷ entries_of (length st) ∷
       entries_of (length ws) ∷ []) ≡ false
-      → Answers (call s text out o r h w l st ws) out out (Refused 1)
+      → Answers (call s text out o r h w l st ws) out out (Err 1)
   unfolding equations_call
   call-one p = answers_one (tables_long (small s) (length o ∷ length r ∷ entries_of (length h) ∷ entries_of (length w) ∷ entries_of (length l) ∷ entries_of
       (length st) ∷ entries_of (length ws) ∷ [])) _ out p
 
-  pub call-rest : {x : List ℕ} {a : Answer}
+  pub call-rest : {x : List ℕ} {a : Result ℕ Question}
       → tables_long (small s) (length o ∷ length r ∷ entries_of (length h) ∷ entries_of (length w) ∷ entries_of (length l) ∷ entries_of (length st) ∷ entries_of
       (length ws) ∷ []) ≡ true
       → Answers (and_then (read_equations (small s) text) (rewrite_outcome (length out))) out x a → Answers (call s text out o r h w l st ws) out x a
@@ -104,7 +104,7 @@ module _ (s : Sizes) (text out o r h w l st ws : List ℕ) where
       (length st) ∷ entries_of (length ws) ∷ [])) p k
 
   -- the result
-  pub call-delivered : {x : List ℕ} {a : Answer} → Answers (call s text out o r h w l st ws) out x a → (n : ℕ) → a ≡ Done n → Delivered s text (take n x)
+  pub call-delivered : {x : List ℕ} {a : Result ℕ Question} → Answers (call s text out o r h w l st ws) out x a → (n : ℕ) → a ≡ Ok n → Delivered s text (take n x)
   call-delivered {x} {a} k n p =
       equations-delivered s (length o ∷ length r ∷ entries_of (length h) ∷ entries_of (length w) ∷ entries_of (length l) ∷ entries_of (length st) ∷ entries_of
       (length ws) ∷ []) text (length out) (take n x) (sym k.outcome ∙ ap (outcome_of x) p)

@@ -9,7 +9,7 @@ ghost use Rattle.netlist.specs.Services.{tables_long, rewrite_outcome, Answers};
 ghost use Rattle.verilog.specs.Call.{read_equations};
 ghost use Rattle.from_verilog.specs.Promise.{entries_of, call, Promise};
 
-use netlist::{Answer, Sizes};
+use netlist::{Answer, Question, Sizes};
 use read_aiger::read::Reading;
 
 // Numbers that one entry of a table of names has.
@@ -28,7 +28,7 @@ fn tables_long(
 ) -> bool
     ensures { result ≡ tables_long (smallLimits sizes) (a ∷ b ∷ entries_of c ∷ entries_of d ∷ entries_of e ∷ entries_of f ∷ entries_of g ∷ []) }
 {
-    let l = netlist::small(sizes);
+    let l = sizes.small();
     let least = l.table;
     if a < least {
         return false;
@@ -74,11 +74,11 @@ fn read_and_write(
     ensures { Answers (and_then (read_equations (smallLimits sizes) text.now) (rewrite_outcome (length out.old)))
         out.old out.new result }
 {
-    let l = netlist::small(sizes);
+    let l = sizes.small();
     match read_verilog::read::read(
         text, l, heads, words, links, states, wires, operands, results,
     ) {
-        Reading::Refused(question) => Answer::Refused(question),
+        Reading::Refused(question) => Err(question),
         Reading::Done(m) => from_aiger::write(out, m, operands, results),
     }
 }
@@ -110,7 +110,7 @@ fn answer(
         wires.len(),
         sizes,
     ) {
-        return Answer::Refused(1);
+        return Err(Question::Tables);
     }
     clear::words(heads);
     clear::wires(wires);

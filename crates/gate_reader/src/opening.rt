@@ -4,7 +4,7 @@ ghost use Rattle.std.proofs.lemmas.List.Edits.{sets};
 ghost use Rattle.netlist.specs.Netlist.{large as largeLimits};
 ghost use Rattle.gate_reader.specs.Opens.{OpeningIs};
 
-use netlist::{Sizes, large};
+use netlist::Sizes;
 use read_header::head::{Head, read_opening};
 use read_header::{HeaderNumbers, keep};
 use read_text::count::count_lines;
@@ -35,7 +35,7 @@ pub fn open_at(text: &[u8], inputs: &mut [u32], outputs: &mut [u32], sizes: Size
 {
     let mut ins = [0u32; 17];
     let mut outs = [0u32; 16];
-    match read_opening(text, large(sizes), &mut ins, &mut outs) {
+    match read_opening(text, sizes.large(), &mut ins, &mut outs) {
         Head::Refused(question) => Opening::Refused(question),
         Head::Is(h, at) => {
             if count_lines(text, at) != h.gates as usize {

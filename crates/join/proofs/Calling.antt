@@ -1,4 +1,5 @@
 -- From two blocks that were read to Join's promise.
+use Rattle.std.specs.Prelude.{Err, Ok, Result}
 use Prim.Native.Nat.{ℕ, ◌+◌, ◌-◌, ◌≤◌, ◌<◌, min}
 use mathlib.Core.Path.{◌≡◌, refl, sym, ap, ap₂, ◌∙◌, subst}
 use mathlib.Core.Bool.{Bool, true, false, ◌&&◌}
@@ -10,8 +11,7 @@ use borrow.Author.Tests.{le-leb, lt-leb, eq-eqb, ne_eqb}
 use Rattle.netlist.specs.declared.Gate.{Gate}
 use Rattle.netlist.specs.declared.Limits.{Limits}
 use Rattle.netlist.specs.declared.Sizes.{Sizes}
-use Rattle.netlist.specs.declared.Answer.{Answer}
-use Rattle.netlist.specs.declared.Answer.TheVariants.{Done, Refused}
+use Rattle.netlist.specs.declared.Question.{Question}
 use Rattle.netlist.specs.Lists.{every, same_bytes}
 use Rattle.netlist.specs.Netlist.{Netlist, input_bits, large}
 use Rattle.netlist.specs.Outcome.{Outcome, refused, done, ask, and_then}
@@ -157,13 +157,13 @@ module _ {a b : HeaderNumbers} {ins outs : List ℕ} {t v : Tables} {A B : Netli
   wires-same = rw (F.holds.wires, S.holds.wires, S.holds.ins) refl
 
   module _ (L : Limits) (out_codes codes out : List ℕ) where
-    pub join-25 : seam_holds a out_codes b codes ≡ false → Answers (join_outcome L out_codes codes (length out) A B) out out (Refused 25)
+    pub join-25 : seam_holds a out_codes b codes ≡ false → Answers (join_outcome L out_codes codes (length out) A B) out out (Err 25)
     join-25 e = answers-refused out (rw (seam-same out_codes codes ∙ e))
 
-    pub join-5 : seam_holds a out_codes b codes ≡ true → L.wires < wires_of (seam_of a b) → Answers (join_outcome L out_codes codes (length out) A B) out out (Refused 5)
+    pub join-5 : seam_holds a out_codes b codes ≡ true → L.wires < wires_of (seam_of a b) → Answers (join_outcome L out_codes codes (length out) A B) out out (Err 5)
     join-5 e h = answers-refused out (rw (seam-same out_codes codes ∙ e, lt-leb (join A B).wires L.wires (rw wires-same h)))
 
-    pub join-14 : {x : List ℕ} {r : Answer} → seam_holds a out_codes b codes ≡ true → wires_of (seam_of a b) ≤ L.wires
+    pub join-14 : {x : List ℕ} {r : Result ℕ Question} → seam_holds a out_codes b codes ≡ true → wires_of (seam_of a b) ≤ L.wires
         → Delivers (write_netlist (join A B)) out x r → Answers (join_outcome L out_codes codes (length out) A B) out x r
     join-14 e h d = answers-as (sym (rw (seam-same out_codes codes ∙ e, le-leb (join A B).wires L.wires (rw wires-same h)))) d.answers
 
@@ -189,10 +189,10 @@ module _ (L : Limits) (ls text codes out_codes out : List ℕ) (A : Netlist) whe
   then = join_outcome L out_codes codes (length out) A
 
   pub second-not : {q : ℕ} → tables_long L ls ≡ true → ask 1 (tables_long L ls) (read_block L text codes) ≡ refused q
-      → Answers (and_then (read_block L text codes) then) out out (Refused q)
+      → Answers (and_then (read_block L text codes) then) out out (Err q)
   second-not e p = answers-refused out (let z = rw e at p in rw z)
 
-  pub second-read : {B : Netlist} {x : List ℕ} {r : Answer} → read_block L text codes ≡ done B → Answers (then B) out x r
+  pub second-read : {B : Netlist} {x : List ℕ} {r : Result ℕ Question} → read_block L text codes ≡ done B → Answers (then B) out x r
       → Answers (and_then (read_block L text codes) then) out x r
   second-read e = answers-as (sym (rw e))
 
@@ -207,25 +207,25 @@ module _ (s : Sizes) (first second codes out_codes inner out o r g w b : List �
     all-long = long-both (large s) (length o) (length r) (length g) (length w) (length b) shortest
 
     pub call-not : {q : ℕ} → ask 1 (tables_long (large s) (length o ∷ length r ∷ length g ∷ n ∷ [])) (read_block (large s) first codes) ≡ refused q
-        → Answers (call s first second codes out_codes inner out o r g w b) out out (Refused q)
+        → Answers (call s first second codes out_codes inner out o r g w b) out out (Err q)
     unfolding join_call
     call-not p = answers-refused out (call-refused (tables_long (large s) (lengths o r g w b)) (read_block (large s) first codes) rest (rw all-long at p))
 
-    pub call-read : {A : Netlist} {x : List ℕ} {a : Answer} → tables_long (large s) (length o ∷ length r ∷ length g ∷ n ∷ []) ≡ true
+    pub call-read : {A : Netlist} {x : List ℕ} {a : Result ℕ Question} → tables_long (large s) (length o ∷ length r ∷ length g ∷ n ∷ []) ≡ true
         → read_block (large s) first codes ≡ done A → Answers (rest A) out x a → Answers (call s first second codes out_codes inner out o r g w b) out x a
     unfolding join_call
     call-read e p =
         answers-as (sym (call-goes-on (tables_long (large s) (lengths o r g w b)) (read_block (large s) first codes) rest (sym all-long ∙ e) p))
 
   -- what an answer with a text delivers
-  pub call-delivered : {x : List ℕ} {a : Answer} → Answers (call s first second codes out_codes inner out o r g w b) out x a
-      → (n : ℕ) → a ≡ Done n → Delivered s (lengths o r g w b) first codes out_codes second inner (length out) (take n x)
+  pub call-delivered : {x : List ℕ} {a : Result ℕ Question} → Answers (call s first second codes out_codes inner out o r g w b) out x a
+      → (n : ℕ) → a ≡ Ok n → Delivered s (lengths o r g w b) first codes out_codes second inner (length out) (take n x)
   call-delivered {x} {a} k n p =
       call-delivers s (lengths o r g w b) first codes out_codes second inner (length out) (take n x) (sym k.outcome ∙ ap (outcome_of x) p)
 
 -- ---- for the functions' proofs
 
-pub delivers-as : {bs cs e x : List ℕ} {r : Answer} → bs ≡ cs → Delivers bs e x r → Delivers cs e x r
+pub delivers-as : {bs cs e x : List ℕ} {r : Result ℕ Question} → bs ≡ cs → Delivers bs e x r → Delivers cs e x r
 delivers-as p d = rw p at d
 
 -- the joined W without going past it
@@ -233,7 +233,7 @@ pub wires-of : (a b : HeaderNumbers) → Meeting (seam_of a b) → a.wires + (b.
 wires-of a b M = let i : b.input_bits ≤ b.wires = M.inner in omega arith
 
 -- what follows the first text, under limits that are known
-pub rest-as : {l L : Limits} (second inner out_codes out : List ℕ) (A : Netlist) {x : List ℕ} {r : Answer} → l ≡ L
+pub rest-as : {l L : Limits} (second inner out_codes out : List ℕ) (A : Netlist) {x : List ℕ} {r : Result ℕ Question} → l ≡ L
     → Answers (and_then (read_block l second inner) (join_outcome l out_codes inner (length out) A)) out x r
     → Answers (and_then (read_block L second inner) (join_outcome L out_codes inner (length out) A)) out x r
 rest-as second inner out_codes out A {x} {r} e =

@@ -17,7 +17,7 @@ ghost use Rattle.join.specs.Blocks.{header_of, ask_block, BlockIs, Numbers, Firs
 ghost use Rattle.join.specs.Promise.{call, Promise};
 
 use join_gates::SeamNumbers;
-use netlist::{Answer, Limits, Sizes};
+use netlist::{Answer, Limits, Question, Sizes};
 use old_form::Dialect;
 use read_header::HeaderNumbers;
 use read_netlist::read::Reading;
@@ -162,11 +162,11 @@ fn deliver(
         → Answers (join_outcome l out_codes.now codes.now (length out.old) A B) out.old out.new result }
 {
     if !seam_holds(a, out_codes, b, codes) {
-        return Answer::Refused(25);
+        return Err(Question::Seam);
     }
     let wires = a.wires as u64 + b.wires as u64 - b.input_bits;
     if (l.wires as u64) < wires {
-        return Answer::Refused(5);
+        return Err(Question::Limits);
     }
     write(out, a, b, inputs, outputs, operands, results, words, base)
 }
@@ -208,7 +208,7 @@ fn read_second(
         shortest,
         l,
     ) {
-        Reading::Refused(question) => Answer::Refused(question),
+        Reading::Refused(question) => Err(question),
         Reading::Done(b) => deliver(
             out_codes, codes, out, a, b, inputs, outputs, operands, results, words, base, l,
         ),
@@ -234,7 +234,7 @@ fn answer(
         out.old operands.old results.old marks.old words.old base.old)
         out.old out.new result }
 {
-    let l = netlist::large(sizes);
+    let l = sizes.large();
     let mut inputs = [0u32; 17];
     let mut outputs = [0u32; 16];
     let shortest = checker::shorter(words.len(), base.len());
@@ -249,7 +249,7 @@ fn answer(
         shortest,
         l,
     ) {
-        Reading::Refused(question) => Answer::Refused(question),
+        Reading::Refused(question) => Err(question),
         Reading::Done(a) => read_second(
             second, out_codes, inner, out, a, inputs, operands, results, marks, words, base, l,
         ),

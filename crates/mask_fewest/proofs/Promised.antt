@@ -1,4 +1,5 @@
 -- From a source that was read to the promise.
+use Rattle.std.specs.Prelude.{Err, Ok, Result}
 use Prim.Native.Nat.{ℕ, ◌+◌, ◌≤◌, ◌<◌, min}
 use mathlib.Core.Path.{◌≡◌, refl, sym, ap, ap₂, ◌∙◌}
 use mathlib.Core.Bool.{Bool, true, false, ◌&&◌}
@@ -10,8 +11,7 @@ use lib.ListN.{length, take, set}
 use lib.Seq.{sets}
 use Rattle.netlist.specs.declared.Limits.{Limits}
 use Rattle.netlist.specs.declared.Sizes.{Sizes}
-use Rattle.netlist.specs.declared.Answer.{Answer}
-use Rattle.netlist.specs.declared.Answer.TheVariants.{Done, Refused}
+use Rattle.netlist.specs.declared.Question.{Question}
 use Rattle.netlist.specs.Lists.{every}
 use Rattle.netlist.specs.Netlist.{Netlist, input_bits, output_bits, small}
 use Rattle.netlist.specs.Outcome.{Outcome, refused, done, ask}
@@ -42,12 +42,12 @@ use Rattle.mask_fewest.specs.Promise.{call, Gives}
 
 -- ---- answers
 
-pub fewest-as : {c d : Outcome Result} {out out' is is' es es' ts ts' : List ℕ} {a : Answer} → c ≡ d → FewestAnswers c out out' is is' es es' ts ts' a
+pub fewest-as : {c d : Outcome Result} {out out' is is' es es' ts ts' : List ℕ} {a : Result ℕ Question} → c ≡ d → FewestAnswers c out out' is is' es es' ts ts' a
     → FewestAnswers d out out' is is' es es' ts ts' a
 fewest-as p h = rw p at h
 
 -- a refusal leaves all buffers as they were
-pub fewest-refused : {c : Outcome Result} (out is es ts : List ℕ) {q : ℕ} → c ≡ refused q → FewestAnswers c out out is is es es ts ts (Refused q)
+pub fewest-refused : {c : Outcome Result} (out is es ts : List ℕ) {q : ℕ} → c ≡ refused q → FewestAnswers c out out is is es es ts ts (Err q)
 fewest-refused out is es ts p = record { text = answers-refused out (rw p); inputs = rw p refl; outputs = rw p refl; tally = rw p refl }
 
 -- ---- questions 11, 13, 22 and 14
@@ -60,7 +60,7 @@ module _ {h : HeaderNumbers} {t : Tables} {is os : List ℕ} {N : Netlist} (a : 
   wanted-good b e = ap (λ (n : ℕ). list_good is_wanted n wanted) a.holds.outs ∙ e
 
   abbrev Answered : ℕ → Type 0
-  Answered q = FewestAnswers (fewest_outcome codes wanted budget (room out ins ends tal) N) out out ins ins ends ends tal tal (Refused q)
+  Answered q = FewestAnswers (fewest_outcome codes wanted budget (room out ins ends tal) N) out out ins ins ends ends tal tal (Err q)
 
   pub fewest-11 : list_good is_call_code h.input_bits codes ≡ false → Answered 11
   fewest-11 p = fewest-refused out ins ends tal (rw (codes-good false p))
@@ -176,7 +176,7 @@ module _ {h : HeaderNumbers} {t : Tables} {is os : List ℕ} {N : Netlist} (a : 
           pub chosen-masked : WellFormed (mask_netlist (chosen_source N (choice N codes (given_number N codes wanted budget))) (take (length codes) ys) wanted).netlist
           chosen-masked = masked-formed read-chosen (take (length codes) ys) wanted good-codes q
 
-          pub fewest-14 : {out' ins' ends' tal' : List ℕ} {x : Answer}
+          pub fewest-14 : {out' ins' ends' tal' : List ℕ} {x : Result ℕ Question}
               → FewestAnswers (deliver (room out ins ends tal) (given (chosen_source N (choice N codes (given_number N codes wanted budget)))
               (take (length codes) ys) wanted r))
               out out' ins ins' ends ends' tal tal' x
@@ -222,13 +222,13 @@ module _ (s : Sizes) (text codes wanted : List ℕ) (budget : ℕ) (out ins ends
     all-long = long-four (small s) (length o) (length r) (length m) (length w) (length y) (length b) (length z) p q e
 
     pub call-not : {k : ℕ} → ask 1 (tables_long (small s) (length o ∷ length r ∷ length m ∷ n ∷ [])) (read_netlist (small s) text) ≡ refused k
-        → FewestAnswers (call s text codes wanted budget (room out ins ends tal) o r w m y b z) out out ins ins ends ends tal tal (Refused k)
+        → FewestAnswers (call s text codes wanted budget (room out ins ends tal) o r w m y b z) out out ins ins ends ends tal tal (Err k)
     unfolding fewest_call
     call-not h =
         fewest-refused out ins ends tal
         (call-refused (tables_long (small s) lengths') (read_netlist (small s) text) (fewest_outcome codes wanted budget rooms) (rw all-long at h))
 
-    pub call-read : {out' ins' ends' tal' is os : List ℕ} {t : Tables} {h : HeaderNumbers} {a : Answer}
+    pub call-read : {out' ins' ends' tal' is os : List ℕ} {t : Tables} {h : HeaderNumbers} {a : Result ℕ Question}
         → (tables_long (small s) (length o ∷ length r ∷ length m ∷ n ∷ []) ≡ true) × ReadAt (small s) text is os t h
         → ((N : Netlist) → Read h t is os N → FewestAnswers (fewest_outcome codes wanted budget (room out ins ends tal) N) out out' ins ins' ends ends' tal tal' a)
         → FewestAnswers (call s text codes wanted budget (room out ins ends tal) o r w m y b z) out out' ins ins' ends ends' tal tal' a
@@ -240,9 +240,9 @@ module _ (s : Sizes) (text codes wanted : List ℕ) (budget : ℕ) (out ins ends
 
   -- ---- the promise
 
-  pub call-gives : {out' ins' ends' tal' : List ℕ} {a : Answer}
+  pub call-gives : {out' ins' ends' tal' : List ℕ} {a : Result ℕ Question}
       → FewestAnswers (call s text codes wanted budget (room out ins ends tal) o r w m y b z) out out' ins ins' ends ends' tal tal' a
-      → (n : ℕ) → a ≡ Done n
+      → (n : ℕ) → a ≡ Ok n
       → Gives s text codes wanted budget (call s text codes wanted budget (room out ins ends tal) o r w m y b z) (take n out') ins' ends' tal'
   call-gives {out'} {ins'} {ends'} {tal'} {a} A n p =
       let c = call s text codes wanted budget rooms o r w m y b z in

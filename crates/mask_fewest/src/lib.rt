@@ -15,7 +15,7 @@ ghost use Rattle.mask_fewest.specs.Stages.{Room, Choosable, Chose, Givable, give
 ghost use Rattle.mask_fewest.specs.Promise.{call, Promise};
 
 use fewest_search::search::Tally;
-use netlist::{Answer, Sizes};
+use netlist::{Answer, Question, Sizes};
 use read_header::HeaderNumbers;
 use read_netlist::read::Reading;
 
@@ -102,12 +102,12 @@ fn give(
         wires,
         marks,
     ) {
-        Answer::Refused(question) => Answer::Refused(question),
-        Answer::Done(size) => {
+        Err(question) => Err(question),
+        Ok(size) => {
             fewest_search::turn::keep(&ways[..n], &mut ins[..n]);
             tally[0] = r.changes as u64;
             tally[1] = r.floor as u64;
-            Answer::Done(size)
+            Ok(size)
         }
     }
 }
@@ -140,19 +140,19 @@ fn deliver(
         ins.old ins.new ends.old ends.new tally.old tally.new result }
 {
     if !lists::free_codes(codes, h.input_bits as usize) {
-        return Answer::Refused(11);
+        return Err(Question::Inputs);
     }
     if !lists::valid_wanted(wanted, h.output_bits as usize) {
-        return Answer::Refused(13);
+        return Err(Question::Wanted);
     }
     if budget == 0 {
-        return Answer::Refused(22);
+        return Err(Question::Budget);
     }
     if ins.len() < codes.len() {
-        return Answer::Refused(14);
+        return Err(Question::Room);
     }
     if tally.len() < 2 {
-        return Answer::Refused(14);
+        return Err(Question::Room);
     }
     let last = h.input_values;
     inputs[last] = 2;
@@ -203,7 +203,7 @@ fn answer(
         out.new ins.old ins.new ends.old ends.new tally.old
         tally.new result }
 {
-    let l = netlist::small(sizes);
+    let l = sizes.small();
     let mut inputs = [0u32; 17];
     let mut outputs = [0u32; 16];
     let two = checker::shorter(wires.len(), ways.len());
@@ -219,7 +219,7 @@ fn answer(
         shortest,
         l,
     ) {
-        Reading::Refused(question) => Answer::Refused(question),
+        Reading::Refused(question) => Err(question),
         Reading::Done(h) => deliver(
             out, ins, ends, tally, h, codes, wanted, budget, inputs, outputs, operands, results,
             wires, marks, ways, best, spans,

@@ -1,4 +1,5 @@
 -- Header and gates put together to the whole text, and question 14.
+use Rattle.std.specs.Prelude.{Err, Ok}
 use Prim.Native.Nat.{ℕ, ◌+◌, ◌*◌, ◌-◌, ◌≤◌, ◌<◌}
 use mathlib.Core.Path.{◌≡◌, refl, sym, ap, ◌∙◌}
 use mathlib.Core.Bool.{true, false}
@@ -9,7 +10,6 @@ use lib.Dec.{leb, lit<}
 use lib.ListN.{length, drop, take}
 use lib.Seq.{sets}
 use borrow.Author.Tests.{le-leb, lt-leb, leb-true}
-use Rattle.netlist.specs.declared.Answer.TheVariants.{Done, Refused}
 use Rattle.netlist.specs.Netlist.{Netlist}
 use Rattle.netlist.specs.Table.{Tables, gates_of, Holds}
 use Rattle.netlist.specs.Mask.{Masked, mask_netlist}
@@ -88,16 +88,16 @@ least-counted cs vs {t = t} {count = count} {W = W} {n = n} {m = m} h =
 -- question 14
 module _ (M : Masked) {e f : List ℕ} where
   pub short-text : leb (length (write_netlist M.netlist)) (length e) ≡ false
-      → MaskAnswers (deliver_outcome (length e) (length f) (masked_text M)) e e f f (Refused 14)
+      → MaskAnswers (deliver_outcome (length e) (length f) (masked_text M)) e e f f (Err 14)
   short-text t = record { text = answers-refused e (rw t); codes = rw t }
 
-  pub short-codes : length f < length M.codes → MaskAnswers (deliver_outcome (length e) (length f) (masked_text M)) e e f f (Refused 14)
+  pub short-codes : length f < length M.codes → MaskAnswers (deliver_outcome (length e) (length f) (masked_text M)) e e f f (Err 14)
   short-codes l =
       let u = lt-leb (length M.codes) (length f) l in
       on_bool (leb (length (write_netlist M.netlist)) (length e)) (λ t. record { text = answers-refused e (rw (t, u)); codes = rw (t, u) }) short-text
 
   pub delivered : {x y : List ℕ} {s : ℕ} → leb (length (write_netlist M.netlist)) (length e) ≡ true → length e < top → length M.codes ≤ length f
-      → Filled M e x f y s → MaskAnswers (deliver_outcome (length e) (length f) (masked_text M)) e x f y (Done s)
+      → Filled M e x f y s → MaskAnswers (deliver_outcome (length e) (length f) (masked_text M)) e x f y (Ok s)
   delivered {s = s} t small l d =
       let fits = leb-true (length (write_netlist M.netlist)) (length e) t in
       let n : s ≡ length (write_netlist M.netlist) = omega (arith, d.wrote.next) in

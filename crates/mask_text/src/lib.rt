@@ -14,7 +14,7 @@ ghost use Rattle.write_buffer.specs.Wrote.{top};
 ghost use Rattle.mask_twins.specs.Place.{Ready};
 ghost use Rattle.mask_text.specs.Whole.{Source, Numbers, WroteText, Filled, MaskAnswers};
 
-use netlist::Answer;
+use netlist::{Answer, Question};
 
 // The masked text, with the numbers of its line one.
 fn write(
@@ -147,7 +147,7 @@ fn answer(
         out_codes.new result }
 {
     if out_codes.len() < wanted.len() {
-        return Answer::Refused(14);
+        return Err(Question::Room);
     }
     if !holds(
         d,
@@ -164,9 +164,9 @@ fn answer(
         wire,
         code,
     ) {
-        return Answer::Refused(14);
+        return Err(Question::Room);
     }
-    Answer::Done(fill(
+    Ok(fill(
         d, out, out_codes, gates, wires, operands, results, count, codes, wanted, ins, outs, wire,
         code,
     ))

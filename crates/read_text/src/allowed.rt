@@ -40,10 +40,8 @@ fn all_plain(text: &[u8]) -> bool
     ensures { result ≡ every byte_allowed text.now }
 {
     let mut faults: u8 = 0;
-    let mut i = 0;
-    while i < text.len() {
-        faults = faults | fault(text[i]);
-        i += 1;
+    for b in text {
+        faults = faults | fault(*b);
     }
     faults == 0
 }
@@ -72,10 +70,8 @@ fn all_before(text: &[u8]) -> bool
     }
     let last = text.len() - 1;
     let mut faults: u8 = 0;
-    let mut i = 0;
-    while i < last {
+    for i in 0..last {
         faults = faults | fault_before(text[i], text[i + 1]);
-        i += 1;
     }
     faults | fault_before(text[last], 0) == 0
 }

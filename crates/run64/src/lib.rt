@@ -8,7 +8,7 @@ ghost use Rattle.netlist.specs.Services.{Answers};
 ghost use Rattle.netlist.specs.Table.{tables, Wired, Holds};
 ghost use Rattle.run64.specs.Promise.{run64_outcome, call, Promise};
 
-use netlist::{Answer, Sizes};
+use netlist::{Answer, Question, Sizes};
 use read_header::HeaderNumbers;
 use read_netlist::read::Reading;
 
@@ -29,13 +29,13 @@ fn deliver(
         → Answers (run64_outcome list.now (length out.old) N) out.old out.new result }
 {
     if list.len() != ins {
-        return Answer::Refused(11);
+        return Err(Question::Inputs);
     }
     if out.len() < outs {
-        return Answer::Refused(14);
+        return Err(Question::Room);
     }
     evaluate::wide::outputs(operands, results, count, outs, list, words, out);
-    Answer::Done(outs)
+    Ok(outs)
 }
 
 // Questions 11 and 14 and the words, from a header's numbers and tables that hold its netlist.
@@ -80,7 +80,7 @@ fn answer(
     ensures { Answers (call sizes text.now list.now out.old operands.old
         results.old marks.old words.old) out.old out.new result }
 {
-    let l = netlist::large(sizes);
+    let l = sizes.large();
     let mut inputs = [0u32; 17];
     let mut outputs = [0u32; 16];
     let shortest = words.len();
@@ -94,7 +94,7 @@ fn answer(
         shortest,
         l,
     ) {
-        Reading::Refused(question) => Answer::Refused(question),
+        Reading::Refused(question) => Err(question),
         Reading::Done(h) => evaluate(out, list, h, operands, results, words),
     }
 }

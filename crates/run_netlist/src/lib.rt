@@ -6,7 +6,7 @@ ghost use Rattle.netlist.specs.Netlist.{Netlist};
 ghost use Rattle.netlist.specs.Services.{run_outcome, Answers};
 ghost use Rattle.netlist.specs.Table.{tables, Wired, Holds};
 
-use netlist::Answer;
+use netlist::{Answer, Question};
 use read_header::HeaderNumbers;
 
 // Questions 11 and 14, and then the bits. The tables hold a netlist of `count` gates, with as many wires as there are words,
@@ -26,13 +26,13 @@ fn deliver(
         outs N → Answers (run_outcome list.now (length out.old) N) out.old out.new result }
 {
     if !lists::valid_bits(list, ins) {
-        return Answer::Refused(11);
+        return Err(Question::Inputs);
     }
     if out.len() < outs {
-        return Answer::Refused(14);
+        return Err(Question::Room);
     }
     evaluate::single::outputs(operands, results, count, outs, list, words, out);
-    Answer::Done(outs)
+    Ok(outs)
 }
 
 // Questions 11 and 14 and the bits, from a header's numbers and tables that hold its netlist.

@@ -103,7 +103,7 @@ fn place(w: u32, n: usize, gates: usize) -> usize
 pub fn questions(s: Session, inputs: usize, places: usize, g: GateRecord, sizes: Sizes) -> Asked
     ensures { AskedIs sizes inputs s.gates places g result }
 {
-    let l = netlist::small(sizes);
+    let l = sizes.small();
     let most = l.wires as usize;
     let gates = s.gates as usize;
     if gates >= places {

@@ -52,7 +52,7 @@ pub fn total(widths: &[u32]) -> u64
 fn question(widths: &[u32], codes: &[u8], room: usize, sizes: Sizes) -> u8
     ensures { NoIs (opening sizes widths.now codes.now room) result }
 {
-    let l = netlist::small(sizes);
+    let l = sizes.small();
     if !positive(widths) {
         return 4;
     }

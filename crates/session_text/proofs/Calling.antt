@@ -1,4 +1,5 @@
 -- From the results of the parts to what is promised.
+use Rattle.std.specs.Prelude.{Err, Result}
 use Prim.Native.Nat.{ℕ, ◌+◌, ◌≤◌}
 use mathlib.Core.Path.{◌≡◌, refl, sym, ap, ap₂, ◌∙◌, subst}
 use mathlib.Core.Bool.{Bool, true, false, ◌&&◌}
@@ -7,8 +8,7 @@ use native.Mathlib.Omega.{arith}
 use lib.Dec.{leb}
 use lib.ListN.{length, take, drop, replicate}
 use lib.Seq.{take_at}
-use Rattle.netlist.specs.declared.Answer.{Answer}
-use Rattle.netlist.specs.declared.Answer.TheVariants.{Refused}
+use Rattle.netlist.specs.declared.Question.{Question}
 use Rattle.netlist.specs.declared.Limits.{Limits}
 use Rattle.netlist.specs.declared.Sizes.{Sizes}
 use Rattle.netlist.specs.Lists.{sum}
@@ -49,7 +49,7 @@ form-same {o} {widths} {outputs} {q} {t} a =
     = λ i. header_text (sym g i) (sym a.wires i) (sym a.inputs i) (sym a.outputs i) in
     ap₂ ◌++◌ p (ap gate_text (sym a.gates)) ∙ header-gates N
 
-pub text-written : {o : Outcome Netlist} {widths outputs : List ℕ} {q : Asked} {t : Tables} {no : ℕ} {e x : List ℕ} {r : Answer} → no ≡ 0 → Stands o widths outputs q t no
+pub text-written : {o : Outcome Netlist} {widths outputs : List ℕ} {q : Asked} {t : Tables} {no : ℕ} {e x : List ℕ} {r : Result ℕ Question} → no ≡ 0 → Stands o widths outputs q t no
     → Delivers (form_text q.count (q.inputs + q.count) widths outputs t) e x r → Answers (and_then o (rewrite_outcome (length e))) e x r
 text-written {o} {e = e} {x = x} {r = r} z s d =
     let a = s.netlist z in
@@ -57,7 +57,7 @@ text-written {o} {e = e} {x = x} {r = r} z s d =
     answers-as (sym (ap (λ (o : Outcome Netlist). and_then o (rewrite_outcome (length e))) a.outcome)) k.answers
 
 pub text-refused : {o : Outcome Netlist} {widths outputs : List ℕ} {q : Asked} {t : Tables} {no : ℕ} (e : List ℕ) → (no ≡ 0 → ⊥) → Stands o widths outputs q t no
-    → Answers (and_then o (rewrite_outcome (length e))) e e (Refused no)
+    → Answers (and_then o (rewrite_outcome (length e))) e e (Err no)
 text-refused {o} e d s = answers-refused e (ap (λ (o : Outcome Netlist). and_then o (rewrite_outcome (length e))) (no-some o d s.asked).0)
 
 -- ---- the masked text of such tables
@@ -98,7 +98,7 @@ masked-read {o} {widths} {outputs} {q} {t} a e f = record {
 }
 
 pub masked-written : {o : Outcome Netlist} {widths outputs : List ℕ} {q : Asked} {t : Tables} {no : ℕ} {is os : List ℕ} (codes wanted : List ℕ)
-    {e x f y : List ℕ} {r : Answer} → no ≡ 0 → Stands o widths outputs q t no
+    {e x f y : List ℕ} {r : Result ℕ Question} → no ≡ 0 → Stands o widths outputs q t no
     → is ≡ widths ++ drop (length widths) (replicate 17 0) → os ≡ outputs ++ drop (length outputs) (replicate 16 0)
     → ((N : Netlist) → Read (header_of widths outputs q) t is os N → MaskAnswers (mask_outcome codes wanted (length e) (length f) N) e x f y r)
     → MaskAnswers (and_then o (mask_outcome codes wanted (length e) (length f))) e x f y r
@@ -108,7 +108,7 @@ masked-written codes wanted {e = e} {f = f} z s i j d =
 
 pub masked-refused : {o : Outcome Netlist} {widths outputs : List ℕ} {q : Asked} {t : Tables} {no : ℕ} (codes wanted e f : List ℕ) → (no ≡ 0 → ⊥) → Stands o
     widths outputs q t no
-    → MaskAnswers (and_then o (mask_outcome codes wanted (length e) (length f))) e e f f (Refused no)
+    → MaskAnswers (and_then o (mask_outcome codes wanted (length e) (length f))) e e f f (Err no)
 masked-refused {o} codes wanted e f d s =
     mask-refused e f (ap (λ (o : Outcome Netlist). and_then o (mask_outcome codes wanted (length e) (length f))) (no-some o d s.asked).0)
 
@@ -146,7 +146,7 @@ module _ (z : Sizes) (widths outputs : List ℕ) (s : Session) (source : List So
   twice : (a b : ℕ) → shown (a ∷ b ∷ a ∷ b ∷ []) ≡ shown (a ∷ b ∷ [])
   twice a b = rw (asked_twice (small z) a b) refl
 
-  pub text-promised : {out out' o o' r r' : List ℕ} {a : Answer} → TextIs (shown (length o ∷ length r ∷ length o ∷ length r ∷ [])) out out' o o' r r' a
+  pub text-promised : {out out' o o' r r' : List ℕ} {a : Result ℕ Question} → TextIs (shown (length o ∷ length r ∷ length o ∷ length r ∷ [])) out out' o o' r r' a
       → TextPromise z widths outputs s source out out' o o' r r' a
   unfolding text_call
   text-promised {out} {out'} {o} {o'} {r} {r'} {a} h =
@@ -170,7 +170,7 @@ module _ (z : Sizes) (widths outputs : List ℕ) (s : Session) (source : List So
       ∙ sym (call-goes-on (tables_long (small z) lengths) (read_netlist (small z) (write_netlist N)) (mask_outcome codes wanted text_room code_room)
       (shown-made (small z) lengths widths outputs s.gates source N e).yes.long (shown-back lengths N e))
 
-  pub masked-promised : {codes wanted out out' oc oc' o o' r r' w w' m m' : List ℕ} {a : Answer}
+  pub masked-promised : {codes wanted out out' oc oc' o o' r r' w w' m m' : List ℕ} {a : Result ℕ Question}
       → MaskedIs (shown (length o ∷ length r ∷ length m ∷ length w ∷ [])) codes wanted out out' oc oc' o o' r r' w w' m m' a
       → MaskedPromise z widths outputs s source codes wanted out out' oc oc' o o' r r' w w' m m' a
   unfolding masked_call

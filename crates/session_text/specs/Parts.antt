@@ -1,6 +1,6 @@
 -- What the parts of a call say: the questions' answers, a record's entries, the tables filled, and the results.
-use Rattle.std.specs.Prelude.{ℕ, ◌+◌, ◌≤◌, ◌<◌, ◌≡◌, List, [], ◌∷◌, length}
-use Rattle.netlist.specs.declared.Answer.{Answer}
+use Rattle.std.specs.Prelude.{Result, ℕ, ◌+◌, ◌≤◌, ◌<◌, ◌≡◌, List, [], ◌∷◌, length}
+use Rattle.netlist.specs.declared.Question.{Question}
 use Rattle.netlist.specs.declared.Gate.{Gate}
 use Rattle.netlist.specs.declared.Sizes.{Sizes}
 use Rattle.netlist.specs.declared.Sizes.TheVariants.{Whole}
@@ -76,13 +76,13 @@ pub record Ready (widths outs : List ℕ) (q : Asked) (t : Tables) (no : ℕ) : 
   pub fits : no ≡ 0 → Fits widths outs q t
 
 -- the result of the text: the answer and the buffer, and tables that are zero
-pub record TextIs (o : Outcome Netlist) (out out' ops ops' res res' : List ℕ) (a : Answer) : Type 0 where
+pub record TextIs (o : Outcome Netlist) (out out' ops ops' res res' : List ℕ) (a : Result ℕ Question) : Type 0 where
   pub answers : Answers (and_then o (rewrite_outcome (length out))) out out' a
   pub operands : Cleared ops ops'
   pub results : Cleared res res'
 
 -- the result of the masked text
-pub record MaskedIs (o : Outcome Netlist) (codes wanted out out' out_codes out_codes' ops ops' res res' wir wir' mar mar' : List ℕ) (a : Answer) : Type 0 where
+pub record MaskedIs (o : Outcome Netlist) (codes wanted out out' out_codes out_codes' ops ops' res res' wir wir' mar mar' : List ℕ) (a : Result ℕ Question) : Type 0 where
   pub answers : MaskAnswers (and_then o (mask_outcome codes wanted (length out) (length out_codes))) out out' out_codes out_codes' a
   pub operands : Cleared ops ops'
   pub results : Cleared res res'

@@ -71,7 +71,7 @@ fn question(
 ) -> u8
     ensures { NoIs (head_asked (small sizes) (a ∷ b ∷ c ∷ d ∷ []) widths.now outputs.now gates places) result }
 {
-    let l = netlist::small(sizes);
+    let l = sizes.small();
     let least = l.table;
     if !long(least, a, b, c, d) {
         return 1;

@@ -27,7 +27,7 @@ fn write(
         → Answers (and_then o (rewrite_outcome (length out.old))) out.old out.new result }
 {
     if no != 0 {
-        return Answer::Refused(no);
+        return Err(no);
     }
     let count = q.count;
     let wires = q.inputs + count;
@@ -90,7 +90,7 @@ fn mask_tables(
         out.old out.new out_codes.old out_codes.new result }
 {
     if no != 0 {
-        return Answer::Refused(no);
+        return Err(no);
     }
     let mut ins = [0u32; 17];
     let mut outs = [0u32; 16];

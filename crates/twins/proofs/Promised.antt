@@ -1,12 +1,12 @@
 -- From a source that was read to the promise of the twins.
+use Rattle.std.specs.Prelude.{Err, Ok, Result}
 use Prim.Native.Nat.{ℕ}
 use mathlib.Core.Path.{◌≡◌, refl, sym, ap, ap₂, ◌∙◌}
 use mathlib.Core.Bool.{true, ◌&&◌}
 use mathlib.Core.List.{List, [], ◌∷◌, map}
 use lib.ListN.{length, take}
 use Rattle.netlist.specs.declared.Sizes.{Sizes}
-use Rattle.netlist.specs.declared.Answer.{Answer}
-use Rattle.netlist.specs.declared.Answer.TheVariants.{Done, Refused}
+use Rattle.netlist.specs.declared.Question.{Question}
 use Rattle.netlist.specs.declared.Twin.{Twin}
 use Rattle.netlist.specs.Netlist.{Netlist, input_bits, small}
 use Rattle.netlist.specs.Outcome.{refused, done, ask}
@@ -35,14 +35,14 @@ module _ (s : Sizes) (text codes wires out_codes o r g : List ℕ) where
 
   -- questions 1 to 9, and then 11 and 14
   pub call-not : {q : ℕ} → ask 1 (tables_long (small s) (length o ∷ length r ∷ length g ∷ length g ∷ [])) (read_netlist (small s) text) ≡ refused q
-      → TwinsAnswers (call s text codes wires out_codes o r g) wires wires out_codes out_codes (Refused q)
+      → TwinsAnswers (call s text codes wires out_codes o r g) wires wires out_codes out_codes (Err q)
   unfolding twins_call
   call-not p =
       let e = asked-again (small s) (length o) (length r) (length g) in
       twins-refused wires out_codes
       (call-refused (tables_long (small s) lengths) (read_netlist (small s) text) (twins_outcome codes (length wires) (length out_codes)) (rw e at p))
 
-  pub call-read : {x y is os : List ℕ} {t : Tables} {h : HeaderNumbers} {a : Answer}
+  pub call-read : {x y is os : List ℕ} {t : Tables} {h : HeaderNumbers} {a : Result ℕ Question}
       → (tables_long (small s) (length o ∷ length r ∷ length g ∷ length g ∷ []) ≡ true) × ReadAt (small s) text is os t h
       → ((N : Netlist) → Holds t h.gates h.wires h.input_bits h.output_bits N
       → TwinsAnswers (twins_outcome codes (length wires) (length out_codes) N) wires x out_codes y a)
@@ -75,8 +75,8 @@ module _ (s : Sizes) (text codes wires out_codes o r g : List ℕ) where
   same_source : {N N' : Netlist} → read_netlist (small s) text ≡ done N → read_netlist (small s) text ≡ done N' → N ≡ N'
   same_source p q = done-same _ _ (sym p ∙ q)
 
-  pub call-twins : {x y : List ℕ} {a : Answer} → TwinsAnswers (call s text codes wires out_codes o r g) wires x out_codes y a
-      → (n : ℕ) → a ≡ Done n → Given s text codes (take n x) (take n y)
+  pub call-twins : {x y : List ℕ} {a : Result ℕ Question} → TwinsAnswers (call s text codes wires out_codes o r g) wires x out_codes y a
+      → (n : ℕ) → a ≡ Ok n → Given s text codes (take n x) (take n y)
   call-twins {x} {y} {a} h n p =
       let c = call s text codes wires out_codes o r g in
       let w : wires_in c ≡ done (take n x) = sym (ap (outcome_of x) (sym p) ∙ h.wires.outcome) in

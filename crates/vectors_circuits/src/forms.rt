@@ -7,8 +7,8 @@ use netlist::Answer;
 fn becomes(text: &[u8], form: &[u8]) -> bool {
     let mut out = buffers::text();
     match services::rewrite(text, &mut out) {
-        Answer::Done(n) => words::part(&out, 0, n) == form,
-        Answer::Refused(_) => false,
+        Ok(n) => words::part(&out, 0, n) == form,
+        Err(_) => false,
     }
 }
 

@@ -133,7 +133,7 @@ fn delivered(
     out_codes: &mut [u8],
 ) -> Masked {
     match services::mask(text, ins, wanted, out, out_codes) {
-        Answer::Done(n) => scores(
+        Ok(n) => scores(
             out,
             n,
             file,
@@ -142,6 +142,6 @@ fn delivered(
             wanted,
             words::part(out_codes, 0, wanted.len()),
         ),
-        Answer::Refused(q) => refused(q == question),
+        Err(q) => refused(q == question),
     }
 }

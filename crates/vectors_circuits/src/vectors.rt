@@ -8,8 +8,8 @@ use netlist::Answer;
 fn service(text: &[u8], list: &[u8], out_codes: &[u8], m: u8, outputs: &[u8]) -> bool {
     let mut bits = buffers::list();
     match services::run(text, list, &mut bits) {
-        Answer::Done(n) => codes::agrees(words::part(&bits, 0, n), out_codes, m, outputs),
-        Answer::Refused(_) => false,
+        Ok(n) => codes::agrees(words::part(&bits, 0, n), out_codes, m, outputs),
+        Err(_) => false,
     }
 }
 

@@ -1,4 +1,5 @@
 -- Question 14 of a text, and the text in a buffer that can hold it: below the largest place the cap is not seen.
+use Rattle.std.specs.Prelude.{Err, Ok}
 use Prim.Native.Nat.{ℕ, ◌+◌, ◌-◌, ◌*◌, ◌/◌, ◌^◌, ◌≤◌, ◌<◌}
 use mathlib.Core.Path.{◌≡◌, sym, ◌∙◌}
 use mathlib.Core.Bool.{true, false}
@@ -8,7 +9,6 @@ use native.Mathlib.Omega.{arith}
 use lib.Dec.{leb, lit<}
 use lib.ListN.{length, length-append}
 use borrow.Author.Tests.{le-leb, lt-leb, leb-true, leb-false}
-use Rattle.netlist.specs.declared.Answer.TheVariants.{Done, Refused}
 use Rattle.netlist.specs.Number.{decimal}
 use Rattle.netlist.specs.Services.{Delivers}
 use Rattle.netlist.proofs.Answering.{delivers-short, delivers-done}
@@ -47,10 +47,10 @@ module _ {room header longest gates : ℕ} (some : 0 < longest) (h : header ≤ 
   lines-over l = lt-leb (header + gates * longest) room (omega (arith, (div-lt_iff_lt-mul some).0 l))
 
 module _ {bs e : List ℕ} where
-  pub deliver-short : leb (length bs) (length e) ≡ false → Delivers bs e e (Refused 14)
+  pub deliver-short : leb (length bs) (length e) ≡ false → Delivers bs e e (Err 14)
   deliver-short t = delivers-short bs e (leb-false (length bs) (length e) t)
 
-  pub deliver-done : {x : List ℕ} {r : ℕ} → leb (length bs) (length e) ≡ true → length e < top → Wrote e 0 bs x r → Delivers bs e x (Done r)
+  pub deliver-done : {x : List ℕ} {r : ℕ} → leb (length bs) (length e) ≡ true → length e < top → Wrote e 0 bs x r → Delivers bs e x (Ok r)
   deliver-done {x} {r} t k w =
       let l = leb-true (length bs) (length e) t in
       let n : r ≡ length bs = omega (arith, w.next) in

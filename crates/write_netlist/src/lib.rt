@@ -10,7 +10,7 @@ ghost use Rattle.write_buffer.specs.Wrote.{Wrote, top};
 ghost use Rattle.write_gates.specs.Gates.{WroteGates};
 ghost use Rattle.write_netlist.specs.Form.{form_text, form_text_in};
 
-use netlist::Answer;
+use netlist::{Answer, Question};
 use old_form::Dialect;
 
 // The lines of the tables' first gates.
@@ -111,9 +111,9 @@ fn answer(
         results,
         dialect,
     ) {
-        return Answer::Refused(14);
+        return Err(Question::Room);
     }
-    Answer::Done(write(d, out, count, wires, ins, outs, operands, results, dialect))
+    Ok(write(d, out, count, wires, ins, outs, operands, results, dialect))
 }
 
 // Question 14 and the text, by the words that the front of a table has.
