@@ -67,4 +67,4 @@ loop-i-preserved c =
     (sym c.is_full.ensures ∙ c.if-is_full.false)
 
 pub returns : goal.returns
-returns c = R.reading-end _ _ _ _ _ c.loop-i.invariant (search rules)
+returns c = R.reading_all _ _ _ _ _ c.loop-i.invariant (search rules)
