@@ -49,7 +49,13 @@ fn head(operands: usize) -> [u8; 4]
 }
 
 // What a line has before the gate's name, by words.
-pub fn front<const N: usize>(d: &[u64], out: &mut [u8], at: usize, operands: [u32; N], c: u32) -> usize
+pub fn front<const N: usize>(
+    d: &[u64],
+    out: &mut [u8],
+    at: usize,
+    operands: [u32; N],
+    c: u32,
+) -> usize
     requires few { N ≤ 2 }
     requires words { WordTable d.now × Packable (length d.now) operands c × (at + longest ≤ length out.old) }
     ensures { Spilt 25 4 out.old at (front_of operands.entry c) out.new result }
@@ -69,18 +75,23 @@ pub fn spaced(out: &mut [u8], at: usize, n: u32) -> usize
     write_buffer::put(out, space, b' ')
 }
 
-// A line near the buffer's end, as far as it fits.
-pub fn near<const N: usize>(out: &mut [u8], at: usize, operands: [u32; N], c: u32, name: [u8; 3]) -> usize
+// A line near the buffer's end, as far as it fits. Its name has LF behind it, here and below.
+pub fn near<const N: usize>(
+    out: &mut [u8],
+    at: usize,
+    operands: [u32; N],
+    c: u32,
+    name: [u8; 4],
+) -> usize
     requires { N ≤ 2 }
-    ensures { Wrote out.old at (line_of operands.entry c name.entry) out.new result }
+    ensures { Wrote out.old at (line_of operands.entry c name) out.new result }
 {
     let mut next = write_buffer::bytes(out, at, &head(N));
     for a in operands.iter() {
         next = spaced(out, next, *a);
     }
     let last = spaced(out, next, c);
-    let end = write_buffer::bytes(out, last, &name);
-    write_buffer::put(out, end, b'\n')
+    write_buffer::bytes(out, last, &name)
 }
 
 // A number of at most two digits and the space behind it.
@@ -95,10 +106,16 @@ fn low(out: &mut [u8], at: usize, n: u32) -> usize
 }
 
 // A line that is written without words, where the longest line fits.
-pub fn spell<const N: usize>(out: &mut [u8], at: usize, operands: [u32; N], c: u32, name: [u8; 3]) -> usize
+pub fn spell<const N: usize>(
+    out: &mut [u8],
+    at: usize,
+    operands: [u32; N],
+    c: u32,
+    name: [u8; 4],
+) -> usize
     requires few { N ≤ 2 }
     requires room { at + longest ≤ length out.old }
-    ensures { Wrote out.old at (line_of operands.entry c name.entry) out.new result }
+    ensures { Wrote out.old at (line_of operands.entry c name) out.new result }
 {
     if 100 <= c || operands.iter().any(|a| 100 <= *a) {
         return near(out, at, operands, c, name);
@@ -108,11 +125,10 @@ pub fn spell<const N: usize>(out: &mut [u8], at: usize, operands: [u32; N], c: u
         next = low(out, next, *a);
     }
     let last = low(out, next, c);
-    let [x, y, z] = name;
-    store(out, last, [x, y, z, b'\n'])
+    store(out, last, name)
 }
 
-// The place behind a line with a name of three letters that starts behind the buffer's end.
+// The place behind a line that starts behind the buffer's end.
 pub fn beyond<const N: usize>(at: usize, operands: [u32; N], c: u32) -> usize
     requires { N ≤ 2 }
     ensures { result ≡ cap (at + (4 + length (front_of operands.entry c))) }

@@ -69,6 +69,17 @@ spilt-then {u = u} {v = v} {r = r} k a b h f g = record {
 pub spilt-as : {e x u v : List ℕ} {at r j k : ℕ} → u ≡ v → Spilt j k e at u x r → Spilt j k e at v x r
 spilt-as p w = rw p at w
 
+-- no more than that
+pub spilt-most : {e x u : List ℕ} {at r i l : ℕ} (j k : ℕ) → i ≤ j → l ≤ k → Spilt i l e at u x r → Spilt j k e at u x r
+spilt-most j k p q w = record {
+  rest = w.rest;
+  end = w.end;
+  wrote = w.wrote;
+  few = omega (arith, w.few);
+  spilt = omega (arith, w.spilt);
+  next = w.next;
+}
+
 -- the text of an operand, and that of a result, whose name has four bytes
 pub spilt-operand : {e m x u : List ℕ} {at r s j l : ℕ} (n : ℕ) → n < 1000000 → Spilt j l e at u m r → Stored m r (text n) x s → l ≤ 8
     → Spilt (j + 7) 6 e at (u ++ text n) x s
