@@ -19,7 +19,7 @@ pub struct GateRecord {
 // A source gate: its gate, the wire that its result stands on in the masked netlist and the code of the mask on it, and the place
 // of its first masked gate among the masked gates.
 #[repr(C)]
-#[derive(Clone, Copy)]
+#[derive(Clone, Copy, Default)]
 pub struct SourceRecord {
     pub kind: u32,
     pub first: u32,
