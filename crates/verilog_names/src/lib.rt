@@ -1,7 +1,7 @@
 // Names of a text, found by chains of equal numbers in lent tables.
 #![tactic(auto)]
 
-ghost use Rattle.std.specs.Prelude.{◌≡◌, ◌≤◌, ◌<◌, length, ◌%◌, ◌/◌};
+ghost use Rattle.std.specs.Prelude.{◌≡◌, ◌≤◌, ◌<◌, length, ◌%◌, ◌/◌, IfSome};
 ghost use Rattle.netlist.specs.Lists.{same_bytes};
 ghost use Rattle.netlist.specs.Table.{half};
 ghost use Rattle.verilog_tokens.specs.Next.{between};
@@ -57,7 +57,8 @@ fn is_name(text: &[u8], entry: u64, w: &[u8]) -> bool
 impl Names<'_> {
     // The newest entry with the name w.
     pub fn find(self, w: &[u8]) -> Option<usize>
-        ensures { entry_number result ≡ found self.entry.text.now self.entry.words.now w.now self.entry.count }
+        ensures entry { entry_number result ≡ found self.entry.text.now self.entry.words.now w.now self.entry.count }
+        ensures within { IfSome result (λ i. i < self.entry.count) }
     {
         let mut p = self.heads[chain_of(w, self.size)];
         while 0 < p {

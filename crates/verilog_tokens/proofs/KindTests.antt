@@ -1,6 +1,7 @@
 -- Tests of kinds of tokens, as tests of their numbers.
 use Rattle.std.proofs.Common.{arith, ◌≡◌, ◌≤◌, refl, sym, ap, ap₂, ◌∙◌, Bool, true, false, not}
 use lib.Dec.{eqb}
+use borrow.Author.Tests.{eqb-true, eqb-false}
 use denote.Enum.Bare.{sameb, false_same}
 use denote.Enum.Declared.{tag_of}
 use Rattle.verilog_tokens.specs.contracts.Kind.{the_type}
@@ -52,9 +53,18 @@ module _ (a b : Kind) where
       not-false true p = refl
       not-false false p = sym p
 
+  pub this_number : true ≡ sameb the_type a b → number_of a ≡ number_of b
+  this_number e = eqb-true _ _ (is_kind e)
+
+  pub other_number : false ≡ sameb the_type a b → number_of a ≡ number_of b → ⊥
+  other_number e = eqb-false _ _ (no_kind e)
+
   -- the same of the arms of a match
   pub differing : (a ≡ b → ⊥) → eqb (number_of a) (number_of b) ≡ false
   differing h = sym (same_number a b) ∙ false_same the_type tt a b h
+
+  pub not_number : (a ≡ b → ⊥) → number_of a ≡ number_of b → ⊥
+  not_number h = eqb-false _ _ (differing h)
 
 pub number_low : (k : Kind) → number_of k ≤ 16
 number_low K.End = omega arith

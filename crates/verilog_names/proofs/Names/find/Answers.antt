@@ -10,8 +10,8 @@ loop-p-init c =
     find-start x.text.now x.words.now c.args.w.now x.size x.count _
     (x.chained.headed _ c.chain_of.ensures.1 ∙ ap (λ (k : ℕ). newest x.text.now x.words.now x.size k x.count) c.chain_of.ensures.0)
 
-pub returns-then-is_name : goal.returns-then-is_name
-returns-then-is_name c = find-here _ _ _ _ _ _ _ c.loop-p-test.true refl (sym c.is_name.ensures ∙ c.if-is_name.true) c.loop-p.invariant
+pub returns-then-is_name-clause-entry : goal.returns-then-is_name-clause-entry
+returns-then-is_name-clause-entry c = find-here _ _ _ _ _ _ _ c.loop-p-test.true refl (sym c.is_name.ensures ∙ c.if-is_name.true) c.loop-p.invariant
 
 pub loop-p-smaller : goal.loop-p-smaller
 loop-p-smaller c =
@@ -28,5 +28,5 @@ loop-p-preserved c =
     find-on _ _ _ _ _ _ _ _ c.loop-p-test.true refl (sym c.is_name.ensures ∙ c.if-is_name.false)
     (c.args.self.chained.older _ (omega (arith, c.loop-p.invariant.within))) c.loop-p.invariant
 
-pub returns : goal.returns
-returns c = find_none _ _ _ _ _ _ (λ h. omega arith) c.loop-p.invariant
+pub returns-clause-entry : goal.returns-clause-entry
+returns-clause-entry c = find_none _ _ _ _ _ _ (λ h. omega arith) c.loop-p.invariant
