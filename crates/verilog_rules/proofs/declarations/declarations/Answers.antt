@@ -1,7 +1,10 @@
 -- One token after another.
 use Rattle.std.proofs.Common.{refl, sym, ◌∙◌}
-use Rattle.verilog_rules.proofs.Declaring.{load-on, load-bad, load-end}
+use Rattle.verilog_rules.proofs.Declaring.{load-start, load-on, load-bad, load-end}
 use Rattle.verilog_rules.proofs.declarations.declarations.Goals as goal
+
+pub loop-token-init : goal.loop-token-init
+loop-token-init c = load-start c.requires.0 c.next-token.ensures
 
 pub returns-in_err-so_far : goal.returns-in_err-so_far
 returns-in_err-so_far c = rw c.from_residual.ensures (load-bad c.loop-token.invariant c.in_err-so_far.ensures refl)

@@ -1,5 +1,5 @@
 -- The entry found, if it is in the state.
-use Rattle.std.proofs.Common.{sym, ◌∙◌, subst, set, ◌≡◌, ℕ}
+use Rattle.std.proofs.Common.{sym, ◌∙◌}
 use Rattle.verilog_rules.proofs.Moves.{become-none, become-other, become-new, some-state}
 use Rattle.verilog_rules.proofs.states.advance.Goals as goal
 
