@@ -11,7 +11,6 @@ use Rattle.netlist.specs.declared.Gate.{Gate}
 use Rattle.netlist.specs.Table.{Tables}
 use Rattle.netlist.proofs.Tests.{both_true}
 use Rattle.netlist.proofs.Questions.{some_same}
-use Rattle.read_text.specs.declared.cursor.Cursor.{Cursor}
 use Rattle.aiger.specs.File.{AndLine}
 use Rattle.aiger.specs.Lines.{formed, file_lines, and_form}
 use Rattle.aiger.specs.Rules.{giving, and_good, ands_good}
@@ -19,9 +18,7 @@ use Rattle.aiger.specs.Made.{wire_at, and_made, Built, behind, build}
 use Rattle.aiger_lines.specs.Stray.{stray_at}
 use Rattle.aiger_lines.specs.LineAnswers.{at_front}
 use Rattle.aiger_gates.specs.Places.{Standing}
-use Rattle.aiger_ands.specs.AndAnswers.{AndLineAt, AndLineIs, AndsAt, gates_said, place_said}
-use Rattle.aiger_ands.specs.declared.ands.AndStep.{AndStep}
-use Rattle.aiger_ands.specs.declared.ands.AndStep.TheVariants as S
+use Rattle.aiger_ands.specs.AndAnswers.{AndLineAt, AndsAt}
 use Rattle.aiger_ands.proofs.LineByLine.{formed-snoc, Split, formed-split}
 
 -- one line more behind what is built
@@ -120,15 +117,3 @@ module _ {ls : List (List (List ℕ))} {t : List ℕ} {M n : ℕ} {table₀ tabl
 
   pub building-all : (lines : ℕ) → i ≡ lines → Building ls t M n table₀ tabs₀ table tabs at count lines
   building-all lines e = subst (Building ls t M n table₀ tabs₀ table tabs at count) e B
-
--- ---- the answers
-
-module _ (ls : List (List (List ℕ))) (t : List ℕ) (M n count : ℕ) (given wires : List ℕ) (gs : List Gate) (table : List ℕ) (tabs : Tables) (r : AndStep) where
-  pub and_is : (k : ℕ) (c : Cursor) → r ≡ S.On k c → AndLineIs ls t M n count given wires gs table tabs r → AndLineAt ls t M n count given wires gs table tabs k c.at
-  and_is k c e h = subst (AndLineIs ls t M n count given wires gs table tabs) e h
-
-  pub and-not : r ≡ S.Not → AndLineIs ls t M n count given wires gs table tabs r → (a : AndLine) → at_front and_form ls ≡ some a → and_good M given a ≡ true → ⊥
-  and-not e h = subst (AndLineIs ls t M n count given wires gs table tabs) e h
-
-pub said-is : (r : AndStep) (k : ℕ) (c : Cursor) → r ≡ S.On k c → (gates_said r ≡ k) × (place_said r ≡ c.at)
-said-is r k c e = (ap gates_said e, ap place_said e)
