@@ -20,7 +20,7 @@ use Rattle.aiger.specs.Made.{up_from}
 use Rattle.aiger_lines.specs.Stray.{stray_at}
 use Rattle.aiger_lines.specs.LineAnswers.{LineNot, at_front, first_numbers, OneAt}
 use Rattle.aiger_gates.specs.Places.{Places}
-use Rattle.aiger_ands.specs.StepAnswers.{InputAt, InputsAt}
+use Rattle.aiger_ands.specs.StepAnswers.{InputAt}
 use Rattle.aiger.proofs.Making.{length-enter}
 use Rattle.aiger_gates.proofs.Placing.{not_so, literal-low, literal-even, literal-odd, places-more}
 use Rattle.aiger_ands.proofs.LineByLine.{formed-snoc, Split, formed-split, giving-snoc, fresh-snoc, fresh_at, enter-snoc}
@@ -96,19 +96,6 @@ zeros-at zero v = refl
 zeros-at (suc k) zero = refl
 zeros-at (suc k) (suc v) = zeros-at k v
 
-pub entering-start : (t : List ℕ) (at M : ℕ) (table : List ℕ) → at ≤ stray_at t → table ≡ replicate (length table) 0
-    → Entering (file_lines (drop at t)) t M (length table) table at 0
-entering-start t at M table h z = record {
-  are = [];
-  count = refl;
-  lines = refl;
-  new = refl;
-  places = record { each = λ v. ap (λ (x : List ℕ). get_or x v 0) z ∙ zeros-at (length table) v };
-  left = refl;
-  within = h;
-  long = refl;
-}
-
 module _ {ls : List (List (List ℕ))} {t : List ℕ} {M size : ℕ} {table : List ℕ} {at i : ℕ} (E : Entering ls t M size table at i) where
   -- one line more
   pub entering-more : (after : List ℕ) (to : ℕ) → M < size → InputAt (file_lines (drop at t)) t i M (giving [] E.are) table after to
@@ -146,7 +133,3 @@ module _ {ls : List (List (List ℕ))} {t : List ℕ} {M size : ℕ} {table : Li
       let a : fresh_all M [] ((S).front ++ ((S).here ∷ (S).rest)) ≡ true = ap (fresh_all M []) (S).all ∙ f in
       bad (S).here (ap (at_front input_line) E.left ∙ (S).line) (ap (λ (us : List ℕ). fresh M (giving [] us) (S).here) (sym s) ∙ fresh_at M [] (S).front
       (S).here (S).rest a)
-
-  -- all of them
-  pub entering-all : (count : ℕ) → i ≡ count → InputsAt ls t count M table at
-  entering-all count e = rw (sym e) (record { are = E.are; lines = E.lines; new = E.new; places = E.places; left = E.left; within = E.within })

@@ -1,6 +1,6 @@
 -- A line of so many numbers, read one after another.
 use Prim.Native.Nat.{ℕ, zero, suc, ◌+◌, ◌-◌, ◌<◌, ◌≤◌}
-use mathlib.Core.Path.{◌≡◌, refl, sym, ap, ◌∙◌, subst}
+use mathlib.Core.Path.{◌≡◌, refl, sym, ap, ◌∙◌}
 use mathlib.Core.Bool.{Bool, true, false, cond, not, ◌&&◌}
 use mathlib.Core.List.{List, [], ◌∷◌, ◌++◌}
 use mathlib.Core.Option.{Option, none, some}
@@ -24,7 +24,7 @@ use Rattle.read_text.proofs.Scans.{dropped-head}
 use Rattle.read_text.proofs.Splitting.{add_line, add_word, words_step, skip-words, skip-after}
 use Rattle.aiger.specs.Lines.{file_line, file_lines}
 use Rattle.aiger_lines.specs.Stray.{is_stray, stray_at, is_plain, ToWord}
-use Rattle.aiger_lines.specs.LineAnswers.{NotSoMany, FileLineAt, FileLineIs, first_numbers, LineAt, LineNot, LineIs}
+use Rattle.aiger_lines.specs.LineAnswers.{NotSoMany, FileLineAt, FileLineIs, first_numbers, LineIs}
 use Rattle.aiger_lines.proofs.Strays.{Clean, stray-within, stray-drop, stray-here, clean_line, numbers-clean, number-no-cr, file-step, word_first}
 
 -- numbers in front of numbers
@@ -401,15 +401,6 @@ module _ (t : List ℕ) (at a : ℕ) (w : ToWord t at a) where
       ∙ ap (λ (r : List ℕ). file_line (drop a t) ∷ file_lines r) (sym h.next.left) in
       record { line = ap first_numbers l ∙ h.line; size = h.size; left = sym (ap (drop 1) l); within = h.within }
   next-line n xs P.None one h = record { none = λ ys e z. h ys (word_first (drop a t) ys w.still (ap first_numbers w.lines ∙ e)) z }
-
--- ---- the answers
-
-module _ (ls : List (List (List ℕ))) (t : List ℕ) (n : ℕ) (xs : List ℕ) (r : P.Option Cursor) where
-  pub line-is : (c : Cursor) → r ≡ P.Some c → LineIs ls t n xs r → LineAt ls t n xs c.at
-  line-is c e h = subst (LineIs ls t n xs) e h
-
-  pub line-not : r ≡ P.None → LineIs ls t n xs r → LineNot ls n
-  line-not e h = subst (LineIs ls t n xs) e h
 
 -- a line of one number
 pub one_entry : (xs : List ℕ) → length xs ≡ 1 → xs ≡ get_or xs 0 0 ∷ []
