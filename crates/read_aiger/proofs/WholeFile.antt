@@ -7,7 +7,9 @@ use mathlib.Core.Option.{Option, none, some}
 use native.Mathlib.Omega.{arith}
 use lib.ListN.{length, drop}
 use borrow.Author.Tests.{le-leb, lt-leb}
+use Rattle.std.specs.Prelude.{Result}
 use Rattle.netlist.specs.declared.Limits.{Limits}
+use Rattle.netlist.specs.declared.Question.{Question}
 use Rattle.netlist.specs.Lists.{sum}
 use Rattle.netlist.specs.Netlist.{Netlist}
 use Rattle.netlist.specs.Outcome.{Outcome, refused, ask, given, and_then}
@@ -25,12 +27,7 @@ use Rattle.aiger.specs.Call.{head_outcome, file_outcome, lines_read, lines_outco
 use Rattle.read_aiger.specs.HeadAnswers.{head_said, HeadAt, HeadIs}
 use Rattle.read_aiger.specs.WholeAnswers.{asked_aiger, LinesAt, LinesIs, NetlistAt, NetlistIs}
 use Rattle.read_aiger.specs.declared.head.HeadNumbers.{HeadNumbers}
-use Rattle.read_aiger.specs.declared.head.HeadStep.{HeadStep}
-use Rattle.read_aiger.specs.declared.head.HeadStep.TheVariants as S
-use Rattle.read_aiger.specs.declared.body.Gates.{Gates}
-use Rattle.read_aiger.specs.declared.body.Gates.TheVariants as G
 use Rattle.read_aiger.specs.declared.read.NetlistNumbers.{NetlistNumbers}
-use Rattle.read_aiger.specs.declared.read.Reading.{Reading}
 
 module _ (L : Limits) (H : Head) (ls : List (List (List ℕ))) where
   -- no such file
@@ -106,30 +103,14 @@ module _ (L : Limits) (t : List ℕ) where
         rw (le-leb (length t) L.text h)
         (ap (λ (o : Outcome Head). and_then o (lines_outcome L t)) A.outcome ∙ ap (λ (u : List ℕ). lines_read L (head_said n) (file_lines u)) (sym A.left))
 
-    pub read_behind : {n : HeadNumbers} {to : ℕ} (tabs : Tables) (r : Reading) → HeadAt L t n to → NetlistIs (lines_read L (head_said n) (file_lines (drop to t))) tabs r
+    pub read_behind : {n : HeadNumbers} {to : ℕ} (tabs : Tables) (r : Result NetlistNumbers Question) → HeadAt L t n to → NetlistIs (lines_read L (head_said n) (file_lines (drop to t))) tabs r
         → NetlistIs (read_aiger L t) tabs r
     read_behind tabs r A k = subst (λ (o : Outcome Netlist). NetlistIs o tabs r) (sym (behind A)) k
 
 -- question 1 before them
-pub read-after : (L : Limits) (lengths t : List ℕ) (tabs : Tables) (r : Reading) → tables_long L lengths ≡ true → NetlistIs (read_aiger L t) tabs r
+pub read-after : (L : Limits) (lengths t : List ℕ) (tabs : Tables) (r : Result NetlistNumbers Question) → tables_long L lengths ≡ true → NetlistIs (read_aiger L t) tabs r
     → NetlistIs (asked_aiger L lengths t) tabs r
 read-after L lengths t tabs r e h = subst (λ (o : Outcome Netlist). NetlistIs o tabs r) (sym (ask-yes 1 (tables_long L lengths) (read_aiger L t) e)) h
   where
     ask-yes : (q : ℕ) (b : Bool) (o : Outcome Netlist) → b ≡ true → ask q b o ≡ o
     ask-yes q b o e = rw e
-
--- ---- the answers
-
-module _ (H : Head) (ls : List (List (List ℕ))) (tabs : Tables) (r : Gates) where
-  pub lines_are : (k : ℕ) → r ≡ G.Made k → LinesIs H ls tabs r → LinesAt H ls tabs k
-  lines_are k e h = subst (LinesIs H ls tabs) e h
-
-  pub lines-not : r ≡ G.Not → LinesIs H ls tabs r → (F : File) → file H ls ≡ some F → rules_kept F ≡ true → ⊥
-  lines-not e h = subst (LinesIs H ls tabs) e h
-
-module _ (L : Limits) (t : List ℕ) (r : HeadStep) where
-  pub head-is : (n : HeadNumbers) (c : Cursor) → r ≡ S.Is n c → HeadIs L t r → HeadAt L t n c.at
-  head-is n c e h = subst (HeadIs L t) e h
-
-  pub head-no : (q : ℕ) → r ≡ S.Refused q → HeadIs L t r → head_outcome L t ≡ refused q
-  head-no q e h = subst (HeadIs L t) e h

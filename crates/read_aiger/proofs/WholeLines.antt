@@ -28,11 +28,6 @@ use Rattle.aiger_ands.specs.StepAnswers.{InputsAt, InputsIs}
 use Rattle.aiger_ands.specs.AndAnswers.{AndsAt, AndsIs}
 use Rattle.aiger_outputs.specs.OutAnswers.{LiteralsAt, Low, KeptIs, UpTo, MarksAt, MarksIs}
 use Rattle.read_aiger.specs.WholeAnswers.{LinesAt}
-use Rattle.aiger_ands.specs.declared.inputs.Step.{Step}
-use Rattle.aiger_ands.specs.declared.inputs.Step.TheVariants as S
-use Rattle.aiger_ands.specs.declared.ands.AndStep.{AndStep}
-use Rattle.aiger_ands.specs.declared.ands.AndStep.TheVariants as A
-use Rattle.read_text.specs.declared.cursor.Cursor.{Cursor}
 
 -- the rules, one kind of line after another
 rules-apart : (F : File) → rules_kept F ≡ true
@@ -196,34 +191,3 @@ module _ (H : Head) (ls : List (List (List ℕ))) (t : List ℕ) where
         -- gates that are more than a table has room for
         pub lines-large : {u : Tables} → true ≡ every (readable given₁) outs → length u.results < k + H.outputs → LinesAt H ls u (k + H.outputs)
         lines-large good h = lines-made good (λ a b. absurd (omega (arith, h, b, gates-many)))
-
--- ---- the answers
-
-module _ (ls : List (List (List ℕ))) (t : List ℕ) (count M : ℕ) (table : List ℕ) (r : Step) where
-  pub inputs-is : (c : Cursor) → r ≡ S.On c → InputsIs ls t count M table r → InputsAt ls t count M table c.at
-  inputs-is c e h = subst (InputsIs ls t count M table) e h
-
-  pub inputs-not : r ≡ S.Not → InputsIs ls t count M table r → (vs : List ℕ) → formed input_line count ls ≡ some vs → fresh_all M [] vs ≡ true → ⊥
-  inputs-not e h = subst (InputsIs ls t count M table) e h
-
-module _ (ls : List (List (List ℕ))) (t kept : List ℕ) (r : Step) where
-  pub kept-is : (c : Cursor) → r ≡ S.On c → KeptIs ls t kept r → LiteralsAt ls t (length kept) (map literal kept) c.at × Low kept
-  kept-is c e h = subst (KeptIs ls t kept) e h
-
-  pub kept-not : r ≡ S.Not → KeptIs ls t kept r → (xs : List Literal) → formed output_line (length kept) ls ≡ some xs → ⊥
-  kept-not e h = subst (KeptIs ls t kept) e h
-
-module _ (ls : List (List (List ℕ))) (t : List ℕ) (lines M : ℕ) (marks : List ℕ) (r : Step) where
-  pub marks-are : (c : Cursor) → r ≡ S.On c → MarksIs ls t lines M marks r → MarksAt ls t lines M marks c.at
-  marks-are c e h = subst (MarksIs ls t lines M marks) e h
-
-  pub marks-not : r ≡ S.Not → MarksIs ls t lines M marks r
-      → (xs : List Literal) → formed output_line lines ls ≡ some xs → (given : List ℕ) → UpTo M given → every (readable given) xs ≡ true → ⊥
-  marks-not e h = subst (MarksIs ls t lines M marks) e h
-
-module _ (ls : List (List (List ℕ))) (t : List ℕ) (lines M n : ℕ) (given wires table : List ℕ) (tabs : Tables) (r : AndStep) where
-  pub ands-is : (k : ℕ) (c : Cursor) → r ≡ A.On k c → AndsIs ls t lines M n given wires table tabs r → AndsAt ls t lines M n given wires table tabs k c.at
-  ands-is k c e h = subst (AndsIs ls t lines M n given wires table tabs) e h
-
-  pub ands_not : r ≡ A.Not → AndsIs ls t lines M n given wires table tabs r → (xs : List AndLine) → formed and_form lines ls ≡ some xs → ands_good M given xs ≡ true → ⊥
-  ands_not e h = subst (AndsIs ls t lines M n given wires table tabs) e h
