@@ -1,6 +1,6 @@
 -- From the lines of each kind to the file, and to the netlist made.
 use Prim.Native.Nat.{ℕ, suc, ◌+◌, ◌≤◌, ◌<◌}
-use mathlib.Core.Path.{◌≡◌, refl, sym, ap, ◌∙◌, subst}
+use mathlib.Core.Path.{◌≡◌, refl, sym, ap, ◌∙◌}
 use mathlib.Core.Bool.{true, false, not, ◌&&◌}
 use mathlib.Core.List.{List, [], ◌∷◌, ◌++◌, map}
 use mathlib.Core.Option.{some}
@@ -15,7 +15,7 @@ use Rattle.netlist.specs.Netlist.{Netlist}
 use Rattle.netlist.specs.Table.{Tables}
 use Rattle.netlist.proofs.Tests.{on_bool, both_true, true-T}
 use Rattle.netlist.proofs.Questions.{some_same}
-use Rattle.aiger.specs.File.{Literal, literal, AndLine, File}
+use Rattle.aiger.specs.File.{Literal, AndLine, File}
 use Rattle.aiger.specs.Lines.{Head, input_line, output_line, and_form, formed, file_lines, file}
 use Rattle.aiger.specs.Rules.{readable, fresh, giving, fresh_all, and_good, ands_good, inputs_given, all_given, rules_kept}
 use Rattle.aiger.specs.Outputs.{enter, blank}
@@ -24,9 +24,9 @@ use Rattle.aiger.proofs.Forms.{formed-length, Formed, file-formed, formed-file}
 use Rattle.aiger.proofs.Making.{good_and, length-enter, inputs-located}
 use Rattle.aiger_gates.specs.Places.{Keeps, Standing}
 use Rattle.aiger_gates.proofs.Placing.{not_so}
-use Rattle.aiger_ands.specs.StepAnswers.{InputsAt, InputsIs}
-use Rattle.aiger_ands.specs.AndAnswers.{AndsAt, AndsIs}
-use Rattle.aiger_outputs.specs.OutAnswers.{LiteralsAt, Low, KeptIs, UpTo, MarksAt, MarksIs}
+use Rattle.aiger_ands.specs.StepAnswers.{InputsAt}
+use Rattle.aiger_ands.specs.AndAnswers.{AndsAt}
+use Rattle.aiger_outputs.specs.OutAnswers.{LiteralsAt, UpTo}
 use Rattle.read_aiger.specs.WholeAnswers.{LinesAt}
 
 -- the rules, one kind of line after another
@@ -65,13 +65,6 @@ abbrev pub input_wires : ℕ → ℕ → List ℕ → List ℕ
 input_wires M n vs = enter (replicate (M + 1) 0) vs (up_from 0 n)
 
 module _ (H : Head) (ls : List (List (List ℕ))) (t : List ℕ) where
-  -- no such inputs
-  pub lines-no-inputs : ((vs : List ℕ) → formed input_line H.inputs ls ≡ some vs → fresh_all H.most [] vs ≡ true → ⊥)
-      → (F : File) → file H ls ≡ some F → rules_kept F ≡ true → ⊥
-  lines-no-inputs bad F e r =
-      let f = file-formed H ls F e in
-      bad F.inputs f.inputs (ap (λ (m : ℕ). fresh_all m [] F.inputs) (sym f.most) ∙ (rules-apart F r).0)
-
   module _ {table : List ℕ} {to : ℕ} (A : InputsAt ls t H.inputs H.most table to) where
     abbrev given : List ℕ
     given = giving [] A.are
