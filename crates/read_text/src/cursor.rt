@@ -27,6 +27,13 @@ pub fn is_blank(b: u8) -> bool
     is_space(b) || is_line_end(b)
 }
 
+// Whether it is.
+fn in_word(b: u8) -> bool
+    ensures { result ≡ in_word b }
+{
+    !is_blank(b)
+}
+
 // Whether three bytes above the space start at a place and a blank stands behind them, as the name of a gate mostly does.
 fn is_three_bytes(text: &[u8], at: usize) -> bool
     requires { at ≤ length text.now }
@@ -49,7 +56,7 @@ fn is_three_bytes(text: &[u8], at: usize) -> bool
 
 impl Cursor {
     // Past the bytes that pass a test.
-    fn pass<F: Fn(u8) -> bool>(self, text: &[u8], test: F) -> Self
+    pub fn pass<F: Fn(u8) -> bool>(self, text: &[u8], test: F) -> Self
         requires in_bounds { self.at ≤ length text.now }
         requires callable { F.IsAlwaysCallable test }
         ensures { (p : ℕ → Bool) → ((b : ℕ) (r : Bool) → F.post test b r → r ≡ p b) → Scanned p text.now self.at result.at }
@@ -75,7 +82,7 @@ impl Cursor {
         requires { self.at ≤ length text.now }
         ensures { Scanned in_word text.now self.at result.at }
     {
-        self.pass(text, |b| !is_blank(b))
+        self.pass(text, in_word)
     }
 
     // Past spaces and line ends, so past blank lines.

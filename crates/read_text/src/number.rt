@@ -13,7 +13,7 @@ const MOST_MORE: usize = 5;
 pub fn is_digit(b: u8) -> bool
     ensures { result ≡ is_digit b }
 {
-    b'0' <= b && b <= b'9'
+    b.is_ascii_digit()
 }
 
 // The value of a digit.

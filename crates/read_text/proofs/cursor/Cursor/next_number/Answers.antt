@@ -17,11 +17,11 @@ returns-then-is_digit c =
 pub returns-then-not-is_space : goal.returns-then-not-is_space
 returns-then-not-is_space c =
     number-other _ _ _ c.loop-i.invariant (search rules)
-    (sym c.is_space.ensures ∙ not-true _ c.if-not-is_space.true-raw) (sym c.is_digit.ensures ∙ c.if-is_digit.false)
+    (sym c.is_space.ensures ∙ c.if-not-is_space.true) (sym c.is_digit.ensures ∙ c.if-is_digit.false)
 
 pub loop-i-preserved : goal.loop-i-preserved
 loop-i-preserved c =
-    scan-on _ _ _ _ (search rules) (sym c.is_space.ensures ∙ not-false _ c.if-not-is_space.false-raw)
+    scan-on _ _ _ _ (search rules) (sym c.is_space.ensures ∙ c.if-not-is_space.false)
     c.loop-i.invariant
 
 pub returns : goal.returns
