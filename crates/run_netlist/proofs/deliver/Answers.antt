@@ -1,27 +1,22 @@
 -- `deliver`: questions 11 and 14 in order.
-use mathlib.Core.Path.{sym, ◌∙◌}
-use borrow.Author.Tests.{not-true, not-false}
-use Rattle.run_netlist.proofs.Delivered.{list_length, holds-ins, run-11, run-14, run-done}
+use mathlib.Core.Path.{sym}
 use native.Mathlib.Omega.{arith}
+use Rattle.run_netlist.proofs.Delivered.{list_length, holds-ins, run-11, run-14, run-done}
 use Rattle.run_netlist.proofs.deliver.Goals as goal
 
 pub returns-then-not-valid_bits : goal.returns-then-not-valid_bits
-returns-then-not-valid_bits c = λ N h. run-11 h c.args.list.now _
-    (sym c.valid_bits.ensures ∙ not-true _ c.if-not-valid_bits.true-raw)
+returns-then-not-valid_bits c = λ N h. run-11 h c.args.list.now _ (sym c.if-not-valid_bits.ensures)
 
 pub returns-then-out-outs : goal.returns-then-out-outs
-returns-then-out-outs c = λ N h. run-14 h c.args.list.now (sym c.valid_bits.ensures ∙ not-false _ c.if-not-valid_bits.false-raw) c.requires.1
-    c.requires.2 _ c.if-out-outs.true
+returns-then-out-outs c = λ N h. run-14 h c.args.list.now (sym c.if-not-valid_bits.ensures) c.requires.1 c.requires.2 _ c.if-out-outs.true
 
 pub outputs-requires : goal.outputs-requires
 outputs-requires c =
     let p = c.requires in
-    let l = list_length _ c.args.list.now
-    (sym c.valid_bits.ensures ∙ not-false _ c.if-not-valid_bits.false-raw) in
+    let l = list_length _ c.args.list.now (sym c.if-not-valid_bits.ensures) in
     record { wired = p.0; bits_in_bounds = (omega (arith, l, p.1), p.2, omega arith) }
 
 pub returns : goal.returns
-returns c = λ N h. run-done h c.args.list.now (sym c.valid_bits.ensures ∙ not-false _ c.if-not-valid_bits.false-raw) c.requires.1 c.requires.2
-    c.if-out-outs.false
-    (c.outputs.ensures N
-    (holds-ins (list_length _ c.args.list.now (sym c.valid_bits.ensures ∙ not-false _ c.if-not-valid_bits.false-raw)) h))
+returns c = λ N h.
+    let e = sym c.if-not-valid_bits.ensures in
+    run-done h c.args.list.now e c.requires.1 c.requires.2 c.if-out-outs.false (c.outputs.ensures N (holds-ins (list_length _ c.args.list.now e) h))
