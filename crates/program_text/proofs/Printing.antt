@@ -23,9 +23,6 @@ pub record Printing (e : List ℕ) (at : ℕ) (s x : List ℕ) (r i : ℕ) : Typ
   pub wrote : Wrote e at (print_list (take i s)) x r
   pub few : length (print_list (take i s)) ≤ 3 * i
 
-pub printing-none : (e : List ℕ) (at : ℕ) (s : List ℕ) → length e ≤ top → at ≤ top → Printing e at s e at 0
-printing-none e at s h k = record { passed = omega arith; wrote = wrote_none e at h k; few = omega arith }
-
 pub printing-more : {e m x s : List ℕ} {at r t i v : ℕ} → Printing e at s m r i → i < length s → v ≡ get_or s i 0 → v < 256 → Wrote m r (decimal v) x t
     → Printing e at s x t (i + 1)
 printing-more {s = s} {i = i} {v = v} p h q b w =
