@@ -11,7 +11,6 @@ use borrow.Author.Tests.{eq-eqb, ne_eqb, eqb-true, eqb-false, le-leb, lt-leb, le
 use Rattle.netlist.specs.Lists.{same_bytes}
 use Rattle.netlist.proofs.Tests.{on_bool}
 use Rattle.netlist.proofs.Questions.{some_same}
-use Rattle.verilog_rules.specs.declared.declarations.Names.{Names}
 use Rattle.verilog.specs.Tokens.{Token, name, mark, elem, tokens}
 use Rattle.verilog.specs.Equations.{Entry, entry}
 use Rattle.verilog.proofs.Listing.{same-equal, same_self}
@@ -21,7 +20,7 @@ use Rattle.verilog_names.specs.Names.{name_at, names_of, found, Chained, Added}
 use Rattle.verilog_names.proofs.Adding.{chained_more, names-added}
 use Rattle.verilog_gates.proofs.Joins.{left}
 use Rattle.verilog_rules.specs.Stages.{declares, kind_behind, declared_from, behind_declared, keys, kinds, fresh, AllDeclared, NotDeclared}
-use Rattle.verilog_rules.specs.One.{NameIs, OneIs}
+use Rattle.verilog_rules.specs.One.{NameIs, OneSays}
 
 -- ---- one name
 
@@ -248,8 +247,9 @@ module _ {t : List ℕ} {at size most : ℕ} {heads₀ words₀ links₀ st₀ :
                   sym F.split,
             ))
 
-    module _ {heads' words' links' st' : List ℕ} {r : Names} (O : OneIs t size most count kind code from to heads heads' words words' links links' st st' r) where
-      pub load-bad : r.good ≡ false → NotDeclared t at most
+    module _ {heads' words' links' st' : List ℕ} {good : Bool} {count' kind' : ℕ}
+        (O : OneSays t size most count kind code from to heads heads' words words' links links' st st' good count' kind') where
+      pub load-bad : good ≡ false → NotDeclared t at most
       load-bad g = on_bool (eqb code 15)
           (λ e. bad (eqb-true code 15 e))
           (λ e. absurd (never (sym (O.marked (eqb-false code 15 e)).0 ∙ g)))
@@ -277,13 +277,13 @@ module _ {t : List ℕ} {at size most : ℕ} {heads₀ words₀ links₀ st₀ :
                 rw (f ∙ fresh-off (keys L.done) w (keys more) m));
           }
 
-      pub load-on : declares code ≡ true → r.good ≡ true → length heads' ≡ length heads → length words' ≡ length words → length links' ≡ length links → length
+      pub load-on : declares code ≡ true → good ≡ true → length heads' ≡ length heads → length words' ≡ length words → length links' ≡ length links → length
           st' ≡ length st
           → most ≤ length words₀ → most ≤ length links₀ → most ≤ length st₀ → {code' from' to' : ℕ} → TokenAt t to code' from' to'
-          → Declaring t at size most heads₀ words₀ links₀ st₀ heads' words' links' st' code' from' to' to r.count r.kind
+          → Declaring t at size most heads₀ words₀ links₀ st₀ heads' words' links' st' code' from' to' to count' kind'
       load-on h g lh lw ll ls mw ml ms {code'} {from'} {to'} A = on_bool (eqb code 15) (λ e. named (eqb-true code 15 e)) (λ e. marked (eqb-false code 15 e))
         where
-          marked : (code ≡ 15 → ⊥) → Declaring t at size most heads₀ words₀ links₀ st₀ heads' words' links' st' code' from' to' to r.count r.kind
+          marked : (code ≡ 15 → ⊥) → Declaring t at size most heads₀ words₀ links₀ st₀ heads' words' links' st' code' from' to' to count' kind'
           marked n =
               let M = O.marked n in
               rw (M.1, M.2, M.3, M.4, M.5, M.6) (record {
@@ -314,7 +314,7 @@ module _ {t : List ℕ} {at size most : ℕ} {heads₀ words₀ links₀ st₀ :
                     };
               })
 
-          named : code ≡ 15 → Declaring t at size most heads₀ words₀ links₀ st₀ heads' words' links' st' code' from' to' to r.count r.kind
+          named : code ≡ 15 → Declaring t at size most heads₀ words₀ links₀ st₀ heads' words' links' st' code' from' to' to count' kind'
           named e =
               let N = O.named e in
               let B = both-sides (leb (count + 1) most) (eqb (found t words (between t from to) count) 0) (sym N.0.said ∙ g) in

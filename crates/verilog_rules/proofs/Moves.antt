@@ -12,8 +12,10 @@ use Rattle.netlist.proofs.Tests.{on_bool}
 use Rattle.verilog.proofs.Listing.{same-equal}
 use Rattle.verilog_names.specs.Names.{name_at, found}
 use Rattle.verilog_gates.specs.Wires.{before, wire_of, given}
-use Rattle.verilog_rules.specs.States.{becomes, all_from}
-use Rattle.verilog_rules.specs.Ports.{PortIs}
+use Rattle.verilog_rules.specs.declared.states.State.{State}
+use Rattle.verilog_rules.specs.declared.states.State.TheVariants as S
+use Rattle.verilog_rules.specs.States.{state_number, becomes, all_from}
+use Rattle.verilog_rules.specs.Ports.{PortSays}
 
 module _ (t words : List ℕ) where
   -- a name that is found is the name of its entry
@@ -42,24 +44,34 @@ module _ (t words states : List ℕ) (n : ℕ) (w : List ℕ) (old new : ℕ) wh
   pub stays : eqb (wire_of t words states n w) old ≡ false → states ≡ becomes t words states n w old new
   stays e = rw e
 
-  pub become-none : 0 < old → found t words w n ≡ 0 → (false ≡ eqb (wire_of t words states n w) old) × (states ≡ becomes t words states n w old new)
+  pub become-none : 0 < old → 0 ≡ found t words w n → (false ≡ eqb (wire_of t words states n w) old) × (states ≡ becomes t words states n w old new)
   become-none h e =
-      let k : eqb (wire_of t words states n w) old ≡ false = ap (λ (x : ℕ). eqb x old) (state-none t words states w n e) ∙ ne_eqb 0 old (λ z. omega (arith, z)) in
+      let k : eqb (wire_of t words states n w) old ≡ false = ap (λ (x : ℕ). eqb x old) (state-none t words states w n (sym e)) ∙ ne_eqb 0 old (λ z. omega (arith, z)) in
       (sym k, stays k)
 
-  pub become-other : (p : ℕ) → p ≡ found t words w n → 0 < p → (get_or states (p - 1) 0 ≡ old → ⊥) → (false ≡ eqb (wire_of t words states n w) old) ×
-      (states ≡ becomes t words states n w old new)
-  become-other p e h f =
-      let k : eqb (wire_of t words states n w) old ≡ false = ne_eqb (wire_of t words states n w) old
-      (λ z. f (ap (λ (x : ℕ). get_or states (x - 1) 0) e ∙ sym (state-some t words states w n (omega (arith, e, h))) ∙ z)) in
-      (sym k, stays k)
+  module _ (i : ℕ) (e : suc i ≡ found t words w n) where
+    state-here : wire_of t words states n w ≡ get_or states i 0
+    unfolding wire_of
+    state-here = ap (λ (p : ℕ). before p states) (sym e)
 
-  pub become-new : (p : ℕ) → p ≡ found t words w n → 0 < p → get_or states (p - 1) 0 ≡ old → (true ≡ eqb (wire_of t words states n w) old) ×
-      (set states (p - 1) new ≡ becomes t words states n w old new)
-  become-new p e h f =
-      let k : eqb (wire_of t words states n w) old ≡ true = eq-eqb (wire_of t words states n w) old
-      (state-some t words states w n (omega (arith, e, h)) ∙ sym (ap (λ (x : ℕ). get_or states (x - 1) 0) e) ∙ f) in
-      (sym k, ap (λ (x : ℕ). set states (x - 1) new) e ∙ rw k)
+    pub become-other : (get_or states i 0 ≡ old → ⊥) → (false ≡ eqb (wire_of t words states n w) old) × (states ≡ becomes t words states n w old new)
+    become-other f =
+        let k : eqb (wire_of t words states n w) old ≡ false = ne_eqb (wire_of t words states n w) old (λ z. f (sym state-here ∙ z)) in
+        (sym k, stays k)
+
+    pub become-new : get_or states i 0 ≡ old → (true ≡ eqb (wire_of t words states n w) old) × (set states i new ≡ becomes t words states n w old new)
+    become-new f =
+        let k : eqb (wire_of t words states n w) old ≡ true = eq-eqb (wire_of t words states n w) old (state-here ∙ f) in
+        let z : i ≡ found t words w n - 1 = omega (arith, e) in
+        (sym k, ap (λ (x : ℕ). set states x new) z ∙ rw k)
+
+pub some-state : (s : State) → 0 < state_number s
+some-state S.Input = omega arith
+some-state S.Output = omega arith
+some-state S.Wire = omega arith
+some-state S.Port = omega arith
+some-state S.Readable = omega arith
+some-state S.ReadableOutput = omega arith
 
 -- ---- all states
 
@@ -102,12 +114,12 @@ module _ (states : List ℕ) (least : ℕ) where
 
 module _ {t words : List ℕ} {n : ℕ} {w : List ℕ} {inputs outputs : ℕ} {st st' ws : List ℕ} where
   pub port-input : {ws' : List ℕ} {b : Bool} → b ≡ eqb (wire_of t words st n w) 1 → b ≡ true → st' ≡ becomes t words st n w 1 5 → ws' ≡ given t words ws n w inputs
-      → PortIs t words n w inputs outputs st st' ws ws' (record { good = true; inputs = inputs + 1; outputs = outputs })
+      → PortSays t words n w inputs outputs st st' ws ws' (record { good = true; inputs = inputs + 1; outputs = outputs })
   port-input e q s g = record { is_input = λ h. (refl, s, g); is_other = λ h. absurd (h (eqb-true (wire_of t words st n w) 1 (sym e ∙ q))) }
 
   pub port-other : {b good : Bool} {st₁ : List ℕ} → b ≡ eqb (wire_of t words st n w) 1 → b ≡ false → st₁ ≡ becomes t words st n w 1 5
       → good ≡ eqb (wire_of t words st₁ n w) 2 → st' ≡ becomes t words st₁ n w 2 4
-      → PortIs t words n w inputs outputs st st' ws ws (record { good = good; inputs = inputs; outputs = outputs + 1 })
+      → PortSays t words n w inputs outputs st st' ws ws (record { good = good; inputs = inputs; outputs = outputs + 1 })
   port-other {b} {good} {st₁} e q s g k =
       let f = sym e ∙ q in
       let u : st₁ ≡ st = s ∙ sym (stays t words st n w 1 5 f) in
