@@ -6,9 +6,7 @@ use native.Mathlib.Numerals.{add-one}
 use native.Mathlib.Omega.{arith}
 use lib.ListN.{length, get_or, set, take, drop, length-set, length-append}
 use lib.Seq.{take_all, take_at, length-take-le, drop-cons, take-suc, take-suc-set, drop-set-lt}
-use Rattle.netlist.specs.Text.{without_end}
-use Rattle.netlist.specs.Programs.{file_limit, list_bytes, entry, list_file}
-use Rattle.read_text.specs.Line.{WithoutEnd}
+use Rattle.netlist.specs.Programs.{list_bytes, entry, list_file}
 use Rattle.program_text.specs.Front.{Front}
 
 -- the first i bytes are entries, the others as they were

@@ -8,9 +8,9 @@ use lib.ListN.{length, take, get_or, length-append}
 use lib.Seq.{take-suc, take_all}
 use Rattle.netlist.specs.Number.{decimal}
 use Rattle.netlist.specs.Programs.{print_list}
-use Rattle.write_buffer.specs.Wrote.{top, Wrote, WroteFew}
+use Rattle.write_buffer.specs.Wrote.{Wrote, WroteFew}
 use Rattle.write_buffer.proofs.Decimals.{digits-most}
-use Rattle.write_buffer.proofs.Writing.{wrote_none, wrote_then, wrote_as}
+use Rattle.write_buffer.proofs.Writing.{wrote_then, wrote_as}
 
 print_list-append : (xs ys : List ℕ) → print_list (xs ++ ys) ≡ print_list xs ++ print_list ys
 print_list-append [] ys = refl
