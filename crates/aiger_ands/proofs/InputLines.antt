@@ -1,6 +1,6 @@
 -- The input lines, one after another.
 use Prim.Native.Nat.{ℕ, zero, suc, ◌+◌, ◌/◌, ◌%◌, ◌<◌, ◌≤◌}
-use mathlib.Core.Path.{◌≡◌, refl, sym, ap, ◌∙◌, subst}
+use mathlib.Core.Path.{◌≡◌, refl, sym, ap, ◌∙◌}
 use mathlib.Core.Bool.{true, false, not}
 use mathlib.Core.List.{List, [], ◌∷◌, ◌++◌}
 use mathlib.Core.Option.{Option, none, some}
@@ -18,14 +18,10 @@ use Rattle.aiger.specs.Rules.{fresh, can_give, giving, fresh_all}
 use Rattle.aiger.specs.Outputs.{enter}
 use Rattle.aiger.specs.Made.{up_from}
 use Rattle.aiger_lines.specs.Stray.{stray_at}
-use Rattle.aiger_lines.specs.LineAnswers.{LineNot, at_front, first_numbers, LineAt}
+use Rattle.aiger_lines.specs.LineAnswers.{LineNot, at_front, first_numbers, OneAt}
 use Rattle.aiger_gates.specs.Places.{Places}
-use Rattle.aiger_ands.specs.StepAnswers.{InputAt, InputIs, InputsAt}
-use Rattle.aiger_ands.specs.declared.inputs.Step.{Step}
-use Rattle.aiger_ands.specs.declared.inputs.Step.TheVariants as S
-use Rattle.read_text.specs.declared.cursor.Cursor.{Cursor}
+use Rattle.aiger_ands.specs.StepAnswers.{InputAt}
 use Rattle.aiger.proofs.Making.{length-enter}
-use Rattle.aiger_lines.proofs.NumberLines.{one_entry}
 use Rattle.aiger_gates.proofs.Placing.{not_so, literal-low, literal-even, literal-odd, places-more}
 use Rattle.aiger_ands.proofs.LineByLine.{formed-snoc, Split, formed-split, giving-snoc, fresh-snoc, fresh_at, enter-snoc}
 
@@ -59,31 +55,26 @@ pub input_none : {ls : List (List (List ℕ))} (M : ℕ) (given : List ℕ) → 
     → (v : ℕ) → at_front input_line ls ≡ some v → fresh M given v ≡ true → ⊥
 input_none {ls} M given n v e f = let p = one_number (first_numbers ls) v (sym (front-input ls) ∙ e) in n.none (p.0 ∷ []) p.1 refl
 
-module _ {ls : List (List (List ℕ))} {t xs : List ℕ} {to : ℕ} (L : LineAt ls t 1 xs to) (M : ℕ) (given : List ℕ) where
-  line-one : first_numbers ls ≡ some (get_or xs 0 0 ∷ [])
-  line-one = L.line ∙ ap some (one_entry xs L.size)
-
+module _ {ls : List (List (List ℕ))} {t : List ℕ} {x to : ℕ} (O : OneAt ls t x to) (M : ℕ) (given : List ℕ) where
   -- its number cannot be given
-  pub input-no : can_give M given (literal (get_or xs 0 0)) ≡ false → (v : ℕ) → at_front input_line ls ≡ some v → fresh M given v ≡ true → ⊥
+  pub input-no : can_give M given (literal x) ≡ false → (v : ℕ) → at_front input_line ls ≡ some v → fresh M given v ≡ true → ⊥
   input-no c v e f =
-      let x = get_or xs 0 0 in
-      let p : variable (literal x) ≡ some v = sym (ap (λ (o : Option (List ℕ)). if_some (one_literal o) variable) line-one) ∙ sym (front-input ls) ∙ e in
+      let p : variable (literal x) ≡ some v = sym (ap (λ (o : Option (List ℕ)). if_some (one_literal o) variable) O.line) ∙ sym (front-input ls) ∙ e in
       not_so (sym c ∙ ap (can_give M given) (variable-plain (literal x) v p) ∙ f)
 
-  pub input-on : (wire : ℕ) (before after : List ℕ) → can_give M given (literal (get_or xs 0 0)) ≡ true → after ≡ set before (get_or xs 0 0 / 2) (wire + 1)
+  pub input-on : (wire : ℕ) (before after : List ℕ) → can_give M given (literal x) ≡ true → after ≡ set before (x / 2) (wire + 1)
       → InputAt ls t wire M given before after to
   input-on wire before after c s =
-      let x = get_or xs 0 0 in
       let p : literal x ≡ plain (x / 2) = given-plain M given x c in
       let f : fresh M given (x / 2) ≡ true = sym (ap (can_give M given) p) ∙ c in
       record {
         is = x / 2;
-        line = front-input ls ∙ ap (λ (o : Option (List ℕ)). if_some (one_literal o) variable) line-one ∙ ap variable p;
+        line = front-input ls ∙ ap (λ (o : Option (List ℕ)). if_some (one_literal o) variable) O.line ∙ ap variable p;
         new = f;
         low = leb-true (x / 2) M (both_true (leb (x / 2) M) (not (member (x / 2) given)) f).0;
         table = s;
-        left = L.left;
-        within = L.within;
+        left = O.left;
+        within = O.within;
       }
 
 -- ---- line by line
@@ -104,19 +95,6 @@ pub zeros-at : (k v : ℕ) → get_or {A = ℕ} (replicate k 0) v 0 ≡ 0
 zeros-at zero v = refl
 zeros-at (suc k) zero = refl
 zeros-at (suc k) (suc v) = zeros-at k v
-
-pub entering-start : (t : List ℕ) (at M : ℕ) (table : List ℕ) → at ≤ stray_at t → table ≡ replicate (length table) 0
-    → Entering (file_lines (drop at t)) t M (length table) table at 0
-entering-start t at M table h z = record {
-  are = [];
-  count = refl;
-  lines = refl;
-  new = refl;
-  places = record { each = λ v. ap (λ (x : List ℕ). get_or x v 0) z ∙ zeros-at (length table) v };
-  left = refl;
-  within = h;
-  long = refl;
-}
 
 module _ {ls : List (List (List ℕ))} {t : List ℕ} {M size : ℕ} {table : List ℕ} {at i : ℕ} (E : Entering ls t M size table at i) where
   -- one line more
@@ -155,16 +133,3 @@ module _ {ls : List (List (List ℕ))} {t : List ℕ} {M size : ℕ} {table : Li
       let a : fresh_all M [] ((S).front ++ ((S).here ∷ (S).rest)) ≡ true = ap (fresh_all M []) (S).all ∙ f in
       bad (S).here (ap (at_front input_line) E.left ∙ (S).line) (ap (λ (us : List ℕ). fresh M (giving [] us) (S).here) (sym s) ∙ fresh_at M [] (S).front
       (S).here (S).rest a)
-
-  -- all of them
-  pub entering-all : (count : ℕ) → i ≡ count → InputsAt ls t count M table at
-  entering-all count e = rw (sym e) (record { are = E.are; lines = E.lines; new = E.new; places = E.places; left = E.left; within = E.within })
-
--- ---- the answers
-
-module _ (ls : List (List (List ℕ))) (t : List ℕ) (wire M : ℕ) (given before after : List ℕ) (r : Step) where
-  pub input-is : (c : Cursor) → r ≡ S.On c → InputIs ls t wire M given before after r → InputAt ls t wire M given before after c.at
-  input-is c e h = subst (InputIs ls t wire M given before after) e h
-
-  pub input-not : r ≡ S.Not → InputIs ls t wire M given before after r → (v : ℕ) → at_front input_line ls ≡ some v → fresh M given v ≡ true → ⊥
-  input-not e h = subst (InputIs ls t wire M given before after) e h

@@ -1,4 +1,5 @@
-// The AND lines: each puts its gates behind the others and gives its variable the last one's wire.
+// The AND lines: each puts its gates behind the others and gives its variable the last one's wire. The tables are lent one by one: a
+// struct of `&mut` slices would have to promise at each call that it still holds them.
 ghost use Rattle.std.specs.Prelude.{◌≡◌, List, [], ℕ, ◌+◌, ◌*◌, ◌^◌, ◌<◌, ◌≤◌, length, drop};
 ghost use Rattle.netlist.specs.declared.Gate.{Gate};
 ghost use Rattle.aiger.specs.Lines.{file_lines};
@@ -9,17 +10,10 @@ ghost use Rattle.aiger_ands.specs.AndAnswers.{AndLineIs, AndsIs, gates_said, pla
 
 use aiger_gates::gates::and_gates;
 use aiger_gates::variables::{can_give, give, is_readable};
-use aiger_lines::numbers::{Line, next_numbers};
+use aiger_lines::numbers::next_numbers;
 use read_text::cursor::Cursor;
 
-// How many gates there are behind a line, with the start of the next line; or no such line.
-#[derive(Clone, Copy)]
-pub enum AndStep {
-    On(usize, Cursor),
-    Not,
-}
-
-// One AND line, behind n inputs and `count` gates.
+// One AND line, behind n inputs and `count` gates; answers how many gates there are with its own, and where the next line starts.
 fn and_line(
     text: &[u8],
     at: Cursor,
@@ -29,7 +23,7 @@ fn and_line(
     table: &mut [u32],
     operands: &mut [u64],
     results: &mut [u64],
-) -> AndStep
+) -> Option<(usize, Cursor)>
     requires { (at.at ≤ stray_at text.now) × (most < length table.old) × (n + count + 4 < 2 ^ 32) }
     ensures { ((given wires : List ℕ) (gs : List Gate) → length wires ≡ most + 1
         → Standing table.old (tables operands.old results.old) n count given wires gs
@@ -37,24 +31,14 @@ fn and_line(
         (tables operands.new results.new) result) × (gates_said result ≤ count + 3) × (place_said result ≤ stray_at text.now) }
 {
     let mut numbers = [0u32; 3];
-    let Line::Is(next) = next_numbers(text, at, &mut numbers) else {
-        return AndStep::Not;
-    };
-    let left = numbers[0];
-    let first = numbers[1];
-    let second = numbers[2];
-    if !is_readable(table, first) {
-        return AndStep::Not;
-    }
-    if !is_readable(table, second) {
-        return AndStep::Not;
-    }
-    if !can_give(table, left, most) {
-        return AndStep::Not;
+    let next = next_numbers(text, at, &mut numbers)?;
+    let [left, first, second] = numbers;
+    if !is_readable(table, first) || !is_readable(table, second) || !can_give(table, left, most) {
+        return None;
     }
     let r = and_gates(table, operands, results, first, second, n, count);
     give(table, left / 2, r.wire);
-    AndStep::On(r.count, next)
+    Some((r.count, next))
 }
 
 // So many AND lines from a place on, behind n inputs, the first gates of all.
@@ -67,36 +51,17 @@ pub fn ands(
     table: &mut [u32],
     operands: &mut [u64],
     results: &mut [u64],
-) -> AndStep
+) -> Option<(usize, Cursor)>
     requires { (from.at ≤ stray_at text.now) × (most < length table.old) × (n + 3 * lines + 4 < 2 ^ 32) }
     ensures { ((given wires : List ℕ) → length wires ≡ most + 1
         → Standing table.old (tables operands.old results.old) n 0 given wires []
         → AndsIs (file_lines (drop from.at text.now)) text.now lines most n given wires table.new
         (tables operands.new results.new) result) × (gates_said result ≤ 3 * lines) }
 {
-    let mut at = from.at;
+    let mut at = from;
     let mut count = 0;
-    let mut i = 0;
-    while i < lines {
-        match and_line(
-            text,
-            Cursor { at },
-            most,
-            n,
-            count,
-            table,
-            operands,
-            results,
-        ) {
-            AndStep::Not => {
-                return AndStep::Not;
-            }
-            AndStep::On(k, next) => {
-                at = next.at;
-                count = k;
-                i += 1;
-            }
-        }
+    for _ in 0..lines {
+        (count, at) = and_line(text, at, most, n, count, table, operands, results)?;
     }
-    AndStep::On(count, Cursor { at })
+    Some((count, at))
 }

@@ -1,17 +1,15 @@
 -- What the answers on a line of numbers mean.
-use Rattle.std.specs.Prelude.{ℕ, ◌≤◌, ◌≡◌, List, [], ◌∷◌, length, drop}
-use Rattle.std.proofs.Math.Option.{Option, none, some}
+use Rattle.std.specs.Prelude.{ℕ, Option, Some, None, ◌≤◌, ◌≡◌, List, [], ◌∷◌, length, drop}
+use Rattle.std.proofs.Math.Option as M
+use Rattle.std.proofs.Math.Option.{none, some}
 use Rattle.netlist.specs.Header.{numbers}
 use Rattle.read_text.specs.Line.{LineTaken}
 use Rattle.aiger.specs.Lines.{file_line, file_lines}
 use Rattle.aiger_lines.specs.Stray.{stray_at}
-use Rattle.aiger_lines.specs.declared.numbers.Line.{Line}
-use Rattle.aiger_lines.specs.declared.numbers.Line.TheVariants as L
-use Rattle.aiger_lines.specs.declared.numbers.One.{One}
-use Rattle.aiger_lines.specs.declared.numbers.One.TheVariants as O
+use Rattle.read_text.specs.declared.cursor.Cursor.{Cursor}
 
 -- so many numbers it has not
-abbrev pub NotSoMany : Option (List ℕ) → ℕ → Type 0
+abbrev pub NotSoMany : M.Option (List ℕ) → ℕ → Type 0
 NotSoMany o n = (xs : List ℕ) → o ≡ some xs → length xs ≡ n → ⊥
 
 -- the first line of t from a place holds the numbers xs, the next line starts at `to`, and no CR stands before that but before LF
@@ -21,17 +19,17 @@ pub record FileLineAt (t : List ℕ) (at n : ℕ) (xs : List ℕ) (to : ℕ) : T
   pub next : LineTaken t at to
   pub within : to ≤ stray_at t
 
-abbrev pub FileLineIs : List ℕ → ℕ → ℕ → List ℕ → Line → Type 0
-FileLineIs t at n xs (L.Is c) = FileLineAt t at n xs c.at
-FileLineIs t at n xs L.Not = NotSoMany (numbers (file_line (drop at t))) n
+abbrev pub FileLineIs : List ℕ → ℕ → ℕ → List ℕ → Option Cursor → Type 0
+FileLineIs t at n xs (Some c) = FileLineAt t at n xs c.at
+FileLineIs t at n xs None = NotSoMany (numbers (file_line (drop at t))) n
 
 -- what the first of some lines is
-abbrev pub at_front : {A : Type 0} → (List (List ℕ) → Option A) → List (List (List ℕ)) → Option A
+abbrev pub at_front : {A : Type 0} → (List (List ℕ) → M.Option A) → List (List (List ℕ)) → M.Option A
 at_front f [] = none
 at_front f (l ∷ ls) = f l
 
 -- the numbers of the first of some lines
-abbrev pub first_numbers : List (List (List ℕ)) → Option (List ℕ)
+abbrev pub first_numbers : List (List (List ℕ)) → M.Option (List ℕ)
 first_numbers ls = at_front numbers ls
 
 -- the first of some lines holds the numbers xs, and the others stand from a place of t on
@@ -44,9 +42,9 @@ pub record LineAt (ls : List (List (List ℕ))) (t : List ℕ) (n : ℕ) (xs : L
 pub record LineNot (ls : List (List (List ℕ))) (n : ℕ) : Type 0 where
   pub none : NotSoMany (first_numbers ls) n
 
-abbrev pub LineIs : List (List (List ℕ)) → List ℕ → ℕ → List ℕ → Line → Type 0
-LineIs ls t n xs (L.Is c) = LineAt ls t n xs c.at
-LineIs ls t n xs L.Not = LineNot ls n
+abbrev pub LineIs : List (List (List ℕ)) → List ℕ → ℕ → List ℕ → Option Cursor → Type 0
+LineIs ls t n xs (Some c) = LineAt ls t n xs c.at
+LineIs ls t n xs None = LineNot ls n
 
 -- the first of some lines holds one number
 pub record OneAt (ls : List (List (List ℕ))) (t : List ℕ) (x to : ℕ) : Type 0 where
@@ -54,6 +52,6 @@ pub record OneAt (ls : List (List (List ℕ))) (t : List ℕ) (x to : ℕ) : Typ
   pub left : file_lines (drop to t) ≡ drop 1 ls
   pub within : to ≤ stray_at t
 
-abbrev pub OneIs : List (List (List ℕ)) → List ℕ → One → Type 0
-OneIs ls t (O.Is x c) = OneAt ls t x c.at
-OneIs ls t O.Not = LineNot ls 1
+abbrev pub OneIs : List (List (List ℕ)) → List ℕ → Option (ℕ × Cursor) → Type 0
+OneIs ls t (Some (x, c)) = OneAt ls t x c.at
+OneIs ls t None = LineNot ls 1

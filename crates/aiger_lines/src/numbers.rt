@@ -5,64 +5,40 @@ ghost use Rattle.aiger_lines.specs.Stray.{stray_at};
 ghost use Rattle.aiger_lines.specs.LineAnswers.{FileLineIs, LineIs, OneIs};
 
 use crate::between::{is_stray, past_spaces, to_word};
-use read_text::cursor::{Cursor, LineEnd};
-use read_text::number::Number;
+use read_text::cursor::Cursor;
 
-// The start of the next line, behind a line that holds as many numbers as were asked for.
-#[derive(Clone, Copy)]
-pub enum Line {
-    Is(Cursor),
-    Not,
-}
-
-// The number of a line that holds one, with the start of the next line.
-#[derive(Clone, Copy)]
-pub enum One {
-    Is(u32, Cursor),
-    Not,
-}
-
-// The numbers of the line at a place, as many as the table has entries.
-pub fn line_numbers(text: &[u8], at: Cursor, into: &mut [u32]) -> Line
+// The numbers of the line at a place, as many as the table has entries, and no more: answers where the next line starts.
+pub fn line_numbers(text: &[u8], at: Cursor, into: &mut [u32]) -> Option<Cursor>
     requires { at.at ≤ stray_at text.now }
     ensures { FileLineIs text.now at.at (length into.old) into.new result }
 {
-    let mut p = at.at;
-    let mut i = 0;
-    while i < into.len() {
-        let Number::Is(v, next) = past_spaces(text, Cursor { at: p }).take_number(text) else {
-            return Line::Not;
-        };
-        into[i] = v;
-        i += 1;
-        p = next.at;
+    let mut p = at;
+    for entry in into.iter_mut() {
+        let (v, next) = past_spaces(text, p).take_number(text)?;
+        *entry = v;
+        p = next;
     }
-    let end = past_spaces(text, Cursor { at: p });
+    let end = past_spaces(text, p);
     if is_stray(text, end.at) {
-        return Line::Not;
+        return None;
     }
-    let LineEnd::At(next) = end.line_end(text) else {
-        return Line::Not;
-    };
-    Line::Is(next)
+    end.line_end(text)
 }
 
 // The numbers of the next line that is not blank.
-pub fn next_numbers(text: &[u8], at: Cursor, into: &mut [u32]) -> Line
+pub fn next_numbers(text: &[u8], at: Cursor, into: &mut [u32]) -> Option<Cursor>
     requires { (at.at ≤ stray_at text.now) × (1 ≤ length into.old) }
     ensures { LineIs (file_lines (drop at.at text.now)) text.now (length into.old) into.new result }
 {
     line_numbers(text, to_word(text, at), into)
 }
 
-// The number of the next line that is not blank, if it holds one.
-pub fn one_number(text: &[u8], at: Cursor) -> One
+// The number of the next line that is not blank, if it holds one, and where the line behind it starts.
+pub fn one_number(text: &[u8], at: Cursor) -> Option<(u32, Cursor)>
     requires { at.at ≤ stray_at text.now }
     ensures { OneIs (file_lines (drop at.at text.now)) text.now result }
 {
     let mut numbers = [0u32; 1];
-    let Line::Is(next) = next_numbers(text, at, &mut numbers) else {
-        return One::Not;
-    };
-    One::Is(numbers[0], next)
+    let next = next_numbers(text, at, &mut numbers)?;
+    Some((numbers[0], next))
 }

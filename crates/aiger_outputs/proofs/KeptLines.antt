@@ -17,7 +17,7 @@ use Rattle.aiger_lines.specs.Stray.{stray_at}
 use Rattle.aiger_lines.specs.LineAnswers.{LineNot, OneAt}
 use Rattle.aiger_gates.specs.Places.{Places}
 use Rattle.aiger_outputs.specs.OutAnswers.{LiteralsAt, Low, HaveWires}
-use Rattle.aiger_outputs.proofs.OutLines.{literals-start, literals-more, literals-no, every-snoc, every-no}
+use Rattle.aiger_outputs.proofs.OutLines.{literals-more, literals-no, every-snoc, every-no}
 
 map-join : (xs ys : List ℕ) → map literal (xs ++ ys) ≡ map literal xs ++ map literal ys
 map-join [] ys = refl
@@ -40,9 +40,6 @@ pub record Keeping (ls : List (List (List ℕ))) (t kept : List ℕ) (i at : ℕ
   pub lines : LiteralsAt ls t i (map literal (take i kept)) at
   pub low : (j : ℕ) → j < i → get_or kept j 0 < 2 ^ 32
   pub inside : i ≤ length kept
-
-pub keeping_start : (t kept : List ℕ) (at : ℕ) → at ≤ stray_at t → Keeping (file_lines (drop at t)) t kept 0 at
-keeping_start t kept at h = record { lines = literals-start t at h; low = λ j l. absurd (omega arith); inside = omega arith }
 
 module _ {ls : List (List (List ℕ))} {t kept : List ℕ} {i at : ℕ} (K : Keeping ls t kept i at) where
   pub keeping-more : {x to : ℕ} → i < length kept → x < 2 ^ 32 → OneAt (file_lines (drop at t)) t x to → Keeping ls t (set kept i x) (i + 1) to
@@ -72,9 +69,6 @@ pub record Looking (table kept : List ℕ) (i : ℕ) : Type 0 where
   pub good : (given wires : List ℕ) → Places table given wires → every (readable given) (map literal (take i kept)) ≡ true
   pub wired : (j : ℕ) → j < i → 2 ≤ get_or kept j 0 → 1 ≤ get_or table (get_or kept j 0 / 2) 0
   pub inside : i ≤ length kept
-
-pub looking-start : (table kept : List ℕ) → Looking table kept 0
-looking-start table kept = record { good = λ given wires P. refl; wired = λ j l. absurd (omega arith); inside = omega arith }
 
 module _ {table kept : List ℕ} {i : ℕ} (K : Looking table kept i) (h : i < length kept) where
   pub looking-more : ((given wires : List ℕ) → Places table given wires → true ≡ readable given (literal (get_or kept i 0)))

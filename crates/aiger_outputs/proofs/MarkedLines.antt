@@ -23,7 +23,7 @@ use Rattle.aiger_gates.proofs.Placing.{literal-low, literal-readable, place-wire
 use Rattle.aiger_ands.proofs.LineByLine.{Split, formed-split}
 use Rattle.aiger_ands.proofs.InputLines.{zeros-at}
 use Rattle.aiger_outputs.specs.OutAnswers.{marked, PutOut, UpTo, MarksAt}
-use Rattle.aiger_outputs.proofs.OutLines.{output-line, literals-start, literals-more, literals-no, every-snoc, every_front, every_here}
+use Rattle.aiger_outputs.proofs.OutLines.{output-line, literals-more, literals-no, every-snoc, every_front, every_here}
 
 -- ---- marks
 
@@ -56,9 +56,6 @@ module _ {M : ℕ} {marks : List ℕ} {are : List Literal} (P : PutOut M marks a
 
 -- ---- lines
 
-pub marks-start : (t marks : List ℕ) (at M : ℕ) → at ≤ stray_at t → marks ≡ replicate (length marks) 0 → MarksAt (file_lines (drop at t)) t 0 M marks at
-marks-start t marks at M h e = record { are = []; literals = literals-start t at h; out = rw e (out_none M (length marks)) }
-
 module _ {ls : List (List (List ℕ))} {t : List ℕ} {i M : ℕ} {marks : List ℕ} {at : ℕ} (A : MarksAt ls t i M marks at) where
   pub marks-more : {x to : ℕ} → OneAt (file_lines (drop at t)) t x to → x / 2 ≤ M → x / 2 < length marks → MarksAt ls t (i + 1) M (marked marks x) to
   marks-more {x} O up inside = record { are = A.are ++ (literal x ∷ []); literals = literals-more A.literals O; out = out-more A.out x up inside }
@@ -78,9 +75,6 @@ module _ {ls : List (List (List ℕ))} {t : List ℕ} {i M : ℕ} {marks : List 
       let l = up (x / 2) (sym (literal-readable x (omega arith) given) ∙ k) in
       omega arith
 
-  pub marks-all : {lines : ℕ} → i ≡ lines → MarksAt ls t lines M marks at
-  marks-all e = subst (λ (k : ℕ). MarksAt ls t k M marks at) e A
-
 -- ---- the variables below v that have a mark are given
 
 abbrev pub Seen : List ℕ → List ℕ → ℕ → Type 0
@@ -90,11 +84,6 @@ pub seen_more : (table marks : List ℕ) (v : ℕ) → Seen table marks v → (1
 seen_more table marks v s h = below_more (λ (u : ℕ). 1 ≤ get_or marks u 0 → 1 ≤ get_or table u 0) v s h
 
 module _ {table given wires : List ℕ} (P : Places table given wires) {M : ℕ} {marks : List ℕ} {are : List Literal} (O : PutOut M marks are) where
-  pub seen_no : (v : ℕ) → v ≤ M → 1 ≤ get_or marks v 0 → get_or table v 0 ≡ 0 → false ≡ every (readable given) are
-  seen_no v l m z = on_bool (every (readable given) are)
-      (λ e. let w = place-wire P v (O.needed given e v l m) in absurd (omega arith))
-      sym
-
   pub seen_all : Seen table marks (M + 1) → true ≡ every (readable given) are
   seen_all s = sym (O.enough given (λ v l m. on_bool (member v given)
       (λ e. e)

@@ -71,13 +71,6 @@ pub record Putting (table o₀ r₀ : List ℕ) (room n before : ℕ) (o r : Lis
   pub left : drop (room + i) r ≡ drop (room + i) r₀
   pub long : length r ≡ length r₀
 
-pub putting-start : (table o r : List ℕ) (room n before : ℕ) → Putting table o r room n before o r 0
-putting-start table o r room n before = record {
-  all = λ given wires gs S e. let z : before + 0 ≡ before = omega arith in rw (z, append-nil gs) S;
-  left = refl;
-  long = refl;
-}
-
 module _ {table o₀ r₀ : List ℕ} {room n before : ℕ} {o r : List ℕ} {i : ℕ} (P : Putting table o₀ r₀ room n before o r i) (h : room + i < length r₀) where
   -- the literal that is next
   pub next-literal : get_or r (room + i) 0 ≡ get_or (drop room r₀) i 0

@@ -9,24 +9,14 @@ use lib.Seq.{drop-drop}
 use Rattle.netlist.specs.Lists.{every}
 use Rattle.netlist.proofs.Tests.{both_true}
 use Rattle.netlist.proofs.Questions.{none-some}
-use Rattle.read_text.specs.declared.cursor.Cursor.{Cursor}
 use Rattle.aiger.specs.File.{Literal, literal}
 use Rattle.aiger.specs.Lines.{one_literal, output_line, formed, file_lines}
 use Rattle.aiger_lines.specs.Stray.{stray_at}
 use Rattle.aiger_lines.specs.LineAnswers.{at_front, first_numbers, LineNot, OneAt, OneIs}
-use Rattle.aiger_lines.specs.declared.numbers.One.{One}
-use Rattle.aiger_lines.specs.declared.numbers.One.TheVariants as O
 use Rattle.aiger_ands.proofs.LineByLine.{formed-snoc, Split, formed-split}
 use Rattle.aiger_outputs.specs.OutAnswers.{LiteralsAt}
 
 -- ---- a line of one number
-
-module _ (ls : List (List (List ℕ))) (t : List ℕ) (r : One) where
-  pub one-is : (x : ℕ) (c : Cursor) → r ≡ O.Is x c → OneIs ls t r → OneAt ls t x c.at
-  one-is x c e h = subst (OneIs ls t) e h
-
-  pub one-not : r ≡ O.Not → OneIs ls t r → LineNot ls 1
-  one-not e h = subst (OneIs ls t) e h
 
 front-output : (ls : List (List (List ℕ))) → at_front output_line ls ≡ one_literal (first_numbers ls)
 front-output [] = refl
@@ -46,9 +36,6 @@ no_output : {ls : List (List (List ℕ))} → LineNot ls 1 → (l : Literal) →
 no_output {ls} n l e = let p = one_number (first_numbers ls) l (sym (front-output ls) ∙ e) in n.none (p.0 ∷ []) p.1 refl
 
 -- ---- lines
-
-pub literals-start : (t : List ℕ) (at : ℕ) → at ≤ stray_at t → LiteralsAt (file_lines (drop at t)) t 0 [] at
-literals-start t at h = record { form = refl; left = refl; within = h }
 
 module _ {ls : List (List (List ℕ))} {t : List ℕ} {i : ℕ} {are : List Literal} {at : ℕ} (A : LiteralsAt ls t i are at) where
   pub literals-more : {x to : ℕ} → OneAt (file_lines (drop at t)) t x to → LiteralsAt ls t (i + 1) (are ++ (literal x ∷ [])) to

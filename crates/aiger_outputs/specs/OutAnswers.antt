@@ -1,17 +1,16 @@
 -- What the answers on output lines mean.
-use Rattle.std.specs.Prelude.{ℕ, ◌+◌, ◌/◌, ◌^◌, ◌<◌, ◌≤◌, ◌≡◌, Bool, true, cond, List, ◌++◌, map, ltb, length, take, drop, get_or, set}
+use Rattle.std.specs.Prelude.{ℕ, Option, Some, None, ◌+◌, ◌/◌, ◌^◌, ◌<◌, ◌≤◌, ◌≡◌, Bool, true, cond, List, ◌++◌, map, ltb, length, take, drop, get_or, set}
 use Rattle.std.proofs.Math.Option.{some}
 use Rattle.netlist.specs.declared.Gate.{Gate}
 use Rattle.netlist.specs.Lists.{every, member}
 use Rattle.netlist.specs.Table.{Tables, tables}
+use Rattle.read_text.specs.declared.cursor.Cursor.{Cursor}
 use Rattle.aiger.specs.File.{Literal, literal}
 use Rattle.aiger.specs.Lines.{file_lines, output_line, formed}
 use Rattle.aiger.specs.Rules.{readable}
 use Rattle.aiger.specs.Made.{wire_at, out_gates}
 use Rattle.aiger_lines.specs.Stray.{stray_at}
 use Rattle.aiger_gates.specs.Places.{Places, Keeps, Standing}
-use Rattle.aiger_ands.specs.declared.inputs.Step.{Step}
-use Rattle.aiger_ands.specs.declared.inputs.Step.TheVariants as S
 
 -- the first of some lines put out these literals
 pub record LiteralsAt (ls : List (List (List ℕ))) (t : List ℕ) (lines : ℕ) (are : List Literal) (to : ℕ) : Type 0 where
@@ -26,9 +25,9 @@ abbrev pub Low : List ℕ → Type 0
 Low kept = (i : ℕ) → i < length kept → get_or kept i 0 < 2 ^ 32
 
 -- as many lines as the table has entries, which are their literals
-abbrev pub KeptIs : List (List (List ℕ)) → List ℕ → List ℕ → Step → Type 0
-KeptIs ls t kept (S.On c) = LiteralsAt ls t (length kept) (map literal kept) c.at × Low kept
-KeptIs ls t kept S.Not = (xs : List Literal) → formed output_line (length kept) ls ≡ some xs → ⊥
+abbrev pub KeptIs : List (List (List ℕ)) → List ℕ → List ℕ → Option Cursor → Type 0
+KeptIs ls t kept (Some c) = LiteralsAt ls t (length kept) (map literal kept) c.at × Low kept
+KeptIs ls t kept None = (xs : List Literal) → formed output_line (length kept) ls ≡ some xs → ⊥
 
 -- each is a constant, or of a variable that has a wire
 abbrev pub HaveWires : List ℕ → List ℕ → Type 0
@@ -71,7 +70,7 @@ pub record MarksAt (ls : List (List (List ℕ))) (t : List ℕ) (lines M : ℕ) 
   pub literals : LiteralsAt ls t lines are to
   pub out : PutOut M marks are
 
-abbrev pub MarksIs : List (List (List ℕ)) → List ℕ → ℕ → ℕ → List ℕ → Step → Type 0
-MarksIs ls t lines M marks (S.On c) = MarksAt ls t lines M marks c.at
-MarksIs ls t lines M marks S.Not = (xs : List Literal) → formed output_line lines ls ≡ some xs
+abbrev pub MarksIs : List (List (List ℕ)) → List ℕ → ℕ → ℕ → List ℕ → Option Cursor → Type 0
+MarksIs ls t lines M marks (Some c) = MarksAt ls t lines M marks c.at
+MarksIs ls t lines M marks None = (xs : List Literal) → formed output_line lines ls ≡ some xs
     → (given : List ℕ) → UpTo M given → every (readable given) xs ≡ true → ⊥

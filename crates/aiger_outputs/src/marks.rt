@@ -9,8 +9,7 @@ ghost use Rattle.aiger_lines.specs.Stray.{stray_at};
 ghost use Rattle.aiger_gates.specs.Places.{Places};
 ghost use Rattle.aiger_outputs.specs.OutAnswers.{marked, PutOut, MarksIs};
 
-use aiger_ands::inputs::Step;
-use aiger_lines::numbers::{One, one_number};
+use aiger_lines::numbers::one_number;
 use read_text::cursor::Cursor;
 
 // A mark on the variable of a literal that is no constant.
@@ -18,31 +17,32 @@ fn mark(marks: &mut [u64], x: u32)
     requires { x / 2 < length marks.old }
     ensures { marks.new ≡ marked marks.old x }
 {
-    if x < 2 {
-        return;
+    if 2 <= x {
+        marks[(x / 2) as usize] = 1;
     }
-    marks[(x / 2) as usize] = 1;
 }
 
-// So many output lines from a place on, with a table that has no mark yet.
-pub fn mark_literals(text: &[u8], from: Cursor, lines: u32, most: u32, marks: &mut [u64]) -> Step
+// So many output lines from a place on, with a table that has no mark yet; answers where the next line starts.
+pub fn mark_literals(
+    text: &[u8],
+    from: Cursor,
+    lines: u32,
+    most: u32,
+    marks: &mut [u64],
+) -> Option<Cursor>
     requires { (from.at ≤ stray_at text.now) × (most < length marks.old) × (marks.old ≡ replicate (length marks.old) 0) }
     ensures { MarksIs (file_lines (drop from.at text.now)) text.now lines most marks.new result }
 {
-    let mut at = from.at;
-    let mut i = 0;
-    while i < lines {
-        let One::Is(x, next) = one_number(text, Cursor { at }) else {
-            return Step::Not;
-        };
+    let mut at = from;
+    for _ in 0..lines {
+        let (x, next) = one_number(text, at)?;
         if most < x / 2 {
-            return Step::Not;
+            return None;
         }
         mark(marks, x);
-        at = next.at;
-        i += 1;
+        at = next;
     }
-    Step::On(Cursor { at })
+    Some(at)
 }
 
 // Whether a variable has a mark and is not given.
@@ -51,10 +51,7 @@ fn is_missing(table: &[u32], marks: &[u64], v: usize) -> bool
     ensures { (result ≡ true → (1 ≤ get_or marks.now v 0) × (get_or table.now v 0 ≡ 0))
         × (result ≡ false → 1 ≤ get_or marks.now v 0 → 1 ≤ get_or table.now v 0) }
 {
-    if marks[v] == 0 {
-        return false;
-    }
-    table[v] == 0
+    marks[v] != 0 && table[v] == 0
 }
 
 // Whether all variables up to M that have a mark are given.
@@ -63,13 +60,10 @@ pub fn are_given(table: &[u32], marks: &[u64], most: u32) -> bool
     ensures { (given wires : List ℕ) (are : List Literal) → Places table.now given wires → PutOut most marks.now are
         → result ≡ every (readable given) are }
 {
-    let end = most as usize;
-    let mut v = 0;
-    while v <= end {
+    for v in 0..=most as usize {
         if is_missing(table, marks, v) {
             return false;
         }
-        v += 1;
     }
     true
 }

@@ -61,7 +61,6 @@ way-last e h = omega arith
 -- ---- the loop: the places from p on took their last way, and take their first now
 
 pub record Advancing (w : ℕ → ℕ) (P : ℕ) (way₀ way : List ℕ) (p : ℕ) : Type 0 where
-  pub within : p ≤ P
   pub last : (q : ℕ) → p ≤ q → q < P → w q ≤ suc (choice_of way₀ q)
   pub first : (q : ℕ) → p ≤ q → q < P → choice_of way q ≡ 0
   pub kept : (q : ℕ) → q < p → choice_of way q ≡ choice_of way₀ q
@@ -70,7 +69,6 @@ pub record Advancing (w : ℕ → ℕ) (P : ℕ) (way₀ way : List ℕ) (p : �
 
 pub advancing-none : (w : ℕ → ℕ) (P : ℕ) (way : List ℕ) → Advancing w P way way P
 advancing-none w P way = record {
-  within = omega arith;
   last = λ q h l. absurd (omega arith);
   first = λ q h l. absurd (omega arith);
   kept = λ q h. refl;
@@ -78,55 +76,50 @@ advancing-none w P way = record {
   size = refl;
 }
 
-module _ {w : ℕ → ℕ} {P : ℕ} {way₀ way : List ℕ} where
-  pub advancing-more : (p : ℕ) → Advancing w P way₀ way p → 0 < p → P ≤ length way₀ → w (p - 1) ≤ suc (choice_of way (p - 1))
-      → Advancing w P way₀ (set way (p - 1) 0) (p - 1)
-  advancing-more p A h l b =
-      let k = A.kept (p - 1) (omega arith) in
-      let i = A.within in
+module _ {w : ℕ → ℕ} {P : ℕ} {way₀ way : List ℕ} (p : ℕ) (A : Advancing w P way₀ way (suc p)) (h : p < P) (l : P ≤ length way₀) where
+  pub advancing-more : w p ≤ suc (choice_of way p) → Advancing w P way₀ (set way p 0) p
+  advancing-more b =
+      let k = A.kept p (omega arith) in
+      let s = A.size in
+      record {
+        last = λ q m r. on_bool (eqb q p)
+            (λ e. rw (eqb-true q p e) (omega arith))
+            (λ e. let n : q ≡ p → ⊥ = eqb-false q p e in A.last q (omega arith) r);
+        first = λ q m r. on_bool (eqb q p)
+            (λ e. rw (eqb-true q p e) (get_or-set_same way p 0 0 (omega arith)))
+            (λ e. let n : q ≡ p → ⊥ = eqb-false q p e in get_or-set_other way p q 0 0 n ∙ A.first q (omega arith) r);
+        kept = λ q m. get_or-set_other way p q 0 0 (λ e. omega arith) ∙ A.kept q (omega arith);
+        rest = λ q m. get_or-set_other way p q 0 0 (λ e. omega arith) ∙ A.rest q m;
+        size = length-set way p 0 ∙ s;
+      }
+
+  pub advanced-at : suc (choice_of way p) < w p → Advanced w P way₀ (set way p (choice_of way p + 1)) (suc p)
+  advanced-at b =
+      let k = A.kept p (omega arith) in
       let s = A.size in
       record {
         within = omega arith;
-        last = λ q m r. on_bool (eqb q (p - 1))
-            (λ e. rw (eqb-true q (p - 1) e) (omega arith))
-            (λ e. let n : q ≡ p - 1 → ⊥ = eqb-false q (p - 1) e in A.last q (omega arith) r);
-        first = λ q m r. on_bool (eqb q (p - 1))
-            (λ e. rw (eqb-true q (p - 1) e) (get_or-set_same way (p - 1) 0 0 (omega arith)))
-            (λ e. let n : q ≡ p - 1 → ⊥ = eqb-false q (p - 1) e in get_or-set_other way (p - 1) q 0 0 n ∙ A.first q (omega arith) r);
-        kept = λ q m. get_or-set_other way (p - 1) q 0 0 (λ e. omega arith) ∙ A.kept q (omega arith);
-        rest = λ q m. get_or-set_other way (p - 1) q 0 0 (λ e. omega arith) ∙ A.rest q m;
-        size = length-set way (p - 1) 0 ∙ s;
-      }
-
-  pub advanced-at : (p : ℕ) → Advancing w P way₀ way p → 0 < p → P ≤ length way₀ → suc (choice_of way (p - 1)) < w (p - 1)
-      → Advanced w P way₀ (set way (p - 1) (choice_of way (p - 1) + 1)) p
-  advanced-at p A h l b =
-      let k = A.kept (p - 1) (omega arith) in
-      let i = A.within in
-      let s = A.size in
-      record {
-        within = i;
         last = A.last;
-        further = λ o e. let z : o ≡ p - 1 = omega arith in rw z (omega arith);
-        moves = λ o e q r. let z : o ≡ p - 1 = omega arith in rw z
-            (on_bool (eqb q (p - 1))
-            (λ t. let f = eqb-true q (p - 1) t in rw f (get_or-set_same way (p - 1) (choice_of way (p - 1) + 1) 0 (omega arith) ∙
-            (let m = moved_at (choice_of way₀) (p - 1) in omega arith)))
-            (λ t. let n : q ≡ p - 1 → ⊥ = eqb-false q (p - 1) t in
-            get_or-set_other way (p - 1) q (choice_of way (p - 1) + 1) 0 n ∙
+        further = λ o e. let z : o ≡ p = omega arith in rw z (omega arith);
+        moves = λ o e q r. let z : o ≡ p = omega arith in rw z
+            (on_bool (eqb q p)
+            (λ t. let f = eqb-true q p t in rw f (get_or-set_same way p (choice_of way p + 1) 0 (omega arith) ∙
+            (let m = moved_at (choice_of way₀) p in omega arith)))
+            (λ t. let n : q ≡ p → ⊥ = eqb-false q p t in
+            get_or-set_other way p q (choice_of way p + 1) 0 n ∙
             on_bool (ltb q p)
-            (λ u. let m = ltb-true q p u in A.kept q m ∙ moved_before (choice_of way₀) (p - 1) q (omega arith))
-            (λ u. let m = ltb-false q p u in A.first q m r ∙ sym (moved-behind (choice_of way₀) (p - 1) q (omega arith)))));
-        kept = λ q m. get_or-set_other way (p - 1) q (choice_of way (p - 1) + 1) 0 (λ e. omega arith) ∙ A.rest q m;
-        size = length-set way (p - 1) _ ∙ s;
+            (λ u. let m = ltb-true q p u in A.kept q (omega arith) ∙ moved_before (choice_of way₀) p q m)
+            (λ u. let m = ltb-false q p u in A.first q (omega arith) r ∙ sym (moved-behind (choice_of way₀) p q (omega arith)))));
+        kept = λ q m. get_or-set_other way p q (choice_of way p + 1) 0 (λ e. omega arith) ∙ A.rest q m;
+        size = length-set way p _ ∙ s;
       }
 
-  pub advanced-none : (p : ℕ) → Advancing w P way₀ way p → p ≤ 0 → Advanced w P way₀ way 0
-  advanced-none p A h = record {
-    within = omega arith;
-    last = λ q m r. A.last q (omega arith) r;
-    further = λ o e. absurd (omega arith);
-    moves = λ o e q r. absurd (omega arith);
-    kept = A.rest;
-    size = A.size;
-  }
+pub advanced-none : {w : ℕ → ℕ} {P : ℕ} {way₀ way : List ℕ} {p : ℕ} → Advancing w P way₀ way p → p ≤ 0 → Advanced w P way₀ way 0
+advanced-none A h = record {
+  within = omega arith;
+  last = λ q m r. A.last q (omega arith) r;
+  further = λ o e. absurd (omega arith);
+  moves = λ o e q r. absurd (omega arith);
+  kept = A.rest;
+  size = A.size;
+}

@@ -74,6 +74,3 @@ counting_more {t} {i} {sum} {r} I e =
     let m = bit-most (twice (gate_at t i)) in
     let o = I.most in
     record { so = rw add-one (let a = twices-append (gates_of t i) (gate_at t i ∷ []) in omega arith); most = omega arith }
-
-pub counting-all : {t : Tables} {count i sum : ℕ} → Counting t i sum → i ≡ count → sum ≡ twices (gates_of t count)
-counting-all {t} I e = I.so ∙ ap (λ (k : ℕ). twices (gates_of t k)) e

@@ -41,11 +41,10 @@ ends-most (e ∷ es) (w ∷ ws) = omega (arith, out-most e w, ends-most es ws)
 
 pub record Ending (code : List ℕ) (from : ℕ) (wanted : List ℕ) (i sum : ℕ) : Type 0 where
   pub so : sum + end_changes (drop (from + i) code) (drop i wanted) ≡ end_changes (drop from code) wanted
-  pub high : i ≤ length wanted
   pub most : sum ≤ i
 
 pub ending-none : (code : List ℕ) (from : ℕ) (wanted : List ℕ) → Ending code from wanted 0 0
-ending-none code from wanted = let z : from + 0 ≡ from = omega arith in record { so = rw z (omega arith); high = omega arith; most = omega arith }
+ending-none code from wanted = let z : from + 0 ≡ from = omega arith in record { so = rw z (omega arith); most = omega arith }
 
 pub ending-more : {code : List ℕ} {from : ℕ} {wanted : List ℕ} {i sum r : ℕ} → Ending code from wanted i sum → i < length wanted
     → from + length wanted ≡ length code → r ≡ output_change (get_or code (from + i) 0) (get_or wanted i 0) → Ending code from wanted (i + 1) (sum + r)
@@ -59,17 +58,15 @@ ending-more {code} {from} {wanted} {i} {sum} {r} I h l e =
     rw (a, b) at I.so in
     let z : from + (i + 1) ≡ suc (from + i) = omega arith in
     let y : i + 1 ≡ suc i = omega arith in
-    record { so = rw (z, y) (omega arith); high = omega arith; most = omega arith }
+    record { so = rw (z, y) (omega arith); most = omega arith }
 
 pub ending-small : {code : List ℕ} {from : ℕ} {wanted : List ℕ} {i sum r : ℕ} → Ending code from wanted i sum → i < length wanted → length wanted < 2 ^ 31
     → r ≡ output_change (get_or code (from + i) 0) (get_or wanted i 0) → sum + r < 2 ^ 32
 ending-small {code} {from} {wanted} {i} I h l q = let m = out-most (get_or code (from + i) 0) (get_or wanted i 0) in let o = I.most in omega arith
 
-pub ending-all : {code : List ℕ} {from : ℕ} {wanted : List ℕ} {i sum : ℕ} → Ending code from wanted i sum → length wanted ≤ i
+pub ending-all : {code : List ℕ} {from : ℕ} {wanted : List ℕ} {sum : ℕ} → Ending code from wanted (length wanted) sum
     → from + length wanted ≡ length code → sum ≡ end_changes (drop from code) wanted
-ending-all {code} {from} {wanted} {i} {sum} I h l =
-    let z : i ≡ length wanted = let k = I.high in omega arith in
-    let c : from + length wanted ≡ length code = l in
-    let s : sum + end_changes (drop (length code) code) (drop (length wanted) wanted) ≡ end_changes (drop from code) wanted = rw (z, c) at I.so in
+ending-all {code} {from} {wanted} {sum} I l =
+    let s : sum + end_changes (drop (length code) code) (drop (length wanted) wanted) ≡ end_changes (drop from code) wanted = rw l at I.so in
     let t : sum + 0 ≡ end_changes (drop from code) wanted = rw (drop-length code) at s in
     omega arith

@@ -208,7 +208,6 @@ done_more {t} {i} {n} {way} {from} {u₀} {b₀} {u} {b} {v} {r} R l h S =
 pub record Walking (t : Tables) (count n : ℕ) (way : List ℕ) (from : ℕ) (u₀ b₀ u b : List ℕ) (i low : ℕ) : Type 0 where
   pub so : Done t i n way from u₀ b₀ u b
   pub after : from ≤ i
-  pub high : i ≤ count
   pub entry : low ≡ get_or b i 0
   pub room : low + (count - i) < 2 ^ 32
 
@@ -223,21 +222,19 @@ walking-more {t} {count} {n} {way} {from} {u₀} {b₀} {u} {b} {v} {i} {low} {r
     record {
       so = rw I.entry (done_more I.so low' (omega arith) S);
       after = omega arith;
-      high = omega arith;
       entry = sym (get_or-set_same b (i + 1) (low + r) 0 (omega arith));
       room = omega arith;
     }
 
 -- the bound is reached
 pub walked-cut : {t : Tables} {count n : ℕ} {way : List ℕ} {from bound : ℕ} {u₀ b₀ u b : List ℕ} {i low : ℕ} → Walking t count n way from u₀ b₀ u b i low
-    → from < i → bound ≤ low → Walked t count n way from bound u₀ b₀ u b i
-walked-cut I f h = let e = I.entry in record { done = I.so; on = λ k. f; low = I.after; high = I.high; cut = λ k. omega arith }
+    → from < i → i ≤ count → bound ≤ low → Walked t count n way from bound u₀ b₀ u b i
+walked-cut I f k h = let e = I.entry in record { done = I.so; on = λ k. f; low = I.after; high = k; cut = λ k. omega arith }
 
 -- all gates are done
 pub walked_all : {t : Tables} {count n : ℕ} {way : List ℕ} {from bound : ℕ} {u₀ b₀ u b : List ℕ} {i low : ℕ} → Walking t count n way from u₀ b₀ u b i low
-    → count ≤ i → Walked t count n way from bound u₀ b₀ u b count
-walked_all {t} {count} {n} {way} {from} {bound} {u₀} {b₀} {u} {b} {i} I h =
-    let e : i ≡ count = let k = I.high in omega arith in
+    → i ≡ count → Walked t count n way from bound u₀ b₀ u b count
+walked_all {t} {count} {n} {way} {from} {bound} {u₀} {b₀} {u} {b} {i} I e =
     let f = I.after in
     record { done = rw e at I.so; on = λ k. k; low = omega arith; high = omega arith; cut = λ k. absurd (omega arith) }
 

@@ -25,8 +25,7 @@ use Rattle.aiger.specs.Delivered.{Delivered}
 use Rattle.aiger.proofs.Reading.{aiger-delivered}
 use Rattle.read_aiger.specs.WholeAnswers.{OneValue, asked_aiger, NetlistAt, NetlistIs}
 use Rattle.read_aiger.specs.declared.read.NetlistNumbers.{NetlistNumbers}
-use Rattle.read_aiger.specs.declared.read.Reading.{Reading}
-use Rattle.read_aiger.specs.declared.read.Reading.TheVariants as R
+use Rattle.netlist.specs.Question.{number_of}
 use Rattle.from_aiger.specs.Promise.{call}
 
 -- the tables' written form is that of the netlist
@@ -50,16 +49,8 @@ file-read o tabs m {e} {x} {r} a d =
     let k : Delivers (write_netlist a.is) e x r = subst (λ (bs : List ℕ). Delivers bs e x r) (form-same a) d in
     answers-as (sym (ap (λ (o : Outcome Netlist). and_then o (rewrite_outcome (length e))) a.outcome)) k.answers
 
-pub file-not : (o : Outcome Netlist) (e : List ℕ) (q : ℕ) → o ≡ refused q → Answers (and_then o (rewrite_outcome (length e))) e e (Err q)
+pub file-not : (o : Outcome Netlist) (e : List ℕ) (q : Question) → o ≡ refused (number_of q) → Answers (and_then o (rewrite_outcome (length e))) e e (Err q)
 file-not o e q n = answers-refused e (ap (λ (o : Outcome Netlist). and_then o (rewrite_outcome (length e))) n)
-
--- the answers of the reader, which was handed the limits of the sizes
-module _ {l L : Limits} (is : l ≡ L) (lengths t : List ℕ) (tabs : Tables) (r : Reading) where
-  pub read_is : (m : NetlistNumbers) → r ≡ R.Done m → NetlistIs (asked_aiger l lengths t) tabs r → NetlistAt (asked_aiger L lengths t) tabs m
-  read_is m e h = subst (λ (k : Limits). NetlistAt (asked_aiger k lengths t) tabs m) is (subst (NetlistIs (asked_aiger l lengths t) tabs) e h)
-
-  pub read-not : (q : ℕ) → r ≡ R.Refused q → NetlistIs (asked_aiger l lengths t) tabs r → asked_aiger L lengths t ≡ refused q
-  read-not q e h = subst (λ (k : Limits). asked_aiger k lengths t ≡ refused q) is (subst (NetlistIs (asked_aiger l lengths t) tabs) e h)
 
 -- what the reader requires of the limits of the sizes
 pub one_value : (s : Sizes) → OneValue (small s)

@@ -1,39 +1,25 @@
--- The entries of a list that were looked at, and its length.
-use Prim.Native.Nat.{ℕ, ◌+◌, ◌≤◌, ◌<◌}
-use mathlib.Core.Path.{◌≡◌, refl, sym, ap, ◌∙◌}
-use mathlib.Core.Bool.{Bool, true, false, ◌&&◌}
-use mathlib.Core.List.{List}
-use native.Mathlib.Numerals.{add-one}
-use native.Mathlib.Omega.{arith}
-use lib.ListN.{length, drop, get_or, drop_of_length-le}
-use lib.Seq.{drop-cons}
+-- A test of every entry of a list, and of its length.
+use Rattle.std.proofs.Common.{◌≡◌, ℕ, suc, ◌≤◌, arith, Bool, true, false, List, [], ◌∷◌, length, get_or, eqb, IsTrue, EachIndex, refl, sym}
+use Rattle.std.proofs.lemmas.Bool.{le-leb, leb-true, both_ways, false_from_ne_true}
 use borrow.Author.Tests.{eq-eqb, ne_eqb}
 use Rattle.netlist.specs.Lists.{every}
 use Rattle.netlist.specs.Services.{list_good}
+use Rattle.netlist.proofs.Tests.{is_true, true-T, every-at}
+use Rattle.lists.specs.Range.{up_to}
 
--- the first i entries pass a test
-pub record Passing (p : ℕ → Bool) (s : List ℕ) (i : ℕ) : Type 0 where
-  pub passed : i ≤ length s
-  pub left : every p s ≡ every p (drop i s)
+every-up_to : (m : ℕ) (s : List ℕ) → EachIndex s (λ k. get_or s k 0 ≤ m) → every (up_to m) s ≡ true
+every-up_to m [] h = refl
+every-up_to m (x ∷ s) h = rw (le-leb x m (h 0 (omega arith))) (every-up_to m s (λ k l. h (suc k) (omega arith)))
 
-pub passing-none : (p : ℕ → Bool) (s : List ℕ) → Passing p s 0
-passing-none p s = record { passed = omega arith; left = refl }
-
-module _ {p : ℕ → Bool} {s : List ℕ} {i : ℕ} (f : Passing p s i) where
-  next : i < length s → every p s ≡ (p (get_or s i 0) && every p (drop (i + 1) s))
-  next h = f.left ∙ rw (drop-cons s i 0) (rw add-one refl)
-
-  pub passing-more : i < length s → p (get_or s i 0) ≡ true → Passing p s (i + 1)
-  passing-more h e = record { passed = omega arith; left = next h ∙ rw e refl }
-
-  pub passing-fails : i < length s → p (get_or s i 0) ≡ false → false ≡ every p s
-  passing-fails h e = sym (next h ∙ rw e refl)
-
-  pub passing-all : length s ≤ i → true ≡ every p s
-  passing-all h = sym (f.left ∙ ap (every p) (drop_of_length-le s h))
+-- a test that is true where each entry is in the range
+pub every-from_iff : (m : ℕ) (s : List ℕ) (r : Bool) → (IsTrue r → EachIndex s (λ k. get_or s k 0 ≤ m))
+    → (EachIndex s (λ k. get_or s k 0 ≤ m) → IsTrue r) → r ≡ every (up_to m) s
+every-from_iff m s true f g = sym (every-up_to m s (f refl))
+every-from_iff m s false f g =
+    sym (false_from_ne_true _ (λ e. both_ways false refl (g (λ k l. leb-true _ m (is_true _ (every-at (up_to m) s (true-T _ e) k l))))))
 
 -- a list's length and its entries
-pub list-short : (p : ℕ → Bool) (n : ℕ) (s : List ℕ) → (length s ≡ n → ⊥) → false ≡ list_good p n s
+pub list-short : (p : ℕ → Bool) (n : ℕ) (s : List ℕ) → (length s ≡ n → ⊥) → eqb (length s) n ≡ list_good p n s
 list-short p n s h = rw (ne_eqb (length s) n h)
 
 pub list-good : (p : ℕ → Bool) (n : ℕ) (s : List ℕ) {r : Bool} → length s ≡ n → r ≡ every p s → r ≡ list_good p n s

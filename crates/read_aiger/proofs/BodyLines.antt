@@ -1,6 +1,6 @@
 -- Outputs that the end of a table keeps, and outputs that have marks.
 use Prim.Native.Nat.{ℕ, ◌+◌, ◌-◌, ◌≤◌, ◌<◌}
-use mathlib.Core.Path.{◌≡◌, refl, sym, ap, ◌∙◌, subst}
+use mathlib.Core.Path.{◌≡◌, refl, ap, ◌∙◌, subst}
 use mathlib.Core.Bool.{true, false}
 use mathlib.Core.List.{List, [], ◌++◌, map}
 use mathlib.Core.Option.{some}
@@ -10,16 +10,16 @@ use borrow.Rule.Slice.PartMut.{mid_of, put_mid}
 use Rattle.netlist.specs.Lists.{every}
 use Rattle.netlist.specs.Table.{Tables, tables}
 use Rattle.aiger.specs.File.{Literal, literal, File}
-use Rattle.aiger.specs.Lines.{Head, output_line, formed, file_lines, file}
+use Rattle.aiger.specs.Lines.{Head, file_lines, file}
 use Rattle.aiger.specs.Rules.{readable, giving, rules_kept}
 use Rattle.aiger.specs.Made.{build}
 use Rattle.aiger_gates.specs.Places.{Places, Standing}
 use Rattle.aiger_ands.specs.StepAnswers.{InputsAt}
 use Rattle.aiger_ands.specs.AndAnswers.{AndsAt}
-use Rattle.aiger_outputs.specs.OutAnswers.{LiteralsAt, Low, OutputsIs, PutOut, MarksAt}
+use Rattle.aiger_outputs.specs.OutAnswers.{LiteralsAt, OutputsIs, PutOut, MarksAt}
 use Rattle.read_aiger.specs.WholeAnswers.{LinesAt}
-use Rattle.read_aiger.proofs.TableEnd.{kept-long, both_long, both-kept, both-front}
-use Rattle.read_aiger.proofs.WholeLines.{input_wires, lines-no-outputs, lines-no-outs, lines-made, lines-large}
+use Rattle.read_aiger.proofs.TableEnd.{kept-long, both-kept, both-front}
+use Rattle.read_aiger.proofs.WholeLines.{input_wires, lines-no-outs, lines-made, lines-large}
 
 -- ---- literals at the end of the table of results
 
@@ -37,11 +37,6 @@ module _ (H : Head) (t r kept : List ℕ) (at : ℕ) (fits : H.outputs ≤ lengt
   all-kept : length kept ≡ H.outputs
   all-kept = let l = kept-long r kept room inside long in omega arith
 
-  pub kept-no-outputs : (ls : List (List (List ℕ))) {table : List ℕ} → InputsAt ls t H.inputs H.most table at
-      → ((xs : List Literal) → formed output_line (length kept) (file_lines (drop at t)) ≡ some xs → ⊥)
-      → (F : File) → file H ls ≡ some F → rules_kept F ≡ true → ⊥
-  kept-no-outputs ls A bad = lines-no-outputs H ls t A (λ xs e. bad xs (ap (λ (k : ℕ). formed output_line k (file_lines (drop at t))) all-kept ∙ e))
-
   pub kept-literals : {to : ℕ} → LiteralsAt (file_lines (drop at t)) t (length kept) (map literal kept) to
       → LiteralsAt (file_lines (drop at t)) t H.outputs (map literal kept) to
   kept-literals {to} B = subst (λ (k : ℕ). LiteralsAt (file_lines (drop at t)) t k (map literal kept) to) all-kept B
@@ -52,12 +47,6 @@ module _ (H : Head) (t r kept : List ℕ) (at : ℕ) (fits : H.outputs ≤ lengt
 
     behind : drop room whole ≡ kept
     behind = both-kept r kept room inside long front same
-
-    pub whole-inside : room ≤ length whole
-    whole-inside = let l = both_long r kept room inside long front same in omega arith
-
-    pub whole-low : Low kept → Low (drop room whole)
-    whole-low l = subst Low (sym behind) l
 
     pub whole-outputs : length (drop room whole) ≡ H.outputs
     whole-outputs = ap length behind ∙ all-kept

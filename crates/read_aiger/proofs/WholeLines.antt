@@ -1,6 +1,6 @@
 -- From the lines of each kind to the file, and to the netlist made.
 use Prim.Native.Nat.{ℕ, suc, ◌+◌, ◌≤◌, ◌<◌}
-use mathlib.Core.Path.{◌≡◌, refl, sym, ap, ◌∙◌, subst}
+use mathlib.Core.Path.{◌≡◌, refl, sym, ap, ◌∙◌}
 use mathlib.Core.Bool.{true, false, not, ◌&&◌}
 use mathlib.Core.List.{List, [], ◌∷◌, ◌++◌, map}
 use mathlib.Core.Option.{some}
@@ -15,7 +15,7 @@ use Rattle.netlist.specs.Netlist.{Netlist}
 use Rattle.netlist.specs.Table.{Tables}
 use Rattle.netlist.proofs.Tests.{on_bool, both_true, true-T}
 use Rattle.netlist.proofs.Questions.{some_same}
-use Rattle.aiger.specs.File.{Literal, literal, AndLine, File}
+use Rattle.aiger.specs.File.{Literal, AndLine, File}
 use Rattle.aiger.specs.Lines.{Head, input_line, output_line, and_form, formed, file_lines, file}
 use Rattle.aiger.specs.Rules.{readable, fresh, giving, fresh_all, and_good, ands_good, inputs_given, all_given, rules_kept}
 use Rattle.aiger.specs.Outputs.{enter, blank}
@@ -24,15 +24,10 @@ use Rattle.aiger.proofs.Forms.{formed-length, Formed, file-formed, formed-file}
 use Rattle.aiger.proofs.Making.{good_and, length-enter, inputs-located}
 use Rattle.aiger_gates.specs.Places.{Keeps, Standing}
 use Rattle.aiger_gates.proofs.Placing.{not_so}
-use Rattle.aiger_ands.specs.StepAnswers.{InputsAt, InputsIs}
-use Rattle.aiger_ands.specs.AndAnswers.{AndsAt, AndsIs}
-use Rattle.aiger_outputs.specs.OutAnswers.{LiteralsAt, Low, KeptIs, UpTo, MarksAt, MarksIs}
+use Rattle.aiger_ands.specs.StepAnswers.{InputsAt}
+use Rattle.aiger_ands.specs.AndAnswers.{AndsAt}
+use Rattle.aiger_outputs.specs.OutAnswers.{LiteralsAt, UpTo}
 use Rattle.read_aiger.specs.WholeAnswers.{LinesAt}
-use Rattle.aiger_ands.specs.declared.inputs.Step.{Step}
-use Rattle.aiger_ands.specs.declared.inputs.Step.TheVariants as S
-use Rattle.aiger_ands.specs.declared.ands.AndStep.{AndStep}
-use Rattle.aiger_ands.specs.declared.ands.AndStep.TheVariants as A
-use Rattle.read_text.specs.declared.cursor.Cursor.{Cursor}
 
 -- the rules, one kind of line after another
 rules-apart : (F : File) → rules_kept F ≡ true
@@ -70,13 +65,6 @@ abbrev pub input_wires : ℕ → ℕ → List ℕ → List ℕ
 input_wires M n vs = enter (replicate (M + 1) 0) vs (up_from 0 n)
 
 module _ (H : Head) (ls : List (List (List ℕ))) (t : List ℕ) where
-  -- no such inputs
-  pub lines-no-inputs : ((vs : List ℕ) → formed input_line H.inputs ls ≡ some vs → fresh_all H.most [] vs ≡ true → ⊥)
-      → (F : File) → file H ls ≡ some F → rules_kept F ≡ true → ⊥
-  lines-no-inputs bad F e r =
-      let f = file-formed H ls F e in
-      bad F.inputs f.inputs (ap (λ (m : ℕ). fresh_all m [] F.inputs) (sym f.most) ∙ (rules-apart F r).0)
-
   module _ {table : List ℕ} {to : ℕ} (A : InputsAt ls t H.inputs H.most table to) where
     abbrev given : List ℕ
     given = giving [] A.are
@@ -196,34 +184,3 @@ module _ (H : Head) (ls : List (List (List ℕ))) (t : List ℕ) where
         -- gates that are more than a table has room for
         pub lines-large : {u : Tables} → true ≡ every (readable given₁) outs → length u.results < k + H.outputs → LinesAt H ls u (k + H.outputs)
         lines-large good h = lines-made good (λ a b. absurd (omega (arith, h, b, gates-many)))
-
--- ---- the answers
-
-module _ (ls : List (List (List ℕ))) (t : List ℕ) (count M : ℕ) (table : List ℕ) (r : Step) where
-  pub inputs-is : (c : Cursor) → r ≡ S.On c → InputsIs ls t count M table r → InputsAt ls t count M table c.at
-  inputs-is c e h = subst (InputsIs ls t count M table) e h
-
-  pub inputs-not : r ≡ S.Not → InputsIs ls t count M table r → (vs : List ℕ) → formed input_line count ls ≡ some vs → fresh_all M [] vs ≡ true → ⊥
-  inputs-not e h = subst (InputsIs ls t count M table) e h
-
-module _ (ls : List (List (List ℕ))) (t kept : List ℕ) (r : Step) where
-  pub kept-is : (c : Cursor) → r ≡ S.On c → KeptIs ls t kept r → LiteralsAt ls t (length kept) (map literal kept) c.at × Low kept
-  kept-is c e h = subst (KeptIs ls t kept) e h
-
-  pub kept-not : r ≡ S.Not → KeptIs ls t kept r → (xs : List Literal) → formed output_line (length kept) ls ≡ some xs → ⊥
-  kept-not e h = subst (KeptIs ls t kept) e h
-
-module _ (ls : List (List (List ℕ))) (t : List ℕ) (lines M : ℕ) (marks : List ℕ) (r : Step) where
-  pub marks-are : (c : Cursor) → r ≡ S.On c → MarksIs ls t lines M marks r → MarksAt ls t lines M marks c.at
-  marks-are c e h = subst (MarksIs ls t lines M marks) e h
-
-  pub marks-not : r ≡ S.Not → MarksIs ls t lines M marks r
-      → (xs : List Literal) → formed output_line lines ls ≡ some xs → (given : List ℕ) → UpTo M given → every (readable given) xs ≡ true → ⊥
-  marks-not e h = subst (MarksIs ls t lines M marks) e h
-
-module _ (ls : List (List (List ℕ))) (t : List ℕ) (lines M n : ℕ) (given wires table : List ℕ) (tabs : Tables) (r : AndStep) where
-  pub ands-is : (k : ℕ) (c : Cursor) → r ≡ A.On k c → AndsIs ls t lines M n given wires table tabs r → AndsAt ls t lines M n given wires table tabs k c.at
-  ands-is k c e h = subst (AndsIs ls t lines M n given wires table tabs) e h
-
-  pub ands_not : r ≡ A.Not → AndsIs ls t lines M n given wires table tabs r → (xs : List AndLine) → formed and_form lines ls ≡ some xs → ands_good M given xs ≡ true → ⊥
-  ands_not e h = subst (AndsIs ls t lines M n given wires table tabs) e h

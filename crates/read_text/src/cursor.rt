@@ -56,7 +56,7 @@ fn is_three_bytes(text: &[u8], at: usize) -> bool
 
 impl Cursor {
     // Past the bytes that pass a test.
-    fn pass<F: Fn(u8) -> bool>(self, text: &[u8], test: F) -> Self
+    pub fn pass<F: Fn(u8) -> bool>(self, text: &[u8], test: F) -> Self
         requires in_bounds { self.at ≤ length text.now }
         requires callable { F.IsAlwaysCallable test }
         ensures { (p : ℕ → Bool) → ((b : ℕ) (r : Bool) → F.post test b r → r ≡ p b) → Scanned p text.now self.at result.at }

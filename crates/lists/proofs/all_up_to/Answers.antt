@@ -1,16 +1,9 @@
--- `all_up_to`: the first i entries are in the range.
-use borrow.Author.Tests.{le-leb, lt-leb}
-use Rattle.lists.proofs.Ranges.{passing-none, passing-more, passing-fails, passing-all}
+-- `all_up_to`: every entry is in the range.
+use Rattle.std.proofs.Common.{rules, ◌≤◌, ◌↔◌, IsTrue, EachIndex, get_or}
+use Rattle.lists.proofs.Ranges.{every-from_iff}
 use Rattle.lists.proofs.all_up_to.Goals as goal
 
-pub loop-i-init : goal.loop-i-init
-loop-i-init c = passing-none _ _
-
-pub returns-then-most-list : goal.returns-then-most-list
-returns-then-most-list c = passing-fails c.loop-i.invariant c.loop-i-test.true (lt-leb _ _ c.if-most-list.true)
-
-pub loop-i-preserved : goal.loop-i-preserved
-loop-i-preserved c = passing-more c.loop-i.invariant c.loop-i-test.true (le-leb _ _ c.if-most-list.false)
-
 pub returns : goal.returns
-returns c = passing-all c.loop-i.invariant c.loop-i-test.false
+returns c =
+    let h : IsTrue c.all.result ↔ EachIndex c.args.list.now (λ k. get_or c.args.list.now k 0 ≤ c.args.most) = search rules in
+    every-from_iff _ _ _ h.0 h.1

@@ -1,11 +1,7 @@
--- The first i numbers of the line are in the table.
-use Prim.Native.Nat.{◌-◌}
+-- The numbers before the entry are in the table.
 use lib.ListN.{length}
 use Rattle.aiger_lines.proofs.NumberLines.{Numbering}
 use Rattle.aiger_lines.proofs.numbers.line_numbers.Given as goal
 
-abbrev pub invariant-loop-i : goal.invariant-loop-i
-invariant-loop-i l = Numbering l.text l.initial.p (length l.initial.into) l.into l.p l.i
-
-abbrev pub decreases-loop-i : goal.decreases-loop-i
-decreases-loop-i l = length l.initial.into - l.i
+abbrev pub invariant-loop-entry : goal.invariant-loop-entry
+invariant-loop-entry l = Numbering l.text l.fn.at.at (length l.fn.into) l.into l.p.at l.entry-index

@@ -2,9 +2,6 @@
 use Rattle.aiger_lines.proofs.NumberLines.{next-line}
 use Rattle.aiger_lines.proofs.numbers.next_numbers.Goals as goal
 
-pub line_numbers-requires : goal.line_numbers-requires
-line_numbers-requires c = c.to_word.ensures.before
-
 pub returns : goal.returns
 returns c =
     next-line _ _ _ c.to_word.ensures _ c.line_numbers.new.into

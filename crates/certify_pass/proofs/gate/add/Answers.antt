@@ -1,5 +1,4 @@
 -- `certify_pass::gate::add` meets its contract.
-use mathlib.Core.Path.{refl}
 use Rattle.certify_pass.proofs.gate.add.Goals as goal
 
 pub returns-then-marks-w-eq1 : goal.returns-then-marks-w-eq1
@@ -9,7 +8,7 @@ pub returns-then-clean : goal.returns-then-clean
 returns-then-clean c = λ N codes K H.
     record {
       known = c.keep.ensures N codes H.known K;
-      marked = c.mark.ensures.0 refl N codes (c.clean.ensures N codes _ H.marked K
+      marked = c.mark.ensures N codes (c.clean.ensures N codes _ H.marked K
           c.if-clean.true) H.marked;
     }
 

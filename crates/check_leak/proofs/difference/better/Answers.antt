@@ -1,13 +1,9 @@
 -- `check_leak::difference::better` meets its contract.
-use native.Mathlib.Omega.{arith}
 use Rattle.check_leak.proofs.Differences.{difference-lower, difference-kept}
 use Rattle.check_leak.proofs.difference.better.Goals as goal
 
-pub overflow_add-result : goal.overflow_add-result
-overflow_add-result c = omega (arith, c.requires.1 c.if-found-best.true)
+pub returns-in-Some : goal.returns-in-Some
+returns-in-Some c f g W past next = difference-lower c.args.best past c.in-Some.leak (rw c.in-Some.is at next)
 
-pub returns-then-found-best : goal.returns-then-found-best
-returns-then-found-best c f g W past next = difference-lower past next c.if-found-best.true
-
-pub returns-else-found-best : goal.returns-else-found-best
-returns-else-found-best c f g W past next = difference-kept past next c.if-found-best.false
+pub returns-in-None : goal.returns-in-None
+returns-in-None c f g W past next = difference-kept c.args.best past (rw c.in-None.is at next)

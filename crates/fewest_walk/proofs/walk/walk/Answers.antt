@@ -1,5 +1,5 @@
 -- `walk::walk`: the gates from one on up to gate i are done.
-use mathlib.Core.Path.{refl}
+use mathlib.Core.Path.{◌≡◌, refl}
 use Rattle.fewest_walk.proofs.Walking.{stepped-small, done_none, walking-more, walked-cut, walked_all}
 use native.Mathlib.Omega.{arith}
 use Rattle.fewest_walk.proofs.walk.walk.Goals as goal
@@ -11,7 +11,6 @@ pub loop-i-init : goal.loop-i-init
 loop-i-init c = record {
   so = done_none _ _ _ _ _ _;
   after = omega arith;
-  high = c.requires.count_in_bounds.2;
   entry = refl;
   room = omega (arith, c.requires.count_in_bounds.3);
 }
@@ -58,7 +57,7 @@ returns-then-bound-low c =
     c.loop-i-test.true
     c.requires.count_in_bounds.1
     c.step-low.ensures in
-    walked-cut I (omega (arith, c.loop-i.invariant.after)) c.if-bound-low.true
+    walked-cut I (omega (arith, c.loop-i.invariant.after)) (omega arith) c.if-bound-low.true
 
 pub loop-i-preserved : goal.loop-i-preserved
 loop-i-preserved c =
@@ -74,4 +73,4 @@ pub shape_of-lows : goal.shape_of-lows
 shape_of-lows c = c.loop-i.invariant.so.low_length
 
 pub returns : goal.returns
-returns c = walked_all c.loop-i.invariant c.loop-i-test.false
+returns c = let e : c.loop-i.i ≡ c.args.count = omega arith in walked_all c.loop-i.invariant e
