@@ -6,7 +6,6 @@ use mathlib.Core.Bool.{Bool, true, false}
 use mathlib.Core.List.{List, [], ◌∷◌, ◌++◌}
 use native.Mathlib.Omega.{arith}
 use lib.ListN.{length, take}
-use Rattle.netlist.specs.declared.Limits.{Limits}
 use Rattle.netlist.specs.declared.Sizes.{Sizes}
 use Rattle.netlist.specs.declared.Question.{Question}
 use Rattle.netlist.specs.Netlist.{Netlist, small}
@@ -23,7 +22,7 @@ use Rattle.write_netlist.specs.Form.{form_text}
 use Rattle.aiger.specs.Call.{read_aiger, aiger_call}
 use Rattle.aiger.specs.Delivered.{Delivered}
 use Rattle.aiger.proofs.Reading.{aiger-delivered}
-use Rattle.read_aiger.specs.WholeAnswers.{OneValue, asked_aiger, NetlistAt, NetlistIs}
+use Rattle.read_aiger.specs.WholeAnswers.{OneValue, asked_aiger, NetlistAt}
 use Rattle.read_aiger.specs.declared.read.NetlistNumbers.{NetlistNumbers}
 use Rattle.netlist.specs.Question.{number_of}
 use Rattle.from_aiger.specs.Promise.{call}
