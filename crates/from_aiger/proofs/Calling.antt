@@ -6,6 +6,7 @@ use mathlib.Core.Bool.{Bool, true, false}
 use mathlib.Core.List.{List, [], ◌∷◌, ◌++◌}
 use native.Mathlib.Omega.{arith}
 use lib.ListN.{length, take}
+use Rattle.netlist.specs.declared.Limits.{Limits}
 use Rattle.netlist.specs.declared.Sizes.{Sizes}
 use Rattle.netlist.specs.declared.Question.{Question}
 use Rattle.netlist.specs.Netlist.{Netlist, small}
@@ -50,6 +51,10 @@ file-read o tabs m {e} {x} {r} a d =
 
 pub file-not : (o : Outcome Netlist) (e : List ℕ) (q : Question) → o ≡ refused (number_of q) → Answers (and_then o (rewrite_outcome (length e))) e e (Err q)
 file-not o e q n = answers-refused e (ap (λ (o : Outcome Netlist). and_then o (rewrite_outcome (length e))) n)
+
+-- a refusal of the reader, which was handed the limits of the sizes
+pub asked-not : {l L : Limits} (lengths t : List ℕ) {q : ℕ} → l ≡ L → asked_aiger l lengths t ≡ refused q → asked_aiger L lengths t ≡ refused q
+asked-not lengths t {q} is e = subst (λ (k : Limits). asked_aiger k lengths t ≡ refused q) is e
 
 -- what the reader requires of the limits of the sizes
 pub one_value : (s : Sizes) → OneValue (small s)
