@@ -86,7 +86,6 @@ fn answer(
     let l = sizes.small();
     let mut inputs = [0u32; 17];
     let mut outputs = [0u32; 16];
-    let shortest = marks.len();
     let h = read(
         text,
         &mut inputs,
@@ -94,7 +93,7 @@ fn answer(
         operands,
         results,
         marks,
-        shortest,
+        &[],
         l,
     )?;
     deliver(wires, out_codes, h, codes, operands, results)
