@@ -11,6 +11,8 @@ use Rattle.netlist.specs.declared.Gate.{Gate}
 use Rattle.netlist.specs.declared.Limits.{Limits}
 use Rattle.netlist.specs.declared.Sizes.{Sizes}
 use Rattle.netlist.specs.declared.Question.{Question}
+use Rattle.netlist.specs.declared.Question.TheVariants as Q
+use Rattle.netlist.specs.Question.{number_of}
 use Rattle.netlist.specs.Netlist.{Netlist, large}
 use Rattle.netlist.specs.Outcome.{Outcome, refused, done, ask, and_then}
 use Rattle.netlist.specs.Write.{write_netlist, gate_text}
@@ -74,7 +76,7 @@ module _ (to : Dialect) (gs : List Gate) (ins outs : List ℕ) {i o : ℕ} {r : 
     fronts = ap₂ (has_form to gs) (length-take-le i ins p) (length-take-le o outs q) ∙ sym f
 
     pub form-not : (rest : Outcome (List ℕ)) (e : List ℕ) → r ≡ false
-        → Answers (ask 15 (has_form to gs (length (take i ins)) (length (take o outs))) rest) e e (Err 15)
+        → Answers (ask 15 (has_form to gs (length (take i ins)) (length (take o outs))) rest) e e (Err Q.OldForm)
     form-not rest e n = answers-refused e (ap (λ (b : Bool). ask 15 b rest) (fronts ∙ n))
 
     pub form-yes : {e x bs : List ℕ} {a : Result ℕ Question} → r ≡ true → Delivers bs e x a
@@ -83,8 +85,8 @@ module _ (to : Dialect) (gs : List Gate) (ins outs : List ℕ) {i o : ℕ} {r : 
 
 module _ (from to : Dialect) (s : Sizes) (text out o r g : List ℕ) where
   -- questions 1 to 9, and then 15 and 14
-  pub call-not : {q : ℕ}
-      → ask 1 (tables_long (large s) (length o ∷ length r ∷ length g ∷ length g ∷ [])) (read_in from (large s) text) ≡ refused q
+  pub call-not : {q : Question}
+      → ask 1 (tables_long (large s) (length o ∷ length r ∷ length g ∷ length g ∷ [])) (read_in from (large s) text) ≡ refused (number_of q)
       → Answers (call from to s text out o r g) out out (Err q)
   call-not p =
       let e = asked-again (large s) (length o) (length r) (length g) in
