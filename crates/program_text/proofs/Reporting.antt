@@ -10,7 +10,7 @@ use borrow.Author.Tests.{le-leb}
 use Rattle.netlist.specs.Number.{digits, decimal}
 use Rattle.netlist.specs.declared.Question.{Question}
 use Rattle.netlist.specs.Outcome.{Outcome, refused, done}
-use Rattle.netlist.specs.Services.{outcome_of, answer_of, Answers}
+use Rattle.netlist.specs.Services.{outcome_of, Counts, Answers}
 use Rattle.netlist.specs.Programs.{readable, print_refused, file_limit}
 use Rattle.netlist.proofs.Tests.{clash, on_bool}
 use Rattle.netlist.proofs.Questions.{done-same}
@@ -25,7 +25,7 @@ readable-short file o h = rw (le-leb (length file) file_limit h)
 
 -- ---- a service's answer
 
-counted-done : (o : Outcome (List ℕ)) (x : List ℕ) {a : Result ℕ Question} (n : ℕ) → a ≡ answer_of o → outcome_of x a ≡ o → a ≡ Ok n → n ≤ length x
+counted-done : (o : Outcome (List ℕ)) (x : List ℕ) {a : Result ℕ Question} (n : ℕ) → Counts o a → outcome_of x a ≡ o → a ≡ Ok n → n ≤ length x
 counted-done (refused q) x n p e d = clash (cc)
 counted-done (done bytes) x n p e d =
     let same : n ≡ length bytes = cc in

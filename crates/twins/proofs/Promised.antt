@@ -7,6 +7,7 @@ use mathlib.Core.List.{List, [], ◌∷◌, map}
 use lib.ListN.{length, take}
 use Rattle.netlist.specs.declared.Sizes.{Sizes}
 use Rattle.netlist.specs.declared.Question.{Question}
+use Rattle.netlist.specs.Question.{number_of}
 use Rattle.netlist.specs.declared.Twin.{Twin}
 use Rattle.netlist.specs.Netlist.{Netlist, input_bits, small}
 use Rattle.netlist.specs.Outcome.{refused, done, ask}
@@ -34,7 +35,7 @@ module _ (s : Sizes) (text codes wires out_codes o r g : List ℕ) where
   lengths = length o ∷ length r ∷ length g ∷ []
 
   -- questions 1 to 9, and then 11 and 14
-  pub call-not : {q : ℕ} → ask 1 (tables_long (small s) (length o ∷ length r ∷ length g ∷ length g ∷ [])) (read_netlist (small s) text) ≡ refused q
+  pub call-not : {q : Question} → ask 1 (tables_long (small s) (length o ∷ length r ∷ length g ∷ length g ∷ [])) (read_netlist (small s) text) ≡ refused (number_of q)
       → TwinsAnswers (call s text codes wires out_codes o r g) wires wires out_codes out_codes (Err q)
   unfolding twins_call
   call-not p =
