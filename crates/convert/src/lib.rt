@@ -89,7 +89,6 @@ fn answer(
 {
     let mut inputs = [0u32; 17];
     let mut outputs = [0u32; 16];
-    let shortest = marks.len();
     let h = read_netlist::read::read_in(
         text,
         &mut inputs,
@@ -97,7 +96,7 @@ fn answer(
         operands,
         results,
         marks,
-        shortest,
+        &[],
         sizes.large(),
         from,
     )?;
