@@ -63,7 +63,7 @@ fn answer(
         operands,
         results,
         marks,
-        words.len(),
+        &[words.len()],
         sizes.large(),
     )?;
     evaluate(out, list, h, operands, results, words)
