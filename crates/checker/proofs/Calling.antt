@@ -1,5 +1,7 @@
 -- From a netlist that was read, and judged, to Check's promise.
 use Prim.Native.Nat.{ℕ, ◌-◌, min}
+use Rattle.std.specs.Prelude as std
+use Rattle.std.specs.Prelude.{Result, Ok, Err}
 use mathlib.Core.Path.{◌≡◌, refl, sym, ap, ◌∙◌}
 use mathlib.Core.Bool.{Bool, true, false, ◌&&◌}
 use mathlib.Core.List.{List, [], ◌∷◌}
@@ -8,6 +10,7 @@ use native.Mathlib.Omega.{arith}
 use lib.Dec.{leb}
 use lib.ListN.{length, take}
 use borrow.Author.Tests.{le-leb, lt-leb, leb-true, leb-false}
+use Rattle.netlist.specs.declared.Question.{Question}
 use Rattle.netlist.specs.declared.Limits.{Limits}
 use Rattle.netlist.specs.declared.Sizes.{Sizes}
 use Rattle.netlist.specs.Lists.{sum}
@@ -23,9 +26,9 @@ use Rattle.netlist.proofs.Questions.{done-same, ask-done}
 use Rattle.netlist.proofs.LeakSearch.{none-clean, found-lowest}
 use Rattle.read_header.specs.declared.HeaderNumbers.{HeaderNumbers}
 use Rattle.read_netlist.specs.Whole.{ReadAt}
-use Rattle.check_netlist.specs.declared.Checked.{Checked}
-use Rattle.check_netlist.specs.declared.Checked.TheVariants.{Clean, Leak, Refused}
-use Rattle.check_netlist.specs.Judge.{found, outcome_of, Judged}
+use Rattle.check_leak.specs.declared.difference.Leak.{Leak}
+use Rattle.check_leak.specs.Search.{found}
+use Rattle.check_netlist.specs.Judge.{outcome_of, Judged}
 use Rattle.checker.specs.Promise.{call}
 
 -- the input bits are those of the widths read
@@ -91,9 +94,9 @@ module _ (s : Sizes) (text codes o r g w b : List ℕ) where
       outcome-leak N codes f (sym (ap (λ (u : Outcome Netlist). and_then u (check_outcome codes)) read) ∙ one)
 
   -- the answer follows the equal-count rule
-  pub call-judged : (a : Checked) → outcome_of a ≡ call s text codes o r g w b → (N : Netlist) → read_netlist (large s) text ≡ done N → Judged N codes a
-  call-judged Clean e N read = none-clean N codes (answer-leak N none read e)
-  call-judged (Leak l j z k) e N read =
-      let f = found-lowest N codes (found l j z k) (answer-leak N (some (found l j z k)) read e) in
-      (f, λ clean. f.breaks (clean l f.wire))
-  call-judged (Refused q) e N read = tt
+  pub call-judged : (a : Result (std.Option Leak) Question) → outcome_of a ≡ call s text codes o r g w b → (N : Netlist) → read_netlist (large s) text ≡ done N → Judged N codes a
+  call-judged (Ok std.None) e N read = none-clean N codes (answer-leak N none read e)
+  call-judged (Ok (std.Some p)) e N read =
+      let f = found-lowest N codes (found p) (answer-leak N (some (found p)) read e) in
+      (f, λ clean. f.breaks (clean p.wire f.wire))
+  call-judged (Err q) e N read = tt

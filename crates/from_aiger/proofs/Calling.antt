@@ -23,7 +23,7 @@ use Rattle.write_netlist.specs.Form.{form_text}
 use Rattle.aiger.specs.Call.{read_aiger, aiger_call}
 use Rattle.aiger.specs.Delivered.{Delivered}
 use Rattle.aiger.proofs.Reading.{aiger-delivered}
-use Rattle.read_aiger.specs.WholeAnswers.{OneValue, asked_aiger, NetlistAt, NetlistIs}
+use Rattle.read_aiger.specs.WholeAnswers.{OneValue, asked_aiger, NetlistAt}
 use Rattle.read_aiger.specs.declared.read.NetlistNumbers.{NetlistNumbers}
 use Rattle.netlist.specs.Question.{number_of}
 use Rattle.from_aiger.specs.Promise.{call}
@@ -51,6 +51,10 @@ file-read o tabs m {e} {x} {r} a d =
 
 pub file-not : (o : Outcome Netlist) (e : List ℕ) (q : Question) → o ≡ refused (number_of q) → Answers (and_then o (rewrite_outcome (length e))) e e (Err q)
 file-not o e q n = answers-refused e (ap (λ (o : Outcome Netlist). and_then o (rewrite_outcome (length e))) n)
+
+-- a refusal of the reader, which was handed the limits of the sizes
+pub asked-not : {l L : Limits} (lengths t : List ℕ) {q : ℕ} → l ≡ L → asked_aiger l lengths t ≡ refused q → asked_aiger L lengths t ≡ refused q
+asked-not lengths t {q} is e = subst (λ (k : Limits). asked_aiger k lengths t ≡ refused q) is e
 
 -- what the reader requires of the limits of the sizes
 pub one_value : (s : Sizes) → OneValue (small s)

@@ -1,7 +1,9 @@
 -- The file read, and its netlist's text.
+use mathlib.Core.List.{[], ◌∷◌}
+use lib.ListN.{length}
 use Rattle.netlist.specs.Table.{tables}
 use Rattle.std.proofs.lemmas.Result.{err_from_is_err_and}
-use Rattle.from_aiger.proofs.Calling.{file-read, file-not, one_value, call-read}
+use Rattle.from_aiger.proofs.Calling.{file-read, file-not, asked-not, one_value, call-read}
 use Rattle.from_aiger.proofs.answer.Goals as goal
 
 pub read-requires : goal.read-requires
@@ -12,7 +14,8 @@ returns-in_err-m c =
     let s = c.args in
     let p = err_from_is_err_and c.from_residual.result c.from_residual.ensures.1 in
     rw (p.1, p.2) (call-read s.sizes s.text.now s.out.now s.operands.now s.results.now s.variables.now
-    (file-not _ _ _ (rw c.small.ensures at c.in_err-m.ensures)))
+    (file-not _ _ _ (asked-not (length s.operands.now ∷ length s.results.now ∷ length s.variables.now ∷ []) s.text.now c.small.ensures
+    c.in_err-m.ensures)))
 
 pub returns : goal.returns
 returns c =
