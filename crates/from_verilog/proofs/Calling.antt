@@ -1,7 +1,7 @@
 -- From a text that was read to the promise.
 use Rattle.std.specs.Prelude.{Err, Ok, Result}
 use Prim.Native.Nat.{ℕ, ◌+◌, ◌*◌, ◌≤◌, ◌<◌}
-use mathlib.Core.Path.{◌≡◌, sym, ap, ◌∙◌, subst}
+use mathlib.Core.Path.{◌≡◌, sym, ap, ◌∙◌}
 use mathlib.Core.Bool.{true, false}
 use mathlib.Core.List.{List, [], ◌∷◌}
 use native.Mathlib.Omega.{arith}
@@ -12,9 +12,9 @@ use Rattle.netlist.specs.declared.Sizes.TheVariants.{Old, Whole}
 use Rattle.netlist.specs.declared.Question.{Question}
 use Rattle.netlist.specs.declared.Question.TheVariants as Q
 use Rattle.netlist.specs.Netlist.{small}
-use Rattle.netlist.specs.Outcome.{refused, and_then}
+use Rattle.netlist.specs.Outcome.{and_then}
 use Rattle.netlist.specs.Services.{tables_long, rewrite_outcome, outcome_of, Answers}
-use Rattle.netlist.specs.Table.{half, Tables}
+use Rattle.netlist.specs.Table.{half}
 use Rattle.netlist.proofs.Answering.{answers_one, answers-rest, tables-long}
 use Rattle.verilog.specs.Call.{read_equations, equations_call}
 use Rattle.verilog.specs.Delivered.{Delivered}
