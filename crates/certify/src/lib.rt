@@ -40,8 +40,8 @@ fn answer(
         l,
     )?;
     certify_netlist::judge(
-            h, inputs, codes, leak, ones, operands, results, marks, words, base, records,
-        )
+        h, inputs, codes, leak, ones, operands, results, marks, words, base, records,
+    )
 }
 
 // Whether every wire of the netlist in `text` is clean under the input codes. A leak's four numbers, or the lowest wire not known to be
