@@ -15,7 +15,7 @@ use Rattle.netlist.proofs.Tests.{all_head, all_tail, on_bool, clash}
 use Rattle.netlist.proofs.Questions.{none-some, some_same}
 use Rattle.netlist.proofs.LineEnds.{NoCR}
 use Rattle.read_text.specs.Line.{in_word, take_while, drop_while, past_space, line_words, next_word, past_word, after_line, is_empty, Scanned, EndAt, LineTaken}
-use Rattle.read_text.specs.Answers.{word_from, behind_word, EndIs, WholeAt, NumberAt}
+use Rattle.read_text.specs.Answers.{word_from, behind_word, WholeAt, NumberAt}
 use Rattle.read_text.specs.declared.cursor.Cursor.{Cursor}
 use Rattle.std.specs.Prelude as P
 use Rattle.read_text.proofs.Answering.{number-line, number_word, no_number}
@@ -24,7 +24,8 @@ use Rattle.read_text.proofs.Scans.{dropped-head}
 use Rattle.read_text.proofs.Splitting.{add_line, add_word, words_step, skip-words, skip-after}
 use Rattle.aiger.specs.Lines.{file_line, file_lines}
 use Rattle.aiger_lines.specs.Stray.{is_stray, stray_at, is_plain, ToWord}
-use Rattle.aiger_lines.specs.LineAnswers.{NotSoMany, FileLineAt, FileLineIs, first_numbers, LineIs}
+use Rattle.aiger_lines.specs.LineAnswers.{NotSoMany, lines_left, FileLineAt, FileLineIs, first_numbers, LineIs}
+use Rattle.aiger_lines.specs.declared.lines.Lines.{Lines}
 use Rattle.aiger_lines.proofs.Strays.{Clean, stray-within, stray-drop, stray-here, clean_line, numbers-clean, number-no-cr, file-step, word_first}
 
 -- numbers in front of numbers
@@ -289,8 +290,8 @@ clean-here t at to l h =
     omega arith
 
 module _ (t : List ℕ) (at n : ℕ) where
-  file-line : (xs : List ℕ) (to : ℕ) → NumbersAt t at n xs to → to ≤ stray_at t → FileLineAt t at n xs to
-  file-line xs to a h = record { line = ap numbers (clean_line (drop at t) (clean-here t at to a.next h)) ∙ a.line; size = a.size; next = a.next; within = h }
+  file-line : (xs : List ℕ) (to : ℕ) → NumbersAt t at n xs to → to ≤ stray_at t → FileLineAt (drop at t) n xs (file_lines (drop to t))
+  file-line xs to a h = record { line = ap numbers (clean_line (drop at t) (clean-here t at to a.next h)) ∙ a.line; size = a.size; next = ap file_lines a.next.left }
 
   -- a line that the line reader does not take
   file-none : NotSoMany (numbers (line_words (drop at t))) n → NotSoMany (numbers (file_line (drop at t))) n
@@ -364,27 +365,23 @@ module _ {t : List ℕ} {at n : ℕ} {into : List ℕ} {p i : ℕ} (N : Numberin
       go [] z ms q r = clash (cc)
       go (w ∷ ws) z ms q r = let y = longer (number w) (numbers ws) ms q in let f = front in let m = N.few in omega arith
 
-  numbering-long : n ≤ i → is_empty (line_words (drop q t)) ≡ false → NotSoMany (numbers (file_line (drop at t))) n
+  pub numbering-long : n ≤ i → is_empty (line_words (drop q t)) ≡ false → NotSoMany (numbers (file_line (drop at t))) n
   numbering-long h e = file-none t at n (long h (ap is_empty (sym (words_same t p q s)) ∙ e))
 
   -- just so many
-  numbering-end : n ≤ i → (to : ℕ) → is_stray (drop q t) ≡ false → EndAt t q to → FileLineAt t at n into to
+  pub numbering-end : n ≤ i → (to : ℕ) → is_stray (drop q t) ≡ false → EndAt t q to → FileLineAt (drop at t) n into (file_lines (drop to t)) × (to ≤ stray_at t)
   numbering-end h to d e =
       let taken : LineTaken t q to = record { left = e.left; on = e.on; within = e.within } in
       let clean = end_clean (drop q t) (no_plain t p q s) d e.none in
-      file-line t at n into to
+      let c = clean-to t q to taken (plain-before t p q s N.before) clean in
+      (file-line t at n into to
       (record {
         line = N.line ∙ ap (λ (ws : List (List ℕ)). joined (take i into) (numbers ws)) (sym (words_same t p q s) ∙ e.none)
             ∙ ap {B = Option (List ℕ)} some (append-nil (take i into) ∙ take_all into i (omega (arith, N.size)));
         size = N.size;
         next = record { left = e.left ∙ after_same t p q s ∙ N.after; on = omega (arith, N.on, s.on, e.on); within = e.within };
       })
-      (clean-to t q to taken (plain-before t p q s N.before) clean)
-
-  -- the line ends there, or goes on
-  pub numbering-last : n ≤ i → is_stray (drop q t) ≡ false → (r : P.Option Cursor) → EndIs t q r → FileLineIs t at n into r
-  numbering-last h d (P.Some c) e = numbering-end h c.at d e
-  numbering-last h d P.None e = numbering-long h e
+      c, c)
 
 -- ---- the next line that is not blank
 
@@ -393,13 +390,13 @@ numbers-add [] ls xs e h = let z : 0 ≡ length xs = ap length (some_same [] xs 
 numbers-add (w ∷ ws) ls xs e h = refl
 
 module _ (t : List ℕ) (at a : ℕ) (w : ToWord t at a) where
-  pub next-line : (n : ℕ) (xs : List ℕ) (r : P.Option Cursor) → 1 ≤ n → FileLineIs t a n xs r → LineIs (file_lines (drop at t)) t n xs r
-  next-line n xs (P.Some c) one h =
+  pub next-line : (n : ℕ) (xs : List ℕ) (r : P.Option Lines) → 1 ≤ n → FileLineIs (drop a t) n xs r → LineIs (file_lines (drop at t)) n xs r
+  next-line n xs (P.Some m) one h =
       let z = h.size in
-      let l : file_lines (drop at t) ≡ file_line (drop a t) ∷ file_lines (drop c.at t) =
+      let l : file_lines (drop at t) ≡ file_line (drop a t) ∷ lines_left m =
       sym w.lines ∙ file-step (drop a t) ∙ numbers-add (file_line (drop a t)) _ xs h.line (omega arith)
-      ∙ ap (λ (r : List ℕ). file_line (drop a t) ∷ file_lines r) (sym h.next.left) in
-      record { line = ap first_numbers l ∙ h.line; size = h.size; left = sym (ap (drop 1) l); within = h.within }
+      ∙ ap (λ (r : List (List (List ℕ))). file_line (drop a t) ∷ r) (sym h.next) in
+      record { line = ap first_numbers l ∙ h.line; size = h.size; next = sym (ap (drop 1) l) }
   next-line n xs P.None one h = record { none = λ ys e z. h ys (word_first (drop a t) ys w.still (ap first_numbers w.lines ∙ e)) z }
 
 -- a line of one number

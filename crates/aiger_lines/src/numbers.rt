@@ -1,44 +1,53 @@
 // A line of so many numbers, and nothing else.
 ghost use Rattle.std.specs.Prelude.{◌≡◌, ◌≤◌, length, drop};
-ghost use Rattle.aiger.specs.Lines.{file_lines};
-ghost use Rattle.aiger_lines.specs.Stray.{stray_at};
-ghost use Rattle.aiger_lines.specs.LineAnswers.{FileLineIs, LineIs, OneIs};
 
 use crate::between::{is_stray, past_spaces, to_word};
+use crate::lines::Lines;
 use read_text::cursor::Cursor;
 
-// The numbers of the line at a place, as many as the table has entries, and no more: answers where the next line starts.
-pub fn line_numbers(text: &[u8], at: Cursor, into: &mut [u32]) -> Option<Cursor>
-    requires { at.at ≤ stray_at text.now }
-    ensures { FileLineIs text.now at.at (length into.old) into.new result }
-{
-    let mut p = at;
-    for entry in into.iter_mut() {
-        let (v, next) = past_spaces(text, p).take_number(text)?;
-        *entry = v;
-        p = next;
-    }
-    let end = past_spaces(text, p);
-    if is_stray(text, end.at) {
-        return None;
-    }
-    end.line_end(text)
-}
+impl Lines<'_> {
+    ghost use Rattle.aiger_lines.specs.LineAnswers.{lines_left, FileLineIs, LineIs, OneIs};
 
-// The numbers of the next line that is not blank.
-pub fn next_numbers(text: &[u8], at: Cursor, into: &mut [u32]) -> Option<Cursor>
-    requires { (at.at ≤ stray_at text.now) × (1 ≤ length into.old) }
-    ensures { LineIs (file_lines (drop at.at text.now)) text.now (length into.old) into.new result }
-{
-    line_numbers(text, to_word(text, at), into)
-}
+    // The numbers of the first line, as many as the table has entries, and no more: answers the lines behind it.
+    pub fn numbers(self, into: &mut [u32]) -> Option<Self>
+        ensures { FileLineIs (drop self.entry.at self.entry.text.now) (length into.old) into.new result }
+    {
+        let mut p = Cursor { at: self.at };
+        for entry in into.iter_mut() {
+            let (v, next) = past_spaces(self.text, p).take_number(self.text)?;
+            *entry = v;
+            p = next;
+        }
+        let end = past_spaces(self.text, p);
+        if is_stray(self.text, end.at) {
+            return None;
+        }
+        let next = end.line_end(self.text)?;
+        Some(Lines {
+            text: self.text,
+            at: next.at,
+        })
+    }
 
-// The number of the next line that is not blank, if it holds one, and where the line behind it starts.
-pub fn one_number(text: &[u8], at: Cursor) -> Option<(u32, Cursor)>
-    requires { at.at ≤ stray_at text.now }
-    ensures { OneIs (file_lines (drop at.at text.now)) text.now result }
-{
-    let mut numbers = [0u32; 1];
-    let next = next_numbers(text, at, &mut numbers)?;
-    Some((numbers[0], next))
+    // The numbers of the next line that is not blank.
+    pub fn next_numbers(self, into: &mut [u32]) -> Option<Self>
+        requires { 1 ≤ length into.old }
+        ensures { LineIs (lines_left self.entry) (length into.old) into.new result }
+    {
+        let word = to_word(self.text, Cursor { at: self.at });
+        let lines = Lines {
+            text: self.text,
+            at: word.at,
+        };
+        lines.numbers(into)
+    }
+
+    // The number of the next line that is not blank, if it holds one, and the lines behind it.
+    pub fn one_number(self) -> Option<(u32, Self)>
+        ensures { OneIs (lines_left self.entry) result }
+    {
+        let mut numbers = [0u32; 1];
+        let next = self.next_numbers(&mut numbers)?;
+        Some((numbers[0], next))
+    }
 }

@@ -36,31 +36,31 @@ pub literals-whole : (kept : List ℕ) (i : ℕ) → length kept ≤ i → map l
 literals-whole kept i h = ap (map literal) (take_all i kept h)
 
 -- ---- read from lines: the first i lines are in the table
-pub record Keeping (ls : List (List (List ℕ))) (t kept : List ℕ) (i at : ℕ) : Type 0 where
-  pub lines : LiteralsAt ls t i (map literal (take i kept)) at
+pub record Keeping (ls : List (List (List ℕ))) (kept : List ℕ) (i : ℕ) (left : List (List (List ℕ))) : Type 0 where
+  pub lines : LiteralsAt ls i (map literal (take i kept)) left
   pub low : (j : ℕ) → j < i → get_or kept j 0 < 2 ^ 32
   pub inside : i ≤ length kept
 
-module _ {ls : List (List (List ℕ))} {t kept : List ℕ} {i at : ℕ} (K : Keeping ls t kept i at) where
-  pub keeping-more : {x to : ℕ} → i < length kept → x < 2 ^ 32 → OneAt (file_lines (drop at t)) t x to → Keeping ls t (set kept i x) (i + 1) to
-  keeping-more {x} {to} h l O =
+module _ {ls left : List (List (List ℕ))} {kept : List ℕ} {i : ℕ} (K : Keeping ls kept i left) where
+  pub keeping-more : {x : ℕ} {rest : List (List (List ℕ))} → i < length kept → x < 2 ^ 32 → OneAt left x rest → Keeping ls (set kept i x) (i + 1) rest
+  keeping-more {x} {rest} h l O =
       let e : map literal (take i kept) ++ (literal x ∷ []) ≡ map literal (take (i + 1) (set kept i x)) =
       sym (ap (λ (k : ℕ). map literal (take k (set kept i x))) (add-one i) ∙ ap (map literal) (take-suc-set kept i x h) ∙ map-join (take i kept) _) in
       record {
-        lines = subst (λ (as₁ : List Literal). LiteralsAt ls t (i + 1) as₁ to) e (literals-more K.lines O);
+        lines = subst (λ (as₁ : List Literal). LiteralsAt ls (i + 1) as₁ rest) e (literals-more K.lines O);
         low = below_more (λ (j : ℕ). get_or (set kept i x) j 0 < 2 ^ 32) i
             (λ j b. rw (get_or-set_other kept i j x 0 (omega arith)) (K.low j b))
             (rw (get_or-set_same kept i x 0 h) l);
         inside = simp length-set (omega (arith, h));
       }
 
-  pub keeping-no : i < length kept → LineNot (file_lines (drop at t)) 1 → (xs : List Literal) → formed output_line (length kept) ls ≡ some xs → ⊥
+  pub keeping-no : i < length kept → LineNot left 1 → (xs : List Literal) → formed output_line (length kept) ls ≡ some xs → ⊥
   keeping-no h n xs e = literals-no K.lines (length kept) h n xs e
 
-  pub keeping_all : length kept ≤ i → LiteralsAt ls t (length kept) (map literal kept) at × Low kept
+  pub keeping_all : length kept ≤ i → LiteralsAt ls (length kept) (map literal kept) left × Low kept
   keeping_all h =
       let e : i ≡ length kept = omega (arith, K.inside) in (
-        subst (λ (k : ℕ). LiteralsAt ls t k (map literal kept) at) e (subst (λ (as₁ : List Literal). LiteralsAt ls t i as₁ at) (literals-whole kept i h) K.lines),
+        subst (λ (k : ℕ). LiteralsAt ls k (map literal kept) left) e (subst (λ (as₁ : List Literal). LiteralsAt ls i as₁ left) (literals-whole kept i h) K.lines),
         λ j b. K.low j (omega arith),
       )
 

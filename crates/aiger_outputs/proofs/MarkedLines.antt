@@ -56,20 +56,20 @@ module _ {M : ℕ} {marks : List ℕ} {are : List Literal} (P : PutOut M marks a
 
 -- ---- lines
 
-module _ {ls : List (List (List ℕ))} {t : List ℕ} {i M : ℕ} {marks : List ℕ} {at : ℕ} (A : MarksAt ls t i M marks at) where
-  pub marks-more : {x to : ℕ} → OneAt (file_lines (drop at t)) t x to → x / 2 ≤ M → x / 2 < length marks → MarksAt ls t (i + 1) M (marked marks x) to
+module _ {ls left : List (List (List ℕ))} {i M : ℕ} {marks : List ℕ} (A : MarksAt ls i M marks left) where
+  pub marks-more : {x : ℕ} {rest : List (List (List ℕ))} → OneAt left x rest → x / 2 ≤ M → x / 2 < length marks → MarksAt ls (i + 1) M (marked marks x) rest
   marks-more {x} O up inside = record { are = A.are ++ (literal x ∷ []); literals = literals-more A.literals O; out = out-more A.out x up inside }
 
-  pub marks-no : (lines : ℕ) → i < lines → LineNot (file_lines (drop at t)) 1 → (xs : List Literal) → formed output_line lines ls ≡ some xs
+  pub marks-no : (lines : ℕ) → i < lines → LineNot left 1 → (xs : List Literal) → formed output_line lines ls ≡ some xs
       → (given : List ℕ) → UpTo M given → every (readable given) xs ≡ true → ⊥
   marks-no lines h n xs e given up r = literals-no A.literals lines h n xs e
 
   -- a variable above M
-  pub marks-high : (lines : ℕ) → i < lines → {x to : ℕ} → OneAt (file_lines (drop at t)) t x to → M < x / 2
+  pub marks-high : (lines : ℕ) → i < lines → {x : ℕ} {rest : List (List (List ℕ))} → OneAt left x rest → M < x / 2
       → (xs : List Literal) → formed output_line lines ls ≡ some xs → (given : List ℕ) → UpTo M given → every (readable given) xs ≡ true → ⊥
   marks-high lines h {x} O high xs e given up r =
       let Q : Split output_line i ls xs = formed-split output_line i lines ls xs h e in
-      let s : literal x ≡ Q.here = some_same (literal x) Q.here (sym (output-line O) ∙ ap (at_front output_line) A.literals.left ∙ Q.line) in
+      let s : literal x ≡ Q.here = some_same (literal x) Q.here (sym (output-line O) ∙ ap (at_front output_line) A.literals.next ∙ Q.line) in
       let k : readable given (literal x) ≡ true = ap (readable given) s
       ∙ every_here (readable given) Q.front Q.here Q.rest (ap (every (readable given)) Q.all ∙ r) in
       let l = up (x / 2) (sym (literal-readable x (omega arith) given) ∙ k) in

@@ -23,7 +23,7 @@ front-output [] = refl
 front-output (l ∷ ls) = refl
 
 -- it puts out its literal
-pub output-line : {ls : List (List (List ℕ))} {t : List ℕ} {x to : ℕ} → OneAt ls t x to → at_front output_line ls ≡ some (literal x)
+pub output-line : {ls left : List (List (List ℕ))} {x : ℕ} → OneAt ls x left → at_front output_line ls ≡ some (literal x)
 output-line {ls} O = front-output ls ∙ ap one_literal O.line
 
 one_number : (o : Option (List ℕ)) (l : Literal) → one_literal o ≡ some l → (x : ℕ) × (o ≡ some (x ∷ []))
@@ -37,18 +37,17 @@ no_output {ls} n l e = let p = one_number (first_numbers ls) l (sym (front-outpu
 
 -- ---- lines
 
-module _ {ls : List (List (List ℕ))} {t : List ℕ} {i : ℕ} {are : List Literal} {at : ℕ} (A : LiteralsAt ls t i are at) where
-  pub literals-more : {x to : ℕ} → OneAt (file_lines (drop at t)) t x to → LiteralsAt ls t (i + 1) (are ++ (literal x ∷ [])) to
+module _ {ls left : List (List (List ℕ))} {i : ℕ} {are : List Literal} (A : LiteralsAt ls i are left) where
+  pub literals-more : {x : ℕ} {rest : List (List (List ℕ))} → OneAt left x rest → LiteralsAt ls (i + 1) (are ++ (literal x ∷ [])) rest
   literals-more {x} O = record {
-    form = formed-snoc output_line i ls are (literal x) A.form (ap (at_front output_line) (sym A.left) ∙ output-line O);
-    left = O.left ∙ ap (drop 1) A.left ∙ drop-drop 1 i ls;
-    within = O.within;
+    form = formed-snoc output_line i ls are (literal x) A.form (ap (at_front output_line) (sym A.next) ∙ output-line O);
+    next = O.next ∙ ap (drop 1) A.next ∙ drop-drop 1 i ls;
   }
 
-  pub literals-no : (lines : ℕ) → i < lines → LineNot (file_lines (drop at t)) 1 → (xs : List Literal) → formed output_line lines ls ≡ some xs → ⊥
+  pub literals-no : (lines : ℕ) → i < lines → LineNot left 1 → (xs : List Literal) → formed output_line lines ls ≡ some xs → ⊥
   literals-no lines h n xs e =
       let P : Split output_line i ls xs = formed-split output_line i lines ls xs h e in
-      no_output n P.here (ap (at_front output_line) A.left ∙ P.line)
+      no_output n P.here (ap (at_front output_line) A.next ∙ P.line)
 
 -- ---- a test of all of some literals
 

@@ -1,29 +1,26 @@
 // Output lines whose literals a table keeps.
-ghost use Rattle.std.specs.Prelude.{◌≡◌, true, List, map, ℕ, ◌≤◌, drop};
+ghost use Rattle.std.specs.Prelude.{◌≡◌, true, List, map, ℕ};
 ghost use Rattle.netlist.specs.Lists.{every};
 ghost use Rattle.aiger.specs.File.{literal};
-ghost use Rattle.aiger.specs.Lines.{file_lines};
 ghost use Rattle.aiger.specs.Rules.{readable};
-ghost use Rattle.aiger_lines.specs.Stray.{stray_at};
+ghost use Rattle.aiger_lines.specs.LineAnswers.{lines_left};
 ghost use Rattle.aiger_gates.specs.Places.{Places};
 ghost use Rattle.aiger_outputs.specs.OutAnswers.{KeptIs, Low, HaveWires};
 
 use aiger_gates::variables::is_readable;
-use aiger_lines::numbers::one_number;
-use read_text::cursor::Cursor;
+use aiger_lines::lines::Lines;
 
-// As many output lines from a place on as the table has entries; answers where the next line starts.
-pub fn keep_literals(text: &[u8], from: Cursor, kept: &mut [u64]) -> Option<Cursor>
-    requires { from.at ≤ stray_at text.now }
-    ensures { KeptIs (file_lines (drop from.at text.now)) text.now kept.new result }
+// As many output lines as the table has entries; answers the lines behind them.
+pub fn keep_literals<'t>(lines: Lines<'t>, kept: &mut [u64]) -> Option<Lines<'t>>
+    ensures { KeptIs (lines_left lines.entry) kept.new result }
 {
-    let mut at = from;
+    let mut left = lines;
     for entry in kept.iter_mut() {
-        let (x, next) = one_number(text, at)?;
+        let (x, next) = left.one_number()?;
         *entry = x as u64;
-        at = next;
+        left = next;
     }
-    Some(at)
+    Some(left)
 }
 
 // Whether all literals can be read.

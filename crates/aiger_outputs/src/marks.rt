@@ -1,16 +1,14 @@
 // Output lines that are more than a table has entries. Their netlist is too large, so it is enough to know which variables they put
 // out: these get a mark each.
-ghost use Rattle.std.specs.Prelude.{◌≡◌, true, false, List, ℕ, ◌/◌, ◌<◌, ◌≤◌, length, drop, get_or, replicate};
+ghost use Rattle.std.specs.Prelude.{◌≡◌, true, false, List, ℕ, ◌/◌, ◌<◌, ◌≤◌, length, get_or, replicate};
 ghost use Rattle.netlist.specs.Lists.{every};
 ghost use Rattle.aiger.specs.File.{Literal};
-ghost use Rattle.aiger.specs.Lines.{file_lines};
 ghost use Rattle.aiger.specs.Rules.{readable};
-ghost use Rattle.aiger_lines.specs.Stray.{stray_at};
+ghost use Rattle.aiger_lines.specs.LineAnswers.{lines_left};
 ghost use Rattle.aiger_gates.specs.Places.{Places};
 ghost use Rattle.aiger_outputs.specs.OutAnswers.{marked, PutOut, MarksIs};
 
-use aiger_lines::numbers::one_number;
-use read_text::cursor::Cursor;
+use aiger_lines::lines::Lines;
 
 // A mark on the variable of a literal that is no constant.
 fn mark(marks: &mut [u64], x: u32)
@@ -22,27 +20,26 @@ fn mark(marks: &mut [u64], x: u32)
     }
 }
 
-// So many output lines from a place on, with a table that has no mark yet; answers where the next line starts.
-pub fn mark_literals(
-    text: &[u8],
-    from: Cursor,
-    lines: u32,
+// So many output lines, with a table that has no mark yet; answers the lines behind them.
+pub fn mark_literals<'t>(
+    lines: Lines<'t>,
+    many: u32,
     most: u32,
     marks: &mut [u64],
-) -> Option<Cursor>
-    requires { (from.at ≤ stray_at text.now) × (most < length marks.old) × (marks.old ≡ replicate (length marks.old) 0) }
-    ensures { MarksIs (file_lines (drop from.at text.now)) text.now lines most marks.new result }
+) -> Option<Lines<'t>>
+    requires { (most < length marks.old) × (marks.old ≡ replicate (length marks.old) 0) }
+    ensures { MarksIs (lines_left lines.entry) many most marks.new result }
 {
-    let mut at = from;
-    for _ in 0..lines {
-        let (x, next) = one_number(text, at)?;
+    let mut left = lines;
+    for _ in 0..many {
+        let (x, next) = left.one_number()?;
         if most < x / 2 {
             return None;
         }
         mark(marks, x);
-        at = next;
+        left = next;
     }
-    Some(at)
+    Some(left)
 }
 
 // Whether a variable has a mark and is not given.

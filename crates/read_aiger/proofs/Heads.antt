@@ -88,7 +88,7 @@ module _ (L : Limits) (t : List ℕ) where
     pub head-not : NotSoMany (numbers (file_line (drop 4 t))) 5 → head_outcome L t ≡ refused 19
     head-not h = let n : head t ≡ none = no-head (numbers (file_line (drop 4 t))) h in rw (o, n)
 
-    module _ (xs : List ℕ) (to : ℕ) (A : FileLineAt t 4 5 xs to) where
+    module _ (xs : List ℕ) (left : List (List (List ℕ))) (A : FileLineAt (drop 4 t) 5 xs left) where
       abbrev H : Head
       H = head_said (head_from xs)
 
@@ -98,10 +98,10 @@ module _ (L : Limits) (t : List ℕ) where
       asked : head_outcome L t ≡ ask 19 (head_good L H) (ask 20 (eqb H.latches 0) (done H))
       asked = rw (o, said)
 
-      pub head-taken : done (tt {0}) ≡ head_asked L H → HeadAt L t (head_from xs) to
+      pub head-taken : done (tt {0}) ≡ head_asked L H → HeadAt L t (head_from xs) left
       head-taken e = go (head_good L H) (eqb H.latches 0) refl refl e
         where
-          go : (a b : Bool) → head_good L H ≡ a → eqb H.latches 0 ≡ b → done (tt {0}) ≡ ask 19 a (ask 20 b (done (tt {0}))) → HeadAt L t (head_from xs) to
+          go : (a b : Bool) → head_good L H ≡ a → eqb H.latches 0 ≡ b → done (tt {0}) ≡ ask 19 a (ask 20 b (done (tt {0}))) → HeadAt L t (head_from xs) left
           go true false p q e = clash (cc)
           go false b p q e = clash (cc)
           go true true p q e =
@@ -110,6 +110,5 @@ module _ (L : Limits) (t : List ℕ) where
                 outcome = asked ∙ rw (p, q);
                 most = ltb-true H.most L.wires (both_true (leb 1 H.inputs && leb 1 H.outputs) (ltb H.most L.wires) p).1;
                 low = record { inputs = entry-low 1 low; outputs = entry-low 3 low; ands = entry-low 4 low };
-                left = A.next.left;
-                within = A.within;
+                next = A.next;
               }

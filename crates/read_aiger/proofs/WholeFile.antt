@@ -45,12 +45,12 @@ module _ (L : Limits) (t : List ℕ) where
     unfolding read_aiger
     read-no-head q e = rw (le-leb (length t) L.text h) (ap (λ (o : Outcome Head). and_then o (lines_outcome L t)) e)
 
-    behind : {n : HeadNumbers} {to : ℕ} → HeadAt L t n to → read_aiger L t ≡ lines_read L (head_said n) (file_lines (drop to t))
+    behind : {n : HeadNumbers} {left : List (List (List ℕ))} → HeadAt L t n left → read_aiger L t ≡ lines_read L (head_said n) left
     unfolding read_aiger
     behind {n} A =
         rw (le-leb (length t) L.text h)
-        (ap (λ (o : Outcome Head). and_then o (lines_outcome L t)) A.outcome ∙ ap (λ (u : List ℕ). lines_read L (head_said n) (file_lines u)) (sym A.left))
+        (ap (λ (o : Outcome Head). and_then o (lines_outcome L t)) A.outcome ∙ ap (lines_read L (head_said n)) (sym A.next))
 
-    pub read_behind : {n : HeadNumbers} {to : ℕ} (tabs : Tables) (r : Result NetlistNumbers Question) → HeadAt L t n to → NetlistIs (lines_read L (head_said n) (file_lines (drop to t))) tabs r
+    pub read_behind : {n : HeadNumbers} {left : List (List (List ℕ))} (tabs : Tables) (r : Result NetlistNumbers Question) → HeadAt L t n left → NetlistIs (lines_read L (head_said n) left) tabs r
         → NetlistIs (read_aiger L t) tabs r
     read_behind tabs r A k = subst (λ (o : Outcome Netlist). NetlistIs o tabs r) (sym (behind A)) k

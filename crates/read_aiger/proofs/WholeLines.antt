@@ -64,8 +64,8 @@ outs-length at c (x ∷ xs) = ap suc (outs-length at (c + 1) xs)
 abbrev pub input_wires : ℕ → ℕ → List ℕ → List ℕ
 input_wires M n vs = enter (replicate (M + 1) 0) vs (up_from 0 n)
 
-module _ (H : Head) (ls : List (List (List ℕ))) (t : List ℕ) where
-  module _ {table : List ℕ} {to : ℕ} (A : InputsAt ls t H.inputs H.most table to) where
+module _ (H : Head) (ls : List (List (List ℕ))) where
+  module _ {table : List ℕ} {left : List (List (List ℕ))} (A : InputsAt ls H.inputs H.most table left) where
     abbrev given : List ℕ
     given = giving [] A.are
 
@@ -91,33 +91,33 @@ module _ (H : Head) (ls : List (List (List ℕ))) (t : List ℕ) where
         }
 
     -- no such outputs
-    pub lines-no-outputs : ((xs : List Literal) → formed output_line H.outputs (file_lines (drop to t)) ≡ some xs → ⊥)
+    pub lines-no-outputs : ((xs : List Literal) → formed output_line H.outputs left ≡ some xs → ⊥)
         → (F : File) → file H ls ≡ some F → rules_kept F ≡ true → ⊥
     lines-no-outputs bad F e r =
         let f = file-formed H ls F e in
-        bad F.outputs (ap (formed output_line H.outputs) A.left ∙ f.outputs)
+        bad F.outputs (ap (formed output_line H.outputs) A.next ∙ f.outputs)
 
     -- an output above M, or no such outputs
-    pub lines-no-marks : ((xs : List Literal) → formed output_line H.outputs (file_lines (drop to t)) ≡ some xs
+    pub lines-no-marks : ((xs : List Literal) → formed output_line H.outputs left ≡ some xs
         → (vs : List ℕ) → UpTo H.most vs → every (readable vs) xs ≡ true → ⊥) → (F : File) → file H ls ≡ some F → rules_kept F ≡ true → ⊥
     lines-no-marks bad F e r =
         let f = file-formed H ls F e in
         let p = rules-apart F r in
-        bad F.outputs (ap (formed output_line H.outputs) A.left ∙ f.outputs) (all_given F)
+        bad F.outputs (ap (formed output_line H.outputs) A.next ∙ f.outputs) (all_given F)
         (rw f.most at (ands-up-to F.most F.ands (inputs_given F) (fresh-up-to F.most F.inputs [] (λ v m. not_so m) p.0) p.1)) p.2
 
     same_inputs : (F : File) → Formed H ls F → F.inputs ≡ A.are
     same_inputs F f = some_same F.inputs A.are (sym f.inputs ∙ A.lines)
 
-    module _ {outs : List Literal} {behind : ℕ} (B : LiteralsAt (file_lines (drop to t)) t H.outputs outs behind) where
-      and-lines : file_lines (drop behind t) ≡ drop (H.inputs + H.outputs) ls
-      and-lines = B.left ∙ ap (drop H.outputs) A.left ∙ drop-drop H.outputs H.inputs ls
+    module _ {outs : List Literal} {rest : List (List (List ℕ))} (B : LiteralsAt left H.outputs outs rest) where
+      and-lines : rest ≡ drop (H.inputs + H.outputs) ls
+      and-lines = B.next ∙ ap (drop H.outputs) A.next ∙ drop-drop H.outputs H.inputs ls
 
       outs-form : formed output_line H.outputs (drop H.inputs ls) ≡ some outs
-      outs-form = ap (formed output_line H.outputs) (sym A.left) ∙ B.form
+      outs-form = ap (formed output_line H.outputs) (sym A.next) ∙ B.form
 
       -- no such AND lines
-      pub lines-no-ands : ((xs : List AndLine) → formed and_form H.ands (file_lines (drop behind t)) ≡ some xs → ands_good H.most given xs ≡ true → ⊥)
+      pub lines-no-ands : ((xs : List AndLine) → formed and_form H.ands rest ≡ some xs → ands_good H.most given xs ≡ true → ⊥)
           → (F : File) → file H ls ≡ some F → rules_kept F ≡ true → ⊥
       lines-no-ands bad F e r =
           let f = file-formed H ls F e in
@@ -126,7 +126,7 @@ module _ (H : Head) (ls : List (List (List ℕ))) (t : List ℕ) where
           (sym (ap (λ (m : ℕ). ands_good m (giving [] F.inputs) F.ands) f.most ∙ ap (λ (vs : List ℕ). ands_good H.most (giving [] vs) F.ands) s)
           ∙ (rules-apart F r).1)
 
-      module _ {after : List ℕ} {tabs : Tables} {k end : ℕ} (D : AndsAt (file_lines (drop behind t)) t H.ands H.most H.inputs given wires after tabs k end) where
+      module _ {after : List ℕ} {tabs : Tables} {k : ℕ} {end : List (List (List ℕ))} (D : AndsAt rest H.ands H.most H.inputs given wires after tabs k end) where
         abbrev built₁ : Built
         built₁ = build wires H.inputs D.are
 
@@ -158,7 +158,7 @@ module _ (H : Head) (ls : List (List (List ℕ))) (t : List ℕ) where
         same-made = ap (λ (i : ℕ). with_outputs made (build (enter (blank 0 made) A.are (up_from 0 i)) i D.are)) many
 
         outs-many : length outs ≡ H.outputs
-        outs-many = formed-length output_line H.outputs (file_lines (drop to t)) outs B.form
+        outs-many = formed-length output_line H.outputs left outs B.form
 
         -- the gates of AND lines and of outputs
         abbrev gates : List Gate

@@ -5,11 +5,10 @@ use Rattle.netlist.specs.Number.{max_digits}
 use Rattle.netlist.specs.Outcome.{Outcome, refused, done, ask}
 use Rattle.netlist.specs.declared.Question.{Question}
 use Rattle.netlist.specs.Question.{number_of}
-use Rattle.read_text.specs.declared.cursor.Cursor.{Cursor}
-use Rattle.read_text.specs.Line.{after_line}
-use Rattle.aiger.specs.Lines.{Head, head_good}
+use Rattle.aiger_lines.specs.declared.lines.Lines.{Lines}
+use Rattle.aiger_lines.specs.LineAnswers.{lines_left}
+use Rattle.aiger.specs.Lines.{Head, head_good, lines_behind}
 use Rattle.aiger.specs.Call.{head_outcome}
-use Rattle.aiger_lines.specs.Stray.{stray_at}
 use Rattle.read_aiger.specs.declared.head.HeadNumbers.{HeadNumbers}
 
 -- the header that the numbers stand for
@@ -26,14 +25,13 @@ pub record LowHead (h : HeadNumbers) : Type 0 where
   pub outputs : h.outputs < 10 ^ max_digits
   pub ands : h.ands < 10 ^ max_digits
 
--- a header that is admitted, with the start of the line behind it
-pub record HeadAt (L : Limits) (t : List ℕ) (h : HeadNumbers) (to : ℕ) : Type 0 where
+-- a header that is admitted, with the lines behind it
+pub record HeadAt (L : Limits) (t : List ℕ) (h : HeadNumbers) (left : List (List (List ℕ))) : Type 0 where
   pub outcome : head_outcome L t ≡ done (head_said h)
   pub most : h.most < L.wires
   pub low : LowHead h
-  pub left : drop to t ≡ after_line (drop 4 t)
-  pub within : to ≤ stray_at t
+  pub next : left ≡ lines_behind t
 
-abbrev pub HeadIs : Limits → List ℕ → Result (HeadNumbers × Cursor) Question → Type 0
-HeadIs L t (Ok (h, c)) = HeadAt L t h c.at
+abbrev pub HeadIs : Limits → List ℕ → Result (HeadNumbers × Lines) Question → Type 0
+HeadIs L t (Ok (h, l)) = HeadAt L t h (lines_left l)
 HeadIs L t (Err q) = head_outcome L t ≡ refused (number_of q)

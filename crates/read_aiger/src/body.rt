@@ -1,9 +1,8 @@
 // The lines behind the header. The tables are lent one by one: a struct of `&mut` slices would have to promise at each call that it
 // still holds them.
-ghost use Rattle.std.specs.Prelude.{◌≡◌, List, ℕ, ◌+◌, ◌*◌, ◌^◌, ◌<◌, ◌≤◌, length, drop, replicate};
+ghost use Rattle.std.specs.Prelude.{◌≡◌, List, ℕ, ◌+◌, ◌*◌, ◌<◌, ◌≤◌, length, replicate};
 ghost use Rattle.netlist.specs.Table.{tables};
-ghost use Rattle.aiger.specs.Lines.{file_lines};
-ghost use Rattle.aiger_lines.specs.Stray.{stray_at};
+ghost use Rattle.aiger_lines.specs.LineAnswers.{lines_left};
 ghost use Rattle.aiger_ands.specs.StepAnswers.{InputsAt};
 ghost use Rattle.read_aiger.specs.HeadAnswers.{head_said, LowHead};
 ghost use Rattle.read_aiger.specs.WholeAnswers.{LinesIs, gates_made};
@@ -11,33 +10,31 @@ ghost use Rattle.read_aiger.specs.WholeAnswers.{LinesIs, gates_made};
 use crate::head::HeadNumbers;
 use aiger_ands::ands::ands;
 use aiger_ands::inputs::inputs;
+use aiger_lines::lines::Lines;
 use aiger_outputs::gates::outputs;
 use aiger_outputs::kept::keep_literals;
 use aiger_outputs::marks::{are_given, mark_literals};
-use read_text::cursor::Cursor;
 
 // The lines behind the input lines, whose outputs are at most as many as the table of results has entries. Its end keeps their
 // literals, and its front gets the gates of the AND lines; the gates of outputs are put where all have room. Answers how many gates
 // the netlist made of the file has.
 fn by_literals(
-    text: &[u8],
-    at: Cursor,
+    lines: Lines<'_>,
     h: HeadNumbers,
     table: &mut [u32],
     operands: &mut [u64],
     results: &mut [u64],
 ) -> Option<usize>
-    requires { (at.at ≤ stray_at text.now) × (h.most < length table.old) × LowHead h × (h.outputs ≤ length results.old) }
-    ensures { ((ls : List (List (List ℕ))) → InputsAt ls text.now h.inputs h.most table.old at.at
+    requires { (h.most < length table.old) × LowHead h × (h.outputs ≤ length results.old) }
+    ensures { ((ls : List (List (List ℕ))) → InputsAt ls h.inputs h.most table.old (lines_left lines.entry)
         → LinesIs (head_said h) ls (tables operands.new results.new) result) × (gates_made result ≤ 3 * h.ands + h.outputs) }
 {
     let n = h.inputs;
     let outs = h.outputs as usize;
     let room = results.len() - outs;
-    let first = keep_literals(text, at, &mut results[room..])?;
+    let rest = keep_literals(lines, &mut results[room..])?;
     let (count, _) = ands(
-        text,
-        first,
+        rest,
         h.ands,
         h.most,
         n,
@@ -54,23 +51,22 @@ fn by_literals(
 // The lines behind the input lines, whose outputs are more than the table of results has entries. No gate is kept, and the table of
 // operands gets the marks.
 fn by_marks(
-    text: &[u8],
-    at: Cursor,
+    lines: Lines<'_>,
     h: HeadNumbers,
     table: &mut [u32],
     operands: &mut [u64],
     results: &mut [u64],
 ) -> Option<usize>
-    requires { (at.at ≤ stray_at text.now) × (h.most < length table.old) × LowHead h × (length results.old < h.outputs)
+    requires { (h.most < length table.old) × LowHead h × (length results.old < h.outputs)
         × (h.most < length operands.old) }
-    ensures { ((ls : List (List (List ℕ))) → InputsAt ls text.now h.inputs h.most table.old at.at
+    ensures { ((ls : List (List (List ℕ))) → InputsAt ls h.inputs h.most table.old (lines_left lines.entry)
         → LinesIs (head_said h) ls (tables operands.new results.new) result) × (gates_made result ≤ 3 * h.ands + h.outputs) }
 {
     operands.fill(0);
-    let first = mark_literals(text, at, h.outputs, h.most, operands)?;
+    let rest = mark_literals(lines, h.outputs, h.most, operands)?;
     let mut spare = [0u64; 1];
     let (count, _) = ands(
-        text, first, h.ands, h.most, h.inputs, table, &mut spare, results,
+        rest, h.ands, h.most, h.inputs, table, &mut spare, results,
     )?;
     if !are_given(table, operands, h.most) {
         return None;
@@ -80,22 +76,21 @@ fn by_marks(
 
 // All lines behind a header, with a table that gives nothing yet. The tables keep as many gates as they have room for.
 pub fn body(
-    text: &[u8],
-    at: Cursor,
+    lines: Lines<'_>,
     h: HeadNumbers,
     table: &mut [u32],
     operands: &mut [u64],
     results: &mut [u64],
 ) -> Option<usize>
-    requires { (at.at ≤ stray_at text.now) × (h.most < length table.old)
+    requires { (h.most < length table.old)
         × (table.old ≡ replicate (length table.old) 0) × LowHead h × (h.most < length operands.old) }
-    ensures { LinesIs (head_said h) (file_lines (drop at.at text.now))
+    ensures { LinesIs (head_said h) (lines_left lines.entry)
         (tables operands.new results.new) result × (gates_made result ≤ 3 * h.ands + h.outputs) }
 {
-    let behind = inputs(text, at, h.inputs, h.most, table)?;
+    let rest = inputs(lines, h.inputs, h.most, table)?;
     if results.len() < h.outputs as usize {
-        by_marks(text, behind, h, table, operands, results)
+        by_marks(rest, h, table, operands, results)
     } else {
-        by_literals(text, behind, h, table, operands, results)
+        by_literals(rest, h, table, operands, results)
     }
 }

@@ -2,12 +2,10 @@
 ghost use Rattle.std.specs.Prelude.{◌≡◌};
 ghost use Rattle.netlist.specs.Services.{stands_for};
 ghost use Rattle.aiger.specs.Lines.{opens};
-ghost use Rattle.aiger_lines.specs.Stray.{stray_at};
 ghost use Rattle.read_aiger.specs.HeadAnswers.{head_said, head_asked, HeadIs};
 
-use aiger_lines::numbers::line_numbers;
+use aiger_lines::lines::Lines;
 use netlist::{Limits, Question};
-use read_text::cursor::Cursor;
 
 // M I L O A.
 #[derive(Clone, Copy)]
@@ -39,15 +37,16 @@ fn question(h: HeadNumbers, l: Limits) -> Result<(), Question>
     Ok(())
 }
 
-// 19 for the opening, then 19 and 20 for the header; answers an admitted one with the start of the next line.
-pub fn head(text: &[u8], l: Limits) -> Result<(HeadNumbers, Cursor), Question>
+// 19 for the opening, then 19 and 20 for the header; answers an admitted one with the lines behind it.
+pub fn head(text: &[u8], l: Limits) -> Result<(HeadNumbers, Lines<'_>), Question>
     ensures { HeadIs l text.now result }
 {
     if !is_opening(text) {
         return Err(Question::Aiger);
     }
     let mut numbers = [0u32; 5];
-    let next = line_numbers(text, Cursor { at: 4 }, &mut numbers).ok_or(Question::Aiger)?;
+    let lines = Lines { text, at: 4 };
+    let next = lines.numbers(&mut numbers).ok_or(Question::Aiger)?;
     let [most, inputs, latches, outputs, ands] = numbers;
     let h = HeadNumbers {
         most,

@@ -7,7 +7,7 @@ use Rattle.aiger_ands.proofs.ands.and_line.Goals as goal
 use Rattle.aiger_ands.proofs.ands.and_line.Goals.{then-not-is_readable-via-then-not-is_readable, then-not-is_readable-via-else-not-is_readable+then-not-is_readable-2, then-not-is_readable-via-else-not-is_readable+else-not-is_readable-2+then-not-can_give}
 
 pub returns-in_err-next : goal.returns-in_err-next
-returns-in_err-next c = rw c.from_residual.ensures (λ given wires gs l S. and_none _ given c.in_err-next.ensures, omega arith, omega arith)
+returns-in_err-next c = rw c.from_residual.ensures (λ given wires gs l S. and_none _ given c.in_err-next.ensures, omega arith)
 
 pub returns-then-not-is_readable : goal.returns-then-not-is_readable
 returns-then-not-is_readable c = (
@@ -17,16 +17,14 @@ returns-then-not-is_readable c = (
     | then-not-is_readable-via-else-not-is_readable+else-not-is_readable-2+then-not-can_give w ↦ not_so (sym w.if-not-can_give.true ∙ w.can_give.ensures.0 given wires S.places ∙ h.2)
   ]),
   omega arith,
-  omega arith,
 )
 
 pub returns : goal.returns
 returns c = (
-  λ given wires gs l S. and-on c.in_ok-next.ensures _ given c.requires.1 l S
+  λ given wires gs l S. and-on c.in_ok-next.ensures _ given c.requires.0 l S
       (sym (c.is_readable.ensures.0 given wires S.places) ∙ c.if-not-is_readable.false)
       (sym (c.is_readable-else-not-is_readable.ensures.0 given wires S.places) ∙ c.if-not-is_readable-2.false)
       (sym (c.can_give.ensures.0 given wires S.places) ∙ c.if-not-can_give.false)
       c.and_gates-r.ensures.0 c.give.ensures,
   c.and_gates-r.ensures.1,
-  c.in_ok-next.ensures.within,
 )

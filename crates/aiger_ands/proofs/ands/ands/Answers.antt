@@ -10,8 +10,4 @@ returns-in_err-count c =
 pub loop-preserved : goal.loop-preserved
 loop-preserved c =
     let m = c.in_ok-count.ensures in
-    record {
-      built = building-more c.loop.invariant.built m.0;
-      few = omega (arith, m.1);
-      within = m.2;
-    }
+    record { built = building-more c.loop.invariant.built m.0; few = omega (arith, m.1) }

@@ -1,6 +1,7 @@
 -- Output lines, AND lines, the gates of outputs.
 use native.Mathlib.Omega.{arith}
 use Rattle.netlist.specs.Table.{tables}
+use Rattle.aiger_lines.specs.LineAnswers.{lines_left}
 use Rattle.read_aiger.specs.HeadAnswers.{head_said}
 use Rattle.read_aiger.proofs.WholeLines.{lines-no-ands, wires-length, standing-first}
 use Rattle.read_aiger.proofs.BodyLines.{kept-literals, whole-no-outs, whole-made}
@@ -9,23 +10,23 @@ use Rattle.read_aiger.proofs.body.by_literals.Goals as goal
 pub returns-in_err-count : goal.returns-in_err-count
 returns-in_err-count c =
     let H = head_said c.args.h in
-    let t = c.args.text.now in
+    let l = lines_left c.args.lines in
     let q = c.keep_literals in
-    let L = kept-literals H t c.args.results.now q.new.kept c.args.at.at c.requires.3 q.auto.kept c.in_ok-first.ensures.0 in
+    let L = kept-literals H l c.args.results.now q.new.kept c.requires.2 q.auto.kept c.in_ok-rest.ensures.0 in
     rw c.from_residual-in_err-count.ensures (
-      λ ls A. lines-no-ands H ls t A L (c.in_err-count.ensures.0 _ _ (wires-length H ls t A) (standing-first H ls t A _)),
+      λ ls A. lines-no-ands H ls A L (c.in_err-count.ensures.0 _ _ (wires-length H ls A) (standing-first H ls A _)),
       omega arith,
     )
 
 pub returns-then-not-outputs : goal.returns-then-not-outputs
 returns-then-not-outputs c =
     let H = head_said c.args.h in
-    let t = c.args.text.now in
+    let l = lines_left c.args.lines in
     let r = c.args.results.now in
     let q = c.keep_literals in
-    let L = kept-literals H t r q.new.kept c.args.at.at c.requires.3 q.auto.kept c.in_ok-first.ensures.0 in (
-      λ ls A. whole-no-outs H t r q.new.kept c.args.at.at c.requires.3 q.auto.kept c.ands.new.results c.ands.auto.results ls A L
-          (c.in_ok-count.ensures.0 _ _ (wires-length H ls t A) (standing-first H ls t A (tables c.args.operands.now _)))
+    let L = kept-literals H l r q.new.kept c.requires.2 q.auto.kept c.in_ok-rest.ensures.0 in (
+      λ ls A. whole-no-outs H l r q.new.kept c.requires.2 q.auto.kept c.ands.new.results c.ands.auto.results ls A L
+          (c.in_ok-count.ensures.0 _ _ (wires-length H ls A) (standing-first H ls A (tables c.args.operands.now _)))
           (rw c.if-not-outputs.true at c.outputs.ensures),
       omega arith,
     )
@@ -33,12 +34,12 @@ returns-then-not-outputs c =
 pub returns : goal.returns
 returns c =
     let H = head_said c.args.h in
-    let t = c.args.text.now in
+    let l = lines_left c.args.lines in
     let r = c.args.results.now in
     let q = c.keep_literals in
-    let L = kept-literals H t r q.new.kept c.args.at.at c.requires.3 q.auto.kept c.in_ok-first.ensures.0 in (
-      λ ls A. whole-made H t r q.new.kept c.args.at.at c.requires.3 q.auto.kept c.ands.new.results c.ands.auto.results ls A L
-          (c.in_ok-count.ensures.0 _ _ (wires-length H ls t A) (standing-first H ls t A (tables c.args.operands.now _)))
+    let L = kept-literals H l r q.new.kept c.requires.2 q.auto.kept c.in_ok-rest.ensures.0 in (
+      λ ls A. whole-made H l r q.new.kept c.requires.2 q.auto.kept c.ands.new.results c.ands.auto.results ls A L
+          (c.in_ok-count.ensures.0 _ _ (wires-length H ls A) (standing-first H ls A (tables c.args.operands.now _)))
           (rw c.if-not-outputs.false at c.outputs.ensures),
       omega (arith, c.in_ok-count.ensures.1),
     )
