@@ -1,6 +1,5 @@
 -- `ask_lists`: questions 11 and 13 in order.
 use mathlib.Core.Path.{sym, refl, ◌∙◌}
-use borrow.Author.Tests.{not-true, not-false}
 use Rattle.netlist.specs.Mask.{is_input_code, is_wanted}
 use Rattle.mask_twins.proofs.Made.{codes-length}
 use Rattle.mask.proofs.Promised.{mask-11, mask-13, mask-14, source_of, masked-formed}
