@@ -46,19 +46,6 @@ gate-makes {t} {m} {N = N} {codes = codes} i H M h = record {
       (λ g e s. ap u (sym e) ∙ s) g;
 }
 
--- a gate's wires
-pub gate-within : {t : Tables} {W n : ℕ} {g : Parts} (k : ℕ) (i : ℕ) → Wired t W n → i < n → g ≡ parts_of (get_or t.operands i 0) (get_or t.results i 0) → 15 * W ≤ k
-    → Within (k / 15) g × (g.result < W)
-gate-within {t} {W} {n} {g} k i H h e l =
-    let N = H.each i h in
-    let f : W ≤ k / 15 = omega arith in
-    subst (λ (p : Parts). Within (k / 15) p × (p.result < W)) (sym e)
-    (record { kind = N.kind; left = omega (arith, N.left); right = omega (arith, N.right); result = omega (arith, N.result) }, N.result)
-
--- a wire whose lowest bit is set
-pub bit-set : (n : ℕ) → (bit_and n 1 ≡ 0 → ⊥) → lane 0 n ≡ true
-bit-set n h = on_bool (lane 0 n) (λ e. e) (λ e. absurd (h (bit-first n ∙ ap bit e)))
-
 -- in zero tables no record stands, and no wire is marked
 zeros-at : (k i : ℕ) → ◌≡◌ {A = ℕ} (get_or {A = ℕ} (replicate k 0) i 0) 0
 zeros-at zero i = refl

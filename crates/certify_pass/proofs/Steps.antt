@@ -122,6 +122,3 @@ leaf-known {N} {codes} w L K = record { right = λ x. L (atom_bit N codes x) (bi
 -- what is true of a netlist stays so
 abbrev pub Stays : List ℕ → List ℕ → List ℕ → List ℕ → Type 0
 Stays r m r' m' = (N : Netlist) (codes : List ℕ) → Holding N codes r m → Holding N codes r' m'
-
-pub within-as : {W U : ℕ} {g : Parts} → U ≡ W → Within W g → Within U g
-within-as {g = g} e h = subst (λ (n : ℕ). Within n g) (sym e) h

@@ -22,14 +22,6 @@ use Rattle.certify_records.proofs.Evens.{setting_of, shown}
 use Rattle.certify_wires.specs.Known.{bit_of, atom_bit, Known, Open}
 use Rattle.certify_wires.specs.Store.{Marked, plain_atom}
 
--- a bit by a shift and a mask
-pub bit-one : (j n : ℕ) → eqb (bit_and (n / 2 ^ j) 1) 1 ≡ lane j n
-bit-one j n = ap (λ (k : ℕ). eqb k 1) (bit-low j n) ∙ go (lane j n)
-  where
-    go : (b : Bool) → eqb (bit b) 1 ≡ b
-    go true = refl
-    go false = refl
-
 -- bits of atoms, zero where there is none
 abbrev cut : (ℕ → Bool) → ℕ → Bool
 cut bits a = cond (eqb a no_atom) false (bits a)

@@ -41,9 +41,6 @@ pub record Keeping (w : ℕ) (e : List ℕ) (r : Record) (t : List ℕ) (s : Rec
 abbrev StepIs : ℕ → List ℕ → Record → List ℕ → Option Record → Type 0
 StepIs q t s u o = (N : Netlist) (codes : List ℕ) → Recorded N codes t → Known N codes (q / 5) s → Recorded N codes u × Carries N codes (q / 5) o
 
-pub keeping_none : (w : ℕ) (e : List ℕ) (r : Record) → Keeping w e r e r
-keeping_none w e r = record { long = refl; known = λ N codes R K. (R, K) }
-
 module _ {w : ℕ} {e : List ℕ} {r : Record} {t : List ℕ} {s : Record} {k : ℕ} (K : Keeping w e r t s) (less : k < 5) {u : List ℕ} (o : Option Record)
     (step : StepIs (5 * w + k) t s u o) where
   taken : (N : Netlist) (codes : List ℕ) → Recorded N codes e → Known N codes w r → Recorded N codes u × Carries N codes w o
