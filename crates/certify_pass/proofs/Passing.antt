@@ -1,8 +1,8 @@
 -- The pass, gate by gate.
 use mathlib.Core.Path.{◌≡◌, refl, sym, ap, ◌∙◌, subst}
-use mathlib.Core.Bool.{Bool, true}
+use mathlib.Core.Bool.{Bool}
 use mathlib.Core.List.{List}
-use Prim.Native.Nat.{ℕ, zero, suc, ◌+◌, ◌*◌, ◌/◌, ◌%◌, ◌<◌, ◌≤◌}
+use Prim.Native.Nat.{ℕ, zero, suc, ◌+◌, ◌*◌, ◌/◌, ◌%◌, ◌<◌}
 use native.Mathlib.Omega.{arith}
 use lib.Dec.{eqb}
 use lib.ListN.{get_or, replicate}
@@ -10,16 +10,13 @@ use borrow.Author.Tests.{eqb-true, eqb-false}
 use Rattle.netlist.specs.declared.Gate.{Gate}
 use Rattle.netlist.specs.Netlist.{Netlist, result}
 use Rattle.netlist.specs.Eval.{made, bits_at, wire_bits}
-use lib.Bits.{bit_and}
-use Rattle.netlist.specs.Leak.{masked, bit}
+use Rattle.netlist.specs.Leak.{masked}
 use Rattle.evaluate.specs.Lane.{lane}
-use Rattle.evaluate.proofs.Lanes.{bit-first}
-use Rattle.netlist.specs.Table.{Tables, gate_at, gates_of, half, Wired, Holds}
+use Rattle.netlist.specs.Table.{Tables, gate_at, gates_of, half, Holds}
 use Rattle.netlist.proofs.Models.{Models, bits-satisfy}
 use Rattle.netlist.proofs.Tests.{on_bool, All, all_head, all_split}
 use Rattle.evaluate.proofs.Steps.{by_kind}
-use Rattle.gate_table.specs.declared.Parts.{Parts}
-use Rattle.gate_table.specs.Parts.{parts_of, Within}
+use Rattle.gate_table.specs.Parts.{parts_of}
 use Rattle.certify_records.proofs.Evens.{no}
 use Rattle.certify_pass.specs.Pass.{Holding, Masked, GateMakes}
 

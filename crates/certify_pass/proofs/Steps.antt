@@ -17,8 +17,6 @@ use Rattle.netlist.proofs.Codes.{below_at, every_bit, every_bit-at, same, same-e
 use Rattle.netlist.proofs.Tests.{on_bool}
 use Rattle.evaluate.specs.Lane.{lane}
 use Rattle.check_counts.proofs.Numbers.{low-lane}
-use Rattle.gate_table.specs.declared.Parts.{Parts}
-use Rattle.gate_table.specs.Parts.{Within}
 use Rattle.certify_records.specs.declared.Record.{Record}
 use Rattle.std.specs.Prelude.{Some}
 use Rattle.certify_records.specs.Record.{JoinIs}
