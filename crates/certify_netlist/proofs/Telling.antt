@@ -17,8 +17,7 @@ use Rattle.evaluate.proofs.Steps.{get_d-lanes}
 use Rattle.check_leak.specs.declared.difference.Leak.{Leak as LeakFound}
 use Rattle.check_netlist.specs.Judge.{codes_asked}
 use Rattle.netlist.specs.declared.Question.{Question}
-use Rattle.netlist.specs.Question.{number_of}
-use Rattle.std.specs.Prelude.{Result, Err}
+use Rattle.std.specs.Prelude.{Result}
 use Rattle.check_netlist.proofs.Judging.{asked-bits}
 use Rattle.certify_pass.specs.Pass.{Masked}
 use Rattle.certify_search.specs.Round.{setting_in}
@@ -88,15 +87,7 @@ module _ {N : Netlist} (codes words : List ℕ) {ins : List ℕ} {p : LeakFound}
 no-outcome : {P : Type 0} {q : ℕ} → ◌≡◌ {A = Outcome Unit} (refused q) (done tt) → P
 no-outcome e = clash (cc)
 
-same-question : {p q : ℕ} → ◌≡◌ {A = Outcome Unit} (refused p) (refused q) → ◌≡◌ {A = Outcome Verdict} (refused p) (refused q)
-same-question {p} {q} e = let h : p ≡ q = cc in ap refused h
-
 module _ {N : Netlist} (codes ws : List ℕ) (widths : ws ≡ N.inputs) where
-  pub judged-refused : {q : Question} (leak ones : List ℕ) → refused (number_of q) ≡ codes_asked ws codes → JudgedAs N codes leak leak ones ones (Err q)
-  judged-refused {q} leak ones said =
-      let f : refused (number_of q) ≡ codes_asked N.inputs codes = said ∙ ap (λ (v : List ℕ). codes_asked v codes) widths in
-      record { refused = λ p g. (same-question (f ∙ g), refl, refl); judged = λ g. no-outcome (f ∙ g) }
-
   pub judged-passed : {leak leak' ones ones' : List ℕ} {r : Result Verdict Question} → WellFormed N → done tt ≡ codes_asked ws codes
       → (Masked N codes → Judged N codes leak leak' ones ones' r) → JudgedAs N codes leak leak' ones ones' r
   judged-passed F said h =

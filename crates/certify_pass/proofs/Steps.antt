@@ -17,8 +17,6 @@ use Rattle.netlist.proofs.Codes.{below_at, every_bit, every_bit-at, same, same-e
 use Rattle.netlist.proofs.Tests.{on_bool}
 use Rattle.evaluate.specs.Lane.{lane}
 use Rattle.check_counts.proofs.Numbers.{low-lane}
-use Rattle.gate_table.specs.declared.Parts.{Parts}
-use Rattle.gate_table.specs.Parts.{Within}
 use Rattle.certify_records.specs.declared.Record.{Record}
 use Rattle.std.specs.Prelude.{Some}
 use Rattle.certify_records.specs.Record.{JoinIs}
@@ -122,6 +120,3 @@ leaf-known {N} {codes} w L K = record { right = λ x. L (atom_bit N codes x) (bi
 -- what is true of a netlist stays so
 abbrev pub Stays : List ℕ → List ℕ → List ℕ → List ℕ → Type 0
 Stays r m r' m' = (N : Netlist) (codes : List ℕ) → Holding N codes r m → Holding N codes r' m'
-
-pub within-as : {W U : ℕ} {g : Parts} → U ≡ W → Within W g → Within U g
-within-as {g = g} e h = subst (λ (n : ℕ). Within n g) (sym e) h

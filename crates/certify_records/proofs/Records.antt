@@ -160,27 +160,8 @@ module _ (t a b c d : ℕ) where
       };
     }
 
-pub says_then : {r s t : Record} → Says r s → Says s t → Says r t
-says_then f g = record { right = λ R. g.right (f.right R) }
-
-pub says-itself : (r : Record) → Says r r
-says-itself r = record { right = λ R. R }
-
--- the atom of a place of two records that agree there
-has-at : {bits : ℕ → Bool} {a b : ℕ} {x : Bool} → a ≡ b → Has bits a x → Has bits b x
-has-at {bits} e h = record { bit = λ n. ap bits (sym e) ∙ h.bit (λ z. n (sym e ∙ z)) }
-
 abbrev pub Agrees : ℕ → ℕ → ℕ → Type 0
 Agrees a b z = (bits : ℕ → Bool) (x : Bool) → Has bits z x → Has bits a x × Has bits b x
-
-pub agree_same : (a b : ℕ) → a ≡ b → Agrees a b a
-agree_same a b e bits x h = (h, has-at e h)
-
-pub agree_left : (a b : ℕ) → a ≡ no_atom → Agrees a b b
-agree_left a b e bits x h = (record { bit = λ n. absurd (n e) }, h)
-
-pub agree_right : (a b : ℕ) → b ≡ no_atom → Agrees a b a
-agree_right a b e bits x h = (h, record { bit = λ n. absurd (n e) })
 
 module _ (kind : ℕ) (x y : Record) (t : ℕ) {a b c d : ℕ} (tables : (l : ℕ) → l < 64 → lane l t ≡ made_of kind (lane l x.table) (lane l y.table))
     (ga : Agrees x.first y.first a) (gb : Agrees x.second y.second b) (gc : Agrees x.third y.third c) (gd : Agrees x.fourth y.fourth d) where
@@ -195,7 +176,3 @@ module _ (kind : ℕ) (x y : Record) (t : ℕ) {a b c d : ℕ} (tables : (l : �
         ∙ ap₂ (made_of kind) (R.each l h record { first = pa.0; second = pb.0; third = pc.0; fourth = pd.0 })
         (S.each l h record { first = pa.1; second = pb.1; third = pc.1; fourth = pd.1 });
   }
-
--- records that say what those say that were joined
-pub join-says : (kind : ℕ) {x y x' y' z z' : Record} → Says x x' → Says y y' → Says z z' → JoinIs kind x' y' (Some z) → JoinIs kind x y (Some z')
-join-says kind f g h J bits u v R S = h.right (J bits u v (f.right R) (g.right S))

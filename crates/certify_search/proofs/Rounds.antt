@@ -42,12 +42,6 @@ unmasked s h = (same-below 16 (λ s. lane 0 (4 * s)) (λ s. false) tt s h, same-
 
 -- ---- the word of one input bit
 
-pub public-word : {w : ℕ} {b : Bool} → ((j : ℕ) → j < 64 → lane j w ≡ b) → InputWord 0 w
-public-word {w} {b} all = record {
-  masked = λ j h. all j h ∙ sym (all (4 * (j / 4)) (omega arith)) ∙ sym (differs_none (lane (4 * (j / 4)) w));
-  base = λ s h. all (4 * s) (omega arith) ∙ sym (all 0 (omega arith));
-}
-
 module _ (noise code k : ℕ) (some : code ≢ 0) (mask : MaskIs k code) where
   abbrev bits : ℕ
   bits = bit_and noise 0xffff_ffff_ffff_fff0

@@ -1,5 +1,5 @@
 -- Records put into a table, and what stays known of the table.
-use mathlib.Core.Path.{◌≡◌, refl, sym, ◌∙◌, subst}
+use mathlib.Core.Path.{◌≡◌, sym, ◌∙◌, subst}
 use mathlib.Core.List.{List}
 use Prim.Native.Nat.{ℕ, ◌+◌, ◌*◌, ◌/◌, ◌<◌}
 use native.Mathlib.Omega.{arith}
@@ -40,9 +40,6 @@ pub record Keeping (w : ℕ) (e : List ℕ) (r : Record) (t : List ℕ) (s : Rec
 -- what a step says
 abbrev StepIs : ℕ → List ℕ → Record → List ℕ → Option Record → Type 0
 StepIs q t s u o = (N : Netlist) (codes : List ℕ) → Recorded N codes t → Known N codes (q / 5) s → Recorded N codes u × Carries N codes (q / 5) o
-
-pub keeping_none : (w : ℕ) (e : List ℕ) (r : Record) → Keeping w e r e r
-keeping_none w e r = record { long = refl; known = λ N codes R K. (R, K) }
 
 module _ {w : ℕ} {e : List ℕ} {r : Record} {t : List ℕ} {s : Record} {k : ℕ} (K : Keeping w e r t s) (less : k < 5) {u : List ℕ} (o : Option Record)
     (step : StepIs (5 * w + k) t s u o) where

@@ -1,9 +1,7 @@
 -- `certify_netlist::tell_leak` meets its contract.
 use mathlib.Core.Path.{refl}
 use mathlib.Core.Logic.{inl, inr, ⊎_elim}
-use lib.ListN.{length-set}
 use Rattle.certify_netlist.proofs.Telling.{leak-short, leak-told}
-use native.Mathlib.Omega.{arith}
 use Rattle.certify_netlist.proofs.tell_leak.Goals as goal
 
 pub returns-then-leak-lt4 : goal.returns-then-leak-lt4
@@ -14,12 +12,6 @@ returns-then-leak-lt4 c = λ N codes words e room h W. (
   refl,
   refl,
 )
-
-pub bounds-leak-1 : goal.bounds-leak-1
-bounds-leak-1 c = simp length-set (omega arith)
-
-pub bounds-leak-2 : goal.bounds-leak-2
-bounds-leak-2 c = simp length-set (omega arith)
 
 pub returns : goal.returns
 returns c = λ N codes words e room h W.

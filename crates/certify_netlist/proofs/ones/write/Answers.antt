@@ -1,6 +1,6 @@
 -- `certify_netlist::ones::write` meets its contract.
 use Prim.Native.Nat.{ℕ, ◌<◌}
-use mathlib.Core.Path.{◌≡◌, refl, sym}
+use mathlib.Core.Path.{sym}
 use mathlib.Core.Bool.{true, false}
 use lib.ListN.{length, get_or}
 use Rattle.evaluate.specs.Lane.{lane}
@@ -8,9 +8,6 @@ use Rattle.certify_netlist.proofs.Counting.{writing-room, writing_more, lane-one
 use native.Mathlib.Omega.{arith}
 use Rattle.certify_netlist.proofs.ones.write.Goals as goal
 use Rattle.certify_netlist.proofs.ones.write.Goals.{then-word-place-eq1, else-word-place-eq1}
-
-pub loop-i-init : goal.loop-i-init
-loop-i-init c = record { place = refl; written = refl }
 
 pub offset_bounds-out-at : goal.offset_bounds-out-at
 offset_bounds-out-at c =
@@ -44,8 +41,3 @@ loop-i-preserved c =
       | then-word-place-eq1 w ↦ writing_more true c.loop-i.invariant (sym (lane-one s.place n w.if-word-place-eq1.true)) w.out-is w.at-is
       | else-word-place-eq1 w ↦ writing_more false c.loop-i.invariant (sym (lane-none s.place n w.if-word-place-eq1.false)) w.out-is (omega (arith, w.at-is))
     ]
-
-pub returns : goal.returns
-returns c =
-    let e : c.loop-i.i ≡ length c.args.words.now = omega arith in
-    rw e at c.loop-i.invariant.written

@@ -3,16 +3,9 @@ use mathlib.Core.Path.{sym, ◌∙◌, subst}
 use Prim.Native.Nat.{ℕ}
 use lib.ListN.{length}
 use Rattle.netlist.specs.Table.{tables, Holds}
-use Rattle.netlist.proofs.Puts.{wired-same}
 use Rattle.certify_pass.proofs.Passing.{holding-none}
 use native.Mathlib.Omega.{arith}
 use Rattle.certify_pass.proofs.pass.certified.Goals as goal
-
-pub gates-requires : goal.gates-requires
-gates-requires c =
-    let m = c.inputs.auto.marks ∙ c.fill-2.auto.self in
-    let r = c.inputs.auto.records ∙ c.fill.auto.self in
-    (wired-same m c.requires.0, omega (arith, c.requires.1, m, r), omega arith)
 
 pub returns : goal.returns
 returns c =

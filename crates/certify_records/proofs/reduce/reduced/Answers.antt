@@ -1,5 +1,5 @@
 -- `certify_records::reduce::reduced` meets its contract.
-use Rattle.certify_records.proofs.Records.{says_then, without-first, without-second, without-third, without-fourth}
+use Rattle.certify_records.proofs.Records.{without-first, without-second, without-third, without-fourth}
 use Rattle.certify_records.proofs.reduce.reduced.Goals as goal
 
 pub without-a-requires-clause-left_out : goal.without-a-requires-clause-left_out
@@ -13,8 +13,3 @@ without-c-requires-clause-left_out c = λ h. let r = c.without-b.result in witho
 
 pub without-requires-clause-left_out : goal.without-requires-clause-left_out
 without-requires-clause-left_out c = λ h. let r = c.without-c.result in without-first r.table r.first r.second r.third r.fourth (h 0 tt)
-
-pub returns : goal.returns
-returns c =
-    says_then c.without-a.ensures (says_then c.without-b.ensures
-    (says_then c.without-c.ensures c.without.ensures))

@@ -2,14 +2,7 @@
 use mathlib.Core.Path.{sym, subst}
 use Prim.Native.Nat.{ℕ}
 use Rattle.netlist.specs.Table.{tables, Holds}
-use Rattle.netlist.proofs.Puts.{wired-same}
-use native.Mathlib.Omega.{arith}
 use Rattle.certify_search.proofs.search.search.Goals as goal
-
-pub run-seed-requires : goal.run-seed-requires
-run-seed-requires c =
-    let l = c.loop.auto.words in
-    (wired-same l c.requires.0, omega (arith, l, c.requires.1))
 
 pub returns-in-Some-clause-witness : goal.returns-in-Some-clause-witness
 returns-in-Some-clause-witness c = λ n o N H M.

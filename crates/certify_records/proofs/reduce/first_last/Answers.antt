@@ -1,6 +1,0 @@
--- `certify_records::reduce::first_last` meets its contract.
-use Rattle.certify_records.proofs.Records.{says_then}
-use Rattle.certify_records.proofs.reduce.first_last.Goals as goal
-
-pub returns : goal.returns
-returns c = says_then c.low.ensures (says_then c.middle.ensures c.high.ensures)
