@@ -1,6 +1,7 @@
 // Gate lines. Where the buffer has room for the longest, a line is stored by words; near its end it is
 // written byte by byte as far as it fits; behind it only its length is added. `d` is the table of words.
 ghost use Rattle.std.specs.Prelude.{◌≤◌, [], ◌∷◌};
+ghost use Rattle.std.specs.Int.{to_le_bytes, w32};
 ghost use Rattle.netlist.specs.declared.Gate.TheVariants.{Xor, And, Inv, Eqw, Eq};
 ghost use Rattle.netlist.specs.Table.{gate_in};
 ghost use Rattle.write_buffer.specs.Wrote.{Wrote};
@@ -11,19 +12,28 @@ ghost use Rattle.write_gates.specs.Gates.{WroteGates};
 use write_buffer::store;
 use write_parts::LONGEST;
 
-// The line of a gate with a name of three letters, here with LF behind it.
-fn line<const N: usize>(
+// The names of three letters, each with LF behind it, as numbers: the first letter is the lowest byte.
+const XOR: u32 = 0x0a524f58;
+
+const AND: u32 = 0x0a444e41;
+
+const INV: u32 = 0x0a564e49;
+
+const EQW: u32 = 0x0a575145;
+
+// The line of a gate of one of these names. The name is a const parameter, so that each is stored as a constant.
+fn line<const N: usize, const NAME: u32>(
     d: &[u64],
     out: &mut [u8],
     at: usize,
     operands: [u32; N],
     c: u32,
-    name: [u8; 4],
 ) -> usize
     requires word_table { WordTable d.now }
     requires few { N ≤ 2 }
-    ensures { Wrote out.old at (line_of operands.entry c name) out.new result }
+    ensures { Wrote out.old at (line_of operands.entry c (to_le_bytes w32 NAME)) out.new result }
 {
+    let name = NAME.to_le_bytes();
     if out.len() <= at {
         return write_parts::beyond(at, operands, c);
     }
@@ -42,7 +52,7 @@ pub fn xor(d: &[u64], out: &mut [u8], at: usize, a: u32, b: u32, c: u32) -> usiz
     requires { WordTable d.now }
     ensures { WroteGates out.old at (Xor a b c ∷ []) out.new result }
 {
-    line(d, out, at, [a, b], c, *b"XOR\n")
+    line::<2, XOR>(d, out, at, [a, b], c)
 }
 
 // The line of an AND.
@@ -50,7 +60,7 @@ pub fn and(d: &[u64], out: &mut [u8], at: usize, a: u32, b: u32, c: u32) -> usiz
     requires { WordTable d.now }
     ensures { WroteGates out.old at (And a b c ∷ []) out.new result }
 {
-    line(d, out, at, [a, b], c, *b"AND\n")
+    line::<2, AND>(d, out, at, [a, b], c)
 }
 
 // The line of an INV.
@@ -58,7 +68,7 @@ pub fn inv(d: &[u64], out: &mut [u8], at: usize, a: u32, c: u32) -> usize
     requires { WordTable d.now }
     ensures { WroteGates out.old at (Inv a c ∷ []) out.new result }
 {
-    line(d, out, at, [a], c, *b"INV\n")
+    line::<1, INV>(d, out, at, [a], c)
 }
 
 // The line of an EQW.
@@ -66,7 +76,7 @@ pub fn eqw(d: &[u64], out: &mut [u8], at: usize, a: u32, c: u32) -> usize
     requires { WordTable d.now }
     ensures { WroteGates out.old at (Eqw a c ∷ []) out.new result }
 {
-    line(d, out, at, [a], c, *b"EQW\n")
+    line::<1, EQW>(d, out, at, [a], c)
 }
 
 // The line of an EQ.

@@ -10,7 +10,7 @@ use lib.Seq.{get_or-set_same, get_or-set_other, get_or-take, length-take-le}
 use borrow.Author.Tests.{ltb-true, ltb-false}
 use Rattle.netlist.proofs.Tests.{on_bool}
 use Rattle.write_wires.specs.Packed.{packed, added, Filled, WordTable, LowTable, Worded, Tens}
-use Rattle.write_wires.proofs.Packing.{packed-one, packed-two, packed-three, added-three}
+use Rattle.write_wires.proofs.Packing.{Looks, looks, packed-one, packed-two, packed-three, added-three}
 
 -- one entry of each half more
 abbrev grown : List ℕ → ℕ → ℕ → ℕ → List ℕ
@@ -76,6 +76,13 @@ filled-low f h = record { few = h; long = omega (arith, f.long); words = f.words
 -- the word of a number below a thousand
 pub word_low : {d : List ℕ} (n : ℕ) → WordTable d → Worded (length d) n → n < 1000 → get_or d n 0 ≡ packed n
 word_low n t w h = ⊎_elim (λ e. (t.filled e).words n h) (λ l. t.low l n (w.entry h)) w.size
+
+-- what is looked up for a number of four to six digits
+pub table-looks : {d : List ℕ} {n : ℕ} → WordTable d → Worded (length d) n → 1000 ≤ n → Looks n (get_or d (n / 1000) 0) (get_or d (1000 + n % 1000) 0)
+table-looks t w h =
+    let f = t.filled (w.thousands h) in
+    let small = w.six in
+    looks small h (f.words _ (omega arith)) (f.more _ (omega arith))
 
 pub filled-as : {d : List ℕ} {j k : ℕ} → j ≡ k → Filled d j → Filled d k
 filled-as e f = rw e at f

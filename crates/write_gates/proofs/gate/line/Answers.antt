@@ -8,4 +8,4 @@ pub returns-then-out-at : goal.returns-then-out-at
 returns-then-out-at g c = line-beyond _ _ _ (omega arith) (omega arith) (omega arith) c.beyond.ensures
 
 pub returns : goal.returns
-returns g c = spilt-all c.front-end.ensures c.store.ensures (omega arith)
+returns g c = spilt-all c.front-end.ensures (rw c.to_le_bytes-name.ensures at c.store.ensures) (omega arith)
