@@ -10,9 +10,7 @@ ghost use Rattle.verilog.specs.Call.{read_equations};
 ghost use Rattle.from_verilog.specs.Promise.{call, Promise};
 
 use netlist::{Answer, Question, Sizes};
-
-// Numbers that one entry of a table of names has.
-const NUMBERS: usize = 8;
+use read_verilog::read::NUMBERS;
 
 // Questions 2, 16, 17, 18, 5 and 14, with tables that question 1 admits.
 fn read_and_write(

@@ -21,12 +21,11 @@ use Rattle.verilog_tokens.specs.Next.{TokenAt}
 use Rattle.verilog_tokens.proofs.Firsts.{never}
 use Rattle.verilog_names.specs.Names.{newest, Chained}
 use Rattle.verilog_gates.specs.Wires.{wire_of}
-use Rattle.verilog_rules.specs.States.{all_from}
 use Rattle.verilog_rules.specs.Stages.{declared_from, keys, fresh, Loaded, AllDeclared, NotDeclared}
-use Rattle.verilog_rules.specs.Ports.{seat_all, unseated, ports_left, Ported, PortsSay, PortsGive}
+use Rattle.verilog_rules.specs.Ports.{seat_all, unseated, ports_left, Ported, PortsSay}
 use Rattle.verilog_rules.proofs.Seating.{known}
 use Rattle.verilog_assigns.specs.Parts.{names_pass, behind_end, any, PastIs}
-use Rattle.verilog_assigns.specs.Settled.{settle_all, unsettled, assigns_left, AssignsSay, AssignsIs}
+use Rattle.verilog_assigns.specs.Settled.{settle_all, unsettled, assigns_left, AssignsSay}
 use Rattle.std.specs.Prelude.{Some, None}
 use Rattle.read_verilog.specs.Kept.{PlaceIs, ports_done, PortsKept, assigns_done, AssignsKept, RulesAre}
 use Rattle.read_verilog.proofs.Declared.{items_left, module-parts, items-declared, items-behind, fresh-once, count-declared}
@@ -72,68 +71,6 @@ module _ {t : List ℕ} {at items : ℕ} (A : PlaceIs t at) (B : PastIs t at ite
 and-false : (x : Bool) → (x && false) ≡ false
 and-false true = refl
 and-false false = refl
-
-module _ {t words : List ℕ} {n at : ℕ} {st st' ws ws' : List ℕ} {p : Ported} (P : PortsGive t words n at st st' ws ws' p) where
-  ports-no : {r : Ported} {st'' ws'' : List ℕ} → r.good ≡ false → (p.good ≡ true → (all_from st' n 3 && leb 1 p.inputs && leb 1 p.outputs) ≡ false) →
-      PortsKept t words n at st st'' ws ws'' r
-  ports-no {r} g h = record {
-    gives = λ ps rest e.
-        let Q = P.gives ps rest e in
-        let X = seat_all t words n (unseated st ws) ps in
-        let no : (ports_done n X).good ≡ false = on_bool p.good
-        (λ q. ap (λ (b : Bool). b && all_from X.states n 3 && leb 1 X.inputs && leb 1 X.outputs) (sym Q.said ∙ q)
-        ∙ (λ i. all_from (sym (Q.states q) i) n 3 && leb 1 (sym (Q.inputs q) i) && leb 1 (sym (Q.outputs q) i)) ∙ h q)
-        (λ q. ap (λ (b : Bool). b && all_from X.states n 3 && leb 1 X.inputs && leb 1 X.outputs) (sym Q.said ∙ q)) in
-        record {
-          said = g ∙ sym no;
-          states = λ z. absurd (never (sym z ∙ g));
-          wires = λ z. absurd (never (sym z ∙ g));
-          inputs = λ z. absurd (never (sym z ∙ g));
-          outputs = λ z. absurd (never (sym z ∙ g));
-        };
-  }
-
-  pub ports-none : {r : Ported} {st'' ws'' : List ℕ} → r.good ≡ false → p.good ≡ false → PortsKept t words n at st st'' ws ws'' r
-  ports-none g h = ports-no g (λ q. absurd (never (sym q ∙ h)))
-
-  pub ports-missing : {r : Ported} {st'' ws'' : List ℕ} → r.good ≡ false → all_from st' n 3 ≡ false → PortsKept t words n at st st'' ws ws'' r
-  ports-missing g h = ports-no g (λ q. ap (λ (x : Bool). x && leb 1 p.inputs && leb 1 p.outputs) h)
-
-  pub ports-inputless : {r : Ported} {st'' ws'' : List ℕ} → r.good ≡ false → p.inputs ≡ 0 → PortsKept t words n at st st'' ws ws'' r
-  ports-inputless g h = ports-no g (λ q. ap (λ (x : Bool). all_from st' n 3 && x && leb 1 p.outputs) (ap (leb 1) h) ∙ ap
-      (λ (x : Bool). x && leb 1 p.outputs) (and-false (all_from st' n 3)))
-
-  pub ports-outputless : {r : Ported} {st'' ws'' : List ℕ} → r.good ≡ false → p.outputs ≡ 0 → PortsKept t words n at st st'' ws ws'' r
-  ports-outputless g h = ports-no g (λ q. ap (λ (x : Bool). all_from st' n 3 && leb 1 p.inputs && x) (ap (leb 1) h) ∙ and-false (all_from st' n 3 && leb 1 p.inputs))
-
-  pub ports-yes : p.good ≡ true → all_from st' n 3 ≡ true → 0 < p.inputs → 0 < p.outputs → PortsKept t words n at st st' ws ws' p
-  ports-yes g a i o = record {
-    gives = λ ps rest e.
-        let Q = P.gives ps rest e in
-        let X = seat_all t words n (unseated st ws) ps in
-        let yes : (ports_done n X).good ≡ true =
-        ap₂ ◌&&◌ (ap₂ ◌&&◌ (ap₂ ◌&&◌ (sym Q.said ∙ g) (ap (λ (xs : List ℕ). all_from xs n 3) (sym (Q.states g)) ∙ a))
-        (ap (leb 1) (sym (Q.inputs g)) ∙ le-leb 1 p.inputs (omega (arith, i))))
-        (ap (leb 1) (sym (Q.outputs g)) ∙ le-leb 1 p.outputs (omega (arith, o))) in
-        record { said = g ∙ sym yes; states = Q.states; wires = Q.wires; inputs = Q.inputs; outputs = Q.outputs };
-  }
-
-module _ {t words : List ℕ} {n at : ℕ} {st st' : List ℕ} {r : Bool} (A : AssignsIs t words n at st st' r) where
-  pub assigns-no : r ≡ false → AssignsKept t words n at st st' false
-  assigns-no e = record {
-    gives = λ xs rest q.
-        let Q = A.gives xs rest q in
-        let X = settle_all t words n (unsettled st) xs in
-        record { said = sym (ap (λ (b : Bool). b && all_from X.states n 5) (sym Q.said ∙ e)); states = λ z. absurd (never (sym z)) };
-  }
-
-  pub assigns_last : r ≡ true → {b : Bool} → b ≡ all_from st' n 5 → AssignsKept t words n at st st' b
-  assigns_last e {b} h = record {
-    gives = λ xs rest q.
-        let Q = A.gives xs rest q in
-        let X = settle_all t words n (unsettled st) xs in
-        record { said = h ∙ sym (ap₂ ◌&&◌ (sym Q.said ∙ e) (ap (λ (ys : List ℕ). all_from ys n 5) (sym (Q.states e)))); states = λ z. Q.states e };
-  }
 
 -- ---- the tables at the start
 

@@ -16,7 +16,7 @@ use verilog_names::Names;
 const DEEPEST: usize = 32;
 
 // A table of names has so many numbers an entry: a text of Limits declares at most eight names for each entry.
-const NUMBERS: usize = 8;
+pub const NUMBERS: usize = 8;
 
 // Questions 2, 16, 17, 18 and 5. The gates go into two tables, those of the assignments and then the copies of the outputs; of
 // the others, which are for names, the first and the last must be zero.

@@ -1,14 +1,12 @@
 -- Assignments settled one after another.
-use Prim.Native.Nat.{ℕ, ◌<◌}
+use Prim.Native.Nat.{ℕ}
 use mathlib.Core.Path.{◌≡◌, refl, sym, ap, ◌∙◌}
 use mathlib.Core.Bool.{Bool, true, false, ◌&&◌}
 use mathlib.Core.List.{List, [], ◌∷◌, ◌++◌, append_assoc}
 use mathlib.Core.Option.{some}
 use native.Mathlib.Omega.{arith}
-use lib.Dec.{eqb}
 use lib.ListN.{length, drop}
 use Rattle.netlist.specs.Lists.{every, ascii}
-use Rattle.netlist.proofs.Tests.{on_bool}
 use Rattle.netlist.proofs.Questions.{some_same}
 use Rattle.verilog.specs.Tokens.{Token, name, mark, tokens}
 use Rattle.verilog.specs.Syntax.{Assign, expr_tokens, assign_tokens, each_tokens}
@@ -16,29 +14,10 @@ use Rattle.verilog.specs.Rules.{expr_reads}
 use Rattle.verilog_tokens.specs.Next.{token_of, between, TokenAt}
 use Rattle.verilog_tokens.proofs.Firsts.{never, token-code}
 use Rattle.verilog_gates.specs.Wires.{wire_of}
-use Rattle.verilog_gates.proofs.Joins.{left}
-use Rattle.verilog_rules.specs.States.{becomes}
-use Rattle.verilog_rules.proofs.Moves.{stays}
 use Rattle.verilog_rules.proofs.Seating.{known, name-marked, same_name}
 use Rattle.verilog_assigns.specs.Parts.{readable, names_pass, behind_end, PartGives}
 use Rattle.verilog_assigns.specs.Settled.{is_open, settled, TargetIs, Settled, settle, settle_all, unsettled, assigns_left, AssignsIs}
 use Rattle.verilog_assigns.proofs.Passing.{expr-pass, expr-behind}
-
--- ---- one target
-
-module _ {t words : List ℕ} {n : ℕ} {w : List ℕ} {st : List ℕ} where
-  pub target-wire : {b : Bool} {st' : List ℕ} → b ≡ eqb (wire_of t words st n w) 3 → b ≡ true → st' ≡ becomes t words st n w 3 5 → TargetIs t words n w st st' true
-  target-wire e q s = let k : eqb (wire_of t words st n w) 3 ≡ true = sym e ∙ q in record { said = sym (rw k); states = s ∙ sym (rw k) }
-
-  pub target-other : {b r : Bool} {st₁ st' : List ℕ} → b ≡ eqb (wire_of t words st n w) 3 → b ≡ false → st₁ ≡ becomes t words st n w 3 5
-      → r ≡ eqb (wire_of t words st₁ n w) 4 → st' ≡ becomes t words st₁ n w 4 6 → TargetIs t words n w st st' r
-  target-other {b} {r} {st₁} {st'} e q s f g =
-      let k : eqb (wire_of t words st n w) 3 ≡ false = sym e ∙ q in
-      let u : st₁ ≡ st = s ∙ sym (stays t words st n w 3 5 k) in
-      record {
-        said = f ∙ ap (λ (x : List ℕ). eqb (wire_of t words x n w) 4) u ∙ sym (rw k);
-        states = g ∙ ap (λ (x : List ℕ). becomes t words x n w 4 6) u ∙ sym (rw k);
-      }
 
 -- ---- all of them
 
@@ -83,9 +62,6 @@ right-false true b e = e
 right-false false b e = refl
 
 module _ {t words : List ℕ} {n at : ℕ} {st₀ : List ℕ} where
-  pub settle-start : {code start to : ℕ} → TokenAt t at code start to → Settling t words n at st₀ st₀ code to
-  settle-start {start = start} A = record { place = at; start = start; token = A; stated = refl; gives = λ xs rest e. record { more = xs; left = e; same = refl } }
-
   module _ {st : List ℕ} {code to : ℕ} (S : Settling t words n at st₀ st code to) where
     pub settle-end : (code ≡ 5 → ⊥) → AssignsIs t words n at st₀ st true
     settle-end h = record {
@@ -186,11 +162,3 @@ module _ {t words : List ℕ} {n at : ℕ} {st₀ : List ℕ} where
                 same = A.same ∙ ap (settle_all t words n (unsettled st)) T.split ∙ ap (λ (X : Settled). settle_all t words n X T.more) k;
               };
         }
-
-      -- fewer tokens are left
-      pub settle-less : {code' start' to' : ℕ} → TokenAt t behind code' start' to' → left t code' to' < left t code to
-      settle-less {code'} A =
-          let z : eqb code 0 ≡ false = ap (λ (c : ℕ). eqb c 0) five in
-          on_bool (eqb code' 0)
-          (λ h. rw (h, z) (omega (arith, X.start, X.onward, Y.start, Y.onward, P.on, A.start, A.onward)))
-          (λ h. rw (h, z) (omega (arith, X.start, X.onward, Y.start, Y.onward, P.on, A.start, A.on h, A.within)))

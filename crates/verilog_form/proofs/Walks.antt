@@ -1,6 +1,6 @@
 -- The loop over the tokens of a text.
 use Prim.Native.Nat.{ℕ, ◌+◌, ◌*◌, ◌-◌, ◌≤◌, ◌<◌, max}
-use mathlib.Core.Path.{◌≡◌, refl, sym, ap, ◌∙◌}
+use mathlib.Core.Path.{◌≡◌, sym, ap, ◌∙◌}
 use mathlib.Core.Bool.{Bool, true, false, cond}
 use mathlib.Core.List.{List, [], ◌∷◌}
 use mathlib.Core.Option.{Option, none, some}
@@ -17,7 +17,7 @@ use Rattle.verilog_tokens.specs.Next.{token_of, between, TokenAt}
 use Rattle.verilog_tokens.proofs.Firsts.{some-token, no-token}
 use Rattle.std.specs.Prelude.{Some, None}
 use Rattle.verilog_form.specs.declared.Phase as P
-use Rattle.verilog_form.specs.declared.Phase.TheVariants.{OnModule, OnNothing}
+use Rattle.verilog_form.specs.declared.Phase.TheVariants.{OnNothing}
 use Rattle.verilog_form.specs.Turns.{phase_of, stepped, operator_code, ScanIs}
 use Rattle.verilog_form.proofs.Machine.{depth_of, turned, turn-steady, end-other, stepped-token, operator-coded}
 
@@ -90,18 +90,6 @@ pub record Walked (t : List ℕ) (code to : ℕ) (phase : P.Phase) (depth most c
   pub counts : (ts : List Token) → tokens (drop place t) ≡ some ts → Sofar t (phase_of phase) depth most count ts
 
 module _ (t : List ℕ) where
-  pub walk_start : {code start to : ℕ} → TokenAt t 0 code start to → Walked t code to OnModule 0 0 0
-  walk_start {code} {start} {to} A = record {
-    place = 0;
-    start = start;
-    token = A;
-    steady = refl;
-    same = refl;
-    under = omega arith;
-    few = (omega arith, omega arith);
-    counts = λ ts e. record { all = ts; read = e; depth = omega arith; operators = omega arith };
-  }
-
   module _ {code to : ℕ} {phase : P.Phase} {depth most count : ℕ} (W : Walked t code to phase depth most count) where
     p : Phase
     p = phase_of phase

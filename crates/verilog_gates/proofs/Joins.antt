@@ -472,14 +472,3 @@ left_less t code behind k v e p R =
     on_bool (eqb (number_of v.token.kind) 0)
     (λ h. rw (h, z) (omega (arith, R.on, R.token.start, R.token.onward)))
     (λ h. rw (h, z) (omega (arith, R.on, R.token.start, R.token.on h, R.token.within)))
-
--- what the reader of an expression in parentheses asks
-pub operand-ready : {t : List ℕ} {from : ℕ} {negated : Bool} {y : Lexed} (O : OperandAt t from negated y) → eqb (number_of y.kind) 0 ≡ false
-    → {wires : List ℕ} {count n c : ℕ} → Ready t wires count n from c → Ready t wires count
-    n y.to c
-operand-ready O z R = record {
-  wired = R.wired;
-  within = O.token.within;
-  first = R.first;
-  room = omega (arith, R.room, O.on, O.token.start, O.token.on z, O.token.within);
-}

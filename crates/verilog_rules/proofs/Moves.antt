@@ -1,21 +1,20 @@
 -- A name's state, and what a move changes.
-use Prim.Native.Nat.{ℕ, zero, suc, ◌+◌, ◌-◌, ◌≤◌, ◌<◌}
-use mathlib.Core.Path.{◌≡◌, refl, sym, ap, subst, ◌∙◌}
+use Prim.Native.Nat.{ℕ, zero, suc, ◌+◌, ◌-◌, ◌<◌}
+use mathlib.Core.Path.{◌≡◌, refl, sym, ap, ◌∙◌}
 use mathlib.Core.Bool.{Bool, true, false, ◌&&◌}
 use mathlib.Core.List.{List, [], ◌∷◌}
 use native.Mathlib.Omega.{arith}
-use lib.Dec.{eqb, leb}
+use lib.Dec.{eqb}
 use lib.ListN.{length, get_or, set, take}
-use borrow.Author.Tests.{eq-eqb, ne_eqb, eqb-true, eqb-false, lt-leb, le-leb}
+use borrow.Author.Tests.{eq-eqb, ne_eqb}
 use Rattle.netlist.specs.Lists.{every, same_bytes}
 use Rattle.netlist.proofs.Tests.{on_bool}
 use Rattle.verilog.proofs.Listing.{same-equal}
 use Rattle.verilog_names.specs.Names.{name_at, found}
-use Rattle.verilog_gates.specs.Wires.{before, wire_of, given}
+use Rattle.verilog_gates.specs.Wires.{before, wire_of}
 use Rattle.verilog_rules.specs.declared.states.State.{State}
 use Rattle.verilog_rules.specs.declared.states.State.TheVariants as S
-use Rattle.verilog_rules.specs.States.{state_number, becomes, all_from}
-use Rattle.verilog_rules.specs.Ports.{PortSays}
+use Rattle.verilog_rules.specs.States.{state_number, becomes}
 
 module _ (t words : List ℕ) where
   -- a name that is found is the name of its entry
@@ -88,46 +87,3 @@ every_take p (x ∷ xs) (suc i) h = let z : suc i + 1 ≡ suc (i + 1) = omega ar
     assoc : (a b c : Bool) → (a && (b && c)) ≡ ((a && b) && c)
     assoc true b c = refl
     assoc false b c = refl
-
-module _ (states : List ℕ) (least : ℕ) where
-  pub all-on : (i : ℕ) → i < length states → least ≤ get_or states i 0 → all_from states i least ≡ true → all_from states (i + 1) least ≡ true
-  all-on i h k e = every_take (λ x. leb least x) states i h ∙ rw (e, le-leb least (get_or states i 0) k)
-
-  pub all-off : (i n : ℕ) → i < n → n ≤ length states → get_or states i 0 < least → false ≡ all_from states n least
-  all-off i zero h l k = absurd (omega arith)
-  all-off i (suc n) h l k =
-      let z : suc n ≡ n + 1 = omega arith in
-      let e = ap (λ (j : ℕ). all_from states j least) z ∙ every_take (λ x. leb least x) states n (omega arith) in
-      on_bool (eqb i n)
-      (λ q. sym (e ∙ last (all_from states n least) (leb least (get_or states n 0))
-      (lt-leb least (get_or states n 0) (subst (λ (j : ℕ). get_or states j 0 < least) (eqb-true i n q) k))))
-      (λ q. let d = eqb-false i n q in sym (e ∙ first (all_from states n least) (leb least (get_or states n 0)) (sym (all-off i n (omega (arith, d, h)) (omega arith) k))))
-    where
-      last : (a b : Bool) → b ≡ false → (a && b) ≡ false
-      last true b e = e
-      last false b e = refl
-
-      first : (a b : Bool) → a ≡ false → (a && b) ≡ false
-      first a b e = rw e
-
--- ---- one port
-
-module _ {t words : List ℕ} {n : ℕ} {w : List ℕ} {inputs outputs : ℕ} {st st' ws : List ℕ} where
-  pub port-input : {ws' : List ℕ} {b : Bool} → b ≡ eqb (wire_of t words st n w) 1 → b ≡ true → st' ≡ becomes t words st n w 1 5 → ws' ≡ given t words ws n w inputs
-      → PortSays t words n w inputs outputs st st' ws ws' (record { good = true; inputs = inputs + 1; outputs = outputs })
-  port-input e q s g = record { is_input = λ h. (refl, s, g); is_other = λ h. absurd (h (eqb-true (wire_of t words st n w) 1 (sym e ∙ q))) }
-
-  pub port-other : {b good : Bool} {st₁ : List ℕ} → b ≡ eqb (wire_of t words st n w) 1 → b ≡ false → st₁ ≡ becomes t words st n w 1 5
-      → good ≡ eqb (wire_of t words st₁ n w) 2 → st' ≡ becomes t words st₁ n w 2 4
-      → PortSays t words n w inputs outputs st st' ws ws (record { good = good; inputs = inputs; outputs = outputs + 1 })
-  port-other {b} {good} {st₁} e q s g k =
-      let f = sym e ∙ q in
-      let u : st₁ ≡ st = s ∙ sym (stays t words st n w 1 5 f) in
-      record {
-        is_input = λ h. absurd (eqb-false (wire_of t words st n w) 1 f h);
-        is_other = λ h. (
-          (λ i. record { good = (g ∙ ap (λ (x : List ℕ). eqb (wire_of t words x n w) 2) u) i; inputs = inputs; outputs = outputs + 1 }),
-          k ∙ ap (λ (x : List ℕ). becomes t words x n w 2 4) u,
-          refl,
-        );
-      }

@@ -1,5 +1,5 @@
 -- Ports seated one after another.
-use Prim.Native.Nat.{ℕ, ◌+◌, ◌≤◌, ◌<◌}
+use Prim.Native.Nat.{ℕ, ◌+◌, ◌≤◌}
 use mathlib.Core.Path.{◌≡◌, refl, sym, ap, ◌∙◌}
 use mathlib.Core.Bool.{Bool, true, false, cond}
 use mathlib.Core.List.{List, [], ◌∷◌}
@@ -15,7 +15,7 @@ use Rattle.verilog.specs.Tokens.{Token, name, mark, tokens}
 use Rattle.verilog_tokens.specs.Next.{token_of, between, TokenAt}
 use Rattle.verilog_tokens.proofs.Firsts.{never, token-code, first, none_left}
 use Rattle.verilog_gates.specs.Wires.{wire_of, given}
-use Rattle.verilog_gates.proofs.Joins.{left, head-same}
+use Rattle.verilog_gates.proofs.Joins.{head-same}
 use Rattle.verilog_rules.specs.States.{becomes}
 use Rattle.verilog_rules.specs.Ports.{PortSays, Ported, Seated, seat, seat_all, unseated, behind_port, ports_left, PortsGive}
 
@@ -90,16 +90,6 @@ module _ {t : List ℕ} where
   port-none {code = code} {from} {to} A h (w ∷ ps) rest e = absurd (h (token-code code (between t from to) (name w) (known A (name w) (behind_port ps rest) e).0))
 
 module _ {t words : List ℕ} {n at : ℕ} {st₀ ws₀ : List ℕ} where
-  pub seat-start : {code from to : ℕ} → TokenAt t at code from to → Seating t words n at st₀ ws₀ st₀ ws₀ code from to 0 0
-  seat-start A = record {
-    place = at;
-    token = A;
-    stated = refl;
-    wired = refl;
-    few = (omega arith, omega arith);
-    gives = λ ps rest e. record { more = ps; tokens_are = e; same = refl };
-  }
-
   module _ {st ws : List ℕ} {code from to i o : ℕ} (S : Seating t words n at st₀ ws₀ st ws code from to i o) where
     pub seat-end : (code ≡ 15 → ⊥) → PortsGive t words n at st₀ st ws₀ ws (record { good = true; inputs = i; outputs = o })
     seat-end h = record {
@@ -185,12 +175,3 @@ module _ {t words : List ℕ} {n at : ℕ} {st₀ ws₀ : List ℕ} where
                 omega
                     (arith, ap (λ (x : Ported). x.outputs) K, S.few.1, S.token.start, S.token.on z, C.start, C.onward),
               ))
-
--- fewer tokens are left
-pub seat-less : (t : List ℕ) (code to : ℕ) {cc fc tc code' from' to' : ℕ} → code ≡ 15 → TokenAt t to cc fc tc → TokenAt t tc code' from' to' → left t code' to'
-    < left t code to
-seat-less t code to {code' = code'} five C A =
-    let z : eqb code 0 ≡ false = ap (λ (c : ℕ). eqb c 0) five in
-    on_bool (eqb code' 0)
-    (λ h. rw (h, z) (omega (arith, C.start, C.onward, A.start, A.onward)))
-    (λ h. rw (h, z) (omega (arith, C.start, C.onward, A.start, A.on h, A.within)))
