@@ -1,6 +1,7 @@
 -- The search, block by block.
 use mathlib.Core.Path.{◌≡◌, refl, sym, ◌∙◌, subst}
 use Rattle.std.specs.Prelude.{Option, Some, None}
+use Rattle.std.specs.Option.{is_some}
 use mathlib.Core.Bool.{Bool, true, false}
 use mathlib.Core.List.{List}
 use Prim.Native.Nat.{ℕ, ◌+◌, ◌-◌, ◌*◌, ◌≤◌, ◌<◌}
@@ -28,6 +29,11 @@ difference-some {f} {g} {W} {S} p l a d = record {
   inside = λ q e. let same : p ≡ q = cc in subst (λ (r : Leak). r.wire < W) same l;
   differs = λ q e. let same : p ≡ q = cc in subst (Differing f g S) same d;
 }
+
+-- where none is found, no wire differs
+pub none-agree : {f g : ℕ → ℕ → ℕ} {W S : ℕ} (found : Option Leak) → is_some found ≡ false → LowestDifference f g W S found → Agree f g W S
+none-agree None e h = h.lower
+none-agree (Some p) e h = cc
 
 -- a leak stands on one of the wires
 pub wire-within : {f g : ℕ → ℕ → ℕ} {W S : ℕ} (found : Option Leak) → LowestDifference f g W S found → wire_of W found ≤ W

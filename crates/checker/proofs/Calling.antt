@@ -35,25 +35,6 @@ use Rattle.checker.specs.Promise.{call}
 pub read-bits : {L : Limits} {t ins outs : List ℕ} {tabs : Tables} {h : HeaderNumbers} → ReadAt L t ins outs tabs h → h.input_bits ≡ sum (take h.input_values ins)
 read-bits r = sym r.holds.ins ∙ ap sum (sym r.inputs)
 
--- the shorter of two tables stands for both
-pub shorter-long : (t a b : ℕ) → leb t (min a b) ≡ leb t a && leb t b
-shorter-long t a b = go (leb t a) (leb t b) refl refl
-  where
-    go : (x y : Bool) → leb t a ≡ x → leb t b ≡ y → leb t (min a b) ≡ x && y
-    go true true p q = le-leb t (min a b) (omega (arith, leb-true t a p, leb-true t b q))
-    go true false p q = lt-leb t (min a b) (omega (arith, leb-false t b q))
-    go false y p q = lt-leb t (min a b) (omega (arith, leb-false t a p))
-
-pub long-both : (L : Limits) (o r g w b : ℕ) {n : ℕ} → n ≡ min w b → tables_long L (o ∷ r ∷ g ∷ n ∷ []) ≡ tables_long L (o ∷ r ∷ g ∷ w ∷ b ∷ [])
-long-both L o r g w b e =
-    ap (λ (n : ℕ). tables_long L (o ∷ r ∷ g ∷ n ∷ [])) e
-    ∙ ap (λ (k : Bool). leb L.table o && (leb L.table r && (leb L.table g && k)))
-    (ap (λ (k : Bool). k && true) (shorter-long L.table w b) ∙ assoc (leb L.table w) (leb L.table b))
-  where
-    assoc : (x y : Bool) → (x && y) && true ≡ x && (y && true)
-    assoc true y = refl
-    assoc false y = refl
-
 -- questions 10 to 12 are passed: the answer is that of the search
 pub outcome-leak : (N : Netlist) (codes : List ℕ) (f : Option Found) → check_outcome codes N ≡ done f → leak N codes ≡ f
 outcome-leak N codes f e =
@@ -66,25 +47,19 @@ module _ (s : Sizes) (text codes o r g w b : List ℕ) where
   abbrev lengths : List ℕ
   lengths = length o ∷ length r ∷ length g ∷ length w ∷ length b ∷ []
 
-  module _ {n : ℕ} (shortest : n ≡ min (length w) (length b)) where
-    -- question 1 of all five tables
-    pub all-long : tables_long (large s) (length o ∷ length r ∷ length g ∷ n ∷ []) ≡ tables_long (large s) lengths
-    all-long = long-both (large s) (length o) (length r) (length g) (length w) (length b) shortest
+  -- questions 1 to 9, and then 10 to 12
+  pub call-not : {q : ℕ} → ask 1 (tables_long (large s) lengths) (read_netlist (large s) text) ≡ refused q → refused q ≡ call s text codes o r g w b
+  unfolding check_call
+  call-not p = sym (call-refused (tables_long (large s) lengths) (read_netlist (large s) text) (check_outcome codes) p)
 
-    -- questions 1 to 9, and then 10 to 12
-    pub call-not : {q : ℕ} → ask 1 (tables_long (large s) (length o ∷ length r ∷ length g ∷ n ∷ [])) (read_netlist (large s) text) ≡ refused q
-        → refused q ≡ call s text codes o r g w b
-    unfolding check_call
-    call-not p = sym (call-refused (tables_long (large s) lengths) (read_netlist (large s) text) (check_outcome codes) (rw all-long at p))
-
-    pub call-read : {ins outs : List ℕ} {tabs : Tables} {h : HeaderNumbers} {a : Outcome (Option Found)}
-        → (tables_long (large s) (length o ∷ length r ∷ length g ∷ n ∷ []) ≡ true) × ReadAt (large s) text ins outs tabs h
-        → ((N : Netlist) → Holds tabs h.gates h.wires h.input_bits h.output_bits N → take h.input_values ins ≡ N.inputs → a ≡ check_outcome codes N)
-        → a ≡ call s text codes o r g w b
-    unfolding check_call
-    call-read k f =
-        f k.1.is k.1.holds k.1.inputs
-        ∙ sym (call-goes-on (tables_long (large s) lengths) (read_netlist (large s) text) (check_outcome codes) (sym all-long ∙ k.0) k.1.read)
+  pub call-read : {ins outs : List ℕ} {tabs : Tables} {h : HeaderNumbers} {a : Outcome (Option Found)}
+      → (tables_long (large s) lengths ≡ true) × ReadAt (large s) text ins outs tabs h
+      → ((N : Netlist) → Holds tabs h.gates h.wires h.input_bits h.output_bits N → take h.input_values ins ≡ N.inputs → a ≡ check_outcome codes N)
+      → a ≡ call s text codes o r g w b
+  unfolding check_call
+  call-read k f =
+      f k.1.is k.1.holds k.1.inputs
+      ∙ sym (call-goes-on (tables_long (large s) lengths) (read_netlist (large s) text) (check_outcome codes) k.0 k.1.read)
 
   -- an answer that is no refusal is that of the search
   answer-leak : (N : Netlist) (f : Option Found) → read_netlist (large s) text ≡ done N → done f ≡ call s text codes o r g w b → leak N codes ≡ f

@@ -26,7 +26,6 @@ fn answer(
     let l = sizes.large();
     let mut inputs = [0u32; 17];
     let mut outputs = [0u32; 16];
-    let shortest = words.len().min(base.len());
     let h = read(
         text,
         &mut inputs,
@@ -34,7 +33,7 @@ fn answer(
         operands,
         results,
         marks,
-        shortest,
+        &[words.len(), base.len()],
         l,
     )?;
     check_netlist::judge(h, inputs, codes, operands, results, words, base)

@@ -11,12 +11,13 @@ use Rattle.netlist.specs.declared.Gate.{Gate}
 use Rattle.netlist.specs.declared.Limits.{Limits}
 use Rattle.netlist.specs.declared.Sizes.{Sizes}
 use Rattle.netlist.specs.declared.Question.{Question}
+use Rattle.netlist.specs.declared.Question.TheVariants as Q
 use Rattle.netlist.specs.Netlist.{Netlist, large}
-use Rattle.netlist.specs.Outcome.{Outcome, refused, done, ask, and_then}
+use Rattle.netlist.specs.Outcome.{Outcome, done, ask, and_then}
 use Rattle.netlist.specs.Write.{write_netlist, gate_text}
 use Rattle.netlist.specs.Services.{tables_long, delivered, outcome_of, Answers, Delivers}
 use Rattle.netlist.specs.Table.{Tables, gates_of}
-use Rattle.netlist.proofs.Answering.{asked-again, answers-as, answers-refused, call-refused, call-goes-on}
+use Rattle.netlist.proofs.Answering.{answers-as, answers-refused, call-goes-on}
 use Rattle.netlist.proofs.Questions.{done-same, refused-done}
 use Rattle.netlist.proofs.Puts.{length-gates}
 use Rattle.old_form.specs.declared.Dialect.{Dialect}
@@ -74,7 +75,7 @@ module _ (to : Dialect) (gs : List Gate) (ins outs : List ℕ) {i o : ℕ} {r : 
     fronts = ap₂ (has_form to gs) (length-take-le i ins p) (length-take-le o outs q) ∙ sym f
 
     pub form-not : (rest : Outcome (List ℕ)) (e : List ℕ) → r ≡ false
-        → Answers (ask 15 (has_form to gs (length (take i ins)) (length (take o outs))) rest) e e (Err 15)
+        → Answers (ask 15 (has_form to gs (length (take i ins)) (length (take o outs))) rest) e e (Err Q.OldForm)
     form-not rest e n = answers-refused e (ap (λ (b : Bool). ask 15 b rest) (fronts ∙ n))
 
     pub form-yes : {e x bs : List ℕ} {a : Result ℕ Question} → r ≡ true → Delivers bs e x a
@@ -83,25 +84,15 @@ module _ (to : Dialect) (gs : List Gate) (ins outs : List ℕ) {i o : ℕ} {r : 
 
 module _ (from to : Dialect) (s : Sizes) (text out o r g : List ℕ) where
   -- questions 1 to 9, and then 15 and 14
-  pub call-not : {q : ℕ}
-      → ask 1 (tables_long (large s) (length o ∷ length r ∷ length g ∷ length g ∷ [])) (read_in from (large s) text) ≡ refused q
-      → Answers (call from to s text out o r g) out out (Err q)
-  call-not p =
-      let e = asked-again (large s) (length o) (length r) (length g) in
-      answers-refused out
-      (call-refused (tables_long (large s) (length o ∷ length r ∷ length g ∷ [])) (read_in from (large s) text) (form_outcome to (length out)) (rw e at p))
-
   pub call-read : {ins outs x : List ℕ} {tabs : Tables} {h : HeaderNumbers} {a : Result ℕ Question}
-      → (tables_long (large s) (length o ∷ length r ∷ length g ∷ length g ∷ []) ≡ true) × ReadOf from (large s) text ins outs tabs h
+      → (tables_long (large s) (length o ∷ length r ∷ length g ∷ []) ≡ true) × ReadOf from (large s) text ins outs tabs h
       → Answers (ask 15 (has_form to (gates_of tabs h.gates) (length (take h.input_values ins)) (length (take h.output_values outs)))
       (delivered (length out) (form_text_in to h.gates h.wires (take h.input_values ins) (take h.output_values outs) tabs))) out x a
       → Answers (call from to s text out o r g) out x a
   call-read k d =
-      let e = asked-again (large s) (length o) (length r) (length g) in
       answers-as
       (outcome-same to k.1 (length out)
-      ∙ sym (call-goes-on (tables_long (large s) (length o ∷ length r ∷ length g ∷ [])) (read_in from (large s) text) (form_outcome to (length out))
-      (sym e ∙ k.0) k.1.read))
+      ∙ sym (call-goes-on (tables_long (large s) (length o ∷ length r ∷ length g ∷ [])) (read_in from (large s) text) (form_outcome to (length out)) k.0 k.1.read))
       d
 
   -- a result is the written form of the netlist read, which has one

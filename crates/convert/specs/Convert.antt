@@ -8,11 +8,16 @@ use Rattle.netlist.specs.Lists.{every}
 use Rattle.netlist.specs.Netlist.{Netlist, large}
 use Rattle.netlist.specs.Outcome.{Outcome, ask, and_then}
 use Rattle.netlist.specs.Services.{tables_long, rewrite_outcome, Answers, Cleared}
+use Rattle.netlist.specs.Table.{gate_in}
 use Rattle.old_form.specs.declared.Dialect.{Dialect}
 use Rattle.old_form.specs.declared.Dialect.TheVariants.{Fashion, Old}
 use Rattle.old_form.specs.OldWrite.{is_old_gate}
 use Rattle.old_form.specs.OldCalls.{to_old_outcome}
 use Rattle.old_form.specs.Dialects.{read_in}
+
+-- the entry of a result and its kind is that of XOR, AND or INV
+abbrev pub old_entry : ℕ → Bool
+old_entry r = is_old_gate (gate_in 0 r)
 
 -- question 15, which only the older dialect puts, of gates and of so many input and output values
 abbrev pub has_form : Dialect → List Gate → ℕ → ℕ → Bool

@@ -1,17 +1,15 @@
--- A choice put to use: one entry, one entry more, and what the tables hold then.
-use Prim.Native.Nat.{ℕ, zero, suc, ◌+◌, ◌*◌, ◌%◌, ◌/◌, ◌^◌, ◌≤◌, ◌<◌}
+-- A choice put to use: one entry more, and what the tables hold then.
+use Prim.Native.Nat.{ℕ, zero, suc, ◌+◌, ◌%◌, ◌≤◌, ◌<◌}
 use mathlib.Core.Path.{◌≡◌, refl, sym, ap, ap₂, ◌∙◌}
-use mathlib.Core.Bool.{Bool, true, false, cond}
 use mathlib.Core.List.{List, [], ◌∷◌, ◌++◌}
 use native.Mathlib.Nat.{mod-eq_of_lt}
 use native.Mathlib.Omega.{arith}
 use lib.Dec.{eqb}
-use borrow.Author.Tests.{eqb-true, eqb-false, ne_eqb}
+use borrow.Author.Tests.{eqb-true, eqb-false}
 use lib.ListN.{length, get_or, set, take, length-set}
 use lib.Seq.{get_or-set_same, get_or-set_other, get_or-take, ext_get_or, length-take-le}
 use Rattle.netlist.specs.declared.Gate.{Gate}
-use Rattle.netlist.specs.declared.Gate.TheVariants.{Xor, And, Inv, Eqw, Eq}
-use Rattle.netlist.specs.Table.{tables, half, gate_of, gate_at, gates_of, Wired}
+use Rattle.netlist.specs.Table.{tables, gate_at, gates_of, Wired}
 use Rattle.netlist.proofs.Tests.{on_bool}
 use Rattle.netlist.proofs.Puts.{length-gates}
 use Rattle.fewest.specs.Choice.{Choice, Agree, input_ways, chosen_code, chosen_gate, chosen_gates, chosen_inputs}
@@ -22,59 +20,7 @@ use Rattle.fewest_walk.proofs.Filling.{chosen-code-at}
 use Rattle.fewest_walk.specs.Ends.{free_code}
 use Rattle.fewest_apply.specs.Apply.{SwapsEntry, Swapped, Chosen}
 
--- ---- one entry
-
-other_way : (d k a b c : ℕ) → (d ≡ 1 → ⊥) → chosen_gate d (gate_of k a b c) ≡ gate_of k a b c
-other_way d k a b c h = go (eqb k 1) (eqb k 2) (eqb k 3) (eqb k 4) (eqb k 5)
-  where
-    go : (p q r s t : Bool) → chosen_gate d (cond p (Xor a b c) (cond q (And a b c) (cond r (Inv a c) (cond s (Eqw a c) (cond t (Eq 0 c) (Eq 1 c))))))
-        ≡ cond p (Xor a b c) (cond q (And a b c) (cond r (Inv a c) (cond s (Eqw a c) (cond t (Eq 0 c) (Eq 1 c)))))
-    go true q r s t = refl
-    go false true r s t = rw (ne_eqb d 1 h) refl
-    go false false true s t = refl
-    go false false false true t = refl
-    go false false false false true = refl
-    go false false false false false = refl
-
-other-kind : (d k a b c : ℕ) → (k ≡ 2 → ⊥) → chosen_gate d (gate_of k a b c) ≡ gate_of k a b c
-other-kind d k a b c h = rw (ne_eqb k 2 h) (go (eqb k 1) (eqb k 3) (eqb k 4) (eqb k 5))
-  where
-    go : (p r s t : Bool) → chosen_gate d (cond p (Xor a b c) (cond r (Inv a c) (cond s (Eqw a c) (cond t (Eq 0 c) (Eq 1 c)))))
-        ≡ cond p (Xor a b c) (cond r (Inv a c) (cond s (Eqw a c) (cond t (Eq 0 c) (Eq 1 c))))
-    go true r s t = refl
-    go false true s t = refl
-    go false false true t = refl
-    go false false false true = refl
-    go false false false false = refl
-
-swap_and : (d k a b c : ℕ) → d ≡ 1 → k ≡ 2 → gate_of k b a c ≡ chosen_gate d (gate_of k a b c)
-swap_and d k a b c p q = rw (p, q) refl
-
-module _ (d o r : ℕ) where
-  pub entry-way : (d ≡ 1 → ⊥) → SwapsEntry d o r o
-  entry-way h = record { gate = sym (other_way d (r / half) (o % half) (o / half) (r % half) h); left = λ W a b. a; right = λ W a b. b }
-
-  pub entry-kind : (r / half ≡ 2 → ⊥) → SwapsEntry d o r o
-  entry-kind h = record { gate = sym (other-kind d (r / half) (o % half) (o / half) (r % half) h); left = λ W a b. a; right = λ W a b. b }
-
-  pub entry-and : d ≡ 1 → r / half ≡ 2 → o / half < half → SwapsEntry d o r (o / half + o % half * half)
-  entry-and p q h =
-      let low : (o / half + o % half * half) % half ≡ o / half = omega arith in
-      let high : (o / half + o % half * half) / half ≡ o % half = omega arith in
-      record {
-        gate = ap₂ (λ (a b : ℕ). gate_of (r / half) a b (r % half)) low high ∙ swap_and d (r / half) (o % half) (o / half) (r % half) p q;
-        left = λ W a b. rw low b;
-        right = λ W a b. rw high a;
-      }
-
--- an entry of two halves fits 64 bits
-pub entry-fits : (a b : ℕ) → a < half → b < half → a + b * half < 2 ^ 64
-entry-fits a b h k = omega arith
-
 -- ---- the loop over the gates
-
-pub swapping-none : (r : List ℕ) (n : ℕ) (way o : List ℕ) → Swapped r 0 n way o o
-swapping-none r n way o = record { each = λ j h. absurd (omega arith); kept = λ j h. refl; size = refl }
 
 pub swapping-more : {r : List ℕ} {n : ℕ} {way o₀ o : List ℕ} {i x : ℕ} → Swapped r i n way o₀ o → i < length o₀
     → SwapsEntry (get_or way (n + i) 0) (get_or o i 0) (get_or r i 0) x → Swapped r (i + 1) n way o₀ (set o i x)

@@ -18,9 +18,6 @@ use Rattle.fewest.proofs.Chosen.{length-chosen_codes}
 
 -- ---- the loop: the first i inputs are filled
 
-pub filling-none : (f : ℕ → ℕ → ℕ) (codes way u : List ℕ) → FilledBy f codes way 0 u u
-filling-none f codes way u = record { filled = λ w b. absurd (omega arith); kept = λ w b. refl; size = refl }
-
 pub filling-more : {f : ℕ → ℕ → ℕ} {codes way u₀ u : List ℕ} {i x : ℕ} → FilledBy f codes way i u₀ u → i < length u₀
     → x ≡ f (get_or codes i 0) (get_or way i 0) → FilledBy f codes way (i + 1) u₀ (set u i x)
 filling-more {f} {codes} {way} {u₀} {u} {i} {x} I h e =

@@ -10,7 +10,7 @@ use lib.ListN.{length, get_or, set, drop, length-set}
 use lib.Seq.{get_or-set_same, get_or-set_other, drop-cons, drop-length}
 use Rattle.netlist.proofs.Tests.{on_bool}
 use Rattle.fewest.specs.Choice.{product}
-use Rattle.fewest_walk.specs.Span.{span_of, most, capped, Spanned}
+use Rattle.fewest_walk.specs.Span.{span_of, most, capped}
 
 -- ---- the loop: the places from p on are done
 
@@ -33,13 +33,6 @@ pub record Spanning (w : ℕ → ℕ) (P : ℕ) (s₀ s : List ℕ) (p span : �
   pub next : span ≡ capped (span_of w p (P - p))
   pub size : length s ≡ length s₀
 
-pub spanning-none : (w : ℕ → ℕ) (P : ℕ) (s : List ℕ) → Spanning w P s s P 1
-spanning-none w P s = record {
-  each = λ q h k. absurd (omega arith);
-  next = let z : P - P ≡ 0 = omega arith in rw z refl;
-  size = refl;
-}
-
 pub spanning-more : {w : ℕ → ℕ} {P : ℕ} {s₀ s : List ℕ} {p span r : ℕ} → Spanning w P s₀ s (suc p) span → p < P → P ≤ length s₀ → 1 ≤ w p
     → r ≡ capped (span * w p) → Spanning w P s₀ (set s p span) p r
 spanning-more {w} {P} {s₀} {s} {p} {span} {r} I h l o t =
@@ -52,9 +45,6 @@ spanning-more {w} {P} {s₀} {s} {p} {span} {r} I h l o t =
       next = t ∙ ap (λ (x : ℕ). capped (x * w p)) I.next ∙ capped-times (w p) (span_of w (suc p) (P - suc p)) o ∙ rw f refl;
       size = length-set s p span ∙ z;
     }
-
-pub spanning-all : {w : ℕ → ℕ} {P : ℕ} {s₀ s : List ℕ} {p span : ℕ} → Spanning w P s₀ s p span → p ≤ 0 → Spanned w P s₀ s
-spanning-all I h = record { each = λ q k. I.each q (omega arith) k; size = I.size }
 
 -- ---- what an entry is: the product of the ways behind
 

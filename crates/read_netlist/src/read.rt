@@ -58,7 +58,7 @@ fn read_text(
 }
 
 // Questions 1 to 9 in a dialect: the numbers of the header of a netlist that the tables then hold. The widths of the values go to the front of two tables, the gates into two others, each of any content;
-// `shortest` is the length of the shortest lent table that is not among these.
+// `others` are the lengths of the lent tables that are not among these.
 pub fn read_in(
     text: &[u8],
     inputs: &mut [u32; 17],
@@ -66,16 +66,15 @@ pub fn read_in(
     operands: &mut [u64],
     results: &mut [u64],
     marks: &mut [u8],
-    shortest: usize,
+    others: &[usize],
     l: Limits,
     d: Dialect,
 ) -> Result<HeaderNumbers, Question>
     requires { Readable l }
-    ensures { ReadSays d l (length operands.old ∷ length results.old ∷ length marks.old ∷ shortest ∷
-        []) text.now
+    ensures { ReadSays d l (length operands.old ∷ length results.old ∷ length marks.old ∷ others.now) text.now
         inputs.new outputs.new (tables operands.new results.new) result }
 {
-    if !l.admit(&[operands.len(), results.len(), marks.len(), shortest]) {
+    if !l.admit(&[operands.len(), results.len(), marks.len()]) || !l.admit(others) {
         return Err(Question::Tables);
     }
     marks.fill(0);
@@ -90,11 +89,11 @@ pub fn read(
     operands: &mut [u64],
     results: &mut [u64],
     marks: &mut [u8],
-    shortest: usize,
+    others: &[usize],
     l: Limits,
 ) -> Result<HeaderNumbers, Question>
     requires { Readable l }
-    ensures { ReadIs l (length operands.old ∷ length results.old ∷ length marks.old ∷ shortest ∷ [])
+    ensures { ReadIs l (length operands.old ∷ length results.old ∷ length marks.old ∷ others.now)
         text.now
         inputs.new outputs.new (tables operands.new results.new) result }
 {
@@ -105,7 +104,7 @@ pub fn read(
         operands,
         results,
         marks,
-        shortest,
+        others,
         l,
         Dialect::Fashion,
     )

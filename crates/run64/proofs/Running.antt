@@ -11,6 +11,8 @@ use borrow.Author.Tests.{eq-eqb, ne_eqb, eqb-true}
 use lib.ListN.{length, take, length-map, length-drop, length-append, length-replicate}
 use lib.Seq.{sets}
 use Rattle.netlist.specs.declared.Question.{Question}
+use Rattle.netlist.specs.declared.Question.TheVariants as Q
+use Rattle.netlist.specs.Question.{number_of}
 use Rattle.netlist.specs.declared.Sizes.{Sizes}
 use Rattle.netlist.specs.Netlist.{Netlist, input_bits, output_bits, large}
 use Rattle.netlist.specs.Outcome.{Outcome, refused, done, ask, and_then}
@@ -44,14 +46,14 @@ length-outputs N ins F e =
     simp (length-drop, length-run_gates, length-append, length-replicate) (omega arith)
 
 module _ {t : Tables} {count W n o : ℕ} {N : Netlist} (h : Holds t count W n o N) (list : List ℕ) where
-  pub words-11 : (out : List ℕ) → length list ≢ n → Answers (run64_outcome list (length out) N) out out (Err 11)
+  pub words-11 : (out : List ℕ) → length list ≢ n → Answers (run64_outcome list (length out) N) out out (Err Q.Inputs)
   words-11 out e = answers-refused out (rw (h.ins, ne_eqb (length list) n e))
 
   module _ (e : length list ≡ n) where
     asked : eqb (length list) (input_bits N) ≡ true
     asked = rw h.ins (eq-eqb (length list) n e)
 
-    pub words-14 : (out : List ℕ) → length out < o → Answers (run64_outcome list (length out) N) out out (Err 14)
+    pub words-14 : (out : List ℕ) → length out < o → Answers (run64_outcome list (length out) N) out out (Err Q.Room)
     words-14 out l =
         let k : length (output_words N list) ≡ o = length-output_words N list ∙ h.outs in
         answers-as (sym (rw asked refl)) (delivers-short (output_words N list) out (omega arith)).answers
@@ -66,7 +68,7 @@ module _ {t : Tables} {count W n o : ℕ} {N : Netlist} (h : Holds t count W n o
 
 module _ (s : Sizes) (text list out o r g w : List ℕ) where
   -- questions 1 to 9, and then 11 and 14
-  pub call-not : {q : ℕ} → ask 1 (tables_long (large s) (length o ∷ length r ∷ length g ∷ length w ∷ [])) (read_netlist (large s) text) ≡ refused q
+  pub call-not : {q : Question} → ask 1 (tables_long (large s) (length o ∷ length r ∷ length g ∷ length w ∷ [])) (read_netlist (large s) text) ≡ refused (number_of q)
       → Answers (call s text list out o r g w) out out (Err q)
   unfolding run64_call
   call-not p = answers-refused out

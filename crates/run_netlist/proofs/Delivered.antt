@@ -8,6 +8,7 @@ use native.Mathlib.Omega.{arith}
 use lib.Dec.{eqb, eqb→eq}
 use lib.ListN.{length, length-append, length-replicate, length-drop, length-map}
 use lib.Seq.{sets}
+use Rattle.netlist.specs.declared.Question.TheVariants as Q
 use Rattle.netlist.specs.Lists.{every}
 use Rattle.netlist.specs.Netlist.{Netlist, input_bits}
 use Rattle.netlist.specs.Eval.{wire_bits, outputs_of}
@@ -37,11 +38,11 @@ module _ {t : Tables} {count W n o : ℕ} {N : Netlist} (h : Holds t count W n o
   good : (b : Bool) → list_good is_bit n list ≡ b → list_good is_bit (input_bits N) list ≡ b
   good b e = ap (λ (k : ℕ). list_good is_bit k list) h.ins ∙ e
 
-  pub run-11 : (out : List ℕ) → list_good is_bit n list ≡ false → Answers (run_outcome list (length out) N) out out (Err 11)
+  pub run-11 : (out : List ℕ) → list_good is_bit n list ≡ false → Answers (run_outcome list (length out) N) out out (Err Q.Inputs)
   run-11 out e = answers-refused out (rw (good false e))
 
   module _ (e : list_good is_bit n list ≡ true) (i : n ≤ W) (u : o ≤ W) where
-    pub run-14 : (out : List ℕ) → length out < o → Answers (run_outcome list (length out) N) out out (Err 14)
+    pub run-14 : (out : List ℕ) → length out < o → Answers (run_outcome list (length out) N) out out (Err Q.Room)
     run-14 out l =
         let k = length-outputs e i u in
         answers-as (sym (rw (good true e) refl)) (delivers-short (output_list N list) out (omega arith)).answers

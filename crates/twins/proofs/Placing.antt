@@ -11,6 +11,8 @@ use lib.ListN.{length, take, drop, length-map}
 use lib.Seq.{sets, sets-eq}
 use borrow.Author.Tests.{le-leb, lt-leb}
 use Rattle.netlist.specs.declared.Question.{Question}
+use Rattle.netlist.specs.Question.{number_of}
+use Rattle.netlist.specs.declared.Question.TheVariants as Q
 use Rattle.netlist.specs.Netlist.{Netlist, input_bits}
 use Rattle.netlist.specs.Outcome.{Outcome, refused, done}
 use Rattle.netlist.specs.Mask.{State, is_input_code, finish}
@@ -30,7 +32,7 @@ pub twins-as : {c d : Outcome TwinLists} {e x f y : List ℕ} {a : Result ℕ Qu
 twins-as p h = rw p at h
 
 -- a refusal leaves both buffers as they were
-pub twins-refused : {c : Outcome TwinLists} (e f : List ℕ) {q : ℕ} → c ≡ refused q → TwinsAnswers c e e f f (Err q)
+pub twins-refused : {c : Outcome TwinLists} (e f : List ℕ) {q : Question} → c ≡ refused (number_of q) → TwinsAnswers c e e f f (Err q)
 twins-refused e f p = record { wires = answers-refused e (rw p); codes = answers-refused f (rw p) }
 
 -- ---- two tables of twins
@@ -67,10 +69,10 @@ module _ {t : Tables} {count W m : ℕ} {N : Netlist} (codes : List ℕ) (h : Ho
   long-codes : length (twin_lists N codes).codes ≡ W
   long-codes = length-map (finish N codes).twins code_of ∙ long
 
-  pub short-wires : (e f : List ℕ) → length e < W → TwinsAnswers (lists_outcome (length e) (length f) (twin_lists N codes)) e e f f (Err 14)
+  pub short-wires : (e f : List ℕ) → length e < W → TwinsAnswers (lists_outcome (length e) (length f) (twin_lists N codes)) e e f f (Err Q.Room)
   short-wires e f l = twins-refused e f (rw (lt-leb (length (twin_lists N codes).wires) (length e) (omega (arith, long-wires))))
 
-  pub short-codes : (e f : List ℕ) → length f < W → TwinsAnswers (lists_outcome (length e) (length f) (twin_lists N codes)) e e f f (Err 14)
+  pub short-codes : (e f : List ℕ) → length f < W → TwinsAnswers (lists_outcome (length e) (length f) (twin_lists N codes)) e e f f (Err Q.Room)
   short-codes e f l =
       let u = lt-leb (length (twin_lists N codes).codes) (length f) (omega (arith, long-codes)) in
       on_bool (leb (length (twin_lists N codes).wires) (length e)) (λ b. twins-refused e f (rw (b, u))) (λ b. twins-refused e f (rw b))
@@ -89,12 +91,12 @@ module _ {t : Tables} {count W m : ℕ} {N : Netlist} (codes : List ℕ) (h : Ho
       let v = le-leb (length L.codes) (length f) (omega (arith, long-codes)) in
       record {
         wires = rw (u, v) (record {
-          answer = ap (λ (k : ℕ). Ok k) (sym long-wires);
+          answer = ap (λ (k : ℕ). done k) (sym long-wires);
           outcome = ap done (ap₂ take (sym long-wires) x ∙ take-sets L.wires e (omega (arith, long-wires)));
           buffer = x;
         });
         codes = rw (u, v) (record {
-          answer = ap (λ (k : ℕ). Ok k) (sym long-codes);
+          answer = ap (λ (k : ℕ). done k) (sym long-codes);
           outcome = ap done (ap₂ take (sym long-codes) y ∙ take-sets L.codes f (omega (arith, long-codes)));
           buffer = y;
         });
@@ -106,7 +108,7 @@ module _ {t : Tables} {count W n m : ℕ} {N : Netlist} (h : Holds t count W n m
   good : (b : Bool) → list_good is_input_code n codes ≡ b → list_good is_input_code (input_bits N) codes ≡ b
   good b e = ap (λ (k : ℕ). list_good is_input_code k codes) h.ins ∙ e
 
-  pub twins-11 : (e f : List ℕ) → list_good is_input_code n codes ≡ false → TwinsAnswers (twins_outcome codes (length e) (length f) N) e e f f (Err 11)
+  pub twins-11 : (e f : List ℕ) → list_good is_input_code n codes ≡ false → TwinsAnswers (twins_outcome codes (length e) (length f) N) e e f f (Err Q.Inputs)
   twins-11 e f p = twins-refused e f (rw (good false p))
 
   pub holds-codes : list_good is_input_code n codes ≡ true → Holds t count W (length codes) m N

@@ -10,7 +10,7 @@ ghost use Rattle.twins.specs.Promise.{twin_lists, lists_outcome, twins_outcome, 
 
 use netlist::{Answer, Question, Sizes};
 use read_header::HeaderNumbers;
-use read_netlist::read::Reading;
+use read_netlist::read::read;
 
 // Question 14, and the twins at the fronts of the buffers: the pass over the source works in them, and needs no table of its own.
 fn place(
@@ -86,20 +86,17 @@ fn answer(
     let l = sizes.small();
     let mut inputs = [0u32; 17];
     let mut outputs = [0u32; 16];
-    let shortest = marks.len();
-    match read_netlist::read::read(
+    let h = read(
         text,
         &mut inputs,
         &mut outputs,
         operands,
         results,
         marks,
-        shortest,
+        &[],
         l,
-    ) {
-        Reading::Refused(question) => Err(question),
-        Reading::Done(h) => deliver(wires, out_codes, h, codes, operands, results),
-    }
+    )?;
+    deliver(wires, out_codes, h, codes, operands, results)
 }
 
 // The masked wire of each source wire at the front of `wires`, and its code at the front of `out_codes`. The tables, of any content,
@@ -121,8 +118,8 @@ pub fn twins(
     let r = answer(
         text, codes, wires, out_codes, operands, results, marks, sizes,
     );
-    clear::words(operands);
-    clear::words(results);
-    clear::bytes(marks);
+    operands.fill(0);
+    results.fill(0);
+    marks.fill(0);
     r
 }

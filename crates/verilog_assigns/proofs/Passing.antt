@@ -19,7 +19,7 @@ use Rattle.verilog_tokens.proofs.Firsts.{never, token-code, first, none_left}
 use Rattle.verilog_gates.specs.Wires.{wire_of}
 use Rattle.verilog_gates.proofs.Joins.{left}
 use Rattle.verilog_rules.proofs.Seating.{name-marked}
-use Rattle.verilog_assigns.specs.Parts.{readable, token_passes, names_pass, behind_end, PartIs, any, PastIs}
+use Rattle.verilog_assigns.specs.Parts.{readable, token_passes, names_pass, behind_end, PartGives, any, PastIs}
 
 -- ---- one token
 
@@ -177,7 +177,7 @@ module _ {t : List ℕ} {p : List ℕ → Bool} {at : ℕ} where
             ap (λ (y : Token). names_pass p (y ∷ us)) (sym nm) ∙ pass-name p w us ∙ ap (λ (b : Bool). b && names_pass p us) k)
             (λ h. pass-mark p x us (λ y. eqb-false code 15 h (c ∙ y)) (λ y. n (c ∙ y)))
 
-    pub pass-bad : (code ≡ 9 → ⊥) → token_passes p code (between t from to) ≡ false → PartIs t p at (record { good = false; at = to })
+    pub pass-bad : (code ≡ 9 → ⊥) → token_passes p code (between t from to) ≡ false → PartGives t p at false to
     pass-bad n e = record {
       on = omega (arith, P.on, P.token.start, P.token.onward);
       within = P.token.within;
@@ -203,7 +203,7 @@ module _ {t : List ℕ} {p : List ℕ → Bool} {at : ℕ} where
         let c : code_of F.token ≡ 9 = sym (token-code code (between t from to) F.token F.is) ∙ n in
         (ap (names_pass p) F.split ∙ pass-sign p F.token F.more c, F.left ∙ ap some (sym (ap behind_end F.split ∙ behind-sign F.token F.more c)))
 
-    pub pass-end : code ≡ 9 → PartIs t p at (record { good = true; at = to })
+    pub pass-end : code ≡ 9 → PartGives t p at true to
     pass-end n = record {
       on = omega (arith, P.on, P.token.start, P.token.onward);
       within = P.token.within;

@@ -20,8 +20,7 @@ use Rattle.verilog_gates.proofs.Joins.{left}
 use Rattle.verilog_rules.specs.States.{becomes}
 use Rattle.verilog_rules.proofs.Moves.{stays}
 use Rattle.verilog_rules.proofs.Seating.{known, name-marked, same_name}
-use Rattle.verilog_assigns.specs.declared.Part.{Part}
-use Rattle.verilog_assigns.specs.Parts.{readable, names_pass, behind_end, PartIs}
+use Rattle.verilog_assigns.specs.Parts.{readable, names_pass, behind_end, PartGives}
 use Rattle.verilog_assigns.specs.Settled.{is_open, settled, TargetIs, Settled, settle, settle_all, unsettled, assigns_left, AssignsIs}
 use Rattle.verilog_assigns.proofs.Passing.{expr-pass, expr-behind}
 
@@ -100,16 +99,16 @@ module _ {t words : List ℕ} {n at : ℕ} {st₀ : List ℕ} where
         none [] rest e = refl
         none (a ∷ xs) rest e = absurd (h (token-code code (between t S.start to) (mark (ascii "assign")) (known S.token (mark (ascii "assign")) _ e).0))
 
-    module _ (five : code ≡ 5) {cx fx tx cy fy ty : ℕ} (X : TokenAt t to cx fx tx) (Y : TokenAt t tx cy fy ty) {r : Part}
-        (P : PartIs t (readable t words st n) ty r) where
+    module _ (five : code ≡ 5) {cx fx tx cy fy ty : ℕ} (X : TokenAt t to cx fx tx) (Y : TokenAt t tx cy fy ty) {ok : Bool} {behind : ℕ}
+        (P : PartGives t (readable t words st n) ty ok behind) where
       -- the assignment at this place
       record This (xs : List Assign) (rest : List Token) : Type 0 where
         is : Assign
         more : List Assign
         split : xs ≡ is ∷ more
         target : is.target ≡ between t fx tx
-        reads : r.good ≡ every (readable t words st n) (expr_reads is.value)
-        left : r.good ≡ true → tokens (drop r.at t) ≡ some (assigns_left more rest)
+        reads : ok ≡ every (readable t words st n) (expr_reads is.value)
+        left : ok ≡ true → tokens (drop behind t) ≡ some (assigns_left more rest)
 
       this : (xs : List Assign) (rest : List Token) → tokens (drop S.place t) ≡ some (assigns_left xs rest) → This xs rest
       this [] rest e = let k = known S.token (mark (ascii "endmodule")) rest e in
@@ -135,7 +134,7 @@ module _ {t words : List ℕ} {n at : ℕ} {st₀ : List ℕ} where
             left = λ g. G.left g ∙ ap some (expr-behind p a.value us ∙ end-behind (assigns_left more rest));
           }
 
-      pub settle-unread : {st' : List ℕ} → r.good ≡ false → AssignsIs t words n at st₀ st' false
+      pub settle-unread : {st' : List ℕ} → ok ≡ false → AssignsIs t words n at st₀ st' false
       settle-unread g = record {
         gives = λ xs rest e.
             let A = S.gives xs rest e in
@@ -166,10 +165,10 @@ module _ {t words : List ℕ} {n at : ℕ} {st₀ : List ℕ} where
               };
         }
 
-        pub settle-on : r.good ≡ true → good ≡ true → length st' ≡ length st → {code' start' to' : ℕ} → TokenAt t r.at code' start' to' → Settling t words n
+        pub settle-on : ok ≡ true → good ≡ true → length st' ≡ length st → {code' start' to' : ℕ} → TokenAt t behind code' start' to' → Settling t words n
             at st₀ st' code' to'
         settle-on g h l {code'} {start'} {to'} A' = record {
-          place = r.at;
+          place = behind;
           start = start';
           token = A';
           stated = l ∙ S.stated;
@@ -189,7 +188,7 @@ module _ {t words : List ℕ} {n at : ℕ} {st₀ : List ℕ} where
         }
 
       -- fewer tokens are left
-      pub settle-less : {code' start' to' : ℕ} → TokenAt t r.at code' start' to' → left t code' to' < left t code to
+      pub settle-less : {code' start' to' : ℕ} → TokenAt t behind code' start' to' → left t code' to' < left t code to
       settle-less {code'} A =
           let z : eqb code 0 ≡ false = ap (λ (c : ℕ). eqb c 0) five in
           on_bool (eqb code' 0)

@@ -59,6 +59,12 @@ module _ (a b : Kind) where
   pub other_number : false ≡ sameb the_type a b → number_of a ≡ number_of b → ⊥
   other_number e = eqb-false _ _ (no_kind e)
 
+  pub unequal_number : true ≡ not (sameb the_type a b) → number_of a ≡ number_of b → ⊥
+  unequal_number e = eqb-false _ _ (other_kind e)
+
+  pub equal_number : false ≡ not (sameb the_type a b) → number_of a ≡ number_of b
+  equal_number e = eqb-true _ _ (this_kind e)
+
   -- the same of the arms of a match
   pub differing : (a ≡ b → ⊥) → eqb (number_of a) (number_of b) ≡ false
   differing h = sym (same_number a b) ∙ false_same the_type tt a b h

@@ -30,18 +30,14 @@ pub fn set(
     let v = pairs[2 * j + 1] as usize;
     let x = members::get(set0, set1, set2, set3, u);
     let y = members::get(set0, set1, set2, set3, v);
-    unite::both(x, y)
+    unite::both(x, y).unwrap()
 }
 
 // Whether an item is marked as served; one for which there is no mark is not.
 pub fn marked(marks: &[u8], x: usize) -> bool
     ensures { result ≡ is_marked marks.now x }
 {
-    if x < marks.len() {
-        marks[x] != 0
-    } else {
-        false
-    }
+    x < marks.len() && marks[x] != 0
 }
 
 // Marks an item, where there is a mark for it.

@@ -9,11 +9,11 @@ returns-in_err-h c =
     let p = err_from_is_err_and c.from_residual.result c.from_residual.ensures.1 in
     let k = rw c.large-l.ensures at c.in_err-h.ensures in
     rw (p.1, p.2)
-    (call-not s.sizes s.text.now s.codes.now s.operands.now s.results.now s.marks.now s.words.now s.base.now c.min-shortest.ensures k)
+    (call-not s.sizes s.text.now s.codes.now s.operands.now s.results.now s.marks.now s.words.now s.base.now k)
 
 pub returns : goal.returns
 returns c =
     let s = c.args in
     let k = rw c.large-l.ensures at c.in_ok-h.ensures in
-    call-read s.sizes s.text.now s.codes.now s.operands.now s.results.now s.marks.now s.words.now s.base.now c.min-shortest.ensures k
+    call-read s.sizes s.text.now s.codes.now s.operands.now s.results.now s.marks.now s.words.now s.base.now k
     c.judge.ensures

@@ -2,12 +2,9 @@
 use Prim.Native.Nat.{suc, ◌-◌}
 use mathlib.Core.Path.{◌≡◌}
 use Rattle.fewest_walk.proofs.Advancing.{ways-some}
-use Rattle.fewest_walk.proofs.Spanning.{spanning-none, spanning-more, spanning-all, capped-same}
+use Rattle.fewest_walk.proofs.Spanning.{spanning-more, capped-same}
 use native.Mathlib.Omega.{arith}
 use Rattle.fewest_walk.proofs.spans.spans.Goals as goal
-
-pub loop-p-init : goal.loop-p-init
-loop-p-init c = spanning-none _ _ _
 
 pub loop-p-preserved : goal.loop-p-preserved
 loop-p-preserved c =
@@ -15,6 +12,3 @@ loop-p-preserved c =
     spanning-more (rw e at c.loop-p.invariant) (omega arith) (omega arith)
     (ways-some c.args.codes.now c.args.results.now (c.loop-p.p - 1))
     (capped-same c.loop-p.span c.ways.ensures c.from.ensures c.saturating_mul-span.ensures)
-
-pub returns : goal.returns
-returns c = spanning-all c.loop-p.invariant c.loop-p-test.false

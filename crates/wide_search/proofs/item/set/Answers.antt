@@ -3,7 +3,7 @@ use mathlib.Core.Path.{sym, ◌∙◌}
 use Prim.Native.Nat.{◌+◌, ◌-◌, ◌*◌}
 use lib.ListN.{length, get_or}
 use Rattle.wide_sets.specs.Packed.{sets}
-use Rattle.wide_search.proofs.ItemSets.{item-wire, item-both}
+use Rattle.wide_search.proofs.ItemSets.{item-wire, item-some, item-both}
 use native.Mathlib.Omega.{arith}
 use Rattle.wide_search.proofs.item.set.Goals as goal
 
@@ -13,14 +13,6 @@ returns-then-k-wires c =
     let S = sets a.set0.now a.set1.now a.set2.now a.set3.now in
     let g = c.get.ensures in
     (g.0 ∙ sym (item-wire S a.pairs.now (length a.set0.now) a.k c.if-k-wires.true), omega (arith, g.1, c.requires.1.few a.k), g.2)
-
-pub overflow_cast-u : goal.overflow_cast-u
-overflow_cast-u c =
-    omega
-    (arith, c.requires.2 (2 * (c.args.k - length c.args.set0.now)) (omega (arith, c.requires.0, c.if-k-wires.false)))
-
-pub overflow_cast-v : goal.overflow_cast-v
-overflow_cast-v c = omega (arith, c.requires.2 (2 * (c.args.k - length c.args.set0.now) + 1) (omega (arith, c.requires.0, c.if-k-wires.false)))
 
 pub get-x-requires : goal.get-x-requires
 get-x-requires c =
@@ -43,9 +35,15 @@ both-requires c =
     let j = a.k - length a.set0.now in
     (omega (arith, g.1, z.few (get_or a.pairs.now (2 * j) 0)), omega (arith, h.1, z.few (get_or a.pairs.now (2 * j + 1) 0)), g.2, h.2)
 
+pub unwrap-requires : goal.unwrap-requires
+unwrap-requires c =
+    let a = c.args in
+    let S = sets a.set0.now a.set1.now a.set2.now a.set3.now in
+    item-some S a.pairs.now (length a.set0.now) a.k c.if-k-wires.false c.requires.0 c.get-x.ensures.0 c.get-y.ensures.0 c.both.result c.requires.3 c.both.ensures
+
 pub returns : goal.returns
 returns c =
     let a = c.args in
     let S = sets a.set0.now a.set1.now a.set2.now a.set3.now in
-    item-both S a.pairs.now (length a.set0.now) a.k c.if-k-wires.false c.requires.0 c.requires.3
-    c.get-x.ensures.0 c.get-y.ensures.0 c.both.ensures
+    item-both S a.pairs.now (length a.set0.now) a.k c.if-k-wires.false c.requires.0 c.get-x.ensures.0 c.get-y.ensures.0 c.unwrap.result
+    (rw c.unwrap.ensures at c.both.ensures)

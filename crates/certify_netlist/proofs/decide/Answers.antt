@@ -1,4 +1,4 @@
--- `certify_netlist::verdict` meets its contract.
+-- `certify_netlist::decide` meets its contract.
 use mathlib.Core.Path.{◌≡◌, refl, sym, subst}
 use Prim.Native.Nat.{ℕ, ◌+◌, ◌*◌, ◌≤◌, ◌<◌}
 use lib.ListN.{length}
@@ -6,7 +6,7 @@ use lib.Seq.{length-take-le}
 use Rattle.netlist.specs.Table.{Tables, tables, Holds, Wired}
 use Rattle.netlist.proofs.Puts.{wired-same}
 use native.Mathlib.Omega.{arith}
-use Rattle.certify_netlist.proofs.verdict.Goals as goal
+use Rattle.certify_netlist.proofs.decide.Goals as goal
 
 -- the fronts of two tables, as long as there are wires
 fronts : {t : Tables} {W n K B : ℕ} (k i : ℕ) → K ≡ W → B ≡ W → Wired t W n → k + 2 ≤ W → i < W → Wired t K n × (k + 2 ≤ K) × (B ≡ K) × (i < K)
