@@ -11,7 +11,7 @@ use Rattle.netlist.specs.Table.{Tables}
 use Rattle.netlist.proofs.Tests.{both_true}
 use Rattle.netlist.proofs.Questions.{some_same}
 use Rattle.aiger.specs.File.{AndLine}
-use Rattle.aiger.specs.Lines.{formed, file_lines, and_form}
+use Rattle.aiger.specs.Lines.{formed, and_form}
 use Rattle.aiger.specs.Rules.{giving, and_good, ands_good}
 use Rattle.aiger.specs.Made.{wire_at, and_made, Built, behind, build}
 use Rattle.aiger_lines.specs.LineAnswers.{at_front}

@@ -1,5 +1,5 @@
 -- The input lines, one after another.
-use Prim.Native.Nat.{ℕ, zero, suc, ◌+◌, ◌/◌, ◌%◌, ◌<◌, ◌≤◌}
+use Prim.Native.Nat.{ℕ, zero, suc, ◌+◌, ◌/◌, ◌%◌, ◌<◌}
 use mathlib.Core.Path.{◌≡◌, refl, sym, ap, ◌∙◌}
 use mathlib.Core.Bool.{true, false, not}
 use mathlib.Core.List.{List, [], ◌∷◌, ◌++◌}
@@ -13,11 +13,10 @@ use Rattle.netlist.specs.Lists.{member}
 use Rattle.netlist.proofs.Tests.{on_bool, both_true}
 use Rattle.netlist.proofs.Questions.{none-some, some_same}
 use Rattle.aiger.specs.File.{Literal, constant, plain, inverse, literal}
-use Rattle.aiger.specs.Lines.{if_some, one_literal, variable, formed, input_line, file_lines}
+use Rattle.aiger.specs.Lines.{if_some, one_literal, variable, formed, input_line}
 use Rattle.aiger.specs.Rules.{fresh, can_give, giving, fresh_all}
 use Rattle.aiger.specs.Outputs.{enter}
 use Rattle.aiger.specs.Made.{up_from}
-use Rattle.aiger_lines.specs.Stray.{stray_at}
 use Rattle.aiger_lines.specs.LineAnswers.{LineNot, at_front, first_numbers, OneAt}
 use Rattle.aiger_gates.specs.Places.{Places}
 use Rattle.aiger_ands.specs.StepAnswers.{InputAt}

@@ -1,5 +1,5 @@
 -- What the answers on AND lines mean.
-use Rattle.std.specs.Prelude.{ℕ, Option, Some, None, ◌+◌, ◌≤◌, ◌≡◌, true, List, ◌∷◌, ◌++◌, map, drop, set}
+use Rattle.std.specs.Prelude.{ℕ, Option, Some, None, ◌+◌, ◌≡◌, true, List, ◌∷◌, ◌++◌, map, drop, set}
 use Rattle.std.proofs.Math.Option.{some}
 use Rattle.netlist.specs.declared.Gate.{Gate}
 use Rattle.netlist.specs.Table.{Tables}

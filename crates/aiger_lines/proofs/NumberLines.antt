@@ -373,15 +373,17 @@ module _ {t : List ℕ} {at n : ℕ} {into : List ℕ} {p i : ℕ} (N : Numberin
   numbering-end h to d e =
       let taken : LineTaken t q to = record { left = e.left; on = e.on; within = e.within } in
       let clean = end_clean (drop q t) (no_plain t p q s) d e.none in
-      let c = clean-to t q to taken (plain-before t p q s N.before) clean in
-      (file-line t at n into to
-      (record {
-        line = N.line ∙ ap (λ (ws : List (List ℕ)). joined (take i into) (numbers ws)) (sym (words_same t p q s) ∙ e.none)
-            ∙ ap {B = Option (List ℕ)} some (append-nil (take i into) ∙ take_all into i (omega (arith, N.size)));
-        size = N.size;
-        next = record { left = e.left ∙ after_same t p q s ∙ N.after; on = omega (arith, N.on, s.on, e.on); within = e.within };
-      })
-      c, c)
+      let c = clean-to t q to taken (plain-before t p q s N.before) clean in (
+        file-line t at n into to
+            (record {
+              line = N.line ∙ ap (λ (ws : List (List ℕ)). joined (take i into) (numbers ws)) (sym (words_same t p q s) ∙ e.none)
+                  ∙ ap {B = Option (List ℕ)} some (append-nil (take i into) ∙ take_all into i (omega (arith, N.size)));
+              size = N.size;
+              next = record { left = e.left ∙ after_same t p q s ∙ N.after; on = omega (arith, N.on, s.on, e.on); within = e.within };
+            })
+            c,
+        c,
+      )
 
 -- ---- the next line that is not blank
 

@@ -11,9 +11,8 @@ use lib.ListN.{length, take, drop, get_or, set, length-set}
 use lib.Seq.{take-suc, take-suc-set, take_all, split_at, get_or-set_same, get_or-set_other}
 use Rattle.netlist.specs.Lists.{every}
 use Rattle.aiger.specs.File.{Literal, literal}
-use Rattle.aiger.specs.Lines.{formed, output_line, file_lines}
+use Rattle.aiger.specs.Lines.{formed, output_line}
 use Rattle.aiger.specs.Rules.{readable}
-use Rattle.aiger_lines.specs.Stray.{stray_at}
 use Rattle.aiger_lines.specs.LineAnswers.{LineNot, OneAt}
 use Rattle.aiger_gates.specs.Places.{Places}
 use Rattle.aiger_outputs.specs.OutAnswers.{LiteralsAt, Low, HaveWires}

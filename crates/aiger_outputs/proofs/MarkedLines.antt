@@ -1,12 +1,12 @@
 -- Marks on the variables that output lines put out.
 use Prim.Native.Nat.{ℕ, ◌+◌, ◌/◌, ◌<◌, ◌≤◌}
-use mathlib.Core.Path.{◌≡◌, refl, sym, ap, ◌∙◌, subst}
-use mathlib.Core.Bool.{true, false}
+use mathlib.Core.Path.{◌≡◌, refl, sym, ap, ◌∙◌}
+use mathlib.Core.Bool.{true}
 use mathlib.Core.List.{List, [], ◌∷◌, ◌++◌}
 use mathlib.Core.Option.{some}
 use native.Mathlib.Omega.{arith}
 use lib.Dec.{eqb, ltb}
-use lib.ListN.{length, drop, get_or, set, replicate}
+use lib.ListN.{length, get_or, set, replicate}
 use lib.Seq.{get_or-set_same, get_or-set_other}
 use borrow.Author.Count.{below_more}
 use borrow.Author.Tests.{eqb-true, eqb-false, ltb-true, ltb-false}
@@ -14,12 +14,11 @@ use Rattle.netlist.specs.Lists.{every, member}
 use Rattle.netlist.proofs.Tests.{on_bool}
 use Rattle.netlist.proofs.Questions.{some_same}
 use Rattle.aiger.specs.File.{Literal, literal}
-use Rattle.aiger.specs.Lines.{output_line, formed, file_lines}
+use Rattle.aiger.specs.Lines.{output_line, formed}
 use Rattle.aiger.specs.Rules.{readable}
-use Rattle.aiger_lines.specs.Stray.{stray_at}
 use Rattle.aiger_lines.specs.LineAnswers.{at_front, LineNot, OneAt}
 use Rattle.aiger_gates.specs.Places.{Places}
-use Rattle.aiger_gates.proofs.Placing.{literal-low, literal-readable, place-wire}
+use Rattle.aiger_gates.proofs.Placing.{literal-low, literal-readable}
 use Rattle.aiger_ands.proofs.LineByLine.{Split, formed-split}
 use Rattle.aiger_ands.proofs.InputLines.{zeros-at}
 use Rattle.aiger_outputs.specs.OutAnswers.{marked, PutOut, UpTo, MarksAt}

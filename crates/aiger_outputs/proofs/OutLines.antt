@@ -1,6 +1,6 @@
 -- The output lines, one after another.
-use Prim.Native.Nat.{ℕ, ◌+◌, ◌<◌, ◌≤◌}
-use mathlib.Core.Path.{◌≡◌, refl, sym, ap, ◌∙◌, subst}
+use Prim.Native.Nat.{ℕ, ◌+◌, ◌<◌}
+use mathlib.Core.Path.{◌≡◌, refl, sym, ap, ◌∙◌}
 use mathlib.Core.Bool.{Bool, true, false, ◌&&◌}
 use mathlib.Core.List.{List, [], ◌∷◌, ◌++◌}
 use mathlib.Core.Option.{Option, none, some}
@@ -10,9 +10,8 @@ use Rattle.netlist.specs.Lists.{every}
 use Rattle.netlist.proofs.Tests.{both_true}
 use Rattle.netlist.proofs.Questions.{none-some}
 use Rattle.aiger.specs.File.{Literal, literal}
-use Rattle.aiger.specs.Lines.{one_literal, output_line, formed, file_lines}
-use Rattle.aiger_lines.specs.Stray.{stray_at}
-use Rattle.aiger_lines.specs.LineAnswers.{at_front, first_numbers, LineNot, OneAt, OneIs}
+use Rattle.aiger.specs.Lines.{one_literal, output_line, formed}
+use Rattle.aiger_lines.specs.LineAnswers.{at_front, first_numbers, LineNot, OneAt}
 use Rattle.aiger_ands.proofs.LineByLine.{formed-snoc, Split, formed-split}
 use Rattle.aiger_outputs.specs.OutAnswers.{LiteralsAt}
 

@@ -10,7 +10,7 @@ use borrow.Rule.Slice.PartMut.{mid_of, put_mid}
 use Rattle.netlist.specs.Lists.{every}
 use Rattle.netlist.specs.Table.{Tables, tables}
 use Rattle.aiger.specs.File.{Literal, literal, File}
-use Rattle.aiger.specs.Lines.{Head, file_lines, file}
+use Rattle.aiger.specs.Lines.{Head, file}
 use Rattle.aiger.specs.Rules.{readable, giving, rules_kept}
 use Rattle.aiger.specs.Made.{build}
 use Rattle.aiger_gates.specs.Places.{Places, Standing}

@@ -4,7 +4,7 @@ use mathlib.Core.Path.{◌≡◌, refl, sym, ap, ◌∙◌, subst}
 use mathlib.Core.Bool.{true}
 use mathlib.Core.List.{List}
 use mathlib.Core.Option.{Option, none, some}
-use lib.ListN.{length, drop}
+use lib.ListN.{length}
 use borrow.Author.Tests.{le-leb, lt-leb}
 use Rattle.std.specs.Prelude.{Result}
 use Rattle.netlist.specs.declared.Limits.{Limits}
@@ -14,7 +14,7 @@ use Rattle.netlist.specs.Outcome.{Outcome, refused, given, and_then}
 use Rattle.netlist.specs.Table.{Tables}
 use Rattle.netlist.proofs.Tests.{on_bool}
 use Rattle.aiger.specs.File.{File}
-use Rattle.aiger.specs.Lines.{Head, file_lines, file}
+use Rattle.aiger.specs.Lines.{Head, file}
 use Rattle.aiger.specs.Rules.{rules_kept}
 use Rattle.aiger.specs.Call.{head_outcome, file_outcome, lines_read, lines_outcome, read_aiger}
 use Rattle.read_aiger.specs.HeadAnswers.{head_said, HeadAt}

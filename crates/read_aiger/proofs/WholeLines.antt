@@ -16,7 +16,7 @@ use Rattle.netlist.specs.Table.{Tables}
 use Rattle.netlist.proofs.Tests.{on_bool, both_true, true-T}
 use Rattle.netlist.proofs.Questions.{some_same}
 use Rattle.aiger.specs.File.{Literal, AndLine, File}
-use Rattle.aiger.specs.Lines.{Head, input_line, output_line, and_form, formed, file_lines, file}
+use Rattle.aiger.specs.Lines.{Head, input_line, output_line, and_form, formed, file}
 use Rattle.aiger.specs.Rules.{readable, fresh, giving, fresh_all, and_good, ands_good, inputs_given, all_given, rules_kept}
 use Rattle.aiger.specs.Outputs.{enter, blank}
 use Rattle.aiger.specs.Made.{wire_at, Built, build, out_gates, up_from, with_outputs, netlist_made}

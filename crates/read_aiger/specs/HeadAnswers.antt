@@ -1,5 +1,5 @@
 -- What the answer on the header means.
-use Rattle.std.specs.Prelude.{ℕ, Result, Ok, Err, ◌^◌, ◌<◌, ◌≤◌, ◌≡◌, List, eqb, drop}
+use Rattle.std.specs.Prelude.{ℕ, Result, Ok, Err, ◌^◌, ◌<◌, ◌≡◌, List, eqb}
 use Rattle.netlist.specs.declared.Limits.{Limits}
 use Rattle.netlist.specs.Number.{max_digits}
 use Rattle.netlist.specs.Outcome.{Outcome, refused, done, ask}

@@ -65,9 +65,7 @@ fn by_marks(
     operands.fill(0);
     let rest = mark_literals(lines, h.outputs, h.most, operands)?;
     let mut spare = [0u64; 1];
-    let (count, _) = ands(
-        rest, h.ands, h.most, h.inputs, table, &mut spare, results,
-    )?;
+    let (count, _) = ands(rest, h.ands, h.most, h.inputs, table, &mut spare, results)?;
     if !are_given(table, operands, h.most) {
         return None;
     }

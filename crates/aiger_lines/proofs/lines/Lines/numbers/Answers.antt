@@ -9,12 +9,12 @@ pub loop-entry-init : goal.loop-entry-init
 loop-entry-init c = numbering_start _ _ _ (search rules)
 
 pub returns-in_err-v : goal.returns-in_err-v
-returns-in_err-v c = 
+returns-in_err-v c =
     rw c.from_residual.ensures (numbering-short c.loop-entry.invariant c.past_spaces.ensures
     (omega (arith, c.loop-entry-test.true, c.loop-entry.invariant.size)) c.in_err-v.ensures)
 
 pub loop-entry-preserved : goal.loop-entry-preserved
-loop-entry-preserved c =     numbering-more c.loop-entry.invariant c.past_spaces.ensures _ _
+loop-entry-preserved c = numbering-more c.loop-entry.invariant c.past_spaces.ensures _ _
     (omega (arith, c.loop-entry-test.true, c.loop-entry.invariant.size))
     c.in_ok-v.ensures
 
