@@ -1,6 +1,7 @@
 -- What the functions of *mask* rely on, and the outcome that they report.
 use Rattle.std.specs.Prelude.{Err, Ok, Result, ℕ, ◌≤◌, ◌≡◌, List, [], ◌++◌, length, take}
 use Rattle.netlist.specs.declared.Question.{Question}
+use Rattle.netlist.specs.Question.{number_of}
 use Rattle.netlist.specs.declared.Sizes.TheVariants.{Old}
 use Rattle.netlist.specs.Netlist.{small}
 use Rattle.netlist.specs.Outcome.{Outcome, refused, done}
@@ -24,7 +25,7 @@ outcome netlist codes wanted = readable netlist (mask_call (small Old) [] netlis
 -- the outcome that an answer stands for, with the buffer of the text and the output codes
 abbrev pub outcome_of : List ℕ → List ℕ → Result ℕ Question → Outcome MaskedText
 outcome_of text codes (Ok n) = done record { text = take n text; codes = codes }
-outcome_of text codes (Err q) = refused q
+outcome_of text codes (Err q) = refused (number_of q)
 
 -- the text and the k output codes of an answer lie in their buffers
 abbrev pub Counted : List ℕ → List ℕ → ℕ → Result ℕ Question → Type 0

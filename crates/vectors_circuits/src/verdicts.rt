@@ -14,14 +14,14 @@ pub(crate) struct Edited {
 // Whether a verdict on a netlist of so many wires is what the counts say.
 fn same(verdict: Checked, leak: Leak, wires: usize) -> bool {
     match verdict {
-        Checked::Clean => leak.wire == wires,
-        Checked::Leak(wire, setting, base, count) => {
-            wire == leak.wire
-                && setting == leak.setting as u64
-                && base == leak.base
-                && count == leak.count
+        Ok(None) => leak.wire == wires,
+        Ok(Some(found)) => {
+            found.wire == leak.wire
+                && found.setting == leak.setting as u64
+                && found.base == leak.base
+                && found.own == leak.count
         }
-        Checked::Refused(_) => false,
+        Err(_) => false,
     }
 }
 
@@ -38,9 +38,9 @@ pub(crate) fn alike(text: &[u8], codes: &[u8]) -> bool {
 // Check's verdict as a number: 0 for clean, 100 for a leak, and the question that refuses.
 pub(crate) fn verdict(text: &[u8], codes: &[u8]) -> u8 {
     match services::check(text, codes) {
-        Checked::Clean => 0,
-        Checked::Leak(_, _, _, _) => 100,
-        Checked::Refused(question) => question,
+        Ok(None) => 0,
+        Ok(Some(_)) => 100,
+        Err(question) => question.number(),
     }
 }
 
