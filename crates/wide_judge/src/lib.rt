@@ -14,8 +14,9 @@ ghost use Rattle.wide_judge.specs.Judge.{outcome_of};
 
 use netlist::Question;
 use read_header::HeaderNumbers;
+use wide_search::item;
 use wide_search::search::WideFound;
-use wide_sets::{members, reach, unite};
+use wide_sets::reach;
 
 // Both answers; or the first question that gets a no.
 pub type CheckedWide = Result<WideFound, Question>;
@@ -28,11 +29,7 @@ fn pairs_few(pairs: &[u32], set0: &[u64], set1: &[u64], set2: &[u64], set3: &[u6
         (result ≡ true → PairsFew S pairs.now) × (result ≡ false → PairsFew S pairs.now → ⊥) }
 {
     for j in 0..pairs.len() / 2 {
-        let u = pairs[2 * j] as usize;
-        let v = pairs[2 * j + 1] as usize;
-        let x = members::get(set0, set1, set2, set3, u);
-        let y = members::get(set0, set1, set2, set3, v);
-        if unite::both(x, y).is_none() {
+        if item::pair(pairs, set0, set1, set2, set3, j).is_none() {
             return false;
         }
     }
