@@ -1,10 +1,10 @@
 -- Lists written record by record.
 use Prim.Native.Nat.{ℕ, suc, ◌+◌, ◌≤◌, ◌<◌}
 use mathlib.Core.Path.{◌≡◌, refl, sym, ap, ap₂, ◌∙◌}
-use mathlib.Core.List.{List, [], ◌∷◌, ◌++◌, map, append_assoc, append-nil}
+use mathlib.Core.List.{List, [], ◌∷◌, ◌++◌, map, append_assoc}
 use native.Mathlib.Omega.{arith}
 use native.Mathlib.Numerals.{add-one}
-use lib.ListN.{length, get_or, set, take, drop, length-append, length-map, drop_of_length-le}
+use lib.ListN.{length, get_or, set, take, drop, length-append, length-map}
 use lib.Seq.{sets, length-sets, take-suc, length-take-le, drop-cons}
 use borrow.Author.Tests.{eq-eqb, ne_eqb}
 use Rattle.netlist.specs.declared.Gate.{Gate}
@@ -108,10 +108,3 @@ module _ {codes : List ℕ} {ys zs : List GateRecord} {w next : ℕ} (o : Openin
           ∙ rw (ne_eqb (get_or codes w 0) 0 d);
       list = o.list;
     }
-
-pub opening-all : {codes : List ℕ} {ys zs : List GateRecord} {w next : ℕ} → Opening codes ys w next zs → length codes ≤ w
-    → zs ≡ sets ys 0 (map record_of (open_gates codes))
-opening-all {codes} {ys} {w = w} {next = next} o l =
-    let n = length codes in
-    let e : open_gates codes ≡ o.gates = o.left ∙ ap (λ (es : List ℕ). o.gates ++ public_gates n (n + 2 + next) w es) (drop_of_length-le codes l) ∙ append-nil o.gates in
-    o.list ∙ ap (λ (gs : List Gate). sets ys 0 (map record_of gs)) (sym e)
