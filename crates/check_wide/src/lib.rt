@@ -8,7 +8,7 @@ ghost use Rattle.check_wide.specs.Promise.{call, Promise};
 
 use netlist::Sizes;
 use read_netlist::read::read;
-use wide_judge::WideAnswer;
+use wide_judge::CheckedWide;
 
 // The answer, with tables that are still to be cleared.
 fn answer(
@@ -27,7 +27,7 @@ fn answer(
     set3: &mut [u64],
     paints: &mut [u8],
     sizes: Sizes,
-) -> WideAnswer
+) -> CheckedWide
     ensures { outcome_of result ≡ call sizes text.now codes.now pairs.now operands.old
         results.old marks.old words.old base.old bases.old set0.old
         set1.old set2.old set3.old paints.old }
@@ -55,9 +55,9 @@ fn answer(
         l,
     )?;
     wide_judge::judge(
-            h, inputs, codes, pairs, operands, results, marks, words, base, bases, set0, set1,
-            set2, set3, paints,
-        )
+        h, inputs, codes, pairs, operands, results, marks, words, base, bases, set0, set1, set2,
+        set3, paints,
+    )
 }
 
 // Whether the netlist in `text` is clean under the input codes, and each pair of wires: pair j is entries 2j and 2j + 1 of `pairs`. A
@@ -78,7 +78,7 @@ pub fn check_wide(
     set3: &mut [u64],
     paints: &mut [u8],
     sizes: Sizes,
-) -> WideAnswer
+) -> CheckedWide
     ensures { Promise sizes text.now codes.now pairs.now operands.old operands.new
         results.old results.new marks.old marks.new words.old words.new
         base.old base.new bases.old bases.new set0.old set0.new
