@@ -1,6 +1,6 @@
 -- `copy`: the first i widths lie at the front.
 use mathlib.Core.Path.{refl}
-use Rattle.clear.proofs.Laid.{laid_none, laid_more, laid-all}
+use Rattle.netlist.proofs.Laid.{laid_none, laid_more, laid-all}
 use native.Mathlib.Omega.{arith}
 use Rattle.session_text.proofs.results.copy.Goals as goal
 

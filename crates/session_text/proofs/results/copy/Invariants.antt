@@ -1,7 +1,7 @@
 -- `copy`: the first i widths lie at the front.
 use Prim.Native.Nat.{◌-◌}
 use lib.ListN.{length}
-use Rattle.clear.proofs.Laid.{Laid}
+use Rattle.netlist.proofs.Laid.{Laid}
 use Rattle.session_text.proofs.results.copy.Given as goal
 
 abbrev pub invariant-loop-i : goal.invariant-loop-i
