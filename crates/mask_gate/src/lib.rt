@@ -66,31 +66,13 @@ pub fn emit(
     requires n_bound { (n < 2 ^ 31) × (c < 2 ^ 31) }
     ensures { WroteKind out.old at n c kind a b out.new result }
 {
-    // Each arm has its twin: a second match in `mask_rule::twin` makes masking 10 in 100 slower.
-    match kind {
-        gate_table::XOR => (xor(d, out, at, n, c, a, b), mask_rule::xor_twin(c, a, b)),
-        gate_table::AND => (and(d, out, at, n, c, a, b), mask_rule::and_twin(c, a, b)),
-        gate_table::INV => (
-            write_gates::gate::inv(d, out, at, a.wire, c),
-            Twin {
-                wire: c,
-                code: a.code,
-            },
-        ),
-        gate_table::EQW => (
-            write_gates::gate::eqw(d, out, at, a.wire, c),
-            Twin {
-                wire: c,
-                code: a.code,
-            },
-        ),
-        gate_table::EQ => (
-            write_gates::gate::eqw(d, out, at, n, c),
-            Twin { wire: c, code: 1 },
-        ),
-        _ => (
-            write_gates::gate::inv(d, out, at, n, c),
-            Twin { wire: c, code: 1 },
-        ),
-    }
+    let end = match kind {
+        gate_table::XOR => xor(d, out, at, n, c, a, b),
+        gate_table::AND => and(d, out, at, n, c, a, b),
+        gate_table::INV => write_gates::gate::inv(d, out, at, a.wire, c),
+        gate_table::EQW => write_gates::gate::eqw(d, out, at, a.wire, c),
+        gate_table::EQ => write_gates::gate::eqw(d, out, at, n, c),
+        _ => write_gates::gate::inv(d, out, at, n, c),
+    };
+    (end, mask_rule::twin(c, kind, a, b))
 }
