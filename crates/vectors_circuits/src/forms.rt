@@ -1,7 +1,6 @@
 // Rewrite: a text in the written form comes back as it is, and so does one that has more spaces and blank lines.
 use crate::score::Score;
 use crate::{buffers, score, services, words};
-use netlist::Answer;
 
 // Whether a text is rewritten as this form of it.
 fn becomes(text: &[u8], form: &[u8]) -> bool {

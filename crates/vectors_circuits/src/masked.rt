@@ -2,7 +2,7 @@
 use crate::score::Score;
 use crate::second::Shape;
 use crate::{buffers, codes, forms, score, second, services, vectors, verdicts, words};
-use netlist::Answer;
+use netlist::Question;
 
 // The scores of a masked netlist.
 #[derive(Clone, Copy)]
@@ -27,10 +27,10 @@ pub(crate) fn join(a: Masked, b: Masked) -> Masked {
 // agree on it, and on it under other codes.
 fn judged(text: &[u8], ins: &[u8]) -> Score {
     if 12 < ins.len() {
-        return score::case(score::none(), verdicts::verdict(text, ins) == 12);
+        return score::case(score::none(), verdicts::refuses_settings(text, ins));
     }
     let others = b"\x02\x03\x02\x03\x02\x03\x02\x03\x02\x03\x02\x03";
-    let a = score::case(score::none(), verdicts::verdict(text, ins) == 0);
+    let a = score::case(score::none(), verdicts::is_clean(text, ins));
     let b = score::case(a, verdicts::alike(text, ins));
     score::case(b, verdicts::alike(text, words::part(others, 0, ins.len())))
 }
@@ -81,15 +81,15 @@ fn refused(right: bool) -> Masked {
     }
 }
 
-// The question by which Mask refuses a source: 2 for its bytes, or else 5 for its wires. None, 0, refuses one within its limits.
-fn question(text: &[u8], shape: Shape) -> u8 {
+// The question by which Mask refuses a source: that of its bytes, or else of its wires. None refuses one within its limits.
+fn question(text: &[u8], shape: Shape) -> Option<Question> {
     if 60000 < text.len() {
-        return 2;
+        return Some(Question::Length);
     }
     if 2048 < shape.wires {
-        return 5;
+        return Some(Question::Limits);
     }
-    0
+    None
 }
 
 // A source, with input codes from `low` to `high` in turn and wanted codes from `least` to `most` in turn.
@@ -126,7 +126,7 @@ fn delivered(
     text: &[u8],
     file: &[u8],
     step: usize,
-    question: u8,
+    question: Option<Question>,
     ins: &[u8],
     wanted: &[u8],
     out: &mut [u8],
@@ -142,6 +142,6 @@ fn delivered(
             wanted,
             words::part(out_codes, 0, wanted.len()),
         ),
-        Err(q) => refused(q == question),
+        Err(q) => refused(question == Some(q)),
     }
 }

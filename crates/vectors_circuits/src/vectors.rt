@@ -2,7 +2,6 @@
 use crate::score::Score;
 use crate::second::Shape;
 use crate::{buffers, codes, score, second, services, words};
-use netlist::Answer;
 
 // Whether Run gives the output bits of a vector from the input wires.
 fn service(text: &[u8], list: &[u8], out_codes: &[u8], m: u8, outputs: &[u8]) -> bool {

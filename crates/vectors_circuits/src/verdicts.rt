@@ -3,6 +3,7 @@ use crate::counts::Leak;
 use crate::score::Score;
 use crate::{counts, score, second, services, words};
 use check_netlist::Checked;
+use netlist::Question;
 
 // The edited netlists: how many of them both judge alike, and how many leak.
 #[derive(Clone, Copy)]
@@ -35,13 +36,19 @@ pub(crate) fn alike(text: &[u8], codes: &[u8]) -> bool {
     )
 }
 
-// Check's verdict as a number: 0 for clean, 100 for a leak, and the question that refuses.
-pub(crate) fn verdict(text: &[u8], codes: &[u8]) -> u8 {
-    match services::check(text, codes) {
-        Ok(None) => 0,
-        Ok(Some(_)) => 100,
-        Err(question) => question.number(),
-    }
+// Whether Check finds a netlist clean.
+pub(crate) fn is_clean(text: &[u8], codes: &[u8]) -> bool {
+    matches!(services::check(text, codes), Ok(None))
+}
+
+// Whether Check finds a leak.
+fn leaks(text: &[u8], codes: &[u8]) -> bool {
+    matches!(services::check(text, codes), Ok(Some(_)))
+}
+
+// Whether Check refuses a netlist for its input bits.
+pub(crate) fn refuses_settings(text: &[u8], codes: &[u8]) -> bool {
+    services::check(text, codes) == Err(Question::Settings)
 }
 
 fn name(text: &mut [u8], at: usize, a: u8, b: u8, c: u8) {
@@ -54,7 +61,7 @@ fn name(text: &mut [u8], at: usize, a: u8, b: u8, c: u8) {
 fn tried(text: &[u8], codes: &[u8], e: Edited) -> Edited {
     Edited {
         alike: score::case(e.alike, alike(text, codes)),
-        leaks: score::case(e.leaks, verdict(text, codes) == 100),
+        leaks: score::case(e.leaks, leaks(text, codes)),
     }
 }
 
