@@ -1,8 +1,6 @@
 // Check, against the counts of the second evaluator.
-use crate::counts::Leak;
 use crate::score::Score;
-use crate::{counts, score, second, services, words};
-use check_netlist::Checked;
+use crate::{counts, services, words};
 use netlist::Question;
 
 // The edited netlists: how many of them both judge alike, and how many leak.
@@ -12,28 +10,9 @@ pub(crate) struct Edited {
     pub(crate) leaks: Score,
 }
 
-// Whether a verdict on a netlist of so many wires is what the counts say.
-fn same(verdict: Checked, leak: Leak, wires: usize) -> bool {
-    match verdict {
-        Ok(None) => leak.wire == wires,
-        Ok(Some(found)) => {
-            found.wire == leak.wire
-                && found.setting == leak.setting as u64
-                && found.base == leak.base
-                && found.own == leak.count
-        }
-        Err(_) => false,
-    }
-}
-
 // Whether both judge a netlist alike.
 pub(crate) fn alike(text: &[u8], codes: &[u8]) -> bool {
-    let shape = second::header(text);
-    same(
-        services::check(text, codes),
-        counts::lowest(text, codes),
-        shape.wires,
-    )
+    services::check(text, codes) == Ok(counts::lowest(text, codes))
 }
 
 // Whether Check finds a netlist clean.
@@ -60,8 +39,8 @@ fn name(text: &mut [u8], at: usize, a: u8, b: u8, c: u8) {
 // One edited netlist more.
 fn tried(text: &[u8], codes: &[u8], e: Edited) -> Edited {
     Edited {
-        alike: score::case(e.alike, alike(text, codes)),
-        leaks: score::case(e.leaks, leaks(text, codes)),
+        alike: e.alike.case(alike(text, codes)),
+        leaks: e.leaks.case(leaks(text, codes)),
     }
 }
 
@@ -76,8 +55,8 @@ fn turns(bits: usize) -> usize {
 // Edits of a masked netlist, whose text is the first n bytes of a buffer: each makes one XOR an AND, and is taken back.
 pub(crate) fn edits(text: &mut [u8], n: usize, codes: &[u8]) -> Edited {
     let mut e = Edited {
-        alike: score::none(),
-        leaks: score::none(),
+        alike: Score::default(),
+        leaks: Score::default(),
     };
     let mut place = 0;
     for _ in 0..turns(codes.len()) {
