@@ -2,7 +2,7 @@
 // struct of `&mut` slices would have to promise at each call that it still holds them.
 ghost use Rattle.std.specs.Prelude.{◌≡◌, List, [], ℕ, ◌+◌, ◌*◌, ◌^◌, ◌<◌, ◌≤◌, length};
 ghost use Rattle.netlist.specs.declared.Gate.{Gate};
-ghost use Rattle.aiger_lines.specs.LineAnswers.{lines_left};
+ghost use Rattle.aiger_lines.specs.LineAnswers.{lines_left, OneBehind};
 ghost use Rattle.netlist.specs.Table.{tables};
 ghost use Rattle.aiger_gates.specs.Places.{Standing};
 ghost use Rattle.aiger_ands.specs.AndAnswers.{AndLineIs, AndsIs, gates_said};
@@ -22,10 +22,11 @@ fn and_line<'t>(
     results: &mut [u64],
 ) -> Option<(usize, Lines<'t>)>
     requires { (most < length table.old) × (n + count + 4 < 2 ^ 32) }
-    ensures { ((given wires : List ℕ) (gs : List Gate) → length wires ≡ most + 1
+    ensures line { ((given wires : List ℕ) (gs : List Gate) → length wires ≡ most + 1
         → Standing table.old (tables operands.old results.old) n count given wires gs
         → AndLineIs (lines_left lines.entry) most n count given wires gs table.new
         (tables operands.new results.new) result) × (gates_said result ≤ count + 3) }
+    ensures behind { OneBehind lines.entry result }
 {
     let mut numbers = [0u32; 3];
     let next = lines.next_numbers(&mut numbers)?;
@@ -49,10 +50,11 @@ pub fn ands<'t>(
     results: &mut [u64],
 ) -> Option<(usize, Lines<'t>)>
     requires { (most < length table.old) × (n + 3 * many + 4 < 2 ^ 32) }
-    ensures { ((given wires : List ℕ) → length wires ≡ most + 1
+    ensures ands { ((given wires : List ℕ) → length wires ≡ most + 1
         → Standing table.old (tables operands.old results.old) n 0 given wires []
         → AndsIs (lines_left lines.entry) many most n given wires table.new
         (tables operands.new results.new) result) × (gates_said result ≤ 3 * many) }
+    ensures behind { OneBehind lines.entry result }
 {
     let mut left = lines;
     let mut count = 0;

@@ -1,6 +1,6 @@
 // The input lines: each gives a variable the next wire.
 ghost use Rattle.std.specs.Prelude.{◌≡◌, List, ℕ, ◌+◌, ◌^◌, ◌<◌, length, replicate};
-ghost use Rattle.aiger_lines.specs.LineAnswers.{lines_left};
+ghost use Rattle.aiger_lines.specs.LineAnswers.{lines_left, BehindIs};
 ghost use Rattle.aiger_gates.specs.Places.{Places};
 ghost use Rattle.aiger_ands.specs.StepAnswers.{InputIs, InputsIs};
 
@@ -10,8 +10,9 @@ use aiger_lines::lines::Lines;
 // One input line; answers the lines behind it.
 fn input<'t>(lines: Lines<'t>, wire: u32, most: u32, table: &mut [u32]) -> Option<Lines<'t>>
     requires { (most < length table.old) × (wire + 1 < 2 ^ 32) }
-    ensures { (given wires : List ℕ) → Places table.old given wires
+    ensures line { (given wires : List ℕ) → Places table.old given wires
         → InputIs (lines_left lines.entry) wire most given table.old table.new result }
+    ensures behind { BehindIs lines.entry result }
 {
     let (x, next) = lines.one_number()?;
     if !can_give(table, x, most) {
@@ -24,7 +25,8 @@ fn input<'t>(lines: Lines<'t>, wire: u32, most: u32, table: &mut [u32]) -> Optio
 // So many input lines, with a table that gives nothing yet; answers the lines behind them.
 pub fn inputs<'t>(lines: Lines<'t>, count: u32, most: u32, table: &mut [u32]) -> Option<Lines<'t>>
     requires { (most < length table.old) × (table.old ≡ replicate (length table.old) 0) }
-    ensures { InputsIs (lines_left lines.entry) count most table.new result }
+    ensures inputs { InputsIs (lines_left lines.entry) count most table.new result }
+    ensures behind { BehindIs lines.entry result }
 {
     let mut left = lines;
     for i in 0..count {

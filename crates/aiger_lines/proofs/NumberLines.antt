@@ -290,8 +290,8 @@ clean-here t at to l h =
     omega arith
 
 module _ (t : List ℕ) (at n : ℕ) where
-  file-line : (xs : List ℕ) (to : ℕ) → NumbersAt t at n xs to → to ≤ stray_at t → FileLineAt (drop at t) n xs (file_lines (drop to t))
-  file-line xs to a h = record { line = ap numbers (clean_line (drop at t) (clean-here t at to a.next h)) ∙ a.line; size = a.size; next = ap file_lines a.next.left }
+  file-line : (xs : List ℕ) (to : ℕ) → NumbersAt t at n xs to → to ≤ stray_at t → FileLineAt (drop at t) n xs (drop to t)
+  file-line xs to a h = record { line = ap numbers (clean_line (drop at t) (clean-here t at to a.next h)) ∙ a.line; size = a.size; next = a.next.left }
 
   -- a line that the line reader does not take
   file-none : NotSoMany (numbers (line_words (drop at t))) n → NotSoMany (numbers (file_line (drop at t))) n
@@ -369,7 +369,7 @@ module _ {t : List ℕ} {at n : ℕ} {into : List ℕ} {p i : ℕ} (N : Numberin
   numbering-long h e = file-none t at n (long h (ap is_empty (sym (words_same t p q s)) ∙ e))
 
   -- just so many
-  pub numbering-end : n ≤ i → (to : ℕ) → is_stray (drop q t) ≡ false → EndAt t q to → FileLineAt (drop at t) n into (file_lines (drop to t)) × (to ≤ stray_at t)
+  pub numbering-end : n ≤ i → (to : ℕ) → is_stray (drop q t) ≡ false → EndAt t q to → FileLineAt (drop at t) n into (drop to t) × (to ≤ stray_at t)
   numbering-end h to d e =
       let taken : LineTaken t q to = record { left = e.left; on = e.on; within = e.within } in
       let clean = end_clean (drop q t) (no_plain t p q s) d e.none in
@@ -397,7 +397,7 @@ module _ (t : List ℕ) (at a : ℕ) (w : ToWord t at a) where
       let z = h.size in
       let l : file_lines (drop at t) ≡ file_line (drop a t) ∷ lines_left m =
       sym w.lines ∙ file-step (drop a t) ∙ numbers-add (file_line (drop a t)) _ xs h.line (omega arith)
-      ∙ ap (λ (r : List (List (List ℕ))). file_line (drop a t) ∷ r) (sym h.next) in
+      ∙ ap (λ (r : List ℕ). file_line (drop a t) ∷ file_lines r) (sym h.next) in
       record { line = ap first_numbers l ∙ h.line; size = h.size; next = sym (ap (drop 1) l) }
   next-line n xs P.None one h = record { none = λ ys e z. h ys (word_first (drop a t) ys w.still (ap first_numbers w.lines ∙ e)) z }
 

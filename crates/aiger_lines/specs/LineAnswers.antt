@@ -1,5 +1,5 @@
 -- What the answers on a line of numbers mean.
-use Rattle.std.specs.Prelude.{ℕ, Option, Some, None, ◌≡◌, List, [], ◌∷◌, length, drop}
+use Rattle.std.specs.Prelude.{ℕ, Option, Some, None, ◌≡◌, ◌≤◌, List, [], ◌∷◌, length, drop}
 use Rattle.std.proofs.Math.Option as M
 use Rattle.std.proofs.Math.Option.{none, some}
 use Rattle.netlist.specs.Header.{numbers}
@@ -15,14 +15,27 @@ NotSoMany o n = (xs : List ℕ) → o ≡ some xs → length xs ≡ n → ⊥
 abbrev pub lines_left : Lines → List (List (List ℕ))
 lines_left l = file_lines (drop l.at l.text.now)
 
--- the first line of s holds the numbers xs, and the lines behind it are these
-pub record FileLineAt (s : List ℕ) (n : ℕ) (xs : List ℕ) (left : List (List (List ℕ))) : Type 0 where
+-- lines of the same text, from the same place on or behind it
+pub record Behind (l m : Lines) : Type 0 where
+  pub text : m.text.now ≡ l.text.now
+  pub on : l.at ≤ m.at
+
+abbrev pub BehindIs : Lines → Option Lines → Type 0
+BehindIs l (Some m) = Behind l m
+BehindIs l None = Unit
+
+abbrev pub OneBehind : {A : Type 0} → Lines → Option (A × Lines) → Type 0
+OneBehind l (Some (x, m)) = Behind l m
+OneBehind l None = Unit
+
+-- the first line of s holds the numbers xs, and this is behind it
+pub record FileLineAt (s : List ℕ) (n : ℕ) (xs rest : List ℕ) : Type 0 where
   pub line : numbers (file_line s) ≡ some xs
   pub size : length xs ≡ n
-  pub next : left ≡ file_lines (after_line s)
+  pub next : rest ≡ after_line s
 
 abbrev pub FileLineIs : List ℕ → ℕ → List ℕ → Option Lines → Type 0
-FileLineIs s n xs (Some l) = FileLineAt s n xs (lines_left l)
+FileLineIs s n xs (Some l) = FileLineAt s n xs (drop l.at l.text.now)
 FileLineIs s n xs None = NotSoMany (numbers (file_line s)) n
 
 -- what the first of some lines is

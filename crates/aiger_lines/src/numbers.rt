@@ -6,11 +6,12 @@ use crate::lines::Lines;
 use read_text::cursor::Cursor;
 
 impl Lines<'_> {
-    ghost use Rattle.aiger_lines.specs.LineAnswers.{lines_left, FileLineIs, LineIs, OneIs};
+    ghost use Rattle.aiger_lines.specs.LineAnswers.{lines_left, BehindIs, OneBehind, FileLineIs, LineIs, OneIs};
 
     // The numbers of the first line, as many as the table has entries, and no more: answers the lines behind it.
     pub fn numbers(self, into: &mut [u32]) -> Option<Self>
-        ensures { FileLineIs (drop self.entry.at self.entry.text.now) (length into.old) into.new result }
+        ensures line { FileLineIs (drop self.entry.at self.entry.text.now) (length into.old) into.new result }
+        ensures behind { BehindIs self.entry result }
     {
         let mut p = Cursor { at: self.at };
         for entry in into.iter_mut() {
@@ -32,7 +33,8 @@ impl Lines<'_> {
     // The numbers of the next line that is not blank.
     pub fn next_numbers(self, into: &mut [u32]) -> Option<Self>
         requires { 1 ≤ length into.old }
-        ensures { LineIs (lines_left self.entry) (length into.old) into.new result }
+        ensures line { LineIs (lines_left self.entry) (length into.old) into.new result }
+        ensures behind { BehindIs self.entry result }
     {
         let word = to_word(self.text, Cursor { at: self.at });
         let lines = Lines {
@@ -44,7 +46,8 @@ impl Lines<'_> {
 
     // The number of the next line that is not blank, if it holds one, and the lines behind it.
     pub fn one_number(self) -> Option<(u32, Self)>
-        ensures { OneIs (lines_left self.entry) result }
+        ensures line { OneIs (lines_left self.entry) result }
+        ensures behind { OneBehind self.entry result }
     {
         let mut numbers = [0u32; 1];
         let next = self.next_numbers(&mut numbers)?;

@@ -3,7 +3,7 @@ ghost use Rattle.std.specs.Prelude.{◌≡◌, true, List, map, ℕ};
 ghost use Rattle.netlist.specs.Lists.{every};
 ghost use Rattle.aiger.specs.File.{literal};
 ghost use Rattle.aiger.specs.Rules.{readable};
-ghost use Rattle.aiger_lines.specs.LineAnswers.{lines_left};
+ghost use Rattle.aiger_lines.specs.LineAnswers.{lines_left, BehindIs};
 ghost use Rattle.aiger_gates.specs.Places.{Places};
 ghost use Rattle.aiger_outputs.specs.OutAnswers.{KeptIs, Low, HaveWires};
 
@@ -12,7 +12,8 @@ use aiger_lines::lines::Lines;
 
 // As many output lines as the table has entries; answers the lines behind them.
 pub fn keep_literals<'t>(lines: Lines<'t>, kept: &mut [u64]) -> Option<Lines<'t>>
-    ensures { KeptIs (lines_left lines.entry) kept.new result }
+    ensures kept { KeptIs (lines_left lines.entry) kept.new result }
+    ensures behind { BehindIs lines.entry result }
 {
     let mut left = lines;
     for entry in kept.iter_mut() {

@@ -4,7 +4,7 @@ ghost use Rattle.std.specs.Prelude.{◌≡◌, true, false, List, ℕ, ◌/◌, 
 ghost use Rattle.netlist.specs.Lists.{every};
 ghost use Rattle.aiger.specs.File.{Literal};
 ghost use Rattle.aiger.specs.Rules.{readable};
-ghost use Rattle.aiger_lines.specs.LineAnswers.{lines_left};
+ghost use Rattle.aiger_lines.specs.LineAnswers.{lines_left, BehindIs};
 ghost use Rattle.aiger_gates.specs.Places.{Places};
 ghost use Rattle.aiger_outputs.specs.OutAnswers.{marked, PutOut, MarksIs};
 
@@ -28,7 +28,8 @@ pub fn mark_literals<'t>(
     marks: &mut [u64],
 ) -> Option<Lines<'t>>
     requires { (most < length marks.old) × (marks.old ≡ replicate (length marks.old) 0) }
-    ensures { MarksIs (lines_left lines.entry) many most marks.new result }
+    ensures marks { MarksIs (lines_left lines.entry) many most marks.new result }
+    ensures behind { BehindIs lines.entry result }
 {
     let mut left = lines;
     for _ in 0..many {

@@ -1,6 +1,6 @@
 -- The opening and the header.
 use Prim.Native.Nat.{ℕ, zero, suc, ◌^◌, ◌≤◌, ◌<◌}
-use mathlib.Core.Path.{◌≡◌, refl, ap, ◌∙◌, subst}
+use mathlib.Core.Path.{◌≡◌, refl, sym, ap, ◌∙◌, subst}
 use mathlib.Core.Bool.{Bool, true, false, ◌&&◌}
 use mathlib.Core.List.{List, [], ◌∷◌, ◌++◌}
 use mathlib.Core.Option.{Option, none, some}
@@ -18,6 +18,7 @@ use Rattle.netlist.proofs.Questions.{none-some, some_same}
 use Rattle.aiger.specs.Lines.{file_line, opens, Head, head_of, head, head_good}
 use Rattle.aiger.specs.Call.{head_outcome}
 use Rattle.aiger_lines.specs.Stray.{stray_at}
+use Rattle.aiger_lines.specs.declared.lines.Lines.{Lines}
 use Rattle.aiger_lines.specs.LineAnswers.{NotSoMany, FileLineAt}
 use Rattle.read_aiger.specs.HeadAnswers.{head_said, head_asked, HeadAt}
 use Rattle.read_aiger.specs.declared.head.HeadNumbers.{HeadNumbers}
@@ -88,7 +89,7 @@ module _ (L : Limits) (t : List ℕ) where
     pub head-not : NotSoMany (numbers (file_line (drop 4 t))) 5 → head_outcome L t ≡ refused 19
     head-not h = let n : head t ≡ none = no-head (numbers (file_line (drop 4 t))) h in rw (o, n)
 
-    module _ (xs : List ℕ) (left : List (List (List ℕ))) (A : FileLineAt (drop 4 t) 5 xs left) where
+    module _ (xs : List ℕ) (l : Lines) (same : l.text.now ≡ t) (A : FileLineAt (drop 4 t) 5 xs (drop l.at l.text.now)) where
       abbrev H : Head
       H = head_said (head_from xs)
 
@@ -98,10 +99,10 @@ module _ (L : Limits) (t : List ℕ) where
       asked : head_outcome L t ≡ ask 19 (head_good L H) (ask 20 (eqb H.latches 0) (done H))
       asked = rw (o, said)
 
-      pub head-taken : done (tt {0}) ≡ head_asked L H → HeadAt L t (head_from xs) left
+      pub head-taken : done (tt {0}) ≡ head_asked L H → HeadAt L t (head_from xs) l
       head-taken e = go (head_good L H) (eqb H.latches 0) refl refl e
         where
-          go : (a b : Bool) → head_good L H ≡ a → eqb H.latches 0 ≡ b → done (tt {0}) ≡ ask 19 a (ask 20 b (done (tt {0}))) → HeadAt L t (head_from xs) left
+          go : (a b : Bool) → head_good L H ≡ a → eqb H.latches 0 ≡ b → done (tt {0}) ≡ ask 19 a (ask 20 b (done (tt {0}))) → HeadAt L t (head_from xs) l
           go true false p q e = clash (cc)
           go false b p q e = clash (cc)
           go true true p q e =
@@ -110,5 +111,6 @@ module _ (L : Limits) (t : List ℕ) where
                 outcome = asked ∙ rw (p, q);
                 most = ltb-true H.most L.wires (both_true (leb 1 H.inputs && leb 1 H.outputs) (ltb H.most L.wires) p).1;
                 low = record { inputs = entry-low 1 low; outputs = entry-low 3 low; ands = entry-low 4 low };
-                next = A.next;
+                text = same;
+                next = ap (drop l.at) (sym same) ∙ A.next;
               }

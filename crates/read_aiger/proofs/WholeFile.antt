@@ -4,7 +4,7 @@ use mathlib.Core.Path.{◌≡◌, refl, sym, ap, ◌∙◌, subst}
 use mathlib.Core.Bool.{true}
 use mathlib.Core.List.{List}
 use mathlib.Core.Option.{Option, none, some}
-use lib.ListN.{length}
+use lib.ListN.{length, drop}
 use borrow.Author.Tests.{le-leb, lt-leb}
 use Rattle.std.specs.Prelude.{Result}
 use Rattle.netlist.specs.declared.Limits.{Limits}
@@ -14,9 +14,11 @@ use Rattle.netlist.specs.Outcome.{Outcome, refused, given, and_then}
 use Rattle.netlist.specs.Table.{Tables}
 use Rattle.netlist.proofs.Tests.{on_bool}
 use Rattle.aiger.specs.File.{File}
-use Rattle.aiger.specs.Lines.{Head, file}
+use Rattle.aiger.specs.Lines.{Head, file, file_lines}
 use Rattle.aiger.specs.Rules.{rules_kept}
 use Rattle.aiger.specs.Call.{head_outcome, file_outcome, lines_read, lines_outcome, read_aiger}
+use Rattle.aiger_lines.specs.declared.lines.Lines.{Lines}
+use Rattle.aiger_lines.specs.LineAnswers.{lines_left}
 use Rattle.read_aiger.specs.HeadAnswers.{head_said, HeadAt}
 use Rattle.read_aiger.specs.WholeAnswers.{NetlistIs}
 use Rattle.read_aiger.specs.declared.head.HeadNumbers.{HeadNumbers}
@@ -45,12 +47,14 @@ module _ (L : Limits) (t : List ℕ) where
     unfolding read_aiger
     read-no-head q e = rw (le-leb (length t) L.text h) (ap (λ (o : Outcome Head). and_then o (lines_outcome L t)) e)
 
-    behind : {n : HeadNumbers} {left : List (List (List ℕ))} → HeadAt L t n left → read_aiger L t ≡ lines_read L (head_said n) left
+    behind : {n : HeadNumbers} {m : Lines} → HeadAt L t n m → read_aiger L t ≡ lines_read L (head_said n) (lines_left m)
     unfolding read_aiger
-    behind {n} A =
+    behind {n} {m} A =
         rw (le-leb (length t) L.text h)
-        (ap (λ (o : Outcome Head). and_then o (lines_outcome L t)) A.outcome ∙ ap (lines_read L (head_said n)) (sym A.next))
+        (ap (λ (o : Outcome Head). and_then o (lines_outcome L t)) A.outcome
+        ∙ ap (λ (s : List ℕ). lines_read L (head_said n) (file_lines s)) (sym A.next ∙ ap (drop m.at) (sym A.text)))
 
-    pub read_behind : {n : HeadNumbers} {left : List (List (List ℕ))} (tabs : Tables) (r : Result NetlistNumbers Question) → HeadAt L t n left → NetlistIs (lines_read L (head_said n) left) tabs r
+    pub read_behind : {n : HeadNumbers} {m : Lines} (tabs : Tables) (r : Result NetlistNumbers Question) → HeadAt L t n m
+        → NetlistIs (lines_read L (head_said n) (lines_left m)) tabs r
         → NetlistIs (read_aiger L t) tabs r
     read_behind tabs r A k = subst (λ (o : Outcome Netlist). NetlistIs o tabs r) (sym (behind A)) k

@@ -1,13 +1,13 @@
 -- What the answer on the header means.
-use Rattle.std.specs.Prelude.{ℕ, Result, Ok, Err, ◌^◌, ◌<◌, ◌≡◌, List, eqb}
+use Rattle.std.specs.Prelude.{ℕ, Result, Ok, Err, ◌^◌, ◌<◌, ◌≡◌, List, drop, eqb}
 use Rattle.netlist.specs.declared.Limits.{Limits}
 use Rattle.netlist.specs.Number.{max_digits}
 use Rattle.netlist.specs.Outcome.{Outcome, refused, done, ask}
 use Rattle.netlist.specs.declared.Question.{Question}
 use Rattle.netlist.specs.Question.{number_of}
+use Rattle.read_text.specs.Line.{after_line}
 use Rattle.aiger_lines.specs.declared.lines.Lines.{Lines}
-use Rattle.aiger_lines.specs.LineAnswers.{lines_left}
-use Rattle.aiger.specs.Lines.{Head, head_good, lines_behind}
+use Rattle.aiger.specs.Lines.{Head, head_good}
 use Rattle.aiger.specs.Call.{head_outcome}
 use Rattle.read_aiger.specs.declared.head.HeadNumbers.{HeadNumbers}
 
@@ -26,12 +26,13 @@ pub record LowHead (h : HeadNumbers) : Type 0 where
   pub ands : h.ands < 10 ^ max_digits
 
 -- a header that is admitted, with the lines behind it
-pub record HeadAt (L : Limits) (t : List ℕ) (h : HeadNumbers) (left : List (List (List ℕ))) : Type 0 where
+pub record HeadAt (L : Limits) (t : List ℕ) (h : HeadNumbers) (l : Lines) : Type 0 where
   pub outcome : head_outcome L t ≡ done (head_said h)
   pub most : h.most < L.wires
   pub low : LowHead h
-  pub next : left ≡ lines_behind t
+  pub text : l.text.now ≡ t
+  pub next : drop l.at t ≡ after_line (drop 4 t)
 
 abbrev pub HeadIs : Limits → List ℕ → Result (HeadNumbers × Lines) Question → Type 0
-HeadIs L t (Ok (h, l)) = HeadAt L t h (lines_left l)
+HeadIs L t (Ok (h, l)) = HeadAt L t h l
 HeadIs L t (Err q) = head_outcome L t ≡ refused (number_of q)

@@ -1,13 +1,14 @@
 -- The lines so far are AND lines, and have at most three gates each.
 use native.Mathlib.Omega.{arith}
+use borrow.Author.Rules.{rules}
 use Rattle.aiger_ands.proofs.AndLoop.{building-more, building-no}
 use Rattle.aiger_ands.proofs.ands.ands.Goals as goal
 
-pub returns-in_err-count : goal.returns-in_err-count
-returns-in_err-count c =
-    rw c.from_residual.ensures (building-no c.loop.invariant.built _ c.loop-test.true c.in_err-count.ensures.0, omega arith)
+pub returns-in_err-count-clause-ands : goal.returns-in_err-count-clause-ands
+returns-in_err-count-clause-ands c =
+    rw c.from_residual.ensures (building-no c.loop.invariant.built _ c.loop-test.true c.in_err-count.ensures.line.0, omega arith)
 
 pub loop-preserved : goal.loop-preserved
 loop-preserved c =
-    let m = c.in_ok-count.ensures in
-    record { built = building-more c.loop.invariant.built m.0; few = omega (arith, m.1) }
+    let m = c.in_ok-count.ensures.line in
+    record { built = building-more c.loop.invariant.built m.0; few = omega (arith, m.1); behind = search rules }

@@ -1,6 +1,6 @@
 -- The lines so far are AND lines, and have at most three gates each.
 use Prim.Native.Nat.{◌*◌, ◌≤◌}
-use Rattle.aiger_lines.specs.LineAnswers.{lines_left}
+use Rattle.aiger_lines.specs.LineAnswers.{lines_left, Behind}
 use Rattle.netlist.specs.Table.{tables}
 use Rattle.aiger_ands.proofs.AndLoop.{Building}
 use Rattle.aiger_ands.proofs.ands.ands.Given as goal
@@ -10,4 +10,5 @@ invariant-loop l = record {
   built : Building (lines_left l.fn.lines) l.most l.n l.fn.table (tables l.fn.operands l.fn.results) l.table (tables l.operands l.results)
       (lines_left l.left) l.count l.counter;
   few : l.count ≤ 3 * l.counter;
+  behind : Behind l.fn.lines l.left;
 }

@@ -5,11 +5,14 @@ use borrow.Author.Rules.{rules}
 use Rattle.aiger_outputs.proofs.KeptLines.{keeping-more, keeping-no, keeping_all}
 use Rattle.aiger_outputs.proofs.kept.keep_literals.Goals as goal
 
-pub returns-in_err-x : goal.returns-in_err-x
-returns-in_err-x c = rw (c.from_residual.ensures, length-set) (keeping-no c.loop-entry.invariant (omega arith) c.in_err-x.ensures)
+pub returns-in_err-x-clause-kept : goal.returns-in_err-x-clause-kept
+returns-in_err-x-clause-kept c = rw (c.from_residual.ensures, length-set) (keeping-no c.loop-entry.invariant.keeping (omega arith) c.in_err-x.ensures.line)
 
 pub loop-entry-preserved : goal.loop-entry-preserved
-loop-entry-preserved c = keeping-more c.loop-entry.invariant (omega arith) (search rules) c.in_ok-x.ensures
+loop-entry-preserved c = record {
+  keeping = keeping-more c.loop-entry.invariant.keeping (omega arith) (search rules) c.in_ok-x.ensures.line;
+  behind = search rules;
+}
 
-pub returns : goal.returns
-returns c = keeping_all c.loop-entry.invariant (omega arith)
+pub returns-clause-kept : goal.returns-clause-kept
+returns-clause-kept c = keeping_all c.loop-entry.invariant.keeping (omega arith)

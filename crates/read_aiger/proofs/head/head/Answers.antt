@@ -11,9 +11,10 @@ returns-in_err-next c =
     let e = c.in_err-next.ensures in
     let p = err_from_is_err_and c.from_residual.result c.from_residual.ensures.1 in
     let d : c.in_err-next.field-0.0 ≡ Aiger = cc (rw e.ok_part at e.value) in
-    rw (p.1, p.2, d) (head-not c.args.l c.args.text.now o (rw e.ok_part at c.numbers.ensures))
+    rw (p.1, p.2, d) (head-not c.args.l c.args.text.now o (rw e.ok_part at c.numbers.ensures.line))
 
 pub returns : goal.returns
 returns c =
     let o = sym c.is_opening.ensures ∙ c.if-not-is_opening.false in
-    head-taken c.args.l c.args.text.now o _ _ (rw c.in_ok-next.ensures.ok_part at c.numbers.ensures) c.in_ok-question.ensures
+    head-taken c.args.l c.args.text.now o _ _ (rw c.in_ok-next.ensures.ok_part at c.numbers.ensures.behind).text
+    (rw c.in_ok-next.ensures.ok_part at c.numbers.ensures.line) c.in_ok-question.ensures

@@ -8,8 +8,8 @@ use Rattle.aiger_lines.proofs.lines.Lines.numbers.Goals as goal
 pub loop-entry-init : goal.loop-entry-init
 loop-entry-init c = numbering_start _ _ _ (search rules)
 
-pub returns-in_err-v : goal.returns-in_err-v
-returns-in_err-v c =
+pub returns-in_err-v-clause-line : goal.returns-in_err-v-clause-line
+returns-in_err-v-clause-line c =
     rw c.from_residual.ensures (numbering-short c.loop-entry.invariant c.past_spaces.ensures
     (omega (arith, c.loop-entry-test.true, c.loop-entry.invariant.size)) c.in_err-v.ensures)
 
@@ -18,11 +18,11 @@ loop-entry-preserved c = numbering-more c.loop-entry.invariant c.past_spaces.ens
     (omega (arith, c.loop-entry-test.true, c.loop-entry.invariant.size))
     c.in_ok-v.ensures
 
-pub returns-then-is_stray : goal.returns-then-is_stray
-returns-then-is_stray c = numbering-stray c.loop-entry.invariant c.past_spaces-end.ensures (sym c.is_stray.ensures ∙ c.if-is_stray.true)
+pub returns-then-is_stray-clause-line : goal.returns-then-is_stray-clause-line
+returns-then-is_stray-clause-line c = numbering-stray c.loop-entry.invariant c.past_spaces-end.ensures (sym c.is_stray.ensures ∙ c.if-is_stray.true)
 
-pub returns-in_err-next : goal.returns-in_err-next
-returns-in_err-next c =
+pub returns-in_err-next-clause-line : goal.returns-in_err-next-clause-line
+returns-in_err-next-clause-line c =
     rw c.from_residual-in_err-next.ensures (numbering-long c.loop-entry.invariant c.past_spaces-end.ensures
     (omega (arith, c.loop-entry-test.false, c.loop-entry.invariant.size)) c.in_err-next.ensures)
 
@@ -32,7 +32,7 @@ invariant_of-result c = record {
       (sym c.is_stray.ensures ∙ c.if-is_stray.false) c.in_ok-next.ensures).1;
 }
 
-pub returns : goal.returns
-returns c =
+pub returns-clause-line : goal.returns-clause-line
+returns-clause-line c =
     (numbering-end c.loop-entry.invariant c.past_spaces-end.ensures (omega (arith, c.loop-entry-test.false, c.loop-entry.invariant.size)) _
     (sym c.is_stray.ensures ∙ c.if-is_stray.false) c.in_ok-next.ensures).0
