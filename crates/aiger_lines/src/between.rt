@@ -1,24 +1,16 @@
 // What stands between words and lines.
-ghost use Rattle.std.specs.Prelude.{◌≡◌, ◌+◌, ◌<◌, ◌≤◌, length, drop, get_or};
+ghost use Rattle.std.specs.Prelude.{◌≡◌, ◌<◌, ◌≤◌, length, drop};
 ghost use Rattle.read_text.specs.Line.{Scanned};
 ghost use Rattle.aiger_lines.specs.Stray.{is_plain, is_stray, is_between, stray_at, ToWord};
 
 use read_text::cursor::{Cursor, is_blank};
 use read_text::ends::{is_cr, is_line_end};
 
-// The byte behind a place, 0 where the text ends.
-fn byte_behind(text: &[u8], i: usize) -> u8
-    requires { i < length text.now }
-    ensures { result ≡ get_or text.now (i + 1) 0 }
-{
-    text.get(i + 1).copied().unwrap_or(0)
-}
-
 // Whether a CR stands at a place, and no LF behind it.
 pub fn is_stray(text: &[u8], i: usize) -> bool
     ensures { result ≡ is_stray (drop i text.now) }
 {
-    i < text.len() && is_cr(text[i]) && !is_line_end(byte_behind(text, i))
+    i < text.len() && is_cr(text[i]) && !text.get(i + 1).is_some_and(|b| is_line_end(*b))
 }
 
 // Whether the byte at a place is part of no word: a space, LF, or the CR of CR LF.

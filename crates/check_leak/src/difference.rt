@@ -71,14 +71,14 @@ pub fn scan(words: &[u64], base: &[u64], limit: usize) -> Option<Leak>
 
 // A block's leak, which was looked for below the lowest so far, or else that one.
 pub fn better(best: Option<Leak>, found: Option<Leak>, block: u64) -> Option<Leak>
-    requires { (block < 65536) × ((leak : Leak) → found ≡ Some leak → leak.setting < 16) }
+    requires { block < 65536 }
     ensures { (f g : ℕ → ℕ → ℕ) (W : ℕ) → LowestDifference f g W (block * 16) best
         → LowestDifference (from (block * 16) f) (from (block * 16) g) (wire_of W best) 16 found
         → LowestDifference f g W (block * 16 + 16) result }
 {
     match found {
         Some(leak) => Some(Leak {
-            setting: block * 16 + leak.setting,
+            setting: (block * 16).wrapping_add(leak.setting),
             ..leak
         }),
         None => best,

@@ -2,7 +2,7 @@
 // or digit by digit; near its end a line is written byte by byte as far as it fits; behind it only the line's length is added.
 #![tactic(auto)]
 
-ghost use Rattle.std.specs.Prelude.{ℕ, ◌+◌, ◌≤◌, ◌<◌, ◌≡◌, true, length};
+ghost use Rattle.std.specs.Prelude.{ℕ, ◌+◌, ◌*◌, ◌≤◌, ◌<◌, ◌≡◌, true, length};
 ghost use Rattle.netlist.specs.Number.{decimal};
 ghost use Rattle.write_buffer.specs.Wrote.{Wrote, cap};
 ghost use Rattle.write_wires.specs.Packed.{WordTable, Worded};
@@ -58,7 +58,7 @@ pub fn front<const N: usize>(
 ) -> usize
     requires few { N ≤ 2 }
     requires words { WordTable d.now × Packable (length d.now) operands c × (at + longest ≤ length out.old) }
-    ensures { Spilt 25 4 out.old at (front_of operands.entry c) out.new result }
+    ensures { Spilt (11 + 7 * N) 4 out.old at (front_of operands.entry c) out.new result }
 {
     let mut next = store(out, at, head(N));
     for a in operands.iter() {

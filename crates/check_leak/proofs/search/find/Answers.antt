@@ -31,9 +31,6 @@ search_block-found-requires c =
       );
     }
 
-pub better-best-requires : goal.better-best-requires
-better-best-requires c = (omega (arith, c.requires.paints_in_bounds.2), λ p e. (c.search_block-found.ensures.0.differs p e).inside)
-
 pub loop-block-preserved : goal.loop-block-preserved
 loop-block-preserved c =
     let at = c.loop-block in

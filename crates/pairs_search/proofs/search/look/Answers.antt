@@ -30,9 +30,6 @@ scan-pair-requires c =
       ],
     )
 
-pub better-requires : goal.better-requires
-better-requires c = (c.requires.0, λ p e. (c.scan-found.ensures.differs p e).inside)
-
 pub returns : goal.returns
 returns c =
     let a = c.args in
