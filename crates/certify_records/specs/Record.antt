@@ -1,6 +1,6 @@
 -- What a record says of a wire. An atom is a bit that the input setting alone decides; a record has up to four atoms and a table of
 -- what the wire is at each mask setting for each setting of these atoms.
-use Rattle.std.specs.Prelude.{ℕ, ◌<◌, Bool, ◌≡◌, ◌≢◌, Option, Some, None}
+use Rattle.std.specs.Prelude.{ℕ, ◌<◌, Bool, cond, eqb, ◌≡◌, ◌≢◌, Option, Some, None}
 use Rattle.netlist.specs.Table.{made_of}
 use Rattle.evaluate.specs.Lane.{lane}
 use Rattle.certify_records.specs.declared.Record.{Record}
@@ -31,9 +31,17 @@ pub record Fellows (r s : Record) : Type 0 where
   pub third : r.third ≡ s.third
   pub fourth : r.fourth ≡ s.fourth
 
--- a bit of the atom of a place of two records is one of both
+-- the atom of a place of two records
+abbrev pub either_of : ℕ → ℕ → ℕ
+either_of a b = cond (eqb a no_atom) b a
+
+-- it is z, and a bit of z is one of both
+pub record EitherAt (a b z : ℕ) : Type 0 where
+  pub atom : z ≡ either_of a b
+  pub agrees : (bits : ℕ → Bool) (x : Bool) → Has bits z x → Has bits a x × Has bits b x
+
 abbrev pub EitherIs : ℕ → ℕ → Option ℕ → Type 0
-EitherIs a b (Some z) = (bits : ℕ → Bool) (x : Bool) → Has bits z x → Has bits a x × Has bits b x
+EitherIs a b (Some z) = EitherAt a b z
 EitherIs a b None = Unit
 
 -- a record is right, for the bits of the atoms and of a wire under each mask setting: at each such place stands the wire's bit

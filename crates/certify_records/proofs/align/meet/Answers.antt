@@ -5,4 +5,4 @@ use Rattle.certify_records.proofs.align.meet.Goals as goal
 pub returns : goal.returns
 returns c =
     meet-law c.args.kind c.args.x c.args.y c.made.result c.made.ensures
-    c.in_ok-first.ensures c.in_ok-second.ensures c.in_ok-third.ensures c.in_ok-fourth.ensures
+    c.in_ok-first.ensures.agrees c.in_ok-second.ensures.agrees c.in_ok-third.ensures.agrees c.in_ok-fourth.ensures.agrees
