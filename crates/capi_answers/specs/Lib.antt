@@ -1,3 +1,4 @@
 pub mod Number
 pub mod Pairs
+pub mod Wide
 pub mod Certified

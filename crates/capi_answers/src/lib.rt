@@ -4,6 +4,7 @@
 
 pub mod certified;
 pub mod pair_answers;
+pub mod wide_answers;
 
 ghost use Rattle.std.specs.Prelude.{◌≡◌, [], ◌∷◌, pos, neg_ℤ, set};
 ghost use Rattle.std.proofs.lemmas.List.Edits.{sets};

@@ -7,7 +7,7 @@ use native.Mathlib.Omega.{arith}
 use lib.ListN.{length, get_or, drop, length-map, get_or-map}
 use lib.Seq.{sets, sets-eq}
 use Rattle.netlist.specs.Leak.{bit}
-use Rattle.clear.proofs.Laid.{Laid, laid-all}
+use Rattle.netlist.proofs.Laid.{Laid, laid-all}
 
 front-eq : (s d : List ℕ) → length s ≤ length d → sets d 0 s ≡ s ++ drop (length s) d
 front-eq s d h =

@@ -7,7 +7,7 @@ use lib.ListN.{length, get_or, set, drop, replicate, length-set}
 use Rattle.netlist.specs.declared.Twin.{Twin}
 use Rattle.netlist.specs.Mask.{input_twin, input_twins, past_public, past_publics, no_twin}
 use Rattle.netlist.proofs.PublicGates.{length-input_twins, past-within}
-use Rattle.clear.proofs.Laid.{Laid, laid_none, laid_more, laid-all, drop-replicate}
+use Rattle.netlist.proofs.Laid.{Laid, laid_none, laid_more, laid-all, drop-replicate}
 use Rattle.mask_twins.specs.State.{twins_of, Started}
 use Rattle.mask_twins.proofs.States.{twins-set, twins-length}
 use Rattle.mask_twins.proofs.PublicWires.{Passed, passed_none, passed-more, passed-all, input-at}

@@ -1,7 +1,7 @@
 -- `paint::each`: the paints are laid one by one.
 use Prim.Native.Nat.{◌≤◌}
 use lib.ListN.{length, replicate}
-use Rattle.clear.proofs.Laid.{Laid}
+use Rattle.netlist.proofs.Laid.{Laid}
 use Rattle.check_counts.specs.Paint.{paint_each}
 use Rattle.check_counts.proofs.paint.each.Given as goal
 

@@ -3,7 +3,7 @@ use mathlib.Core.Path.{refl, ◌∙◌}
 use native.Mathlib.Omega.{arith}
 use lib.ListN.{get_or}
 use Rattle.netlist.specs.Services.{is_one}
-use Rattle.clear.proofs.Laid.{laid_none, laid_more}
+use Rattle.netlist.proofs.Laid.{laid_none, laid_more}
 use Rattle.evaluate.proofs.Lanes.{bool-bit}
 use Rattle.evaluate.proofs.Fronts.{laid-front, bits-long, bits_at}
 use Rattle.evaluate.proofs.lay.bits.Goals as goal

@@ -2,7 +2,7 @@
 use mathlib.Core.List.{map}
 use Rattle.netlist.specs.Leak.{bit}
 use Rattle.netlist.specs.Services.{bools}
-use Rattle.clear.proofs.Laid.{Laid}
+use Rattle.netlist.proofs.Laid.{Laid}
 use Rattle.evaluate.proofs.lay.bits.Given as goal
 
 abbrev pub invariant-loop-i : goal.invariant-loop-i

@@ -1,7 +1,7 @@
 -- `evaluate::lay::low_bits` meets its contract.
 use mathlib.Core.List.{map}
 use Rattle.netlist.specs.Leak.{bit}
-use Rattle.clear.proofs.Laid.{Laid}
+use Rattle.netlist.proofs.Laid.{Laid}
 use Rattle.evaluate.specs.Lane.{lanes}
 use Rattle.evaluate.proofs.lay.low_bits.Given as goal
 
