@@ -1,6 +1,6 @@
 -- From a netlist that was read, and judged, to the certifier's promise.
 use Prim.Native.Nat.{ℕ, ◌/◌}
-use Rattle.std.specs.Prelude.{Result, Ok, Err}
+use Rattle.std.specs.Prelude.{Result, Err}
 use mathlib.Core.Path.{◌≡◌, refl, sym, ap, ◌∙◌, subst}
 use mathlib.Core.Bool.{true}
 use mathlib.Core.List.{List, [], ◌∷◌}

@@ -1,13 +1,12 @@
 -- From the netlist that was read to the outcome of a call, and what an answer says of it.
-use Prim.Native.Nat.{ℕ, ◌-◌, min, ◌≤◌}
+use Prim.Native.Nat.{ℕ, ◌-◌, ◌≤◌}
 use Rattle.std.specs.Prelude as std
 use Rattle.std.specs.Prelude.{Result, Ok, Err}
 use mathlib.Core.Path.{◌≡◌, refl, sym, ap, ◌∙◌}
-use mathlib.Core.Bool.{Bool, true, false, ◌&&◌}
+use mathlib.Core.Bool.{true}
 use mathlib.Core.List.{List, [], ◌∷◌}
 use mathlib.Core.Option.{Option, none, some}
 use native.Mathlib.Omega.{arith}
-use lib.Dec.{leb}
 use lib.ListN.{length, take}
 use Rattle.netlist.specs.declared.Question.{Question}
 use Rattle.netlist.specs.declared.Sizes.{Sizes}
@@ -28,7 +27,6 @@ use Rattle.read_header.specs.declared.HeaderNumbers.{HeaderNumbers}
 use Rattle.read_netlist.specs.Whole.{ReadAt}
 use Rattle.pairs.specs.Call.{BothAnswers, pairs_good}
 use Rattle.pairs.proofs.PairCheck.{pairs-judged}
-use Rattle.pairs_search.specs.Search.{bad_of}
 use Rattle.wide.specs.Wide.{WideLeak, listed, few_reach, wide_answers, wide_outcome, wide_call}
 use Rattle.wide_search.specs.Told.{told_of}
 use Rattle.wide_search.specs.declared.search.WideLeak as search

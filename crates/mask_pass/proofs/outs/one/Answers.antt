@@ -7,8 +7,8 @@ use Rattle.mask_pass.proofs.outs.one.Goals.{then-want-eq0-via-then-want-eq0, the
 pub returns-then-want-eq0 : goal.returns-then-want-eq0
 returns-then-want-eq0 c =
     elim c.then-want-eq0.branch [
-      then-want-eq0-via-then-want-eq0 w ↦ rw (eq-eqb _ 0 w.if-want-eq0.true) c.eqw.ensures
-    | then-want-eq0-via-else-want-eq0+then-want-t w ↦ rw (ne_eqb _ 0 w.if-want-eq0.false, eq-eqb _ _ w.if-want-t.true) c.eqw.ensures
+      | then-want-eq0-via-then-want-eq0 w ↦ rw (eq-eqb _ 0 w.if-want-eq0.true) c.eqw.ensures
+      | then-want-eq0-via-else-want-eq0+then-want-t w ↦ rw (ne_eqb _ 0 w.if-want-eq0.false, eq-eqb _ _ w.if-want-t.true) c.eqw.ensures
     ]
 
 pub returns : goal.returns

@@ -1,6 +1,5 @@
 -- By the last two bytes.
 use mathlib.Core.Path.{sym, ◌∙◌}
-use borrow.Author.Tests.{not-true, not-false}
 use Rattle.read_text.proofs.LineEnds.{left-none, left-all, left_alone, left-crlf, left-lf}
 use Rattle.read_text.proofs.ends.without_end.Goals as goal
 

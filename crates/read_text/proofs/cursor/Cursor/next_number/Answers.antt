@@ -1,6 +1,5 @@
 -- A scan over spaces, and the word behind them.
 use mathlib.Core.Path.{sym, ◌∙◌}
-use borrow.Author.Tests.{not-true, not-false}
 use borrow.Author.Rules.{rules}
 use Rattle.read_text.proofs.Scans.{scan-start, scan-on}
 use Rattle.read_text.proofs.DigitByDigit.{number-found, number-other, number-missing}

@@ -1,7 +1,6 @@
 -- A digit, and a space.
 use mathlib.Core.Path.{refl, sym, ◌∙◌}
 use native.Mathlib.Omega.{arith}
-use borrow.Author.Tests.{not-true, not-false}
 use borrow.Author.Rules.{rules}
 use Rattle.read_text.proofs.DigitByDigit as R
 use Rattle.read_text.proofs.cursor.Cursor.take_digit.Goals as goal

@@ -1,6 +1,5 @@
 -- The digits read so far have the value so far.
 use mathlib.Core.Path.{sym, ◌∙◌}
-use borrow.Author.Tests.{not-true, not-false}
 use Rattle.read_text.proofs.DigitByDigit as R
 use borrow.Author.Rules.{rules}
 use native.Mathlib.Omega.{arith}
