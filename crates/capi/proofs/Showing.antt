@@ -1,5 +1,5 @@
 -- From the parts of a call that shows a session to what it promises.
-use Prim.Native.Nat.{ℕ, ◌+◌, ◌≤◌}
+use Prim.Native.Nat.{ℕ}
 use mathlib.Core.Path.{◌≡◌, ap, ◌∙◌}
 use mathlib.Core.List.{List, [], ◌∷◌}
 use lib.IntN.{ℤ}
@@ -20,7 +20,7 @@ use Rattle.session_text.proofs.Showing.{stands, fits}
 use Rattle.session_text.proofs.Calling.{text-promised, masked-promised}
 use Rattle.capi_answers.specs.Number.{Told}
 
-module _ {z : Sizes} {a b c d : ℕ} {widths outputs : List ℕ} {gates : ℕ} {source : List SourceRecord} {q r : Result Shown Question} {t : Tables}
+module _ (z : Sizes) (a b c d : ℕ) (widths outputs : List ℕ) (gates : ℕ) (source : List SourceRecord) (t : Tables) (q r : Result Shown Question)
     (A : AskedIs z a b c d widths outputs gates (length source) q) (F : FilledIs source q t r) where
   pub ready : Ready widths outputs t r
   ready = record {
