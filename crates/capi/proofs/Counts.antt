@@ -7,7 +7,7 @@ use native.Mathlib.Omega.{arith}
 use lib.ListN.{length, take, length-take}
 use lib.Seq.{length-sets}
 use Rattle.netlist.specs.declared.Question.{Question}
-use Rattle.netlist.specs.Outcome.{Outcome, done}
+use Rattle.netlist.specs.Outcome.{Outcome}
 use Rattle.netlist.specs.Services.{counted, written, Answers}
 use Rattle.netlist.proofs.Questions.{done-same}
 use Rattle.capi_answers.specs.Number.{Countable}
