@@ -59,7 +59,7 @@ three-entries (x ∷ (y ∷ [])) e = absurd (omega arith)
 three-entries (x ∷ (y ∷ (z ∷ []))) e = refl
 three-entries (x ∷ (y ∷ (z ∷ (w ∷ ws)))) e = absurd (omega arith)
 
-module _ {ls : List (List (List ℕ))} {t xs : List ℕ} {to : ℕ} (L : LineAt ls t 3 xs to) (M : ℕ) (given : List ℕ) where
+module _ {ls left : List (List (List ℕ))} {xs : List ℕ} (L : LineAt ls 3 xs left) (M : ℕ) (given : List ℕ) where
   x : ℕ
   x = get_or xs 0 0
 
@@ -96,7 +96,7 @@ module _ {ls : List (List (List ℕ))} {t xs : List ℕ} {to : ℕ} (L : LineAt 
       → Standing table tabs n count given wires gs
       → readable given (literal (get_or xs 1 0)) ≡ true → readable given (literal (get_or xs 2 0)) ≡ true → can_give M given (literal (get_or xs 0 0)) ≡ true
       → AndIs table tabs u n count (get_or xs 1 0) (get_or xs 2 0) wire next → after ≡ set table (get_or xs 0 0 / 2) (wire + 1)
-      → AndLineAt ls t M n count given wires gs after u next to
+      → AndLineAt ls M n count given wires gs after u next left
   unfolding x y z
   and-on {table} {after} {tabs} {u} {n} {count} {wire} {next} {wires} {gs} long size S r s c I e =
       let v = x / 2 in
@@ -120,6 +120,5 @@ module _ {ls : List (List (List ℕ))} {t xs : List ℕ} {to : ℕ} (L : LineAt 
           size = T'.size;
           keeps = T'.keeps;
         };
-        left = L.left;
-        within = L.within;
+        next = L.next;
       }

@@ -1,27 +1,22 @@
 -- AND lines, one after another.
-use Prim.Native.Nat.{ℕ, ◌+◌, ◌≤◌, ◌<◌}
-use mathlib.Core.Path.{◌≡◌, refl, sym, ap, ◌∙◌, subst}
+use Prim.Native.Nat.{ℕ, ◌+◌, ◌<◌}
+use mathlib.Core.Path.{◌≡◌, refl, sym, ap, ◌∙◌}
 use mathlib.Core.Bool.{Bool, true, ◌&&◌}
 use mathlib.Core.List.{List, [], ◌∷◌, ◌++◌, map, append_assoc, append-nil}
 use mathlib.Core.Option.{some}
-use native.Mathlib.Omega.{arith}
 use lib.ListN.{length, drop, set, length-set}
 use lib.Seq.{drop-drop}
 use Rattle.netlist.specs.declared.Gate.{Gate}
 use Rattle.netlist.specs.Table.{Tables}
 use Rattle.netlist.proofs.Tests.{both_true}
 use Rattle.netlist.proofs.Questions.{some_same}
-use Rattle.read_text.specs.declared.cursor.Cursor.{Cursor}
 use Rattle.aiger.specs.File.{AndLine}
-use Rattle.aiger.specs.Lines.{formed, file_lines, and_form}
+use Rattle.aiger.specs.Lines.{formed, and_form}
 use Rattle.aiger.specs.Rules.{giving, and_good, ands_good}
 use Rattle.aiger.specs.Made.{wire_at, and_made, Built, behind, build}
-use Rattle.aiger_lines.specs.Stray.{stray_at}
 use Rattle.aiger_lines.specs.LineAnswers.{at_front}
 use Rattle.aiger_gates.specs.Places.{Standing}
-use Rattle.aiger_ands.specs.AndAnswers.{AndLineAt, AndLineIs, AndsAt, gates_said, place_said}
-use Rattle.aiger_ands.specs.declared.ands.AndStep.{AndStep}
-use Rattle.aiger_ands.specs.declared.ands.AndStep.TheVariants as S
+use Rattle.aiger_ands.specs.AndAnswers.{AndLineAt, AndsAt}
 use Rattle.aiger_ands.proofs.LineByLine.{formed-snoc, Split, formed-split}
 
 -- one line more behind what is built
@@ -71,21 +66,17 @@ good-at M given (x ∷ xs) a rest e = good-at M (x.left ∷ given) xs a rest (bo
 -- ---- the loop
 
 -- whatever is given before, the first i lines are AND lines, and the tables hold what is built of them
-abbrev pub Building : List (List (List ℕ)) → List ℕ → ℕ → ℕ → List ℕ → Tables → List ℕ → Tables → ℕ → ℕ → ℕ → Type 0
-Building ls t M n table₀ tabs₀ table tabs at count i = (given wires : List ℕ) → length wires ≡ M + 1 → Standing table₀ tabs₀ n 0 given wires []
-    → AndsAt ls t i M n given wires table tabs count at
+abbrev pub Building : List (List (List ℕ)) → ℕ → ℕ → List ℕ → Tables → List ℕ → Tables → List (List (List ℕ)) → ℕ → ℕ → Type 0
+Building ls M n table₀ tabs₀ table tabs left count i = (given wires : List ℕ) → length wires ≡ M + 1 → Standing table₀ tabs₀ n 0 given wires []
+    → AndsAt ls i M n given wires table tabs count left
 
-pub building-start : (t : List ℕ) (at M n : ℕ) (table : List ℕ) (tabs : Tables) → at ≤ stray_at t → Building (file_lines (drop at t)) t M n table tabs table tabs at 0 0
-building-start t at M n table tabs h given wires l S =
-    record { are = []; form = refl; good = refl; wire = omega arith; standing = S; left = refl; within = h }
-
-module _ {ls : List (List (List ℕ))} {t : List ℕ} {M n : ℕ} {table₀ table : List ℕ} {tabs₀ tabs : Tables} {at count i : ℕ}
-    (B : Building ls t M n table₀ tabs₀ table tabs at count i) where
-  pub building-more : {after : List ℕ} {u : Tables} {next to : ℕ}
-      → ((given wires : List ℕ) (gs : List Gate) → length wires ≡ M + 1 → Standing table tabs n count given wires gs → AndLineAt (file_lines (drop at t)) t M n
-      count given wires gs after u next to)
-      → Building ls t M n table₀ tabs₀ after u to next (i + 1)
-  building-more {after} {u} {next} {to} line given wires l S =
+module _ {ls left : List (List (List ℕ))} {M n : ℕ} {table₀ table : List ℕ} {tabs₀ tabs : Tables} {count i : ℕ}
+    (B : Building ls M n table₀ tabs₀ table tabs left count i) where
+  pub building-more : {after : List ℕ} {u : Tables} {next : ℕ} {rest : List (List (List ℕ))}
+      → ((given wires : List ℕ) (gs : List Gate) → length wires ≡ M + 1 → Standing table tabs n count given wires gs → AndLineAt left M n
+      count given wires gs after u next rest)
+      → Building ls M n table₀ tabs₀ after u rest next (i + 1)
+  building-more {after} {u} {next} {rest} line given wires l S =
       let A = B given wires l S in
       let C = build wires n A.are in
       let I = line (given-after given A.are) C.table C.gates (length-build wires n A.are ∙ l) A.standing in
@@ -95,17 +86,16 @@ module _ {ls : List (List (List ℕ))} {t : List ℕ} {M n : ℕ} {table₀ tabl
       let g : given-after given (A.are ++ (a ∷ [])) ≡ a.left ∷ given-after given A.are = after-snoc given A.are a in
       record {
         are = A.are ++ (a ∷ []);
-        form = formed-snoc and_form i ls A.are a A.form (ap (at_front and_form) (sym A.left) ∙ I.line);
+        form = formed-snoc and_form i ls A.are a A.form (ap (at_front and_form) (sym A.next) ∙ I.line);
         good = good-snoc M given A.are a A.good I.good;
         wire = rw s (rw w at I.wire);
         standing = rw (s, g) (rw w at I.standing);
-        left = I.left ∙ ap (drop 1) A.left ∙ drop-drop 1 i ls;
-        within = I.within;
+        next = I.next ∙ ap (drop 1) A.next ∙ drop-drop 1 i ls;
       }
 
   pub building-no : (lines : ℕ) → i < lines
       → ((given wires : List ℕ) (gs : List Gate) → length wires ≡ M + 1 → Standing table tabs n count given wires gs → (a : AndLine) → at_front and_form
-      (file_lines (drop at t)) ≡ some a → and_good M given a ≡ true → ⊥)
+      left ≡ some a → and_good M given a ≡ true → ⊥)
       → (given wires : List ℕ) → length wires ≡ M + 1 → Standing table₀ tabs₀ n 0 given wires [] → (xs : List AndLine) → formed and_form lines ls ≡ some xs →
       ands_good M given xs ≡ true → ⊥
   building-no lines h bad given wires l S xs e f =
@@ -115,20 +105,5 @@ module _ {ls : List (List (List ℕ))} {t : List ℕ} {M n : ℕ} {table₀ tabl
       let s : P.front ≡ A.are = some_same P.front A.are (sym P.seen ∙ A.form) in
       let k : ands_good M given (P.front ++ (P.here ∷ P.rest)) ≡ true = ap (ands_good M given) P.all ∙ f in
       bad (given-after given A.are) C.table C.gates (length-build wires n A.are ∙ l) A.standing P.here
-      (ap (at_front and_form) A.left ∙ P.line)
+      (ap (at_front and_form) A.next ∙ P.line)
       (ap (λ (us : List AndLine). and_good M (given-after given us) P.here) (sym s) ∙ good-at M given P.front P.here P.rest k)
-
-  pub building-all : (lines : ℕ) → i ≡ lines → Building ls t M n table₀ tabs₀ table tabs at count lines
-  building-all lines e = subst (Building ls t M n table₀ tabs₀ table tabs at count) e B
-
--- ---- the answers
-
-module _ (ls : List (List (List ℕ))) (t : List ℕ) (M n count : ℕ) (given wires : List ℕ) (gs : List Gate) (table : List ℕ) (tabs : Tables) (r : AndStep) where
-  pub and_is : (k : ℕ) (c : Cursor) → r ≡ S.On k c → AndLineIs ls t M n count given wires gs table tabs r → AndLineAt ls t M n count given wires gs table tabs k c.at
-  and_is k c e h = subst (AndLineIs ls t M n count given wires gs table tabs) e h
-
-  pub and-not : r ≡ S.Not → AndLineIs ls t M n count given wires gs table tabs r → (a : AndLine) → at_front and_form ls ≡ some a → and_good M given a ≡ true → ⊥
-  and-not e h = subst (AndLineIs ls t M n count given wires gs table tabs) e h
-
-pub said-is : (r : AndStep) (k : ℕ) (c : Cursor) → r ≡ S.On k c → (gates_said r ≡ k) × (place_said r ≡ c.at)
-said-is r k c e = (ap gates_said e, ap place_said e)

@@ -1,6 +1,6 @@
 -- The input lines, one after another.
-use Prim.Native.Nat.{ℕ, zero, suc, ◌+◌, ◌/◌, ◌%◌, ◌<◌, ◌≤◌}
-use mathlib.Core.Path.{◌≡◌, refl, sym, ap, ◌∙◌, subst}
+use Prim.Native.Nat.{ℕ, zero, suc, ◌+◌, ◌/◌, ◌%◌, ◌<◌}
+use mathlib.Core.Path.{◌≡◌, refl, sym, ap, ◌∙◌}
 use mathlib.Core.Bool.{true, false, not}
 use mathlib.Core.List.{List, [], ◌∷◌, ◌++◌}
 use mathlib.Core.Option.{Option, none, some}
@@ -13,19 +13,14 @@ use Rattle.netlist.specs.Lists.{member}
 use Rattle.netlist.proofs.Tests.{on_bool, both_true}
 use Rattle.netlist.proofs.Questions.{none-some, some_same}
 use Rattle.aiger.specs.File.{Literal, constant, plain, inverse, literal}
-use Rattle.aiger.specs.Lines.{if_some, one_literal, variable, formed, input_line, file_lines}
+use Rattle.aiger.specs.Lines.{if_some, one_literal, variable, formed, input_line}
 use Rattle.aiger.specs.Rules.{fresh, can_give, giving, fresh_all}
 use Rattle.aiger.specs.Outputs.{enter}
 use Rattle.aiger.specs.Made.{up_from}
-use Rattle.aiger_lines.specs.Stray.{stray_at}
-use Rattle.aiger_lines.specs.LineAnswers.{LineNot, at_front, first_numbers, LineAt}
+use Rattle.aiger_lines.specs.LineAnswers.{LineNot, at_front, first_numbers, OneAt}
 use Rattle.aiger_gates.specs.Places.{Places}
-use Rattle.aiger_ands.specs.StepAnswers.{InputAt, InputIs, InputsAt}
-use Rattle.aiger_ands.specs.declared.inputs.Step.{Step}
-use Rattle.aiger_ands.specs.declared.inputs.Step.TheVariants as S
-use Rattle.read_text.specs.declared.cursor.Cursor.{Cursor}
+use Rattle.aiger_ands.specs.StepAnswers.{InputAt}
 use Rattle.aiger.proofs.Making.{length-enter}
-use Rattle.aiger_lines.proofs.NumberLines.{one_entry}
 use Rattle.aiger_gates.proofs.Placing.{not_so, literal-low, literal-even, literal-odd, places-more}
 use Rattle.aiger_ands.proofs.LineByLine.{formed-snoc, Split, formed-split, giving-snoc, fresh-snoc, fresh_at, enter-snoc}
 
@@ -59,44 +54,37 @@ pub input_none : {ls : List (List (List ℕ))} (M : ℕ) (given : List ℕ) → 
     → (v : ℕ) → at_front input_line ls ≡ some v → fresh M given v ≡ true → ⊥
 input_none {ls} M given n v e f = let p = one_number (first_numbers ls) v (sym (front-input ls) ∙ e) in n.none (p.0 ∷ []) p.1 refl
 
-module _ {ls : List (List (List ℕ))} {t xs : List ℕ} {to : ℕ} (L : LineAt ls t 1 xs to) (M : ℕ) (given : List ℕ) where
-  line-one : first_numbers ls ≡ some (get_or xs 0 0 ∷ [])
-  line-one = L.line ∙ ap some (one_entry xs L.size)
-
+module _ {ls left : List (List (List ℕ))} {x : ℕ} (O : OneAt ls x left) (M : ℕ) (given : List ℕ) where
   -- its number cannot be given
-  pub input-no : can_give M given (literal (get_or xs 0 0)) ≡ false → (v : ℕ) → at_front input_line ls ≡ some v → fresh M given v ≡ true → ⊥
+  pub input-no : can_give M given (literal x) ≡ false → (v : ℕ) → at_front input_line ls ≡ some v → fresh M given v ≡ true → ⊥
   input-no c v e f =
-      let x = get_or xs 0 0 in
-      let p : variable (literal x) ≡ some v = sym (ap (λ (o : Option (List ℕ)). if_some (one_literal o) variable) line-one) ∙ sym (front-input ls) ∙ e in
+      let p : variable (literal x) ≡ some v = sym (ap (λ (o : Option (List ℕ)). if_some (one_literal o) variable) O.line) ∙ sym (front-input ls) ∙ e in
       not_so (sym c ∙ ap (can_give M given) (variable-plain (literal x) v p) ∙ f)
 
-  pub input-on : (wire : ℕ) (before after : List ℕ) → can_give M given (literal (get_or xs 0 0)) ≡ true → after ≡ set before (get_or xs 0 0 / 2) (wire + 1)
-      → InputAt ls t wire M given before after to
+  pub input-on : (wire : ℕ) (before after : List ℕ) → can_give M given (literal x) ≡ true → after ≡ set before (x / 2) (wire + 1)
+      → InputAt ls wire M given before after left
   input-on wire before after c s =
-      let x = get_or xs 0 0 in
       let p : literal x ≡ plain (x / 2) = given-plain M given x c in
       let f : fresh M given (x / 2) ≡ true = sym (ap (can_give M given) p) ∙ c in
       record {
         is = x / 2;
-        line = front-input ls ∙ ap (λ (o : Option (List ℕ)). if_some (one_literal o) variable) line-one ∙ ap variable p;
+        line = front-input ls ∙ ap (λ (o : Option (List ℕ)). if_some (one_literal o) variable) O.line ∙ ap variable p;
         new = f;
         low = leb-true (x / 2) M (both_true (leb (x / 2) M) (not (member (x / 2) given)) f).0;
         table = s;
-        left = L.left;
-        within = L.within;
+        next = O.next;
       }
 
 -- ---- line by line
 
 -- the first i lines are inputs, and the table has their wires
-pub record Entering (ls : List (List (List ℕ))) (t : List ℕ) (M size : ℕ) (table : List ℕ) (at i : ℕ) : Type 0 where
+pub record Entering (ls : List (List (List ℕ))) (M size : ℕ) (table : List ℕ) (left : List (List (List ℕ))) (i : ℕ) : Type 0 where
   pub are : List ℕ
   pub count : length are ≡ i
   pub lines : formed input_line i ls ≡ some are
   pub new : fresh_all M [] are ≡ true
   pub places : Places table (giving [] are) (enter (replicate (M + 1) 0) are (up_from 0 i))
-  pub left : file_lines (drop at t) ≡ drop i ls
-  pub within : at ≤ stray_at t
+  pub next : left ≡ drop i ls
   pub long : length table ≡ size
 
 -- a table of zeros, at any place
@@ -105,24 +93,22 @@ zeros-at zero v = refl
 zeros-at (suc k) zero = refl
 zeros-at (suc k) (suc v) = zeros-at k v
 
-pub entering-start : (t : List ℕ) (at M : ℕ) (table : List ℕ) → at ≤ stray_at t → table ≡ replicate (length table) 0
-    → Entering (file_lines (drop at t)) t M (length table) table at 0
-entering-start t at M table h z = record {
+pub entering-start : (ls : List (List (List ℕ))) (M : ℕ) (table : List ℕ) → table ≡ replicate (length table) 0 → Entering ls M (length table) table ls 0
+entering-start ls M table z = record {
   are = [];
   count = refl;
   lines = refl;
   new = refl;
   places = record { each = λ v. ap (λ (x : List ℕ). get_or x v 0) z ∙ zeros-at (length table) v };
-  left = refl;
-  within = h;
+  next = refl;
   long = refl;
 }
 
-module _ {ls : List (List (List ℕ))} {t : List ℕ} {M size : ℕ} {table : List ℕ} {at i : ℕ} (E : Entering ls t M size table at i) where
+module _ {ls left : List (List (List ℕ))} {M size : ℕ} {table : List ℕ} {i : ℕ} (E : Entering ls M size table left i) where
   -- one line more
-  pub entering-more : (after : List ℕ) (to : ℕ) → M < size → InputAt (file_lines (drop at t)) t i M (giving [] E.are) table after to
-      → Entering ls t M size after to (i + 1)
-  entering-more after to m I =
+  pub entering-more : (after : List ℕ) (rest : List (List (List ℕ))) → M < size → InputAt left i M (giving [] E.are) table after rest
+      → Entering ls M size after rest (i + 1)
+  entering-more after rest m I =
       let v = I.is in
       let w = enter (replicate (M + 1) 0) E.are (up_from 0 i) in
       let l : length w ≡ M + 1 = length-enter (replicate (M + 1) 0) E.are (up_from 0 i) ∙ length-replicate (M + 1) 0 in
@@ -138,33 +124,19 @@ module _ {ls : List (List (List ℕ))} {t : List ℕ} {M size : ℕ} {table : Li
       record {
         are = E.are ++ (v ∷ []);
         count = length-append E.are (v ∷ []) ∙ omega (arith, E.count);
-        lines = formed-snoc input_line i ls E.are v E.lines (ap (at_front input_line) (sym E.left) ∙ I.line);
+        lines = formed-snoc input_line i ls E.are v E.lines (ap (at_front input_line) (sym E.next) ∙ I.line);
         new = fresh-snoc M [] E.are v E.new I.new;
         places = rw (I.table, g, n) p;
-        left = I.left ∙ ap (drop 1) E.left ∙ drop-drop 1 i ls;
-        within = I.within;
+        next = I.next ∙ ap (drop 1) E.next ∙ drop-drop 1 i ls;
         long = ap length I.table ∙ length-set table v (i + 1) ∙ E.long;
       }
 
   -- a line that is none
-  pub entering-no : (count : ℕ) → i < count → ((v : ℕ) → at_front input_line (file_lines (drop at t)) ≡ some v → fresh M (giving [] E.are) v ≡ true → ⊥)
+  pub entering-no : (count : ℕ) → i < count → ((v : ℕ) → at_front input_line left ≡ some v → fresh M (giving [] E.are) v ≡ true → ⊥)
       → (vs : List ℕ) → formed input_line count ls ≡ some vs → fresh_all M [] vs ≡ true → ⊥
   entering-no count h bad vs e f =
       let S : Split input_line i ls vs = formed-split input_line i count ls vs h e in
       let s : (S).front ≡ E.are = some_same (S).front E.are (sym (S).seen ∙ E.lines) in
       let a : fresh_all M [] ((S).front ++ ((S).here ∷ (S).rest)) ≡ true = ap (fresh_all M []) (S).all ∙ f in
-      bad (S).here (ap (at_front input_line) E.left ∙ (S).line) (ap (λ (us : List ℕ). fresh M (giving [] us) (S).here) (sym s) ∙ fresh_at M [] (S).front
+      bad (S).here (ap (at_front input_line) E.next ∙ (S).line) (ap (λ (us : List ℕ). fresh M (giving [] us) (S).here) (sym s) ∙ fresh_at M [] (S).front
       (S).here (S).rest a)
-
-  -- all of them
-  pub entering-all : (count : ℕ) → i ≡ count → InputsAt ls t count M table at
-  entering-all count e = rw (sym e) (record { are = E.are; lines = E.lines; new = E.new; places = E.places; left = E.left; within = E.within })
-
--- ---- the answers
-
-module _ (ls : List (List (List ℕ))) (t : List ℕ) (wire M : ℕ) (given before after : List ℕ) (r : Step) where
-  pub input-is : (c : Cursor) → r ≡ S.On c → InputIs ls t wire M given before after r → InputAt ls t wire M given before after c.at
-  input-is c e h = subst (InputIs ls t wire M given before after) e h
-
-  pub input-not : r ≡ S.Not → InputIs ls t wire M given before after r → (v : ℕ) → at_front input_line ls ≡ some v → fresh M given v ≡ true → ⊥
-  input-not e h = subst (InputIs ls t wire M given before after) e h

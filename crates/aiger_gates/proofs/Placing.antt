@@ -1,13 +1,13 @@
 -- The table of variables, and the tables of gates.
 use Prim.Native.Nat.{ℕ, ◌+◌, ◌/◌, ◌%◌, ◌<◌, ◌≤◌}
 use mathlib.Core.Path.{◌≡◌, refl, sym, ap, ◌∙◌}
-use mathlib.Core.Bool.{Bool, true, false, cond, not, ◌&&◌}
+use mathlib.Core.Bool.{Bool, true, false}
 use mathlib.Core.List.{List, [], ◌∷◌, ◌++◌}
 use native.Mathlib.Omega.{arith}
 use lib.Dec.{eqb}
-use lib.ListN.{length, get_or, set, length-append, get_or-eq_default}
+use lib.ListN.{length, get_or, set, length-append}
 use lib.Seq.{get_or-set_same, get_or-set_other}
-use borrow.Author.Tests.{eq-eqb, ne_eqb, eqb-true, eqb-false, le-leb, lt-leb}
+use borrow.Author.Tests.{eq-eqb, ne_eqb, eqb-true, eqb-false}
 use Rattle.netlist.specs.declared.Gate.{Gate}
 use Rattle.netlist.specs.Lists.{member}
 use Rattle.netlist.specs.Table.{Tables, gates_of, put_entry}
@@ -17,15 +17,12 @@ use Rattle.gate_table.specs.Entry.{Entered}
 use Rattle.gate_table.specs.Entry.{Stored}
 use Rattle.gate_table.proofs.Entries.{stored}
 use Rattle.aiger.specs.File.{constant, plain, inverse, literal}
-use Rattle.aiger.specs.Rules.{readable, can_give}
+use Rattle.aiger.specs.Rules.{readable}
 use Rattle.aiger.specs.Made.{wire_at}
 use Rattle.aiger_gates.specs.Places.{Places, Holding, Keeps}
 
 pub not_so : {P : Type 0} → ◌≡◌ {A = Bool} false true → P
 not_so e = clash (cc)
-
-pub not-zero : (e : ℕ) → not (eqb e 0) ≡ true → 1 ≤ e
-not-zero e h = on_bool (eqb e 0) (λ b. not_so (sym (ap not b) ∙ h)) (λ b. let n : e ≡ 0 → ⊥ = eqb-false e 0 b in omega arith)
 
 -- ---- literals by their number
 
@@ -49,37 +46,8 @@ module _ (x : ℕ) (h : 2 ≤ x) where
 
 -- ---- the table of variables
 
-pub past_end : (table : List ℕ) (v : ℕ) → length table ≤ v → 0 ≡ get_or table v 0
-past_end table v h = sym (get_or-eq_default table 0 h)
-
-module _ {table given wires : List ℕ} (P : Places table given wires) (v : ℕ) where
-  pub place-free : eqb (get_or table v 0) 0 ≡ not (member v given)
-  place-free = ap (λ (x : ℕ). eqb x 0) (P.each v) ∙ go (member v given)
-    where
-      go : (b : Bool) → eqb (cond b (wire_at wires v + 1) 0) 0 ≡ not b
-      go true = ne_eqb (wire_at wires v + 1) 0 (λ z. omega arith)
-      go false = refl
-
-  pub place-wire : member v given ≡ true → get_or table v 0 ≡ wire_at wires v + 1
-  place-wire e = P.each v ∙ rw e
-
--- ---- the questions put to it
-
-module _ {table given wires : List ℕ} (P : Places table given wires) (x e : ℕ) (h : 2 ≤ x) (q : e ≡ get_or table (x / 2) 0) where
-  pub readable-place : not (eqb e 0) ≡ readable given (literal x)
-  readable-place = ap (λ (e : ℕ). not (eqb e 0)) q ∙ ap not (place-free P (x / 2)) ∙ twice (member (x / 2) given) ∙ sym (literal-readable x h given)
-    where
-      twice : (b : Bool) → not (not b) ≡ b
-      twice true = refl
-      twice false = refl
-
-  pub give-place : (M : ℕ) → x % 2 ≡ 0 → x / 2 ≤ M → eqb e 0 ≡ can_give M given (literal x)
-  give-place M z l =
-      ap (λ (e : ℕ). eqb e 0) q ∙ place-free P (x / 2)
-      ∙ sym (ap (can_give M given) (literal-even x h z) ∙ ap (λ (b : Bool). b && not (member (x / 2) given)) (le-leb (x / 2) M l))
-
-pub give-high : (M : ℕ) (given : List ℕ) (x : ℕ) → 2 ≤ x → x % 2 ≡ 0 → M < x / 2 → false ≡ can_give M given (literal x)
-give-high M given x h z l = sym (ap (can_give M given) (literal-even x h z) ∙ ap (λ (b : Bool). b && not (member (x / 2) given)) (lt-leb (x / 2) M l))
+pub place-wire : {table given wires : List ℕ} (P : Places table given wires) (v : ℕ) → member v given ≡ true → get_or table v 0 ≡ wire_at wires v + 1
+place-wire P v e = P.each v ∙ rw e
 
 pub places-more : {table given wires : List ℕ} (v w : ℕ) → v < length table → v < length wires → Places table given wires
     → Places (set table v (w + 1)) (v ∷ given) (set wires v w)
@@ -107,8 +75,3 @@ kept_on {c} {o} {r} {at} {g} {t} {u} gs e room h p k a b =
       gates = ap (gates_of u) z ∙ s.gates ∙ ap (λ (hs : List Gate). hs ++ (g ∷ [])) G;
       wired = rw z (s.wired (rw (sym e) at H.wired));
     }
-
--- no room
-pub kept_out : {c at : ℕ} {t : Tables} (gs : List Gate) (g : Gate) → at ≡ length gs → (at < length t.operands → at < length t.results → ⊥) → Keeps t c
-    (gs ++ (g ∷ []))
-kept_out gs g e n a b = let z = snoc-length gs g in absurd (n (omega arith) (omega arith))

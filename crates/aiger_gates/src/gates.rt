@@ -1,4 +1,5 @@
 // The gates of operands, of AND lines and of outputs, behind n input bits and `count` gates.
+// The tables are lent one by one: a struct of `&mut` slices would have to promise at each call that it still holds them.
 ghost use Rattle.std.specs.Prelude.{◌≡◌, ◌+◌, ◌/◌, ◌^◌, ◌<◌, ◌≤◌, get_or};
 ghost use Rattle.netlist.specs.declared.Gate.TheVariants.{And};
 ghost use Rattle.netlist.specs.Table.{tables};

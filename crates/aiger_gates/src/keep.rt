@@ -10,9 +10,7 @@ pub fn keep(operands: &mut [u64], results: &mut [u64], at: usize, g: GateNumbers
     ensures { Keeping (tables operands.old results.old) (tables operands.new results.new)
         at (gate_said g) }
 {
-    if at < operands.len() {
-        if at < results.len() {
-            put(operands, results, at, entry_of(g));
-        }
+    if at < operands.len() && at < results.len() {
+        put(operands, results, at, entry_of(g));
     }
 }

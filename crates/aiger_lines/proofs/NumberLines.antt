@@ -1,6 +1,6 @@
 -- A line of so many numbers, read one after another.
 use Prim.Native.Nat.{ℕ, zero, suc, ◌+◌, ◌-◌, ◌<◌, ◌≤◌}
-use mathlib.Core.Path.{◌≡◌, refl, sym, ap, ◌∙◌, subst}
+use mathlib.Core.Path.{◌≡◌, refl, sym, ap, ◌∙◌}
 use mathlib.Core.Bool.{Bool, true, false, cond, not, ◌&&◌}
 use mathlib.Core.List.{List, [], ◌∷◌, ◌++◌}
 use mathlib.Core.Option.{Option, none, some}
@@ -15,20 +15,18 @@ use Rattle.netlist.proofs.Tests.{all_head, all_tail, on_bool, clash}
 use Rattle.netlist.proofs.Questions.{none-some, some_same}
 use Rattle.netlist.proofs.LineEnds.{NoCR}
 use Rattle.read_text.specs.Line.{in_word, take_while, drop_while, past_space, line_words, next_word, past_word, after_line, is_empty, Scanned, EndAt, LineTaken}
-use Rattle.read_text.specs.Answers.{word_from, behind_word, WholeAt, WholeIs, NumberAt}
+use Rattle.read_text.specs.Answers.{word_from, behind_word, WholeAt, NumberAt}
 use Rattle.read_text.specs.declared.cursor.Cursor.{Cursor}
-use Rattle.read_text.specs.declared.number.Number.{Number}
-use Rattle.read_text.specs.declared.number.Number.TheVariants as N
+use Rattle.std.specs.Prelude as P
 use Rattle.read_text.proofs.Answering.{number-line, number_word, no_number}
 use Rattle.read_text.proofs.DigitByDigit.{whole-next}
 use Rattle.read_text.proofs.Scans.{dropped-head}
 use Rattle.read_text.proofs.Splitting.{add_line, add_word, words_step, skip-words, skip-after}
 use Rattle.aiger.specs.Lines.{file_line, file_lines}
 use Rattle.aiger_lines.specs.Stray.{is_stray, stray_at, is_plain, ToWord}
-use Rattle.aiger_lines.specs.LineAnswers.{NotSoMany, FileLineAt, FileLineIs, first_numbers, LineAt, LineNot, LineIs, OneAt}
+use Rattle.aiger_lines.specs.LineAnswers.{NotSoMany, lines_left, FileLineAt, FileLineIs, first_numbers, LineIs}
+use Rattle.aiger_lines.specs.declared.lines.Lines.{Lines}
 use Rattle.aiger_lines.proofs.Strays.{Clean, stray-within, stray-drop, stray-here, clean_line, numbers-clean, number-no-cr, file-step, word_first}
-use Rattle.aiger_lines.specs.declared.numbers.Line.{Line}
-use Rattle.aiger_lines.specs.declared.numbers.Line.TheVariants as L
 
 -- numbers in front of numbers
 abbrev pub joined : List ℕ → Option (List ℕ) → Option (List ℕ)
@@ -196,7 +194,7 @@ whole_before t q v to h w =
 module _ (t : List ℕ) (p q : ℕ) (s : Scanned is_plain t p q) where
   number_at : (v : ℕ) (c : Cursor) → WholeAt t q v c.at → NumberAt t p v c.at
   number_at v c w =
-      whole-next t p q (N.Is v c)
+      whole-next t p q (P.Some (v, c))
       (record { left = word-still (drop q t) v w.value ∙ ap (drop_while is_space) s.left ∙ plain-space (drop p t); on = s.on; within = s.within }) w
 
   -- no number stands behind them, and no CR but before LF
@@ -292,8 +290,8 @@ clean-here t at to l h =
     omega arith
 
 module _ (t : List ℕ) (at n : ℕ) where
-  file-line : (xs : List ℕ) (to : ℕ) → NumbersAt t at n xs to → to ≤ stray_at t → FileLineAt t at n xs to
-  file-line xs to a h = record { line = ap numbers (clean_line (drop at t) (clean-here t at to a.next h)) ∙ a.line; size = a.size; next = a.next; within = h }
+  file-line : (xs : List ℕ) (to : ℕ) → NumbersAt t at n xs to → to ≤ stray_at t → FileLineAt (drop at t) n xs (drop to t)
+  file-line xs to a h = record { line = ap numbers (clean_line (drop at t) (clean-here t at to a.next h)) ∙ a.line; size = a.size; next = a.next.left }
 
   -- a line that the line reader does not take
   file-none : NotSoMany (numbers (line_words (drop at t))) n → NotSoMany (numbers (file_line (drop at t))) n
@@ -371,18 +369,21 @@ module _ {t : List ℕ} {at n : ℕ} {into : List ℕ} {p i : ℕ} (N : Numberin
   numbering-long h e = file-none t at n (long h (ap is_empty (sym (words_same t p q s)) ∙ e))
 
   -- just so many
-  pub numbering-end : n ≤ i → (to : ℕ) → is_stray (drop q t) ≡ false → EndAt t q to → FileLineAt t at n into to
+  pub numbering-end : n ≤ i → (to : ℕ) → is_stray (drop q t) ≡ false → EndAt t q to → FileLineAt (drop at t) n into (drop to t) × (to ≤ stray_at t)
   numbering-end h to d e =
       let taken : LineTaken t q to = record { left = e.left; on = e.on; within = e.within } in
       let clean = end_clean (drop q t) (no_plain t p q s) d e.none in
-      file-line t at n into to
-      (record {
-        line = N.line ∙ ap (λ (ws : List (List ℕ)). joined (take i into) (numbers ws)) (sym (words_same t p q s) ∙ e.none)
-            ∙ ap {B = Option (List ℕ)} some (append-nil (take i into) ∙ take_all into i (omega (arith, N.size)));
-        size = N.size;
-        next = record { left = e.left ∙ after_same t p q s ∙ N.after; on = omega (arith, N.on, s.on, e.on); within = e.within };
-      })
-      (clean-to t q to taken (plain-before t p q s N.before) clean)
+      let c = clean-to t q to taken (plain-before t p q s N.before) clean in (
+        file-line t at n into to
+            (record {
+              line = N.line ∙ ap (λ (ws : List (List ℕ)). joined (take i into) (numbers ws)) (sym (words_same t p q s) ∙ e.none)
+                  ∙ ap {B = Option (List ℕ)} some (append-nil (take i into) ∙ take_all into i (omega (arith, N.size)));
+              size = N.size;
+              next = record { left = e.left ∙ after_same t p q s ∙ N.after; on = omega (arith, N.on, s.on, e.on); within = e.within };
+            })
+            c,
+        c,
+      )
 
 -- ---- the next line that is not blank
 
@@ -391,36 +392,17 @@ numbers-add [] ls xs e h = let z : 0 ≡ length xs = ap length (some_same [] xs 
 numbers-add (w ∷ ws) ls xs e h = refl
 
 module _ (t : List ℕ) (at a : ℕ) (w : ToWord t at a) where
-  pub next-line : (n : ℕ) (xs : List ℕ) (r : Line) → 1 ≤ n → FileLineIs t a n xs r → LineIs (file_lines (drop at t)) t n xs r
-  next-line n xs (L.Is c) one h =
+  pub next-line : (n : ℕ) (xs : List ℕ) (r : P.Option Lines) → 1 ≤ n → FileLineIs (drop a t) n xs r → LineIs (file_lines (drop at t)) n xs r
+  next-line n xs (P.Some m) one h =
       let z = h.size in
-      let l : file_lines (drop at t) ≡ file_line (drop a t) ∷ file_lines (drop c.at t) =
+      let l : file_lines (drop at t) ≡ file_line (drop a t) ∷ lines_left m =
       sym w.lines ∙ file-step (drop a t) ∙ numbers-add (file_line (drop a t)) _ xs h.line (omega arith)
-      ∙ ap (λ (r : List ℕ). file_line (drop a t) ∷ file_lines r) (sym h.next.left) in
-      record { line = ap first_numbers l ∙ h.line; size = h.size; left = sym (ap (drop 1) l); within = h.within }
-  next-line n xs L.Not one h = record { none = λ ys e z. h ys (word_first (drop a t) ys w.still (ap first_numbers w.lines ∙ e)) z }
-
--- ---- the answers
-
-module _ (ls : List (List (List ℕ))) (t : List ℕ) (n : ℕ) (xs : List ℕ) (r : Line) where
-  pub line-is : (c : Cursor) → r ≡ L.Is c → LineIs ls t n xs r → LineAt ls t n xs c.at
-  line-is c e h = subst (LineIs ls t n xs) e h
-
-  pub line-not : r ≡ L.Not → LineIs ls t n xs r → LineNot ls n
-  line-not e h = subst (LineIs ls t n xs) e h
-
-module _ (t : List ℕ) (from : ℕ) where
-  pub whole_is : (r : Number) (v : ℕ) (c : Cursor) → r ≡ N.Is v c → WholeIs t from r → WholeAt t from v c.at
-  whole_is r v c e h = subst (WholeIs t from) e h
-
-  pub whole-not : (r : Number) → r ≡ N.Not → WholeIs t from r → number (word_from t from) ≡ none
-  whole-not r e h = subst (WholeIs t from) e h
+      ∙ ap (λ (r : List ℕ). file_line (drop a t) ∷ file_lines r) (sym h.next) in
+      record { line = ap first_numbers l ∙ h.line; size = h.size; next = sym (ap (drop 1) l) }
+  next-line n xs P.None one h = record { none = λ ys e z. h ys (word_first (drop a t) ys w.still (ap first_numbers w.lines ∙ e)) z }
 
 -- a line of one number
 pub one_entry : (xs : List ℕ) → length xs ≡ 1 → xs ≡ get_or xs 0 0 ∷ []
 one_entry [] e = absurd (omega arith)
 one_entry (x ∷ []) e = refl
 one_entry (x ∷ (y ∷ ys)) e = absurd (omega arith)
-
-pub one_at : {ls : List (List (List ℕ))} {t xs : List ℕ} {to : ℕ} → LineAt ls t 1 xs to → OneAt ls t (get_or xs 0 0) to
-one_at {xs = xs} L = record { line = L.line ∙ ap some (one_entry xs L.size); left = L.left; within = L.within }

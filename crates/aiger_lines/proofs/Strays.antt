@@ -1,13 +1,13 @@
 -- A CR that does not stand before LF: where a text has none, its lines are those that the line reader takes.
 use Prim.Native.Nat.{ℕ, zero, suc, ◌+◌, ◌≤◌, ◌<◌}
-use mathlib.Core.Path.{◌≡◌, refl, sym, ap, ◌∙◌}
+use mathlib.Core.Path.{◌≡◌, refl, sym, ap, ◌∙◌, subst}
 use mathlib.Core.Bool.{Bool, true, false, cond, not, ◌&&◌, ◌||◌}
 use mathlib.Core.List.{List, [], ◌∷◌, map}
 use mathlib.Core.Option.{Option, none, some}
 use native.Mathlib.Omega.{arith}
 use lib.Dec.{eqb, leb}
 use native.Mathlib.Numerals.{add-one}
-use lib.ListN.{length, drop, get_or, drop_of_length-le, get_or-eq_default}
+use lib.ListN.{length, drop, get_or, drop_of_length-le}
 use lib.Seq.{drop-cons}
 use borrow.Author.Tests.{eqb-true}
 use Rattle.netlist.specs.Text.{space, lf, cr, at_lf, lf_ends, is_line_end, onto, split, filled, word_lines, space_words}
@@ -16,7 +16,7 @@ use Rattle.netlist.specs.Header.{cons_option, numbers}
 use Rattle.netlist.proofs.Tests.{All, empty, each, all_head, all_tail, on_bool, both, both_true, is_true, clash}
 use Rattle.netlist.proofs.Questions.{none-some, cond-some}
 use Rattle.netlist.proofs.LineEnds.{NoCR, ends-alike, space-words}
-use Rattle.read_text.specs.Line.{is_blank, first_line, after_line, line_words}
+use Rattle.read_text.specs.Line.{first_line, after_line, line_words}
 use Rattle.read_text.proofs.Splitting.{add_line, first_step, lines_step}
 use Rattle.aiger.specs.Lines.{file_line, file_lines}
 use Rattle.aiger_lines.specs.Stray.{is_stray, stray_at, is_between, ToWord}
@@ -50,37 +50,6 @@ after-shorter (x ∷ xs) = go (is_line_end x) (after-shorter xs)
     go : (b : Bool) → length (after_line xs) ≤ length xs → length (cond b xs (after_line xs)) ≤ suc (length xs)
     go true h = omega arith
     go false h = omega arith
-
--- the byte at a place, and behind it
-pub past_end : (t : List ℕ) (i : ℕ) → length t ≤ i → 0 ≡ get_or t i 0
-past_end t i h = sym (get_or-eq_default t 0 h)
-
-next-end : (t : List ℕ) (i : ℕ) → at_lf (drop i t) ≡ eqb (get_or t i 0) lf
-next-end [] zero = refl
-next-end [] (suc i) = refl
-next-end (x ∷ xs) zero = refl
-next-end (x ∷ xs) (suc i) = next-end xs i
-
-stray-at : (t : List ℕ) (i : ℕ) → i < length t → is_stray (drop i t) ≡ (eqb (get_or t i 0) cr && not (eqb (get_or t (i + 1) 0) lf))
-stray-at t i h = rw (add-one, drop-cons t i 0, next-end t (suc i)) refl
-
-pub stray-past : (t : List ℕ) (i : ℕ) → length t ≤ i → false ≡ is_stray (drop i t)
-stray-past t i h = sym (ap is_stray (drop_of_length-le t h))
-
-pub stray-other : (t : List ℕ) (i : ℕ) → i < length t → eqb (get_or t i 0) cr ≡ false → false ≡ is_stray (drop i t)
-stray-other t i h e = sym (stray-at t i h ∙ rw e refl)
-
-pub stray-cr : (t : List ℕ) (i x : ℕ) (b : Bool) → i < length t → eqb (get_or t i 0) cr ≡ true → x ≡ get_or t (i + 1) 0 → b ≡ is_line_end x → not b ≡ is_stray (drop i t)
-stray-cr t i x b h e p q = ap not (q ∙ ap is_line_end p) ∙ sym (stray-at t i h ∙ rw e refl)
-
-pub between-other : (t : List ℕ) (i : ℕ) → i < length t → is_blank (get_or t i 0) ≡ false → false ≡ is_between (drop i t)
-between-other t i h e = sym (rw (drop-cons t i 0) (rw e refl))
-
-pub between-blank : (t : List ℕ) (i : ℕ) (b : Bool) → i < length t → is_blank (get_or t i 0) ≡ true → b ≡ is_stray (drop i t) → not b ≡ is_between (drop i t)
-between-blank t i b h e q = ap not q ∙ sym (go ∙ refl)
-  where
-    go : is_between (drop i t) ≡ not (is_stray (drop i t))
-    go = rw (drop-cons t i 0) (rw e refl)
 
 -- a text that begins with one
 pub stray-here : (s : List ℕ) → is_stray s ≡ true → (stray_at s ≡ 0) × (length (after_line s) < length s)
@@ -276,9 +245,6 @@ pub record Passing (t : List ℕ) (from i : ℕ) : Type 0 where
   pub on : from ≤ i
   pub before : i ≤ stray_at t
 
-pub passing-start : (t : List ℕ) (i : ℕ) → i ≤ stray_at t → Passing t i i
-passing-start t i h = record { lines = refl; on = omega arith; before = h }
-
 module _ (t : List ℕ) (from i : ℕ) (P : Passing t from i) where
   pub passing-on : i < length t → is_between (drop i t) ≡ true → Passing t from (i + 1)
   passing-on h e =
@@ -288,11 +254,14 @@ module _ (t : List ℕ) (from i : ℕ) (P : Passing t from i) where
       let z = stray-drop t i P.before in
       record { lines = b.0 ∙ sym (ap file_lines d) ∙ P.lines; on = omega (arith, P.on); before = omega arith }
 
-  pub passing-stop : is_between (drop i t) ≡ false → ToWord t from i
+  passing-stop : is_between (drop i t) ≡ false → ToWord t from i
   passing-stop e = record { lines = P.lines; still = e; on = P.on; before = P.before }
 
-  pub passing-end : length t ≤ i → ToWord t from i
-  passing-end h = passing-stop (ap is_between (drop_of_length-le t h))
+  -- the loop went to the text's end
+  pub passing-end : length t ≤ i → ToWord t from (length t)
+  passing-end h =
+      let e : i ≡ length t = omega (arith, P.before, stray-within t) in
+      subst (ToWord t from) e (passing-stop (ap is_between (drop_of_length-le t h)))
 
 -- the words of a line that starts with a word
 some_word : (x : ℕ) (l : List ℕ) → eqb x space ≡ false → (w : List ℕ) × (ws : List (List ℕ)) × (space_words (x ∷ l) ≡ w ∷ ws)

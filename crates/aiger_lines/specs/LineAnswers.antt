@@ -1,59 +1,70 @@
 -- What the answers on a line of numbers mean.
-use Rattle.std.specs.Prelude.{ℕ, ◌≤◌, ◌≡◌, List, [], ◌∷◌, length, drop}
-use Rattle.std.proofs.Math.Option.{Option, none, some}
+use Rattle.std.specs.Prelude.{ℕ, Option, Some, None, ◌≡◌, ◌≤◌, List, [], ◌∷◌, length, drop}
+use Rattle.std.proofs.Math.Option as M
+use Rattle.std.proofs.Math.Option.{none, some}
 use Rattle.netlist.specs.Header.{numbers}
-use Rattle.read_text.specs.Line.{LineTaken}
+use Rattle.read_text.specs.Line.{after_line}
 use Rattle.aiger.specs.Lines.{file_line, file_lines}
-use Rattle.aiger_lines.specs.Stray.{stray_at}
-use Rattle.aiger_lines.specs.declared.numbers.Line.{Line}
-use Rattle.aiger_lines.specs.declared.numbers.Line.TheVariants as L
-use Rattle.aiger_lines.specs.declared.numbers.One.{One}
-use Rattle.aiger_lines.specs.declared.numbers.One.TheVariants as O
+use Rattle.aiger_lines.specs.declared.lines.Lines.{Lines}
 
 -- so many numbers it has not
-abbrev pub NotSoMany : Option (List ℕ) → ℕ → Type 0
+abbrev pub NotSoMany : M.Option (List ℕ) → ℕ → Type 0
 NotSoMany o n = (xs : List ℕ) → o ≡ some xs → length xs ≡ n → ⊥
 
--- the first line of t from a place holds the numbers xs, the next line starts at `to`, and no CR stands before that but before LF
-pub record FileLineAt (t : List ℕ) (at n : ℕ) (xs : List ℕ) (to : ℕ) : Type 0 where
-  pub line : numbers (file_line (drop at t)) ≡ some xs
-  pub size : length xs ≡ n
-  pub next : LineTaken t at to
-  pub within : to ≤ stray_at t
+-- the lines that are left
+abbrev pub lines_left : Lines → List (List (List ℕ))
+lines_left l = file_lines (drop l.at l.text.now)
 
-abbrev pub FileLineIs : List ℕ → ℕ → ℕ → List ℕ → Line → Type 0
-FileLineIs t at n xs (L.Is c) = FileLineAt t at n xs c.at
-FileLineIs t at n xs L.Not = NotSoMany (numbers (file_line (drop at t))) n
+-- lines of the same text, from the same place on or behind it
+pub record Behind (l m : Lines) : Type 0 where
+  pub text : m.text.now ≡ l.text.now
+  pub on : l.at ≤ m.at
+
+abbrev pub BehindIs : Lines → Option Lines → Type 0
+BehindIs l (Some m) = Behind l m
+BehindIs l None = Unit
+
+abbrev pub OneBehind : {A : Type 0} → Lines → Option (A × Lines) → Type 0
+OneBehind l (Some (x, m)) = Behind l m
+OneBehind l None = Unit
+
+-- the first line of s holds the numbers xs, and this is behind it
+pub record FileLineAt (s : List ℕ) (n : ℕ) (xs rest : List ℕ) : Type 0 where
+  pub line : numbers (file_line s) ≡ some xs
+  pub size : length xs ≡ n
+  pub next : rest ≡ after_line s
+
+abbrev pub FileLineIs : List ℕ → ℕ → List ℕ → Option Lines → Type 0
+FileLineIs s n xs (Some l) = FileLineAt s n xs (drop l.at l.text.now)
+FileLineIs s n xs None = NotSoMany (numbers (file_line s)) n
 
 -- what the first of some lines is
-abbrev pub at_front : {A : Type 0} → (List (List ℕ) → Option A) → List (List (List ℕ)) → Option A
+abbrev pub at_front : {A : Type 0} → (List (List ℕ) → M.Option A) → List (List (List ℕ)) → M.Option A
 at_front f [] = none
 at_front f (l ∷ ls) = f l
 
 -- the numbers of the first of some lines
-abbrev pub first_numbers : List (List (List ℕ)) → Option (List ℕ)
+abbrev pub first_numbers : List (List (List ℕ)) → M.Option (List ℕ)
 first_numbers ls = at_front numbers ls
 
--- the first of some lines holds the numbers xs, and the others stand from a place of t on
-pub record LineAt (ls : List (List (List ℕ))) (t : List ℕ) (n : ℕ) (xs : List ℕ) (to : ℕ) : Type 0 where
+-- the first of some lines holds the numbers xs, and these are left
+pub record LineAt (ls : List (List (List ℕ))) (n : ℕ) (xs : List ℕ) (left : List (List (List ℕ))) : Type 0 where
   pub line : first_numbers ls ≡ some xs
   pub size : length xs ≡ n
-  pub left : file_lines (drop to t) ≡ drop 1 ls
-  pub within : to ≤ stray_at t
+  pub next : left ≡ drop 1 ls
 
 pub record LineNot (ls : List (List (List ℕ))) (n : ℕ) : Type 0 where
   pub none : NotSoMany (first_numbers ls) n
 
-abbrev pub LineIs : List (List (List ℕ)) → List ℕ → ℕ → List ℕ → Line → Type 0
-LineIs ls t n xs (L.Is c) = LineAt ls t n xs c.at
-LineIs ls t n xs L.Not = LineNot ls n
+abbrev pub LineIs : List (List (List ℕ)) → ℕ → List ℕ → Option Lines → Type 0
+LineIs ls n xs (Some l) = LineAt ls n xs (lines_left l)
+LineIs ls n xs None = LineNot ls n
 
 -- the first of some lines holds one number
-pub record OneAt (ls : List (List (List ℕ))) (t : List ℕ) (x to : ℕ) : Type 0 where
+pub record OneAt (ls : List (List (List ℕ))) (x : ℕ) (left : List (List (List ℕ))) : Type 0 where
   pub line : first_numbers ls ≡ some (x ∷ [])
-  pub left : file_lines (drop to t) ≡ drop 1 ls
-  pub within : to ≤ stray_at t
+  pub next : left ≡ drop 1 ls
 
-abbrev pub OneIs : List (List (List ℕ)) → List ℕ → One → Type 0
-OneIs ls t (O.Is x c) = OneAt ls t x c.at
-OneIs ls t O.Not = LineNot ls 1
+abbrev pub OneIs : List (List (List ℕ)) → Option (ℕ × Lines) → Type 0
+OneIs ls (Some (x, l)) = OneAt ls x (lines_left l)
+OneIs ls None = LineNot ls 1

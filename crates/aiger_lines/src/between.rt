@@ -1,35 +1,16 @@
 // What stands between words and lines.
-ghost use Rattle.std.specs.Prelude.{◌≡◌, ◌+◌, ◌<◌, ◌≤◌, length, drop, get_or};
+ghost use Rattle.std.specs.Prelude.{◌≡◌, ◌<◌, ◌≤◌, length, drop};
 ghost use Rattle.read_text.specs.Line.{Scanned};
 ghost use Rattle.aiger_lines.specs.Stray.{is_plain, is_stray, is_between, stray_at, ToWord};
 
 use read_text::cursor::{Cursor, is_blank};
 use read_text::ends::{is_cr, is_line_end};
 
-// The byte behind a place, 0 where the text ends.
-fn byte_behind(text: &[u8], i: usize) -> u8
-    ensures { result ≡ get_or text.now (i + 1) 0 }
-{
-    if text.len() <= i {
-        return 0;
-    }
-    if text.len() <= i + 1 {
-        return 0;
-    }
-    text[i + 1]
-}
-
 // Whether a CR stands at a place, and no LF behind it.
 pub fn is_stray(text: &[u8], i: usize) -> bool
     ensures { result ≡ is_stray (drop i text.now) }
 {
-    if text.len() <= i {
-        return false;
-    }
-    if !is_cr(text[i]) {
-        return false;
-    }
-    !is_line_end(byte_behind(text, i))
+    i < text.len() && is_cr(text[i]) && !text.get(i + 1).is_some_and(|b| is_line_end(*b))
 }
 
 // Whether the byte at a place is part of no word: a space, LF, or the CR of CR LF.
@@ -37,10 +18,7 @@ fn is_between(text: &[u8], i: usize) -> bool
     requires { i < length text.now }
     ensures { result ≡ is_between (drop i text.now) }
 {
-    if !is_blank(text[i]) {
-        return false;
-    }
-    !is_stray(text, i)
+    is_blank(text[i]) && !is_stray(text, i)
 }
 
 // Past spaces and line ends.
@@ -48,14 +26,12 @@ pub fn to_word(text: &[u8], at: Cursor) -> Cursor
     requires { at.at ≤ stray_at text.now }
     ensures { ToWord text.now at.at result.at }
 {
-    let mut i = at.at;
-    while i < text.len() {
+    for i in at.at..text.len() {
         if !is_between(text, i) {
             return Cursor { at: i };
         }
-        i += 1;
     }
-    Cursor { at: i }
+    Cursor { at: text.len() }
 }
 
 // Past spaces.
@@ -63,12 +39,5 @@ pub fn past_spaces(text: &[u8], at: Cursor) -> Cursor
     requires { at.at ≤ length text.now }
     ensures { Scanned is_plain text.now at.at result.at }
 {
-    let mut i = at.at;
-    while i < text.len() {
-        if text[i] != b' ' {
-            return Cursor { at: i };
-        }
-        i += 1;
-    }
-    Cursor { at: i }
+    at.pass(text, |b| b == b' ')
 }

@@ -3,4 +3,5 @@
 #![tactic(auto)]
 
 pub mod between;
+pub mod lines;
 pub mod numbers;

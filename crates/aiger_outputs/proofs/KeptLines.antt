@@ -11,13 +11,12 @@ use lib.ListN.{length, take, drop, get_or, set, length-set}
 use lib.Seq.{take-suc, take-suc-set, take_all, split_at, get_or-set_same, get_or-set_other}
 use Rattle.netlist.specs.Lists.{every}
 use Rattle.aiger.specs.File.{Literal, literal}
-use Rattle.aiger.specs.Lines.{formed, output_line, file_lines}
+use Rattle.aiger.specs.Lines.{formed, output_line}
 use Rattle.aiger.specs.Rules.{readable}
-use Rattle.aiger_lines.specs.Stray.{stray_at}
 use Rattle.aiger_lines.specs.LineAnswers.{LineNot, OneAt}
 use Rattle.aiger_gates.specs.Places.{Places}
 use Rattle.aiger_outputs.specs.OutAnswers.{LiteralsAt, Low, HaveWires}
-use Rattle.aiger_outputs.proofs.OutLines.{literals-start, literals-more, literals-no, every-snoc, every-no}
+use Rattle.aiger_outputs.proofs.OutLines.{literals-more, literals-no, every-snoc, every-no}
 
 map-join : (xs ys : List ℕ) → map literal (xs ++ ys) ≡ map literal xs ++ map literal ys
 map-join [] ys = refl
@@ -36,34 +35,31 @@ pub literals-whole : (kept : List ℕ) (i : ℕ) → length kept ≤ i → map l
 literals-whole kept i h = ap (map literal) (take_all i kept h)
 
 -- ---- read from lines: the first i lines are in the table
-pub record Keeping (ls : List (List (List ℕ))) (t kept : List ℕ) (i at : ℕ) : Type 0 where
-  pub lines : LiteralsAt ls t i (map literal (take i kept)) at
+pub record Keeping (ls : List (List (List ℕ))) (kept : List ℕ) (i : ℕ) (left : List (List (List ℕ))) : Type 0 where
+  pub lines : LiteralsAt ls i (map literal (take i kept)) left
   pub low : (j : ℕ) → j < i → get_or kept j 0 < 2 ^ 32
   pub inside : i ≤ length kept
 
-pub keeping_start : (t kept : List ℕ) (at : ℕ) → at ≤ stray_at t → Keeping (file_lines (drop at t)) t kept 0 at
-keeping_start t kept at h = record { lines = literals-start t at h; low = λ j l. absurd (omega arith); inside = omega arith }
-
-module _ {ls : List (List (List ℕ))} {t kept : List ℕ} {i at : ℕ} (K : Keeping ls t kept i at) where
-  pub keeping-more : {x to : ℕ} → i < length kept → x < 2 ^ 32 → OneAt (file_lines (drop at t)) t x to → Keeping ls t (set kept i x) (i + 1) to
-  keeping-more {x} {to} h l O =
+module _ {ls left : List (List (List ℕ))} {kept : List ℕ} {i : ℕ} (K : Keeping ls kept i left) where
+  pub keeping-more : {x : ℕ} {rest : List (List (List ℕ))} → i < length kept → x < 2 ^ 32 → OneAt left x rest → Keeping ls (set kept i x) (i + 1) rest
+  keeping-more {x} {rest} h l O =
       let e : map literal (take i kept) ++ (literal x ∷ []) ≡ map literal (take (i + 1) (set kept i x)) =
       sym (ap (λ (k : ℕ). map literal (take k (set kept i x))) (add-one i) ∙ ap (map literal) (take-suc-set kept i x h) ∙ map-join (take i kept) _) in
       record {
-        lines = subst (λ (as₁ : List Literal). LiteralsAt ls t (i + 1) as₁ to) e (literals-more K.lines O);
+        lines = subst (λ (as₁ : List Literal). LiteralsAt ls (i + 1) as₁ rest) e (literals-more K.lines O);
         low = below_more (λ (j : ℕ). get_or (set kept i x) j 0 < 2 ^ 32) i
             (λ j b. rw (get_or-set_other kept i j x 0 (omega arith)) (K.low j b))
             (rw (get_or-set_same kept i x 0 h) l);
         inside = simp length-set (omega (arith, h));
       }
 
-  pub keeping-no : i < length kept → LineNot (file_lines (drop at t)) 1 → (xs : List Literal) → formed output_line (length kept) ls ≡ some xs → ⊥
+  pub keeping-no : i < length kept → LineNot left 1 → (xs : List Literal) → formed output_line (length kept) ls ≡ some xs → ⊥
   keeping-no h n xs e = literals-no K.lines (length kept) h n xs e
 
-  pub keeping_all : length kept ≤ i → LiteralsAt ls t (length kept) (map literal kept) at × Low kept
+  pub keeping_all : length kept ≤ i → LiteralsAt ls (length kept) (map literal kept) left × Low kept
   keeping_all h =
       let e : i ≡ length kept = omega (arith, K.inside) in (
-        subst (λ (k : ℕ). LiteralsAt ls t k (map literal kept) at) e (subst (λ (as₁ : List Literal). LiteralsAt ls t i as₁ at) (literals-whole kept i h) K.lines),
+        subst (λ (k : ℕ). LiteralsAt ls k (map literal kept) left) e (subst (λ (as₁ : List Literal). LiteralsAt ls i as₁ left) (literals-whole kept i h) K.lines),
         λ j b. K.low j (omega arith),
       )
 
@@ -72,9 +68,6 @@ pub record Looking (table kept : List ℕ) (i : ℕ) : Type 0 where
   pub good : (given wires : List ℕ) → Places table given wires → every (readable given) (map literal (take i kept)) ≡ true
   pub wired : (j : ℕ) → j < i → 2 ≤ get_or kept j 0 → 1 ≤ get_or table (get_or kept j 0 / 2) 0
   pub inside : i ≤ length kept
-
-pub looking-start : (table kept : List ℕ) → Looking table kept 0
-looking-start table kept = record { good = λ given wires P. refl; wired = λ j l. absurd (omega arith); inside = omega arith }
 
 module _ {table kept : List ℕ} {i : ℕ} (K : Looking table kept i) (h : i < length kept) where
   pub looking-more : ((given wires : List ℕ) → Places table given wires → true ≡ readable given (literal (get_or kept i 0)))

@@ -1,12 +1,12 @@
 -- Marks on the variables that output lines put out.
 use Prim.Native.Nat.{ℕ, ◌+◌, ◌/◌, ◌<◌, ◌≤◌}
-use mathlib.Core.Path.{◌≡◌, refl, sym, ap, ◌∙◌, subst}
-use mathlib.Core.Bool.{true, false}
+use mathlib.Core.Path.{◌≡◌, refl, sym, ap, ◌∙◌}
+use mathlib.Core.Bool.{true}
 use mathlib.Core.List.{List, [], ◌∷◌, ◌++◌}
 use mathlib.Core.Option.{some}
 use native.Mathlib.Omega.{arith}
 use lib.Dec.{eqb, ltb}
-use lib.ListN.{length, drop, get_or, set, replicate}
+use lib.ListN.{length, get_or, set, replicate}
 use lib.Seq.{get_or-set_same, get_or-set_other}
 use borrow.Author.Count.{below_more}
 use borrow.Author.Tests.{eqb-true, eqb-false, ltb-true, ltb-false}
@@ -14,16 +14,15 @@ use Rattle.netlist.specs.Lists.{every, member}
 use Rattle.netlist.proofs.Tests.{on_bool}
 use Rattle.netlist.proofs.Questions.{some_same}
 use Rattle.aiger.specs.File.{Literal, literal}
-use Rattle.aiger.specs.Lines.{output_line, formed, file_lines}
+use Rattle.aiger.specs.Lines.{output_line, formed}
 use Rattle.aiger.specs.Rules.{readable}
-use Rattle.aiger_lines.specs.Stray.{stray_at}
 use Rattle.aiger_lines.specs.LineAnswers.{at_front, LineNot, OneAt}
 use Rattle.aiger_gates.specs.Places.{Places}
-use Rattle.aiger_gates.proofs.Placing.{literal-low, literal-readable, place-wire}
+use Rattle.aiger_gates.proofs.Placing.{literal-low, literal-readable}
 use Rattle.aiger_ands.proofs.LineByLine.{Split, formed-split}
 use Rattle.aiger_ands.proofs.InputLines.{zeros-at}
 use Rattle.aiger_outputs.specs.OutAnswers.{marked, PutOut, UpTo, MarksAt}
-use Rattle.aiger_outputs.proofs.OutLines.{output-line, literals-start, literals-more, literals-no, every-snoc, every_front, every_here}
+use Rattle.aiger_outputs.proofs.OutLines.{output-line, literals-more, literals-no, every-snoc, every_front, every_here}
 
 -- ---- marks
 
@@ -56,30 +55,24 @@ module _ {M : ℕ} {marks : List ℕ} {are : List Literal} (P : PutOut M marks a
 
 -- ---- lines
 
-pub marks-start : (t marks : List ℕ) (at M : ℕ) → at ≤ stray_at t → marks ≡ replicate (length marks) 0 → MarksAt (file_lines (drop at t)) t 0 M marks at
-marks-start t marks at M h e = record { are = []; literals = literals-start t at h; out = rw e (out_none M (length marks)) }
-
-module _ {ls : List (List (List ℕ))} {t : List ℕ} {i M : ℕ} {marks : List ℕ} {at : ℕ} (A : MarksAt ls t i M marks at) where
-  pub marks-more : {x to : ℕ} → OneAt (file_lines (drop at t)) t x to → x / 2 ≤ M → x / 2 < length marks → MarksAt ls t (i + 1) M (marked marks x) to
+module _ {ls left : List (List (List ℕ))} {i M : ℕ} {marks : List ℕ} (A : MarksAt ls i M marks left) where
+  pub marks-more : {x : ℕ} {rest : List (List (List ℕ))} → OneAt left x rest → x / 2 ≤ M → x / 2 < length marks → MarksAt ls (i + 1) M (marked marks x) rest
   marks-more {x} O up inside = record { are = A.are ++ (literal x ∷ []); literals = literals-more A.literals O; out = out-more A.out x up inside }
 
-  pub marks-no : (lines : ℕ) → i < lines → LineNot (file_lines (drop at t)) 1 → (xs : List Literal) → formed output_line lines ls ≡ some xs
+  pub marks-no : (lines : ℕ) → i < lines → LineNot left 1 → (xs : List Literal) → formed output_line lines ls ≡ some xs
       → (given : List ℕ) → UpTo M given → every (readable given) xs ≡ true → ⊥
   marks-no lines h n xs e given up r = literals-no A.literals lines h n xs e
 
   -- a variable above M
-  pub marks-high : (lines : ℕ) → i < lines → {x to : ℕ} → OneAt (file_lines (drop at t)) t x to → M < x / 2
+  pub marks-high : (lines : ℕ) → i < lines → {x : ℕ} {rest : List (List (List ℕ))} → OneAt left x rest → M < x / 2
       → (xs : List Literal) → formed output_line lines ls ≡ some xs → (given : List ℕ) → UpTo M given → every (readable given) xs ≡ true → ⊥
   marks-high lines h {x} O high xs e given up r =
       let Q : Split output_line i ls xs = formed-split output_line i lines ls xs h e in
-      let s : literal x ≡ Q.here = some_same (literal x) Q.here (sym (output-line O) ∙ ap (at_front output_line) A.literals.left ∙ Q.line) in
+      let s : literal x ≡ Q.here = some_same (literal x) Q.here (sym (output-line O) ∙ ap (at_front output_line) A.literals.next ∙ Q.line) in
       let k : readable given (literal x) ≡ true = ap (readable given) s
       ∙ every_here (readable given) Q.front Q.here Q.rest (ap (every (readable given)) Q.all ∙ r) in
       let l = up (x / 2) (sym (literal-readable x (omega arith) given) ∙ k) in
       omega arith
-
-  pub marks-all : {lines : ℕ} → i ≡ lines → MarksAt ls t lines M marks at
-  marks-all e = subst (λ (k : ℕ). MarksAt ls t k M marks at) e A
 
 -- ---- the variables below v that have a mark are given
 
@@ -90,11 +83,6 @@ pub seen_more : (table marks : List ℕ) (v : ℕ) → Seen table marks v → (1
 seen_more table marks v s h = below_more (λ (u : ℕ). 1 ≤ get_or marks u 0 → 1 ≤ get_or table u 0) v s h
 
 module _ {table given wires : List ℕ} (P : Places table given wires) {M : ℕ} {marks : List ℕ} {are : List Literal} (O : PutOut M marks are) where
-  pub seen_no : (v : ℕ) → v ≤ M → 1 ≤ get_or marks v 0 → get_or table v 0 ≡ 0 → false ≡ every (readable given) are
-  seen_no v l m z = on_bool (every (readable given) are)
-      (λ e. let w = place-wire P v (O.needed given e v l m) in absurd (omega arith))
-      sym
-
   pub seen_all : Seen table marks (M + 1) → true ≡ every (readable given) are
   seen_all s = sym (O.enough given (λ v l m. on_bool (member v given)
       (λ e. e)

@@ -2,7 +2,7 @@
 use Prim.Native.Nat.{ℕ, suc, ◌+◌, ◌-◌, ◌<◌, ◌≤◌}
 use mathlib.Core.Path.{◌≡◌, refl, sym, ap, ◌∙◌}
 use mathlib.Core.Bool.{Bool, true}
-use mathlib.Core.List.{List, [], ◌∷◌, ◌++◌, map, append_assoc, append-nil}
+use mathlib.Core.List.{List, [], ◌∷◌, ◌++◌, map, append_assoc}
 use native.Mathlib.Omega.{arith}
 use lib.ListN.{length, take, drop, get_or, length-map, length-append, length-drop, take-append-drop}
 use lib.Seq.{take_all, get_or-take, get_or-drop, length-take-le, length_front, take-append_seam, drop_at, drop-drop}
@@ -70,13 +70,6 @@ pub record Putting (table o₀ r₀ : List ℕ) (room n before : ℕ) (o r : Lis
       → Standing table (tables o r) n (before + i) given wires (gs ++ out_gates (wire_at wires) (n + before) (map literal (take i (drop room r₀))))
   pub left : drop (room + i) r ≡ drop (room + i) r₀
   pub long : length r ≡ length r₀
-
-pub putting-start : (table o r : List ℕ) (room n before : ℕ) → Putting table o r room n before o r 0
-putting-start table o r room n before = record {
-  all = λ given wires gs S e. let z : before + 0 ≡ before = omega arith in rw (z, append-nil gs) S;
-  left = refl;
-  long = refl;
-}
 
 module _ {table o₀ r₀ : List ℕ} {room n before : ℕ} {o r : List ℕ} {i : ℕ} (P : Putting table o₀ r₀ room n before o r i) (h : room + i < length r₀) where
   -- the literal that is next

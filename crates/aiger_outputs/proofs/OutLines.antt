@@ -1,6 +1,6 @@
 -- The output lines, one after another.
-use Prim.Native.Nat.{ℕ, ◌+◌, ◌<◌, ◌≤◌}
-use mathlib.Core.Path.{◌≡◌, refl, sym, ap, ◌∙◌, subst}
+use Prim.Native.Nat.{ℕ, ◌+◌, ◌<◌}
+use mathlib.Core.Path.{◌≡◌, refl, sym, ap, ◌∙◌}
 use mathlib.Core.Bool.{Bool, true, false, ◌&&◌}
 use mathlib.Core.List.{List, [], ◌∷◌, ◌++◌}
 use mathlib.Core.Option.{Option, none, some}
@@ -9,31 +9,20 @@ use lib.Seq.{drop-drop}
 use Rattle.netlist.specs.Lists.{every}
 use Rattle.netlist.proofs.Tests.{both_true}
 use Rattle.netlist.proofs.Questions.{none-some}
-use Rattle.read_text.specs.declared.cursor.Cursor.{Cursor}
 use Rattle.aiger.specs.File.{Literal, literal}
-use Rattle.aiger.specs.Lines.{one_literal, output_line, formed, file_lines}
-use Rattle.aiger_lines.specs.Stray.{stray_at}
-use Rattle.aiger_lines.specs.LineAnswers.{at_front, first_numbers, LineNot, OneAt, OneIs}
-use Rattle.aiger_lines.specs.declared.numbers.One.{One}
-use Rattle.aiger_lines.specs.declared.numbers.One.TheVariants as O
+use Rattle.aiger.specs.Lines.{one_literal, output_line, formed}
+use Rattle.aiger_lines.specs.LineAnswers.{at_front, first_numbers, LineNot, OneAt}
 use Rattle.aiger_ands.proofs.LineByLine.{formed-snoc, Split, formed-split}
 use Rattle.aiger_outputs.specs.OutAnswers.{LiteralsAt}
 
 -- ---- a line of one number
-
-module _ (ls : List (List (List ℕ))) (t : List ℕ) (r : One) where
-  pub one-is : (x : ℕ) (c : Cursor) → r ≡ O.Is x c → OneIs ls t r → OneAt ls t x c.at
-  one-is x c e h = subst (OneIs ls t) e h
-
-  pub one-not : r ≡ O.Not → OneIs ls t r → LineNot ls 1
-  one-not e h = subst (OneIs ls t) e h
 
 front-output : (ls : List (List (List ℕ))) → at_front output_line ls ≡ one_literal (first_numbers ls)
 front-output [] = refl
 front-output (l ∷ ls) = refl
 
 -- it puts out its literal
-pub output-line : {ls : List (List (List ℕ))} {t : List ℕ} {x to : ℕ} → OneAt ls t x to → at_front output_line ls ≡ some (literal x)
+pub output-line : {ls left : List (List (List ℕ))} {x : ℕ} → OneAt ls x left → at_front output_line ls ≡ some (literal x)
 output-line {ls} O = front-output ls ∙ ap one_literal O.line
 
 one_number : (o : Option (List ℕ)) (l : Literal) → one_literal o ≡ some l → (x : ℕ) × (o ≡ some (x ∷ []))
@@ -47,21 +36,17 @@ no_output {ls} n l e = let p = one_number (first_numbers ls) l (sym (front-outpu
 
 -- ---- lines
 
-pub literals-start : (t : List ℕ) (at : ℕ) → at ≤ stray_at t → LiteralsAt (file_lines (drop at t)) t 0 [] at
-literals-start t at h = record { form = refl; left = refl; within = h }
-
-module _ {ls : List (List (List ℕ))} {t : List ℕ} {i : ℕ} {are : List Literal} {at : ℕ} (A : LiteralsAt ls t i are at) where
-  pub literals-more : {x to : ℕ} → OneAt (file_lines (drop at t)) t x to → LiteralsAt ls t (i + 1) (are ++ (literal x ∷ [])) to
+module _ {ls left : List (List (List ℕ))} {i : ℕ} {are : List Literal} (A : LiteralsAt ls i are left) where
+  pub literals-more : {x : ℕ} {rest : List (List (List ℕ))} → OneAt left x rest → LiteralsAt ls (i + 1) (are ++ (literal x ∷ [])) rest
   literals-more {x} O = record {
-    form = formed-snoc output_line i ls are (literal x) A.form (ap (at_front output_line) (sym A.left) ∙ output-line O);
-    left = O.left ∙ ap (drop 1) A.left ∙ drop-drop 1 i ls;
-    within = O.within;
+    form = formed-snoc output_line i ls are (literal x) A.form (ap (at_front output_line) (sym A.next) ∙ output-line O);
+    next = O.next ∙ ap (drop 1) A.next ∙ drop-drop 1 i ls;
   }
 
-  pub literals-no : (lines : ℕ) → i < lines → LineNot (file_lines (drop at t)) 1 → (xs : List Literal) → formed output_line lines ls ≡ some xs → ⊥
+  pub literals-no : (lines : ℕ) → i < lines → LineNot left 1 → (xs : List Literal) → formed output_line lines ls ≡ some xs → ⊥
   literals-no lines h n xs e =
       let P : Split output_line i ls xs = formed-split output_line i lines ls xs h e in
-      no_output n P.here (ap (at_front output_line) A.left ∙ P.line)
+      no_output n P.here (ap (at_front output_line) A.next ∙ P.line)
 
 -- ---- a test of all of some literals
 

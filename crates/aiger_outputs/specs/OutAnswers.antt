@@ -1,23 +1,21 @@
 -- What the answers on output lines mean.
-use Rattle.std.specs.Prelude.{ℕ, ◌+◌, ◌/◌, ◌^◌, ◌<◌, ◌≤◌, ◌≡◌, Bool, true, cond, List, ◌++◌, map, ltb, length, take, drop, get_or, set}
+use Rattle.std.specs.Prelude.{ℕ, Option, Some, None, ◌+◌, ◌/◌, ◌^◌, ◌<◌, ◌≤◌, ◌≡◌, Bool, true, cond, List, ◌++◌, map, ltb, length, take, drop, get_or, set}
 use Rattle.std.proofs.Math.Option.{some}
 use Rattle.netlist.specs.declared.Gate.{Gate}
 use Rattle.netlist.specs.Lists.{every, member}
 use Rattle.netlist.specs.Table.{Tables, tables}
+use Rattle.aiger_lines.specs.declared.lines.Lines.{Lines}
 use Rattle.aiger.specs.File.{Literal, literal}
-use Rattle.aiger.specs.Lines.{file_lines, output_line, formed}
+use Rattle.aiger.specs.Lines.{output_line, formed}
 use Rattle.aiger.specs.Rules.{readable}
 use Rattle.aiger.specs.Made.{wire_at, out_gates}
-use Rattle.aiger_lines.specs.Stray.{stray_at}
+use Rattle.aiger_lines.specs.LineAnswers.{lines_left}
 use Rattle.aiger_gates.specs.Places.{Places, Keeps, Standing}
-use Rattle.aiger_ands.specs.declared.inputs.Step.{Step}
-use Rattle.aiger_ands.specs.declared.inputs.Step.TheVariants as S
 
 -- the first of some lines put out these literals
-pub record LiteralsAt (ls : List (List (List ℕ))) (t : List ℕ) (lines : ℕ) (are : List Literal) (to : ℕ) : Type 0 where
+pub record LiteralsAt (ls : List (List (List ℕ))) (lines : ℕ) (are : List Literal) (left : List (List (List ℕ))) : Type 0 where
   pub form : formed output_line lines ls ≡ some are
-  pub left : file_lines (drop to t) ≡ drop lines ls
-  pub within : to ≤ stray_at t
+  pub next : left ≡ drop lines ls
 
 -- ---- literals in a table
 
@@ -26,9 +24,9 @@ abbrev pub Low : List ℕ → Type 0
 Low kept = (i : ℕ) → i < length kept → get_or kept i 0 < 2 ^ 32
 
 -- as many lines as the table has entries, which are their literals
-abbrev pub KeptIs : List (List (List ℕ)) → List ℕ → List ℕ → Step → Type 0
-KeptIs ls t kept (S.On c) = LiteralsAt ls t (length kept) (map literal kept) c.at × Low kept
-KeptIs ls t kept S.Not = (xs : List Literal) → formed output_line (length kept) ls ≡ some xs → ⊥
+abbrev pub KeptIs : List (List (List ℕ)) → List ℕ → Option Lines → Type 0
+KeptIs ls kept (Some l) = LiteralsAt ls (length kept) (map literal kept) (lines_left l) × Low kept
+KeptIs ls kept None = (xs : List Literal) → formed output_line (length kept) ls ≡ some xs → ⊥
 
 -- each is a constant, or of a variable that has a wire
 abbrev pub HaveWires : List ℕ → List ℕ → Type 0
@@ -66,12 +64,12 @@ abbrev pub UpTo : ℕ → List ℕ → Type 0
 UpTo M given = (v : ℕ) → member v given ≡ true → v ≤ M
 
 -- so many lines, whose variables have marks
-pub record MarksAt (ls : List (List (List ℕ))) (t : List ℕ) (lines M : ℕ) (marks : List ℕ) (to : ℕ) : Type 0 where
+pub record MarksAt (ls : List (List (List ℕ))) (lines M : ℕ) (marks : List ℕ) (left : List (List (List ℕ))) : Type 0 where
   pub are : List Literal
-  pub literals : LiteralsAt ls t lines are to
+  pub literals : LiteralsAt ls lines are left
   pub out : PutOut M marks are
 
-abbrev pub MarksIs : List (List (List ℕ)) → List ℕ → ℕ → ℕ → List ℕ → Step → Type 0
-MarksIs ls t lines M marks (S.On c) = MarksAt ls t lines M marks c.at
-MarksIs ls t lines M marks S.Not = (xs : List Literal) → formed output_line lines ls ≡ some xs
+abbrev pub MarksIs : List (List (List ℕ)) → ℕ → ℕ → List ℕ → Option Lines → Type 0
+MarksIs ls lines M marks (Some l) = MarksAt ls lines M marks (lines_left l)
+MarksIs ls lines M marks None = (xs : List Literal) → formed output_line lines ls ≡ some xs
     → (given : List ℕ) → UpTo M given → every (readable given) xs ≡ true → ⊥

@@ -1,4 +1,5 @@
-// The gates of outputs, whose literals stand at the end of the table of results.
+// The gates of outputs, whose literals stand at the end of the table of results. The tables are lent one by one: a struct of `&mut`
+// slices would have to promise at each call that it still holds them.
 ghost use Rattle.std.specs.Prelude.{◌+◌, ◌^◌, ◌<◌, ◌≤◌, length, drop};
 ghost use Rattle.netlist.specs.Table.{tables};
 ghost use Rattle.aiger_outputs.specs.OutAnswers.{Low, HaveWires, OutputsPut, OutputsIs};
@@ -21,13 +22,10 @@ fn put_outputs(
     ensures { OutputsPut table.now (tables operands.old results.old)
         (tables operands.new results.new) n count (drop room results.old) }
 {
-    let lines = results.len() - room;
-    let mut i = 0;
-    while i < lines {
+    for i in 0..results.len() - room {
         let at = room + i;
         let x = results[at] as u32;
         out_gate(table, operands, &mut results[..at + 1], x, n, count + i);
-        i += 1;
     }
 }
 
@@ -48,9 +46,8 @@ pub fn outputs(
     if !are_readable(table, &results[room..]) {
         return false;
     }
-    if room < count {
-        return true;
+    if count <= room {
+        put_outputs(table, operands, results, room, n, count);
     }
-    put_outputs(table, operands, results, room, n, count);
     true
 }

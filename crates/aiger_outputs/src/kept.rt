@@ -1,34 +1,27 @@
 // Output lines whose literals a table keeps.
-ghost use Rattle.std.specs.Prelude.{◌≡◌, true, List, map, ℕ, ◌≤◌, drop};
+ghost use Rattle.std.specs.Prelude.{◌≡◌, true, List, map, ℕ};
 ghost use Rattle.netlist.specs.Lists.{every};
 ghost use Rattle.aiger.specs.File.{literal};
-ghost use Rattle.aiger.specs.Lines.{file_lines};
 ghost use Rattle.aiger.specs.Rules.{readable};
-ghost use Rattle.aiger_lines.specs.Stray.{stray_at};
+ghost use Rattle.aiger_lines.specs.LineAnswers.{lines_left, BehindIs};
 ghost use Rattle.aiger_gates.specs.Places.{Places};
 ghost use Rattle.aiger_outputs.specs.OutAnswers.{KeptIs, Low, HaveWires};
 
-use aiger_ands::inputs::Step;
 use aiger_gates::variables::is_readable;
-use aiger_lines::numbers::{One, one_number};
-use read_text::cursor::Cursor;
+use aiger_lines::lines::Lines;
 
-// As many output lines from a place on as the table has entries.
-pub fn keep_literals(text: &[u8], from: Cursor, kept: &mut [u64]) -> Step
-    requires { from.at ≤ stray_at text.now }
-    ensures { KeptIs (file_lines (drop from.at text.now)) text.now kept.new result }
+// As many output lines as the table has entries; answers the lines behind them.
+pub fn keep_literals<'t>(lines: Lines<'t>, kept: &mut [u64]) -> Option<Lines<'t>>
+    ensures kept { KeptIs (lines_left lines.entry) kept.new result }
+    ensures behind { BehindIs lines.entry result }
 {
-    let mut at = from.at;
-    let mut i = 0;
-    while i < kept.len() {
-        let One::Is(x, next) = one_number(text, Cursor { at }) else {
-            return Step::Not;
-        };
-        kept[i] = x as u64;
-        at = next.at;
-        i += 1;
+    let mut left = lines;
+    for entry in kept.iter_mut() {
+        let (x, next) = left.one_number()?;
+        *entry = x as u64;
+        left = next;
     }
-    Step::On(Cursor { at })
+    Some(left)
 }
 
 // Whether all literals can be read.
@@ -37,12 +30,10 @@ pub fn are_readable(table: &[u32], kept: &[u64]) -> bool
     ensures { ((given wires : List ℕ) → Places table.now given wires
         → result ≡ every (readable given) (map literal kept.now)) × (result ≡ true → HaveWires table.now kept.now) }
 {
-    let mut i = 0;
-    while i < kept.len() {
-        if !is_readable(table, kept[i] as u32) {
+    for x in kept {
+        if !is_readable(table, *x as u32) {
             return false;
         }
-        i += 1;
     }
     true
 }

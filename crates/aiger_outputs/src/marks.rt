@@ -1,48 +1,46 @@
 // Output lines that are more than a table has entries. Their netlist is too large, so it is enough to know which variables they put
 // out: these get a mark each.
-ghost use Rattle.std.specs.Prelude.{◌≡◌, true, false, List, ℕ, ◌/◌, ◌<◌, ◌≤◌, length, drop, get_or, replicate};
+ghost use Rattle.std.specs.Prelude.{◌≡◌, true, false, List, ℕ, ◌/◌, ◌<◌, ◌≤◌, length, get_or, replicate};
 ghost use Rattle.netlist.specs.Lists.{every};
 ghost use Rattle.aiger.specs.File.{Literal};
-ghost use Rattle.aiger.specs.Lines.{file_lines};
 ghost use Rattle.aiger.specs.Rules.{readable};
-ghost use Rattle.aiger_lines.specs.Stray.{stray_at};
+ghost use Rattle.aiger_lines.specs.LineAnswers.{lines_left, BehindIs};
 ghost use Rattle.aiger_gates.specs.Places.{Places};
 ghost use Rattle.aiger_outputs.specs.OutAnswers.{marked, PutOut, MarksIs};
 
-use aiger_ands::inputs::Step;
-use aiger_lines::numbers::{One, one_number};
-use read_text::cursor::Cursor;
+use aiger_lines::lines::Lines;
 
 // A mark on the variable of a literal that is no constant.
 fn mark(marks: &mut [u64], x: u32)
     requires { x / 2 < length marks.old }
     ensures { marks.new ≡ marked marks.old x }
 {
-    if x < 2 {
-        return;
+    if 2 <= x {
+        marks[(x / 2) as usize] = 1;
     }
-    marks[(x / 2) as usize] = 1;
 }
 
-// So many output lines from a place on, with a table that has no mark yet.
-pub fn mark_literals(text: &[u8], from: Cursor, lines: u32, most: u32, marks: &mut [u64]) -> Step
-    requires { (from.at ≤ stray_at text.now) × (most < length marks.old) × (marks.old ≡ replicate (length marks.old) 0) }
-    ensures { MarksIs (file_lines (drop from.at text.now)) text.now lines most marks.new result }
+// So many output lines, with a table that has no mark yet; answers the lines behind them.
+pub fn mark_literals<'t>(
+    lines: Lines<'t>,
+    many: u32,
+    most: u32,
+    marks: &mut [u64],
+) -> Option<Lines<'t>>
+    requires { (most < length marks.old) × (marks.old ≡ replicate (length marks.old) 0) }
+    ensures marks { MarksIs (lines_left lines.entry) many most marks.new result }
+    ensures behind { BehindIs lines.entry result }
 {
-    let mut at = from.at;
-    let mut i = 0;
-    while i < lines {
-        let One::Is(x, next) = one_number(text, Cursor { at }) else {
-            return Step::Not;
-        };
+    let mut left = lines;
+    for _ in 0..many {
+        let (x, next) = left.one_number()?;
         if most < x / 2 {
-            return Step::Not;
+            return None;
         }
         mark(marks, x);
-        at = next.at;
-        i += 1;
+        left = next;
     }
-    Step::On(Cursor { at })
+    Some(left)
 }
 
 // Whether a variable has a mark and is not given.
@@ -51,10 +49,7 @@ fn is_missing(table: &[u32], marks: &[u64], v: usize) -> bool
     ensures { (result ≡ true → (1 ≤ get_or marks.now v 0) × (get_or table.now v 0 ≡ 0))
         × (result ≡ false → 1 ≤ get_or marks.now v 0 → 1 ≤ get_or table.now v 0) }
 {
-    if marks[v] == 0 {
-        return false;
-    }
-    table[v] == 0
+    marks[v] != 0 && table[v] == 0
 }
 
 // Whether all variables up to M that have a mark are given.
@@ -63,13 +58,10 @@ pub fn are_given(table: &[u32], marks: &[u64], most: u32) -> bool
     ensures { (given wires : List ℕ) (are : List Literal) → Places table.now given wires → PutOut most marks.now are
         → result ≡ every (readable given) are }
 {
-    let end = most as usize;
-    let mut v = 0;
-    while v <= end {
+    for v in 0..=most as usize {
         if is_missing(table, marks, v) {
             return false;
         }
-        v += 1;
     }
     true
 }

@@ -82,8 +82,8 @@ pub extern "C" fn fidrovelj_session_text(
     let a = operands.len();
     let b = results.len();
     let q = asked(s, widths, outputs, source.len(), a, b, a, b, whole);
-    let no = fill(source, q, operands, results);
-    text(no, q, widths, outputs, out, operands, results)
+    let filled = fill(source, q, operands, results);
+    text(filled, widths, outputs, out, operands, results)
 }
 
 // What Mask gives for that netlist: how many bytes the masked text has at the front of `out`.
@@ -121,8 +121,8 @@ pub extern "C" fn fidrovelj_session_masked(
         wires.len(),
         whole,
     );
-    let no = fill(source, q, operands, results);
+    let filled = fill(source, q, operands, results);
     masked(
-        no, q, widths, outputs, codes, wanted, out, out_codes, operands, results, wires, marks,
+        filled, widths, outputs, codes, wanted, out, out_codes, operands, results, wires, marks,
     )
 }

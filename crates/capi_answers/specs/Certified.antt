@@ -1,17 +1,19 @@
 -- The number that a call from C gets for an answer of the certifier's.
-use Rattle.std.specs.Prelude.{◌≡◌, ℤ, pos, neg_ℤ}
-use Rattle.certify_netlist.specs.declared.Certified.{Certified}
-use Rattle.certify_netlist.specs.declared.Certified.TheVariants.{Clean, Leak, Unknown, Refused}
+use Rattle.std.specs.Prelude.{Result, Ok, Err, ◌≡◌, ℤ, pos, neg_ℤ}
+use Rattle.netlist.specs.declared.Question.{Question}
+use Rattle.netlist.specs.Question.{number_of}
+use Rattle.certify_netlist.specs.declared.Verdict.{Verdict}
+use Rattle.certify_netlist.specs.declared.Verdict.TheVariants.{Clean, Leak, Unknown}
 
 -- 0 for clean, 1 for a leak, 2 for unknown, or minus the number of the question
-abbrev pub certified_number : Certified → ℤ
-certified_number Clean = pos 0
-certified_number Leak = pos 1
-certified_number Unknown = pos 2
-certified_number (Refused q) = neg_ℤ (pos q)
+abbrev pub certified_number : Result Verdict Question → ℤ
+certified_number (Ok Clean) = pos 0
+certified_number (Ok Leak) = pos 1
+certified_number (Ok Unknown) = pos 2
+certified_number (Err q) = neg_ℤ (pos (number_of q))
 
 -- what the certifier promises of its answer, which the caller gets as a number
-pub record ToldCertified (Promise : Certified → Type 0) (r : ℤ) : Type 0 where
-  pub answer : Certified
+pub record ToldCertified (Promise : Result Verdict Question → Type 0) (r : ℤ) : Type 0 where
+  pub answer : Result Verdict Question
   pub promise : Promise answer
   pub told : r ≡ certified_number answer

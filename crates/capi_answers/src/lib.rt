@@ -8,26 +8,29 @@ pub mod wide_answers;
 
 ghost use Rattle.std.specs.Prelude.{◌≡◌, [], ◌∷◌, pos, neg_ℤ, set};
 ghost use Rattle.std.proofs.lemmas.List.Edits.{sets};
-ghost use Rattle.capi_answers.specs.Number.{sizes_of, number as number_of, Countable, Shows};
+ghost use Rattle.netlist.specs.Question.{number_of};
+ghost use Rattle.check_leak.specs.declared.difference.Leak.{Leak};
+ghost use Rattle.capi_answers.specs.Number.{sizes_of, number as counted, leak_numbers, Countable, Shows};
 
+use check_leak::difference::Leak;
 use check_netlist::Checked;
-use netlist::{Answer, Sizes};
+use netlist::{Answer, Question, Sizes};
 
 // The number of a refusal.
-pub fn minus(question: u8) -> i64
-    ensures { result ≡ neg_ℤ (pos question) }
+pub fn minus(question: Question) -> i64
+    ensures { result ≡ neg_ℤ (pos (number_of question)) }
 {
-    -(question as i64)
+    -(question.number() as i64)
 }
 
 // The number of an answer.
 pub fn number(a: Answer) -> i64
     requires { Countable a }
-    ensures { result ≡ number_of a }
+    ensures { result ≡ counted a }
 {
     match a {
-        Answer::Done(n) => n as i64,
-        Answer::Refused(question) => minus(question),
+        Ok(n) => n as i64,
+        Err(question) => minus(question),
     }
 }
 
@@ -40,30 +43,30 @@ pub fn put(list: &mut [u64], at: usize, entry: u64)
     }
 }
 
-// The numbers of a leak: its wire, its setting, its base's count and the setting's.
-pub fn show(leak: &mut [u64], wire: usize, setting: u64, base: u8, count: u8)
-    ensures { leak.new ≡ sets leak.old 0 (wire ∷ setting ∷ base ∷ count ∷ []) }
+// The numbers of a leak: its wire, its setting, its base's count and its own.
+pub fn show(list: &mut [u64], leak: Leak)
+    ensures { list.new ≡ sets list.old 0 (leak_numbers leak) }
 {
-    put(leak, 0, wire as u64);
-    put(leak, 1, setting);
-    put(leak, 2, base as u64);
-    put(leak, 3, count as u64);
+    put(list, 0, leak.wire as u64);
+    put(list, 1, leak.setting);
+    put(list, 2, leak.base as u64);
+    put(list, 3, leak.own as u64);
 }
 
-// Check's answer: its number, and the numbers of a leak at the front of `leak`; a list that cannot hold them is refused by 14.
-pub fn tell(leak: &mut [u64], a: Checked) -> i64
-    ensures { Shows leak.old leak.new result a }
+// Check's answer: its number, and the numbers of a leak at the front of a list; a list that cannot hold them is refused by 14.
+pub fn tell(list: &mut [u64], a: Checked) -> i64
+    ensures { Shows list.old list.new result a }
 {
     match a {
-        Checked::Clean => 0,
-        Checked::Leak(wire, setting, base, count) => {
-            if leak.len() < 4 {
-                return minus(14);
+        Ok(None) => 0,
+        Ok(Some(leak)) => {
+            if list.len() < 4 {
+                return minus(Question::Room);
             }
-            show(leak, wire, setting, base, count);
+            show(list, leak);
             1
         }
-        Checked::Refused(question) => minus(question),
+        Err(question) => minus(question),
     }
 }
 

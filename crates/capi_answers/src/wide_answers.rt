@@ -5,67 +5,69 @@ ghost use Rattle.std.proofs.lemmas.List.Edits.{sets};
 ghost use Rattle.capi_answers.specs.Wide.{room_ones, to_ones, ShowsWide};
 
 use crate::{pair_answers, put};
+use check_leak::difference::Leak;
+use netlist::Question;
 use pairs_judge::CheckedPairs;
-use pairs_search::search::WiresVerdict;
-use wide_judge::{CheckedWide, WideAnswer};
-use wide_search::search::WideVerdict;
+use pairs_search::search::PairsFound;
+use wide_judge::CheckedWide;
+use wide_sets::members::Members;
 
 // Question 14 of the list for the ones, and the answer with their number in place of the setting.
 fn ones_room(room: usize, a: CheckedWide) -> CheckedPairs
     ensures { result ≡ room_ones room a }
 {
-    match a {
-        CheckedWide::Refused(question) => CheckedPairs::Refused(question),
-        CheckedWide::Done(wires, pairs) => match wires {
-            WideVerdict::Clean => CheckedPairs::Done(WiresVerdict::Clean, pairs),
-            WideVerdict::Leak(wire, ones, base, count) => {
-                if room < ones {
-                    return CheckedPairs::Refused(14);
-                }
-                CheckedPairs::Done(WiresVerdict::Leak(wire, ones as u64, base, count), pairs)
-            }
-        },
+    let found = a?;
+    let Some(leak) = found.leak else {
+        return Ok(PairsFound {
+            leak: None,
+            pair: found.pair,
+        });
+    };
+    if room < leak.ones.count {
+        return Err(Question::Room);
     }
+    let counted = Leak {
+        wire: leak.wire,
+        setting: leak.ones.count as u64,
+        base: leak.base,
+        own: leak.own,
+    };
+    Ok(PairsFound {
+        leak: Some(counted),
+        pair: found.pair,
+    })
 }
 
 // So many input bits, at most twelve, at the front of a list.
-fn lay(ones: &mut [u64], items: [u32; 12], count: u64)
-    ensures { ones.new ≡ sets ones.old 0 (take (min count 12) items) }
+fn lay(list: &mut [u64], ones: Members)
+    ensures { list.new ≡ sets list.old 0 (take (min ones.count 12) ones.items) }
 {
-    let mut i: usize = 0;
-    while i < 12 {
-        if count <= i as u64 {
-            return;
-        }
-        put(ones, i, items[i] as u64);
-        i += 1;
+    let n = ones.count.min(12);
+    for i in 0..n {
+        put(list, i, ones.items[i] as u64);
     }
 }
 
 // The input bits that are one in a leak's setting, if there is a leak to tell.
-fn show_ones(ones: &mut [u64], items: [u32; 12], a: CheckedPairs)
-    ensures { ones.new ≡ sets ones.old 0 (to_ones a items) }
+fn show_ones(list: &mut [u64], told: CheckedPairs, a: CheckedWide)
+    ensures { list.new ≡ sets list.old 0 (to_ones told a) }
 {
-    match a {
-        CheckedPairs::Refused(_) => {}
-        CheckedPairs::Done(wires, _) => match wires {
-            WiresVerdict::Clean => {}
-            WiresVerdict::Leak(_, count, _, _) => lay(ones, items, count),
-        },
+    if told.is_err() {
+        return;
+    }
+    if let Ok(found) = a {
+        if let Some(leak) = found.leak {
+            lay(list, leak.ones);
+        }
     }
 }
 
 // Both answers: their number, the numbers of a leak and of a bad pair, and the ones of a leak's setting at the front of their lists.
-pub fn tell(leak: &mut [u64], ones: &mut [u64], bad: &mut [u64], a: WideAnswer) -> i64
+pub fn tell(leak: &mut [u64], ones: &mut [u64], bad: &mut [u64], a: CheckedWide) -> i64
     ensures { ShowsWide leak.old leak.new ones.old ones.new bad.old bad.new result a }
 {
-    let checked = a.checked;
-    let items = a.ones;
-    let asked = ones_room(ones.len(), checked);
-    show_ones(
-        ones,
-        items,
-        pair_answers::room_for(leak.len(), bad.len(), asked),
-    );
+    let asked = ones_room(ones.len(), a);
+    let told = pair_answers::room_for(leak.len(), bad.len(), asked);
+    show_ones(ones, told, a);
     pair_answers::tell(leak, bad, asked)
 }

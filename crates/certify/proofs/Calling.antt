@@ -1,9 +1,12 @@
 -- From a netlist that was read, and judged, to the certifier's promise.
-use Prim.Native.Nat.{ℕ, ◌/◌, min}
+use Prim.Native.Nat.{ℕ, ◌/◌}
+use Rattle.std.specs.Prelude.{Result, Err}
 use mathlib.Core.Path.{◌≡◌, refl, sym, ap, ◌∙◌, subst}
 use mathlib.Core.Bool.{true}
 use mathlib.Core.List.{List, [], ◌∷◌}
 use lib.ListN.{length, take}
+use Rattle.netlist.specs.declared.Question.{Question}
+use Rattle.netlist.specs.Question.{number_of}
 use Rattle.netlist.specs.declared.Sizes.{Sizes}
 use Rattle.netlist.specs.Netlist.{Netlist, large}
 use Rattle.netlist.specs.Outcome.{Outcome, refused, done, ask, and_then}
@@ -17,9 +20,7 @@ use Rattle.netlist.proofs.Tests.{clash}
 use Rattle.read_header.specs.declared.HeaderNumbers.{HeaderNumbers}
 use Rattle.read_netlist.specs.Whole.{ReadAt}
 use Rattle.check_netlist.specs.Judge.{codes_asked}
-use Rattle.check_pairs.proofs.Calling.{long-three}
-use Rattle.certify_netlist.specs.declared.Certified.{Certified}
-use Rattle.certify_netlist.specs.declared.Certified.TheVariants.{Refused}
+use Rattle.certify_netlist.specs.declared.Verdict.{Verdict}
 use Rattle.certify_netlist.specs.Judge.{Judged, JudgedAs}
 use Rattle.certify.specs.Promise.{codes_for, certify_call, call, Answers}
 
@@ -43,35 +44,30 @@ module _ (s : Sizes) (text codes o r g w b t : List ℕ) where
   abbrev lengths : List ℕ
   lengths = length o ∷ length r ∷ length g ∷ length w ∷ length b ∷ length t / 15 ∷ []
 
-  module _ {m n : ℕ} (two : m ≡ min (length w) (length b)) (shortest : n ≡ min m (length t / 15)) where
-    -- question 1 of all six tables
-    pub all-long : tables_long (large s) (length o ∷ length r ∷ length g ∷ n ∷ []) ≡ tables_long (large s) lengths
-    all-long = long-three (large s) (length o) (length r) (length g) (length w) (length b) (length t / 15) two shortest
+  -- questions 1 to 9 refuse
+  pub answer-not : {q : Question} (leak ones : List ℕ) → ask 1 (tables_long (large s) lengths) (read_netlist (large s) text) ≡ refused (number_of q)
+      → Answers (call s text codes o r g w b t) codes leak leak ones ones (Err q)
+  unfolding certify_call
+  answer-not {q} leak ones p =
+      let e : call s text codes o r g w b t ≡ refused (number_of q) =
+      call-refused (tables_long (large s) lengths) (read_netlist (large s) text) (codes_for codes) p in
+      record { refused = λ k f. (ap {B = Outcome Verdict} refused (same-question (sym e ∙ f)), refl, refl); judged = λ N f. no-netlist (sym e ∙ f) }
 
-    -- questions 1 to 9 refuse
-    pub answer-not : {q : ℕ} (leak ones : List ℕ) → ask 1 (tables_long (large s) (length o ∷ length r ∷ length g ∷ n ∷ [])) (read_netlist (large s) text) ≡ refused q
-        → Answers (call s text codes o r g w b t) codes leak leak ones ones (Refused q)
-    unfolding certify_call
-    answer-not {q} leak ones p =
-        let e : call s text codes o r g w b t ≡ refused q =
-        call-refused (tables_long (large s) lengths) (read_netlist (large s) text) (codes_for codes) (rw all-long at p) in
-        record { refused = λ k f. (ap Refused (same-question (sym e ∙ f)), refl, refl); judged = λ N f. no-netlist (sym e ∙ f) }
-
-    -- or the netlist is judged
-    pub answer-read : {ins outs : List ℕ} {tabs : Tables} {h : HeaderNumbers} {leak leak' ones ones' : List ℕ} {a : Certified}
-        → (tables_long (large s) (length o ∷ length r ∷ length g ∷ n ∷ []) ≡ true) × ReadAt (large s) text ins outs tabs h
-        → ((N : Netlist) → Holds tabs h.gates h.wires h.input_bits h.output_bits N → take h.input_values ins ≡ N.inputs → WellFormed N
-        → JudgedAs N codes leak leak' ones ones' a)
-        → Answers (call s text codes o r g w b t) codes leak leak' ones ones' a
-    unfolding certify_call
-    answer-read {leak = leak} {leak' = leak'} {ones = ones} {ones' = ones'} {a = a} k f =
-        let M = k.1.is in
-        let e : call s text codes o r g w b t ≡ codes_for codes M =
-        call-goes-on (tables_long (large s) lengths) (read_netlist (large s) text) (codes_for codes) (sym all-long ∙ k.0) k.1.read in
-        let J = f M k.1.holds k.1.inputs (accepted (large s) text M k.1.read).formed in
-        record {
-          refused = λ q g. J.refused q (codes-refused (codes_asked M.inputs codes) M q (sym e ∙ g));
-          judged = λ N g.
-              let p = codes-passed (codes_asked M.inputs codes) M N (sym e ∙ g) in
-              subst (λ (X : Netlist). Judged X codes leak leak' ones ones' a) p.1 (J.judged p.0);
-        }
+  -- or the netlist is judged
+  pub answer-read : {ins outs : List ℕ} {tabs : Tables} {h : HeaderNumbers} {leak leak' ones ones' : List ℕ} {a : Result Verdict Question}
+      → (tables_long (large s) lengths ≡ true) × ReadAt (large s) text ins outs tabs h
+      → ((N : Netlist) → Holds tabs h.gates h.wires h.input_bits h.output_bits N → take h.input_values ins ≡ N.inputs → WellFormed N
+      → JudgedAs N codes leak leak' ones ones' a)
+      → Answers (call s text codes o r g w b t) codes leak leak' ones ones' a
+  unfolding certify_call
+  answer-read {leak = leak} {leak' = leak'} {ones = ones} {ones' = ones'} {a = a} k f =
+      let M = k.1.is in
+      let e : call s text codes o r g w b t ≡ codes_for codes M =
+      call-goes-on (tables_long (large s) lengths) (read_netlist (large s) text) (codes_for codes) k.0 k.1.read in
+      let J = f M k.1.holds k.1.inputs (accepted (large s) text M k.1.read).formed in
+      record {
+        refused = λ q g. J.refused q (codes-refused (codes_asked M.inputs codes) M q (sym e ∙ g));
+        judged = λ N g.
+            let p = codes-passed (codes_asked M.inputs codes) M N (sym e ∙ g) in
+            subst (λ (X : Netlist). Judged X codes leak leak' ones ones' a) p.1 (J.judged p.0);
+      }

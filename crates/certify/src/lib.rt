@@ -6,7 +6,7 @@ ghost use Rattle.certify.specs.Promise.{call, Answers, Promise};
 
 use certify_netlist::Certified;
 use netlist::Sizes;
-use read_netlist::read::Reading;
+use read_netlist::read::read;
 
 // The answer, with tables that are still to be cleared.
 fn answer(
@@ -26,26 +26,22 @@ fn answer(
         marks.old words.old base.old records.old) codes.now leak.old
         leak.new ones.old ones.new result }
 {
-    let l = netlist::large(sizes);
+    let l = sizes.large();
     let mut inputs = [0u32; 17];
     let mut outputs = [0u32; 16];
-    let two = checker::shorter(words.len(), base.len());
-    let shortest = checker::shorter(two, records.len() / 15);
-    match read_netlist::read::read(
+    let h = read(
         text,
         &mut inputs,
         &mut outputs,
         operands,
         results,
         marks,
-        shortest,
+        &[words.len(), base.len(), records.len() / 15],
         l,
-    ) {
-        Reading::Refused(question) => Certified::Refused(question),
-        Reading::Done(h) => certify_netlist::judge(
-            h, inputs, codes, leak, ones, operands, results, marks, words, base, records,
-        ),
-    }
+    )?;
+    certify_netlist::judge(
+        h, inputs, codes, leak, ones, operands, results, marks, words, base, records,
+    )
 }
 
 // Whether every wire of the netlist in `text` is clean under the input codes. A leak's four numbers, or the lowest wire not known to be
@@ -71,11 +67,11 @@ pub fn certify(
     let r = answer(
         text, codes, leak, ones, operands, results, marks, words, base, records, sizes,
     );
-    clear::words(operands);
-    clear::words(results);
-    clear::bytes(marks);
-    clear::words(words);
-    clear::words(base);
-    clear::words(records);
+    operands.fill(0);
+    results.fill(0);
+    marks.fill(0);
+    words.fill(0);
+    base.fill(0);
+    records.fill(0);
     r
 }

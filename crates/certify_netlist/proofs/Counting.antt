@@ -6,6 +6,7 @@ use Prim.Native.Nat.{ℕ, zero, suc, ◌+◌, ◌-◌, ◌/◌, ◌^◌, ◌<◌
 use native.Mathlib.Numerals.{add-one}
 use native.Mathlib.Omega.{arith}
 use lib.Dec.{eqb}
+use borrow.Author.Tests.{eq-eqb, ne_eqb}
 use lib.Bits.{bit_and}
 use lib.ListN.{length, length-append}
 use lib.Seq.{sets}
@@ -50,23 +51,22 @@ module _ (f : ℕ → Bool) where
       bit-most false = omega arith
 
 -- one number after another
-pub record Counting (f : ℕ → Bool) (n many i : ℕ) : Type 0 where
-  pub passed : i ≤ n
-  pub counted : many ≡ length (ones_below f i)
+pub counting_more : (f : ℕ → Bool) (i : ℕ) {many k : ℕ} → many ≡ length (ones_below f i) → k ≡ bit (f i) → many + k ≡ length (ones_below f (i + 1))
+counting_more f i c e = let m = ones-more f i in omega (arith, c, e)
 
-pub counting_more : {f : ℕ → Bool} {n many i k : ℕ} → Counting f n many i → i < n → k ≡ bit (f i) → Counting f n (many + k) (i + 1)
-counting_more {f} {i = i} C h e = record { passed = omega arith; counted = let m = ones-more f i in omega (arith, C.counted, e) }
-
-pub record Writing (f : ℕ → Bool) (n : ℕ) (out₀ out : List ℕ) (at i : ℕ) : Type 0 where
-  pub passed : i ≤ n
+pub record Writing (f : ℕ → Bool) (out₀ out : List ℕ) (at i : ℕ) : Type 0 where
   pub place : at ≡ length (ones_below f i)
   pub written : out ≡ sets out₀ 0 (ones_below f i)
-  pub long : length out ≡ length out₀
 
-pub writing_more : {f : ℕ → Bool} {n : ℕ} {out₀ out out' : List ℕ} {at at' i : ℕ} {b : Bool} → Writing f n out₀ out at i → i < n → b ≡ f i
-    → length out' ≡ length out → out' ≡ sets out at (cond b (i ∷ []) []) → at' ≡ at + length {A = ℕ} (cond b (i ∷ []) []) → Writing f n out₀ out' at' (i + 1)
-writing_more {f} {out₀ = out₀} {at = at} {i = i} {b = b} W h e l w p = record {
-  passed = omega arith;
+-- a number that is one has a place
+pub writing-room : (f : ℕ → Bool) {out₀ out : List ℕ} {at i room : ℕ} (n : ℕ) → Writing f out₀ out at i → f i ≡ true → i < n → length (ones_below f n) ≤ room → at < room
+writing-room f {i = i} n W b h l =
+    let o : bit (f i) ≡ 1 = ap bit b in
+    omega (arith, o, W.place, ones-more f i, ones-most f (i + 1) n (omega arith))
+
+pub writing_more : {f : ℕ → Bool} {out₀ out out' : List ℕ} {at at' i : ℕ} (b : Bool) → Writing f out₀ out at i → b ≡ f i
+    → out' ≡ sets out at (cond b (i ∷ []) []) → at' ≡ at + length {A = ℕ} (cond b (i ∷ []) []) → Writing f out₀ out' at' (i + 1)
+writing_more {f} {out₀ = out₀} {at = at} {i = i} b W e w p = record {
   place =
       let m = ones-more f i in
       let q = one-long b i in
@@ -78,13 +78,18 @@ writing_more {f} {out₀ = out₀} {at = at} {i = i} {b = b} W h e l w p = recor
       ∙ ap (λ (k : ℕ). sets (sets out₀ 0 (ones_below f i)) k (cond (f i) (i ∷ []) [])) s
       ∙ sym (sets-append out₀ 0 (ones_below f i) (cond (f i) (i ∷ []) []))
       ∙ ap (λ (k : ℕ). sets out₀ 0 (ones_below f k)) (sym (add-one i));
-  long = l ∙ W.long;
 }
 
 -- the lane of a word, as the code tests it
-pub lane_test : (j n : ℕ) → eqb (bit_and (n / 2 ^ j) 1) 1 ≡ lane j n
+lane_test : (j n : ℕ) → eqb (bit_and (n / 2 ^ j) 1) 1 ≡ lane j n
 lane_test j n = ap (λ (k : ℕ). eqb k 1) (bit-low j n) ∙ go (lane j n)
   where
     go : (b : Bool) → eqb (bit b) 1 ≡ b
     go true = refl
     go false = refl
+
+pub lane-one : (j n : ℕ) → bit_and (n / 2 ^ j) 1 ≡ 1 → lane j n ≡ true
+lane-one j n e = sym (lane_test j n) ∙ eq-eqb (bit_and (n / 2 ^ j) 1) 1 e
+
+pub lane-none : (j n : ℕ) → (bit_and (n / 2 ^ j) 1 ≡ 1 → ⊥) → lane j n ≡ false
+lane-none j n e = sym (lane_test j n) ∙ ne_eqb (bit_and (n / 2 ^ j) 1) 1 e

@@ -1,13 +1,16 @@
 -- What an answer of the certifier's says.
-use Rattle.std.specs.Prelude.{ℕ, ◌<◌, ◌≤◌, Bool, List, [], ◌∷◌, ◌≢◌, ◌⊎◌, ◌≡◌, length}
+use Rattle.std.specs.Prelude.{ℕ, ◌<◌, ◌≤◌, Bool, List, [], ◌∷◌, ◌≢◌, ◌⊎◌, ◌≡◌, length, Result, Ok, Err}
 use Rattle.std.proofs.lemmas.List.Edits.{sets}
 use Rattle.netlist.specs.Netlist.{Netlist}
 use Rattle.netlist.specs.Leak.{count, public_only, EqualCounts}
 use Rattle.netlist.specs.Leak as L
-use Rattle.netlist.specs.Outcome.{refused, done}
+use Rattle.netlist.specs.Outcome.{Outcome, refused, done}
 use Rattle.check_netlist.specs.Judge.{codes_asked}
-use Rattle.certify_netlist.specs.declared.Certified.{Certified}
-use Rattle.certify_netlist.specs.declared.Certified.TheVariants.{Clean, Leak, Unknown, Refused}
+use Rattle.netlist.specs.declared.Question.{Question}
+use Rattle.netlist.specs.Question.{number_of}
+use Rattle.netlist.specs.Services.{stands_for}
+use Rattle.certify_netlist.specs.declared.Verdict.{Verdict}
+use Rattle.certify_netlist.specs.declared.Verdict.TheVariants.{Clean, Leak, Unknown}
 use Rattle.certify_netlist.specs.Ones.{ones_in}
 
 -- a leak: in a setting, a wire has a count that is not that of the setting with the same public bits and zero secrets
@@ -49,13 +52,17 @@ pub record LeakShort (N : Netlist) (codes leak ones : List ℕ) : Type 0 where
 
 -- what an answer says of a netlist under input codes, with both lists before and after: every wire is clean; or a leak is told; or the
 -- lowest wire not known to be clean; or a list is too short for what it is to be told, question 14
-abbrev pub Judged : Netlist → List ℕ → List ℕ → List ℕ → List ℕ → List ℕ → Certified → Type 0
-Judged N codes leak leak' ones ones' Clean = L.Clean N codes × (leak' ≡ leak) × (ones' ≡ ones)
-Judged N codes leak leak' ones ones' Leak = LeakTold N codes leak leak' ones ones'
-Judged N codes leak leak' ones ones' Unknown = UnknownTold N codes leak leak' × (ones' ≡ ones)
-Judged N codes leak leak' ones ones' (Refused q) = (q ≡ 14) × ((length leak < 1) ⊎ LeakShort N codes leak ones) × (leak' ≡ leak) × (ones' ≡ ones)
+abbrev pub Judged : Netlist → List ℕ → List ℕ → List ℕ → List ℕ → List ℕ → Result Verdict Question → Type 0
+Judged N codes leak leak' ones ones' (Ok Clean) = L.Clean N codes × (leak' ≡ leak) × (ones' ≡ ones)
+Judged N codes leak leak' ones ones' (Ok Leak) = LeakTold N codes leak leak' ones ones'
+Judged N codes leak leak' ones ones' (Ok Unknown) = UnknownTold N codes leak leak' × (ones' ≡ ones)
+Judged N codes leak leak' ones ones' (Err q) = (number_of q ≡ 14) × ((length leak < 1) ⊎ LeakShort N codes leak ones) × (leak' ≡ leak) × (ones' ≡ ones)
+
+-- the outcome that an answer stands for
+abbrev pub answered : Result Verdict Question → Outcome Verdict
+answered a = stands_for (λ v. v) a
 
 -- what an answer says with questions 10 and 11: the first that gets a no, with both lists as they were; or the verdict
-pub record JudgedAs (N : Netlist) (codes leak leak' ones ones' : List ℕ) (a : Certified) : Type 0 where
-  pub refused : (q : ℕ) → codes_asked N.inputs codes ≡ refused q → (a ≡ Refused q) × (leak' ≡ leak) × (ones' ≡ ones)
+pub record JudgedAs (N : Netlist) (codes leak leak' ones ones' : List ℕ) (a : Result Verdict Question) : Type 0 where
+  pub refused : (q : ℕ) → codes_asked N.inputs codes ≡ refused q → (answered a ≡ refused q) × (leak' ≡ leak) × (ones' ≡ ones)
   pub judged : codes_asked N.inputs codes ≡ done tt → Judged N codes leak leak' ones ones' a

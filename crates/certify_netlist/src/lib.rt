@@ -1,4 +1,5 @@
-// Questions 10, 11 and 14 of a netlist that was read, and what the certifier says of it.
+// Questions 10, 11 and 14 of a netlist that was read, and what the certifier says of it. The working tables stay parameters of their
+// own: they are lent by C one by one, and a struct of `&mut` slices would have to promise at each call that it still holds them.
 #![tactic(auto)]
 
 mod ones;
@@ -14,46 +15,40 @@ ghost use Rattle.netlist.specs.Leak.{EqualCounts};
 ghost use Rattle.netlist.specs.Read.{WellFormed};
 ghost use Rattle.certify_netlist.specs.Judge.{Judged, JudgedAs};
 
-use check_leak::difference::Difference;
-use check_netlist::Asked;
+use check_leak::difference::Leak;
+use netlist::Question;
 use read_header::HeaderNumbers;
 
-// Every wire is clean; a leak, whose numbers and input bits are told; the lowest wire not known to be clean is told; or the first
-// question that gets a no.
-#[derive(Clone, Copy)]
-pub enum Certified {
+// What the certifier says of a netlist: every wire is clean; or a leak, whose numbers and input bits are told; or the lowest wire not
+// known to be clean is told.
+#[derive(Clone, Copy, Debug, PartialEq, Eq)]
+pub enum Verdict {
     Clean,
     Leak,
     Unknown,
-    Refused(u8),
 }
 
-// A leak is told where both lists have room.
-fn tell_leak(
-    words: &[u64],
-    n: usize,
-    found: Difference,
-    leak: &mut [u64],
-    ones: &mut [u64],
-) -> Certified
-    requires { (n ≤ length words.now) × (found.setting < 16) }
-    ensures { (N : Netlist) (codes : List ℕ) → n ≡ length codes → found.wire < N.wires → Witness N codes words.now found
+// The verdict, or the first question that gets a no.
+pub type Certified = Result<Verdict, Question>;
+
+// A leak is told where both lists have room; `inputs` has the words of the input bits.
+fn tell_leak(inputs: &[u64], found: Leak, leak: &mut [u64], ones: &mut [u64]) -> Certified
+    requires { found.setting < 16 }
+    ensures { (N : Netlist) (codes words : List ℕ) → inputs.now ≡ take (length codes) words → length codes ≤ length words
+        → found.wire < N.wires → Witness N codes words found
         → Judged N codes leak.old leak.new ones.old ones.new result }
 {
     let place = 4 * found.setting;
-    let many = ones::count(words, n, place);
-    if leak.len() < 4 {
-        return Certified::Refused(14);
-    }
-    if ones.len() < many {
-        return Certified::Refused(14);
+    let many = ones::count(inputs, place);
+    if leak.len() < 4 || ones.len() < many {
+        return Err(Question::Room);
     }
     leak[0] = found.wire as u64;
     leak[1] = many as u64;
-    leak[2] = found.base as u64;
-    leak[3] = found.count as u64;
-    ones::write(words, n, place, ones);
-    Certified::Leak
+    leak[2] = u64::from(found.base);
+    leak[3] = u64::from(found.own);
+    ones::write(inputs, place, ones);
+    Ok(Verdict::Leak)
 }
 
 // The lowest wire not known to be clean is told where the list has room.
@@ -62,10 +57,10 @@ fn tell_unknown(wire: usize, leak: &mut [u64]) -> Certified
         → Judged N codes leak.old leak.new ones ones result }
 {
     if leak.len() < 1 {
-        return Certified::Refused(14);
+        return Err(Question::Room);
     }
     leak[0] = wire as u64;
-    Certified::Unknown
+    Ok(Verdict::Unknown)
 }
 
 // A witness is looked for, where a wire is not known to be clean.
@@ -86,17 +81,14 @@ fn witness(
         o N → Masked N codes.now → ((w : ℕ) → w < sure → EqualCounts N codes.now w)
         → Judged N codes.now leak.old leak.new ones.old ones.new result }
 {
-    let found = certify_search::search::search(operands, results, count, codes, words, base);
-    if found.wire < words.len() {
-        if found.setting < 16 {
-            return tell_leak(words, codes.len(), found, leak, ones);
-        }
+    match certify_search::search::search(operands, results, count, codes, words, base) {
+        Some(found) => tell_leak(&words[..codes.len()], found, leak, ones),
+        None => tell_unknown(sure, leak),
     }
-    tell_unknown(sure, leak)
 }
 
 // What the certifier says of `count` gates over `wires` wires.
-fn verdict(
+fn decide(
     count: usize,
     wires: usize,
     codes: &[u8],
@@ -126,7 +118,7 @@ fn verdict(
         &mut words[..wires],
     );
     if wires <= sure {
-        return Certified::Clean;
+        return Ok(Verdict::Clean);
     }
     witness(
         count,
@@ -164,20 +156,18 @@ pub fn judge(
         → take h.input_values widths ≡ N.inputs → WellFormed N
         → JudgedAs N codes.now leak.old leak.new ones.old ones.new result }
 {
-    match check_netlist::ask_codes(h, widths, codes) {
-        Asked::Refused(question) => Certified::Refused(question),
-        Asked::Passed => verdict(
-            h.gates as usize,
-            h.wires as usize,
-            codes,
-            leak,
-            ones,
-            operands,
-            results,
-            marks,
-            words,
-            base,
-            records,
-        ),
-    }
+    check_netlist::ask_codes(h, widths, codes)?;
+    decide(
+        h.gates as usize,
+        h.wires as usize,
+        codes,
+        leak,
+        ones,
+        operands,
+        results,
+        marks,
+        words,
+        base,
+        records,
+    )
 }

@@ -2,7 +2,7 @@
 use mathlib.Core.Path.{◌≡◌, refl, sym, ap, ap₂, ◌∙◌}
 use mathlib.Core.Bool.{Bool, true, false, cond, ◌&&◌}
 use mathlib.Core.List.{List}
-use Prim.Native.Nat.{ℕ, suc, ◌+◌, ◌*◌, ◌<◌, ◌≤◌}
+use Prim.Native.Nat.{ℕ, suc, ◌+◌, ◌*◌, ◌<◌}
 use native.Mathlib.Omega.{arith}
 use lib.Dec.{eqb}
 use lib.Bits.{bit_xor}
@@ -17,10 +17,9 @@ use Rattle.netlist.proofs.Settings.{public_only-at}
 use Rattle.evaluate.specs.Lane.{lane}
 use Rattle.evaluate.proofs.Lanes.{lane_xor}
 use Rattle.check_counts.proofs.Inputs.{masked-long, masked-at, masked-m0, masked-m1}
-use Rattle.certify_records.specs.Record.{no_atom}
-use Rattle.certify_records.proofs.Records.{rec}
+use Rattle.certify_records.specs.Record.{no_atom, over}
 use Rattle.certify_wires.specs.Known.{bit_of, atom_bit, Known, Open}
-use Rattle.certify_pass.specs.Pass.{Holding, Masked, InputStep}
+use Rattle.certify_pass.specs.Pass.{Masked}
 use Rattle.certify_pass.proofs.Steps.{own-atoms}
 
 pub no-mask : (e : ℕ) → mask_of false false e ≡ false
@@ -68,7 +67,7 @@ module _ {N : Netlist} {codes : List ℕ} (M : Masked N codes) where
         ins-bit (length codes + 1) (omega arith) ∙ ap (λ (k : ℕ). get_or (masked m0 m1 codes x) k false) e ∙ masked-m1 m0 m1 codes x
 
   pub input-known : (i t e : ℕ) → i < 268435456 → i < length codes → get_or codes i 0 ≡ e → MaskIs t e
-      → Known N codes i (rec (bit_xor t 0xf0f0_f0f0_f0f0_f0f0) (8 * i) no_atom no_atom no_atom)
+      → Known N codes i (over (bit_xor t 0xf0f0_f0f0_f0f0_f0f0) (8 * i))
   input-known i t e small inside code m = record {
     right = λ x. record {
       each = λ l h at.
@@ -86,10 +85,10 @@ module _ {N : Netlist} {codes : List ℕ} (M : Masked N codes) where
     };
   }
 
-  pub first-known : (t : ℕ) → MaskIs t 1 → Known N codes (length codes) (rec t no_atom no_atom no_atom no_atom)
+  pub first-known : (t : ℕ) → MaskIs t 1 → Known N codes (length codes) (over t no_atom)
   first-known t m = record { right = λ x. record { each = λ l h at. mask-place t 1 m l h ∙ sym (first_bit x (lane 0 l) (lane 1 l)) } }
 
-  pub second-known : (t : ℕ) → MaskIs t 2 → Known N codes (length codes + 1) (rec t no_atom no_atom no_atom no_atom)
+  pub second-known : (t : ℕ) → MaskIs t 2 → Known N codes (length codes + 1) (over t no_atom)
   second-known t m = record { right = λ x. record { each = λ l h at. mask-place t 2 m l h ∙ sym (second-bit x (lane 0 l) (lane 1 l)) } }
 
   -- a public input bit arrives unmasked
@@ -101,22 +100,3 @@ module _ {N : Netlist} {codes : List ℕ} (M : Masked N codes) where
         let s : get_or x i false ≡ get_or y i false = sym (at x) ∙ ap (λ (z : List Bool). get_or z i false) P.public ∙ at y in
         input-bit x m0 m1 i h ∙ ap (λ (b : Bool). differs b (mask_of m0 m1 (get_or codes i 0))) s ∙ sym (input-bit y m0 m1 i h);
   }
-
--- the first i input wires are laid
-pub record Laying (codes r₀ m₀ r m : List ℕ) (i : ℕ) : Type 0 where
-  pub passed : i ≤ length codes
-  pub records : length r ≡ length r₀
-  pub marks : length m ≡ length m₀
-  pub holds : (N : Netlist) → Masked N codes → Holding N codes r₀ m₀ → Holding N codes r m
-
-pub laying-none : (codes r₀ m₀ : List ℕ) → Laying codes r₀ m₀ r₀ m₀ 0
-laying-none codes r₀ m₀ = record { passed = omega arith; records = refl; marks = refl; holds = λ N M H. H }
-
-pub laying-more : {codes r₀ m₀ r m r' m' : List ℕ} {i : ℕ} → Laying codes r₀ m₀ r m i → i < length codes → length r' ≡ length r → length m' ≡ length m
-    → InputStep i (get_or codes i 0) r m r' m' → Laying codes r₀ m₀ r' m' (i + 1)
-laying-more {codes} P h lr lm s = record {
-  passed = omega arith;
-  records = lr ∙ P.records;
-  marks = lm ∙ P.marks;
-  holds = λ N M H. s.holds N codes M h refl (P.holds N M H);
-}

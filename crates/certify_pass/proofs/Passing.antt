@@ -1,27 +1,24 @@
 -- The pass, gate by gate.
 use mathlib.Core.Path.{◌≡◌, refl, sym, ap, ◌∙◌, subst}
-use mathlib.Core.Bool.{Bool, true}
+use mathlib.Core.Bool.{Bool}
 use mathlib.Core.List.{List}
-use Prim.Native.Nat.{ℕ, zero, suc, ◌+◌, ◌*◌, ◌/◌, ◌%◌, ◌<◌, ◌≤◌}
+use Prim.Native.Nat.{ℕ, zero, suc, ◌+◌, ◌*◌, ◌/◌, ◌%◌, ◌<◌}
 use native.Mathlib.Omega.{arith}
 use lib.Dec.{eqb}
-use lib.ListN.{length, get_or, replicate}
+use lib.ListN.{get_or, replicate}
 use borrow.Author.Tests.{eqb-true, eqb-false}
 use Rattle.netlist.specs.declared.Gate.{Gate}
 use Rattle.netlist.specs.Netlist.{Netlist, result}
 use Rattle.netlist.specs.Eval.{made, bits_at, wire_bits}
-use lib.Bits.{bit_and}
-use Rattle.netlist.specs.Leak.{masked, bit}
+use Rattle.netlist.specs.Leak.{masked}
 use Rattle.evaluate.specs.Lane.{lane}
-use Rattle.evaluate.proofs.Lanes.{bit-first}
-use Rattle.netlist.specs.Table.{Tables, gate_at, gates_of, half, Wired, Holds}
+use Rattle.netlist.specs.Table.{Tables, gate_at, gates_of, half, Holds}
 use Rattle.netlist.proofs.Models.{Models, bits-satisfy}
 use Rattle.netlist.proofs.Tests.{on_bool, All, all_head, all_split}
 use Rattle.evaluate.proofs.Steps.{by_kind}
-use Rattle.gate_table.specs.declared.Parts.{Parts}
-use Rattle.gate_table.specs.Parts.{parts_of, Within}
+use Rattle.gate_table.specs.Parts.{parts_of}
 use Rattle.certify_records.proofs.Evens.{no}
-use Rattle.certify_pass.specs.Pass.{Holding, Masked, GateMakes, GateStep}
+use Rattle.certify_pass.specs.Pass.{Holding, Masked, GateMakes}
 
 -- what holds of all gates holds of each
 gate-of : {P : Gate → Type 0} (t : Tables) (n i : ℕ) → All P (gates_of t n) → i < n → P (gate_at t i)
@@ -45,46 +42,6 @@ gate-makes {t} {m} {N = N} {codes = codes} i H M h = record {
       by_kind (λ (g : Gate) (v : Bool). u (result g) ≡ made u g → u (b % half) ≡ v) u (b / half) (a % half) (a / half) (b % half)
       (λ g e s. ap u (sym e) ∙ s) g;
 }
-
--- the first i gates are done
-pub record Passed (t : Tables) (m W : ℕ) (r₀ m₀ h₀ r m' h : List ℕ) (i : ℕ) : Type 0 where
-  pub passed : i ≤ m
-  pub records : length r ≡ length r₀
-  pub marks : length m' ≡ length m₀
-  pub hints : length h ≡ length h₀
-  pub holds : (n o : ℕ) (N : Netlist) (codes : List ℕ) → Holds t m W n o N → Masked N codes → Holding N codes r₀ m₀ → Holding N codes r m'
-
-pub passed_none : (t : Tables) (m W : ℕ) (r₀ m₀ h₀ : List ℕ) → Passed t m W r₀ m₀ h₀ r₀ m₀ h₀ 0
-passed_none t m W r₀ m₀ h₀ = record { passed = omega arith; records = refl; marks = refl; hints = refl; holds = λ n o N codes H M S. S }
-
-pub passed-more : {t : Tables} {m W : ℕ} {r₀ m₀ h₀ r m' h r'' m'' h'' : List ℕ} {i : ℕ} {g : Parts} → Passed t m W r₀ m₀ h₀ r m' h i → i < m → length r'' ≡ length r
-    → length m'' ≡ length m' → length h'' ≡ length h → g ≡ parts_of (get_or t.operands i 0) (get_or t.results i 0) → GateStep g r m' r'' m''
-    → Passed t m W r₀ m₀ h₀ r'' m'' h'' (i + 1)
-passed-more {i = i} P q lr lm lh e s = record {
-  passed = omega arith;
-  records = lr ∙ P.records;
-  marks = lm ∙ P.marks;
-  hints = lh ∙ P.hints;
-  holds = λ n o N codes H M S. s.holds N codes (subst (GateMakes N codes) (sym e) (gate-makes i H M q)) (P.holds n o N codes H M S);
-}
-
--- a gate's wires
-pub gate-within : {t : Tables} {W n : ℕ} {g : Parts} (k : ℕ) (i : ℕ) → Wired t W n → i < n → g ≡ parts_of (get_or t.operands i 0) (get_or t.results i 0) → 15 * W ≤ k
-    → Within (k / 15) g × (g.result < W)
-gate-within {t} {W} {n} {g} k i H h e l =
-    let N = H.each i h in
-    let f : W ≤ k / 15 = omega arith in
-    subst (λ (p : Parts). Within (k / 15) p × (p.result < W)) (sym e)
-    (record { kind = N.kind; left = omega (arith, N.left); right = omega (arith, N.right); result = omega (arith, N.result) }, N.result)
-
--- a wire whose lowest bit is set
-pub bit-set : (n : ℕ) → (bit_and n 1 ≡ 0 → ⊥) → lane 0 n ≡ true
-bit-set n h = on_bool (lane 0 n) (λ e. e) (λ e. absurd (h (bit-first n ∙ ap bit e)))
-
--- wires below w are marked clean
-pub record Sure (marks : List ℕ) (w : ℕ) : Type 0 where
-  pub passed : w ≤ length marks
-  pub each : (k : ℕ) → k < w → lane 0 (get_or marks k 0) ≡ true
 
 -- in zero tables no record stands, and no wire is marked
 zeros-at : (k i : ℕ) → ◌≡◌ {A = ℕ} (get_or {A = ℕ} (replicate k 0) i 0) 0

@@ -1,5 +1,5 @@
 -- What is known of a gate's result.
-use mathlib.Core.Path.{◌≡◌, refl, sym, ap, ◌∙◌, subst}
+use mathlib.Core.Path.{◌≡◌, sym, ap, ◌∙◌, subst}
 use mathlib.Core.Bool.{Bool, true, false}
 use mathlib.Core.List.{List}
 use mathlib.Core.Logic.{◌≢◌}
@@ -17,18 +17,17 @@ use Rattle.netlist.proofs.Codes.{below_at, every_bit, every_bit-at, same, same-e
 use Rattle.netlist.proofs.Tests.{on_bool}
 use Rattle.evaluate.specs.Lane.{lane}
 use Rattle.check_counts.proofs.Numbers.{low-lane}
-use Rattle.gate_table.specs.declared.Parts.{Parts}
-use Rattle.gate_table.specs.Parts.{Within}
 use Rattle.certify_records.specs.declared.Record.{Record}
-use Rattle.certify_records.specs.declared.Joined.{Joined}
-use Rattle.certify_records.specs.declared.Joined.TheVariants.{One, None}
+use Rattle.std.specs.Prelude.{Some}
 use Rattle.certify_records.specs.Record.{JoinIs}
 use Rattle.certify_records.specs.Leaf.{Own, LeafIs}
 use Rattle.certify_records.proofs.Evens.{no}
 use Rattle.certify_wires.specs.Known.{bit_of, atom_bit, Known, Open, Makes}
 use Rattle.certify_wires.specs.Store.{record_at, Present, PutAt, Recorded, Marked}
 use Rattle.certify_wires.proofs.Stores.{known_at, wire-of, recorded-put}
-use Rattle.certify_pass.specs.Pass.{Holding, KnownIf, GateMakes}
+use Rattle.certify_pass.specs.declared.gate.Shown.{Shown}
+use Rattle.certify_pass.specs.declared.gate.Shown.TheVariants.{Clean, Public}
+use Rattle.certify_pass.specs.Pass.{byte_of, Shows, Holding}
 
 -- a public wire has equal counts
 pub open-equal : {N : Netlist} {codes : List ℕ} {w : ℕ} → Open N codes w → EqualCounts N codes w
@@ -61,19 +60,14 @@ module _ {N : Netlist} {codes m : List ℕ} {w : ℕ} (v : ℕ) (M : Marked N co
       there : (k : ℕ) → k ≢ w → get_or (set m w v) k 0 ≡ get_or m k 0
       there k n = get_or-set_other m w k v 0 n
 
-  pub marked-clean : v ≡ 1 → EqualCounts N codes w → Marked N codes (set m w v)
-  marked-clean e c = marked-as (λ h. c) (λ h. no (ap (lane 1) (sym e) ∙ h))
-
-  pub marked-public : v ≡ 3 → Open N codes w → Marked N codes (set m w v)
-  marked-public e o = marked-as (λ h. open-equal o) (λ h. o)
+pub marked : {N : Netlist} {codes m : List ℕ} {w : ℕ} (k : Shown) → w < length m → Shows N codes w k → Marked N codes m → Marked N codes (set m w (byte_of k))
+marked Clean h s M = marked-as 1 M h (λ e. s) (λ e. no e)
+marked Public h s M = marked-as 3 M h (λ e. open-equal s) (λ e. s)
 
 -- a record that was read, or made
 pub read_known : {N : Netlist} {codes t : List ℕ} (w k : ℕ) {r : Record} → k < 5 → Recorded N codes t → r ≡ record_at t (5 * w + k) → Present r
     → Known N codes w r
 read_known {N} {codes} w k {r} h R e p = subst (λ (n : ℕ). Known N codes n r) (wire-of w k h) (known_at (5 * w + k) R e p)
-
-pub known-if : {N : Netlist} {codes : List ℕ} {w : ℕ} (o : Joined) {r : Record} → o ≡ One r → KnownIf N codes w o → Known N codes w r
-known-if {N} {codes} {w} o e K = subst (KnownIf N codes w) e K
 
 pub put-leaf : {N : Netlist} {codes e x : List ℕ} {w : ℕ} {r : Record} → PutAt e (5 * w) r x → Recorded N codes e → Known N codes w r → Recorded N codes x
 put-leaf {N} {codes} {w = w} {r = r} P R K =
@@ -81,15 +75,14 @@ put-leaf {N} {codes} {w = w} {r = r} P R K =
     recorded-put P R (subst (λ (n : ℕ). Known N codes n r) f K)
 
 -- a record of what a gate makes
-pub joined-known : {N : Netlist} {codes : List ℕ} (kind p q w : ℕ) {x y : Record} (z : Joined) → JoinIs kind x y z → Makes N codes kind p q w
-    → Known N codes p x → Known N codes q y → KnownIf N codes w z
-joined-known {N} {codes} kind p q w (One z) J M X Y = record {
+pub joined-known : {N : Netlist} {codes : List ℕ} (kind p q w : ℕ) {x y z : Record} → JoinIs kind x y (Some z) → Makes N codes kind p q w
+    → Known N codes p x → Known N codes q y → Known N codes w z
+joined-known {N} {codes} kind p q w J M X Y = record {
   right = λ s. record {
     each = λ l h at.
         (J (atom_bit N codes s) (bit_of N codes s p) (bit_of N codes s q) (X.right s) (Y.right s)).each l h at ∙ sym (M.bit s (lane 0 l) (lane 1 l));
   };
 }
-joined-known kind p q w None J M X Y = tt
 
 -- a wire's own atoms
 own-bit : (m : ℕ) → m < 4 → (p : Bool) → (lane 0 (2 * m + bit p) ≡ p) × (lane 1 (2 * m + bit p) ≡ lane 0 m) × (lane 2 (2 * m + bit p) ≡ lane 1 m)
@@ -121,57 +114,9 @@ own-atoms N codes s w = record {
       λ i. differs (bit_of N codes s (f i) (l1 i) (l2 i)) (l0 i);
 }
 
-pub leaf-known : {N : Netlist} {codes : List ℕ} (w : ℕ) {r : Record} (s : Joined) → LeafIs w r s → Known N codes w r → KnownIf N codes w s
-leaf-known {N} {codes} w (One s) L K = record { right = λ x. L (atom_bit N codes x) (bit_of N codes x w) (own-atoms N codes x w) (K.right x) }
-leaf-known w None L K = tt
+pub leaf-known : {N : Netlist} {codes : List ℕ} (w : ℕ) {r s : Record} → LeafIs w r (Some s) → Known N codes w r → Known N codes w s
+leaf-known {N} {codes} w L K = record { right = λ x. L (atom_bit N codes x) (bit_of N codes x w) (own-atoms N codes x w) (K.right x) }
 
--- pairs of records, one after another, where P holds
-pub record Pairing (P : Netlist → List ℕ → Type 0) (r m r' m' : List ℕ) (n : ℕ) : Type 0 where
-  pub passed : n ≤ 5
-  pub records : length r' ≡ length r
-  pub marks : length m' ≡ length m
-  pub holds : (N : Netlist) (codes : List ℕ) → P N codes → Holding N codes r m → Holding N codes r' m'
-
-pub pairing-none : {P : Netlist → List ℕ → Type 0} (r m : List ℕ) → Pairing P r m r m 0
-pairing-none r m = record { passed = omega arith; records = refl; marks = refl; holds = λ N codes p H. H }
-
-pub pairing-more : {P : Netlist → List ℕ → Type 0} {r m r' m' r'' m'' : List ℕ} {n : ℕ} → Pairing P r m r' m' n → n < 5 → length r'' ≡ length r'
-    → length m'' ≡ length m' → ((N : Netlist) (codes : List ℕ) → P N codes → Holding N codes r' m' → Holding N codes r'' m'')
-    → Pairing P r m r'' m'' (n + 1)
-pairing-more A h lr lm f = record {
-  passed = omega arith;
-  records = lr ∙ A.records;
-  marks = lm ∙ A.marks;
-  holds = λ N codes p H. f N codes p (A.holds N codes p H);
-}
-
--- a gate, and what is known of a record of its left operand
-abbrev pub Beside : Parts → Record → Netlist → List ℕ → Type 0
-Beside g x N codes = GateMakes N codes g × Known N codes g.left x
-
--- kept records tried for a leaf, one after another
+-- what is true of a netlist stays so
 abbrev pub Stays : List ℕ → List ℕ → List ℕ → List ℕ → Type 0
 Stays r m r' m' = (N : Netlist) (codes : List ℕ) → Holding N codes r m → Holding N codes r' m'
-
-pub record Settling (r m h r' m' h' : List ℕ) (k : ℕ) : Type 0 where
-  pub passed : k ≤ 5
-  pub records : length r' ≡ length r
-  pub marks : length m' ≡ length m
-  pub hints : length h' ≡ length h
-  pub stays : Stays r m r' m'
-
-pub settling-none : (r m h : List ℕ) → Settling r m h r m h 1
-settling-none r m h = record { passed = omega arith; records = refl; marks = refl; hints = refl; stays = λ N codes H. H }
-
-pub settling-more : {r m h r' m' h' : List ℕ} (r'' m'' h'' : List ℕ) {k : ℕ} → Settling r m h r' m' h' k → k < 5 → length r'' ≡ length r' → length m'' ≡ length m'
-    → length h'' ≡ length h' → Stays r' m' r'' m'' → Settling r m h r'' m'' h'' (k + 1)
-settling-more r'' m'' h'' P q lr lm lh s = record {
-  passed = omega arith;
-  records = lr ∙ P.records;
-  marks = lm ∙ P.marks;
-  hints = lh ∙ P.hints;
-  stays = λ N codes H. s N codes (P.stays N codes H);
-}
-
-pub within-as : {W U : ℕ} {g : Parts} → U ≡ W → Within W g → Within U g
-within-as {g = g} e h = subst (λ (n : ℕ). Within n g) (sym e) h

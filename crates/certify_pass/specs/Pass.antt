@@ -1,13 +1,24 @@
 -- What a pass over the gates keeps.
-use Rattle.std.specs.Prelude.{ℕ, ◌+◌, ◌<◌, List, ◌≡◌, length, get_or}
+use Rattle.std.specs.Prelude.{ℕ, ◌+◌, ◌<◌, List, ◌≡◌, length, get_or, Option, Some, None}
 use Rattle.netlist.specs.Netlist.{Netlist, input_bits}
 use Rattle.netlist.specs.Read.{WellFormed}
+use Rattle.netlist.specs.Leak.{EqualCounts}
 use Rattle.gate_table.specs.declared.Parts.{Parts}
 use Rattle.certify_records.specs.declared.Record.{Record}
-use Rattle.certify_records.specs.declared.Joined.{Joined}
-use Rattle.certify_records.specs.declared.Joined.TheVariants.{One, None}
-use Rattle.certify_wires.specs.Known.{Known, Makes}
+use Rattle.certify_wires.specs.Known.{Known, Open, Makes}
 use Rattle.certify_wires.specs.Store.{Recorded, Marked}
+use Rattle.certify_pass.specs.declared.gate.Shown.{Shown}
+use Rattle.certify_pass.specs.declared.gate.Shown.TheVariants.{Clean, Public}
+
+-- the byte of a mark
+abbrev pub byte_of : Shown → ℕ
+byte_of Clean = 1
+byte_of Public = 3
+
+-- what a mark says of a wire
+abbrev pub Shows : Netlist → List ℕ → ℕ → Shown → Type 0
+Shows N codes w Clean = EqualCounts N codes w
+Shows N codes w Public = Open N codes w
 
 -- both tables hold what is true of a netlist
 pub record Holding (N : Netlist) (codes records marks : List ℕ) : Type 0 where
@@ -15,8 +26,8 @@ pub record Holding (N : Netlist) (codes records marks : List ℕ) : Type 0 where
   pub marked : Marked N codes marks
 
 -- a record is right for a wire, if there is one
-abbrev pub KnownIf : Netlist → List ℕ → ℕ → Joined → Type 0
-KnownIf N codes w (One r) = Known N codes w r
+abbrev pub KnownIf : Netlist → List ℕ → ℕ → Option Record → Type 0
+KnownIf N codes w (Some r) = Known N codes w r
 KnownIf N codes w None = Unit
 
 -- a gate's result is what it makes of its operands

@@ -1,25 +1,37 @@
 // The records and the mark of a gate's result.
 ghost use Rattle.std.specs.Prelude.{◌≡◌, List, ℕ, ◌+◌, ◌*◌, ◌/◌, ◌<◌, ◌≤◌, length};
 ghost use Rattle.netlist.specs.Netlist.{Netlist};
-ghost use Rattle.netlist.specs.Leak.{EqualCounts};
 ghost use Rattle.gate_table.specs.Parts.{Within};
-ghost use Rattle.certify_wires.specs.Known.{Known, Open};
+ghost use Rattle.certify_wires.specs.Known.{Known};
 ghost use Rattle.certify_wires.specs.Store.{Recorded, Marked};
-ghost use Rattle.certify_pass.specs.Pass.{Holding, KnownIf, GateStep, PairStep};
+ghost use Rattle.certify_pass.specs.Pass.{byte_of, Shows, Holding, KnownIf, GateStep, PairStep};
 
-use certify_records::{Joined, Record, leaf};
+use certify_records::{Record, leaf};
 use certify_wires::{hints, keep, marks, store};
 use gate_table::Parts;
 
-// A wire is marked clean, or public and so clean.
-pub fn mark(marks: &mut [u8], w: usize, value: u8)
+// What a wire is marked as: clean, or public and so clean.
+#[derive(Clone, Copy)]
+pub enum Shown {
+    Clean = 1,
+    Public = 3,
+}
+
+impl Shown {
+    // Its byte.
+    fn byte(self) -> u8
+        ensures { result ≡ byte_of self }
+    {
+        self as u8
+    }
+}
+
+// Wire w is marked.
+pub fn mark(marks: &mut [u8], w: usize, m: Shown)
     requires { w < length marks.old }
-    ensures { (value ≡ 1 → (N : Netlist) (codes : List ℕ) → EqualCounts N codes w → Marked N codes marks.old
-        → Marked N codes marks.new)
-        × (value ≡ 3 → (N : Netlist) (codes : List ℕ) → Open N codes w → Marked N codes marks.old
-        → Marked N codes marks.new) }
+    ensures { (N : Netlist) (codes : List ℕ) → Shows N codes w m → Marked N codes marks.old → Marked N codes marks.new }
 {
-    marks[w] = value;
+    marks[w] = m.byte();
 }
 
 // A record of wire w is kept, and may show that it is clean.
@@ -33,7 +45,7 @@ fn add(records: &mut [u64], marks: &mut [u8], w: usize, r: Record)
         return;
     }
     if marks::clean(marks, r) {
-        mark(marks, w, 1);
+        mark(marks, w, Shown::Clean);
     }
 }
 
@@ -42,13 +54,11 @@ fn pair(records: &mut [u64], marks: &mut [u8], gate: Parts, x: Record, j: usize)
     requires { Within (length records.old / 15) gate × (j < 5) × (gate.result < length marks.old) }
     ensures { PairStep gate x records.old marks.old records.new marks.new }
 {
-    let y = store::get(records, 5 * gate.right + j);
-    if !store::present(y) {
+    let Some(y) = store::get(records, 5 * gate.right + j) else {
         return;
-    }
-    match certify_records::combine(gate.kind, x, y) {
-        Joined::None => {}
-        Joined::One(r) => add(records, marks, gate.result, r),
+    };
+    if let Some(r) = certify_records::combine(gate.kind, x, y) {
+        add(records, marks, gate.result, r);
     }
 }
 
@@ -57,10 +67,8 @@ fn row(records: &mut [u64], marks: &mut [u8], gate: Parts, x: Record)
     requires { Within (length records.old / 15) gate × (gate.result < length marks.old) }
     ensures { PairStep gate x records.old marks.old records.new marks.new }
 {
-    let mut j = 0;
-    while j < 5 {
+    for j in 0..5 {
         pair(records, marks, gate, x, j);
-        j += 1;
     }
 }
 
@@ -69,15 +77,14 @@ fn pairs_of(records: &mut [u64], marks: &mut [u8], gate: Parts, i: usize)
     requires { Within (length records.old / 15) gate × (i < 5) × (gate.result < length marks.old) }
     ensures { GateStep gate records.old marks.old records.new marks.new }
 {
-    let x = store::get(records, 5 * gate.left + i);
-    if !store::present(x) {
+    let Some(x) = store::get(records, 5 * gate.left + i) else {
         return;
-    }
+    };
     if gate.left == gate.right {
         pair(records, marks, gate, x, i);
-        return;
+    } else {
+        row(records, marks, gate, x);
     }
-    row(records, marks, gate, x);
 }
 
 // All pairs of the operands' records.
@@ -85,47 +92,40 @@ fn pairs(records: &mut [u64], marks: &mut [u8], gate: Parts)
     requires { Within (length records.old / 15) gate × (gate.result < length marks.old) }
     ensures { GateStep gate records.old marks.old records.new marks.new }
 {
-    let mut i = 0;
-    while i < 5 {
+    for i in 0..5 {
         pairs_of(records, marks, gate, i);
-        i += 1;
     }
 }
 
 // A record of at most one atom that the k-th record of wire w gives.
-fn leaf_of(records: &[u64], hints: &mut [u64], w: usize, k: usize, r: Record) -> Joined
+fn leaf_of(records: &[u64], hints: &mut [u64], w: usize, k: usize, r: Record) -> Option<Record>
     requires { (15 * w + 15 ≤ length records.now) × (k < 5) }
     ensures { (N : Netlist) (codes : List ℕ) → Recorded N codes records.now → Known N codes w r → KnownIf N codes w result }
 {
     if keep::atoms(r) <= 1 {
-        return Joined::One(r);
+        return Some(r);
     }
-    match leaf::leaf(r, w) {
-        Joined::None => Joined::None,
-        Joined::One(s) => Joined::One(hints::hinted(records, hints, w, k, r, s)),
-    }
+    let s = leaf::leaf(r, w)?;
+    Some(hints::hinted(records, hints, w, k, r, s))
 }
 
-// A leaf from the k-th kept record of wire w, if it gives one; the wire may be public.
+// A leaf from the k-th kept record of wire w, if it gives one; the wire may be public. Returns whether no further record is tried.
 fn settle(records: &mut [u64], marks: &mut [u8], hints: &mut [u64], w: usize, k: usize) -> bool
     requires { (15 * w + 15 ≤ length records.old) × (w < length marks.old) × (k < 5) }
     ensures { (N : Netlist) (codes : List ℕ) → Holding N codes records.old marks.old
         → Holding N codes records.new marks.new }
 {
-    let r = store::get(records, 5 * w + k);
-    if !store::present(r) {
+    let Some(r) = store::get(records, 5 * w + k) else {
         return true;
+    };
+    let Some(s) = leaf_of(records, hints, w, k, r) else {
+        return false;
+    };
+    store::put(records, 5 * w, s);
+    if marks::public(marks, r) {
+        mark(marks, w, Shown::Public);
     }
-    match leaf_of(records, hints, w, k, r) {
-        Joined::None => false,
-        Joined::One(s) => {
-            store::put(records, 5 * w, s);
-            if marks::public(marks, r) {
-                mark(marks, w, 3);
-            }
-            true
-        }
-    }
+    true
 }
 
 // The leaf of wire w, from the first of its records that gives one.
@@ -134,12 +134,10 @@ fn leaves(records: &mut [u64], marks: &mut [u8], hints: &mut [u64], w: usize)
     ensures { (N : Netlist) (codes : List ℕ) → Holding N codes records.old marks.old
         → Holding N codes records.new marks.new }
 {
-    let mut k = 1;
-    while k < 5 {
+    for k in 1..5 {
         if settle(records, marks, hints, w, k) {
             return;
         }
-        k += 1;
     }
 }
 

@@ -4,31 +4,22 @@ ghost use Rattle.netlist.specs.Netlist.{Netlist};
 ghost use Rattle.certify_wires.specs.Known.{Known};
 ghost use Rattle.certify_pass.specs.Pass.{Holding, Masked, KnownIf, InputStep};
 
-use crate::gate;
-use certify_records::{Joined, NO_ATOM, Record};
+use crate::gate::{self, Shown};
+use certify_records::{MOST_WIRES, NO_ATOM, Record};
 use certify_wires::{marks, store};
 use check_counts::load;
 
 // Bit 2 of each place: the first atom.
 const FIRST: u64 = 0xf0f0_f0f0_f0f0_f0f0;
 
-// The most wires that have atoms.
-const MOST_WIRES: usize = 0x1000_0000;
-
 // The record of input wire i, over its own bit.
-fn input_record(i: usize, code: u8) -> Joined
+fn input_record(i: usize, code: u8) -> Option<Record>
     ensures { (N : Netlist) (codes : List ℕ) → Masked N codes → i < length codes → get_or codes i 0 ≡ code → KnownIf N codes i result }
 {
     if MOST_WIRES <= i {
-        return Joined::None;
+        return None;
     }
-    Joined::One(Record {
-        table: load::mask(code) ^ FIRST,
-        first: 8 * i as u32,
-        second: NO_ATOM,
-        third: NO_ATOM,
-        fourth: NO_ATOM,
-    })
+    Some(Record::over(load::mask(code) ^ FIRST, 8 * i as u32))
 }
 
 // The record of a mask wire: code 1 is m0, 2 is m1.
@@ -36,13 +27,7 @@ fn mask_record(code: u8) -> Record
     ensures { (N : Netlist) (codes : List ℕ) → Masked N codes → (code ≡ 1 → Known N codes (length codes) result)
         × (code ≡ 2 → Known N codes (length codes + 1) result) }
 {
-    Record {
-        table: load::mask(code),
-        first: NO_ATOM,
-        second: NO_ATOM,
-        third: NO_ATOM,
-        fourth: NO_ATOM,
-    }
+    Record::over(load::mask(code), NO_ATOM)
 }
 
 // A wire gets its leaf, and may be clean.
@@ -53,7 +38,7 @@ fn give(records: &mut [u64], marks: &mut [u8], w: usize, r: Record)
 {
     store::put(records, 5 * w, r);
     if marks::clean(marks, r) {
-        gate::mark(marks, w, 1);
+        gate::mark(marks, w, Shown::Clean);
     }
 }
 
@@ -62,9 +47,8 @@ fn lay(records: &mut [u64], marks: &mut [u8], i: usize, code: u8)
     requires { (15 * i + 15 ≤ length records.old) × (i < length marks.old) }
     ensures { InputStep i code records.old marks.old records.new marks.new }
 {
-    match input_record(i, code) {
-        Joined::None => {}
-        Joined::One(r) => give(records, marks, i, r),
+    if let Some(r) = input_record(i, code) {
+        give(records, marks, i, r);
     }
 }
 
@@ -73,12 +57,10 @@ fn input(records: &mut [u64], marks: &mut [u8], i: usize, code: u8)
     requires { (15 * i + 15 ≤ length records.old) × (i < length marks.old) }
     ensures { InputStep i code records.old marks.old records.new marks.new }
 {
-    if code == 0 {
-        lay(records, marks, i, code);
-        gate::mark(marks, i, 3);
-        return;
-    }
     lay(records, marks, i, code);
+    if code == 0 {
+        gate::mark(marks, i, Shown::Public);
+    }
 }
 
 // All input wires: those of the codes, then the mask pair.
@@ -87,12 +69,10 @@ pub fn inputs(codes: &[u8], records: &mut [u64], marks: &mut [u8])
     ensures { (N : Netlist) → Masked N codes.now → Holding N codes.now records.old marks.old
         → Holding N codes.now records.new marks.new }
 {
-    let n = codes.len();
-    let mut i = 0;
-    while i < n {
-        input(records, marks, i, codes[i]);
-        i += 1;
+    for (i, code) in codes.iter().enumerate() {
+        input(records, marks, i, *code);
     }
+    let n = codes.len();
     give(records, marks, n, mask_record(1));
     give(records, marks, n + 1, mask_record(2));
 }

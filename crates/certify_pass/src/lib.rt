@@ -1,4 +1,5 @@
-// The certifier's pass: records and marks of all wires, gate by gate.
+// The certifier's pass: records and marks of all wires, gate by gate. Records, marks and hints stay parameters of their own: the
+// tables are lent by C one by one, and a struct of `&mut` slices would have to promise at each call that it still holds them.
 #![tactic(auto)]
 
 mod gate;

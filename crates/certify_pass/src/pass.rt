@@ -23,15 +23,9 @@ fn gates(
         → Masked N codes → Holding N codes records.old marks.old
         → Holding N codes records.new marks.new }
 {
-    let mut i = 0;
-    while i < count {
-        gate::step(
-            records,
-            marks,
-            hints,
-            gate_table::split(operands[i], results[i]),
-        );
-        i += 1;
+    for i in 0..count {
+        let gate = gate_table::split(operands[i], results[i]);
+        gate::step(records, marks, hints, gate);
     }
 }
 
@@ -39,14 +33,12 @@ fn gates(
 fn lowest(marks: &[u8]) -> usize
     ensures { (result ≤ length marks.now) × ((w : ℕ) → w < result → lane 0 (get_or marks.now w 0) ≡ true) }
 {
-    let mut w = 0;
-    while w < marks.len() {
-        if marks[w] & 1 == 0 {
+    for (w, mark) in marks.iter().enumerate() {
+        if *mark & 1 == 0 {
             return w;
         }
-        w += 1;
     }
-    w
+    marks.len()
 }
 
 // The lowest wire that is not known to be clean, or how many wires there are. The records, fifteen entries for each wire, and the
@@ -65,9 +57,9 @@ pub fn certified(
     ensures { (result ≤ length marks.old) × ((n o : ℕ) (N : Netlist) → Holds (tables operands.now results.now)
         count (length marks.old) n o N → Masked N codes.now → (w : ℕ) → w < result → EqualCounts N codes.now w) }
 {
-    clear::words(records);
-    clear::bytes(marks);
-    clear::words(hints);
+    records.fill(0);
+    marks.fill(0);
+    hints.fill(0);
     inputs::inputs(codes, records, marks);
     let wires = marks.len();
     gates(operands, results, count, wires, records, marks, hints);

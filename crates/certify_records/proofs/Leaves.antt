@@ -16,13 +16,10 @@ use Rattle.evaluate.proofs.Words.{word_same}
 use Rattle.check_counts.specs.Block.{nibble}
 use Rattle.check_counts.proofs.Numbers.{lane-shift}
 use Rattle.certify_records.specs.declared.Record.{Record}
-use Rattle.certify_records.specs.declared.Joined.TheVariants.{One}
-use Rattle.certify_records.specs.declared.leaf.Two.{Two}
-use Rattle.certify_records.specs.declared.leaf.Two.TheVariants.{Chosen}
-use Rattle.certify_records.specs.Record.{no_atom}
-use Rattle.certify_records.specs.Leaf.{Decides, TwoIs, LeafIs}
+use Rattle.std.specs.Prelude.{Some}
+use Rattle.certify_records.specs.Record.{no_atom, over}
+use Rattle.certify_records.specs.Leaf.{Decides, LeafIs}
 use Rattle.certify_records.proofs.Tables.{lane-mod, and_no, and_yes}
-use Rattle.certify_records.proofs.Records.{rec}
 use Rattle.certify_records.proofs.Places.{nibble-word, setting-below}
 use Rattle.certify_records.proofs.Evens.{setting_of, shown}
 
@@ -182,14 +179,11 @@ module _ (t low d e m : ℕ) (mask : m < 4) (lows : (s : ℕ) → s < 16 → nib
   }
 
 -- so the record over the wire's own atom is right
-pub decided : {o : Two} {t m u : ℕ} → o ≡ Chosen m u → TwoIs t o → Decides t m u
-decided e D = rw e at D
-
 mask-bits : (l : ℕ) → l < 64 → (lane 0 (l % 4) ≡ lane 0 l) × (lane 1 (l % 4) ≡ lane 1 l)
 mask-bits l h = (same-below 64 (λ l. lane 0 (l % 4)) (λ l. lane 0 l) tt l h, same-below 64 (λ l. lane 1 (l % 4)) (λ l. lane 1 l) tt l h)
 
 pub leaf-right : {r : Record} {m u a w : ℕ} → Decides r.table m u → w < 268435456 → a ≡ 8 * w + (2 * m + bit (lane m r.table))
-    → LeafIs w r (One (rec u a no_atom no_atom no_atom))
+    → LeafIs w r (Some (over u a))
 leaf-right {r} {m} {u} {a} {w} D small e bits wire own R = record {
   each = λ l h at.
       let s = setting_of bits r in

@@ -3,17 +3,14 @@ use mathlib.Core.Path.{◌≡◌, refl, sym, ap, ap₂, ◌∙◌}
 use mathlib.Core.Bool.{Bool, true, false, not}
 use Prim.Native.Nat.{ℕ, ◌+◌, ◌<◌}
 use native.Mathlib.Omega.{arith}
-use lib.Dec.{eqb}
-use borrow.Author.Tests.{eq-eqb, ne_eqb}
-use mathlib.Core.Logic.{◌≢◌}
+use borrow.Author.Tests.{eq-eqb}
 use Rattle.netlist.specs.Table.{made_of}
-use Rattle.netlist.proofs.Tests.{on_bool}
 use Rattle.netlist.specs.Eval.{differs}
 use Rattle.evaluate.specs.Lane.{lane}
 use Rattle.certify_records.specs.declared.Record.{Record}
 use Rattle.certify_records.specs.Place.{exchanged, turned}
-use Rattle.certify_records.specs.declared.Joined.TheVariants.{One}
-use Rattle.certify_records.specs.Record.{Has, At, Right, Says, JoinIs, either_of, no_atom}
+use Rattle.std.specs.Prelude.{Some}
+use Rattle.certify_records.specs.Record.{Has, At, Right, Says, JoinIs, no_atom}
 use Rattle.certify_records.proofs.Tables.{exchanged-bit, exchanged-mask, exchanged-below, turned_bit, turned-mask, turned-below}
 
 -- a record by its parts
@@ -163,50 +160,19 @@ module _ (t a b c d : ℕ) where
       };
     }
 
-pub says_then : {r s t : Record} → Says r s → Says s t → Says r t
-says_then f g = record { right = λ R. g.right (f.right R) }
+abbrev pub Agrees : ℕ → ℕ → ℕ → Type 0
+Agrees a b z = (bits : ℕ → Bool) (x : Bool) → Has bits z x → Has bits a x × Has bits b x
 
-pub says-itself : (r : Record) → Says r r
-says-itself r = record { right = λ R. R }
-
--- the atom of a place of two records that agree there
-has-at : {bits : ℕ → Bool} {a b : ℕ} {x : Bool} → a ≡ b → Has bits a x → Has bits b x
-has-at {bits} e h = record { bit = λ n. ap bits (sym e) ∙ h.bit (λ z. n (sym e ∙ z)) }
-
-abbrev pub Agrees : ℕ → ℕ → Type 0
-Agrees a b = (bits : ℕ → Bool) (x : Bool) → Has bits (either_of a b) x → Has bits a x × Has bits b x
-
-pub agree_same : (a b : ℕ) → a ≡ b → Agrees a b
-agree_same a b e bits x h = on_bool (eqb a no_atom)
-    (λ s. let g : Has bits b x = rw s at h in (has-at (sym e) g, g))
-    (λ s. let g : Has bits a x = rw s at h in (g, has-at e g))
-
-pub agree_left : (a b : ℕ) → a ≡ no_atom → Agrees a b
-agree_left a b e bits x h =
-    let g : Has bits b x = rw (eq-eqb a no_atom e) at h in
-    (record { bit = λ n. absurd (n e) }, g)
-
-pub agree_right : (a b : ℕ) → a ≢ no_atom → b ≡ no_atom → Agrees a b
-agree_right a b n e bits x h =
-    let g : Has bits a x = rw (ne_eqb a no_atom n) at h in
-    (g, record { bit = λ n. absurd (n e) })
-
-module _ (kind : ℕ) (x y : Record) (t a b c d : ℕ) (tables : (l : ℕ) → l < 64 → lane l t ≡ made_of kind (lane l x.table) (lane l y.table))
-    (ea : a ≡ either_of x.first y.first) (eb : b ≡ either_of x.second y.second) (ec : c ≡ either_of x.third y.third)
-    (ed : d ≡ either_of x.fourth y.fourth) (ga : Agrees x.first y.first) (gb : Agrees x.second y.second)
-    (gc : Agrees x.third y.third) (gd : Agrees x.fourth y.fourth) where
-  pub meet-law : JoinIs kind x y (One (rec t a b c d))
+module _ (kind : ℕ) (x y : Record) (t : ℕ) {a b c d : ℕ} (tables : (l : ℕ) → l < 64 → lane l t ≡ made_of kind (lane l x.table) (lane l y.table))
+    (ga : Agrees x.first y.first a) (gb : Agrees x.second y.second b) (gc : Agrees x.third y.third c) (gd : Agrees x.fourth y.fourth d) where
+  pub meet-law : JoinIs kind x y (Some (rec t a b c d))
   meet-law bits u v R S = record {
     each = λ l h at.
-        let pa = ga bits (lane 2 l) (has-at ea at.first) in
-        let pb = gb bits (lane 3 l) (has-at eb at.second) in
-        let pc = gc bits (lane 4 l) (has-at ec at.third) in
-        let pd = gd bits (lane 5 l) (has-at ed at.fourth) in
+        let pa = ga bits (lane 2 l) at.first in
+        let pb = gb bits (lane 3 l) at.second in
+        let pc = gc bits (lane 4 l) at.third in
+        let pd = gd bits (lane 5 l) at.fourth in
         tables l h
         ∙ ap₂ (made_of kind) (R.each l h record { first = pa.0; second = pb.0; third = pc.0; fourth = pd.0 })
         (S.each l h record { first = pa.1; second = pb.1; third = pc.1; fourth = pd.1 });
   }
-
--- records that say what those say that were joined
-pub join-says : (kind : ℕ) {x y x' y' z z' : Record} → Says x x' → Says y y' → Says z z' → JoinIs kind x' y' (One z) → JoinIs kind x y (One z')
-join-says kind f g h J bits u v R S = h.right (J bits u v (f.right R) (g.right S))

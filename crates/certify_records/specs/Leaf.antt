@@ -1,13 +1,9 @@
 -- Leaves: records of one atom, the wire's own bit at one mask setting.
-use Rattle.std.specs.Prelude.{ℕ, ◌+◌, ◌*◌, ◌%◌, ◌<◌, Bool, ◌≡◌}
+use Rattle.std.specs.Prelude.{ℕ, ◌+◌, ◌*◌, ◌%◌, ◌<◌, Bool, ◌≡◌, Option, Some, None}
 use Rattle.netlist.specs.Eval.{differs}
 use Rattle.netlist.specs.Leak.{bit}
 use Rattle.evaluate.specs.Lane.{lane}
 use Rattle.certify_records.specs.declared.Record.{Record}
-use Rattle.certify_records.specs.declared.Joined.{Joined}
-use Rattle.certify_records.specs.declared.Joined.TheVariants.{One, None}
-use Rattle.certify_records.specs.declared.leaf.Two.{Two}
-use Rattle.certify_records.specs.declared.leaf.Two.TheVariants.{Chosen, More}
 use Rattle.certify_records.specs.Record.{Right}
 
 -- atom 8 w + 2 m + p is the bit of wire w at mask setting m, XOR p
@@ -20,13 +16,13 @@ pub record Decides (t m u : ℕ) : Type 0 where
   pub mask : m < 4
   pub each : (s : ℕ) → s < 16 → (l : ℕ) → l < 64 → lane 2 l ≡ differs (lane (m + 4 * s) t) (lane m t) → lane l u ≡ lane (l % 4 + 4 * s) t
 
-abbrev pub TwoIs : ℕ → Two → Type 0
-TwoIs t (Chosen m u) = Decides t m u
-TwoIs t More = Unit
+abbrev pub TwoIs : ℕ → Option (ℕ × ℕ) → Type 0
+TwoIs t (Some (m, u)) = Decides t m u
+TwoIs t None = Unit
 
 -- a record of wire w that is right where another is
-abbrev pub LeafIs : ℕ → Record → Joined → Type 0
-LeafIs w r (One s) = (bits : ℕ → Bool) (wire : Bool → Bool → Bool) → Own bits wire w → Right bits wire r → Right bits wire s
+abbrev pub LeafIs : ℕ → Record → Option Record → Type 0
+LeafIs w r (Some s) = (bits : ℕ → Bool) (wire : Bool → Bool → Bool) → Own bits wire w → Right bits wire r → Right bits wire s
 LeafIs w r None = Unit
 
 -- atom a is a bit of a wire: at mask setting m where it is 8 w + 2 m + p, XOR p

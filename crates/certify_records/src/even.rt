@@ -12,10 +12,7 @@ fn settled(plain: bool, t: u64, by: u32, low: u64) -> bool
     requires { by < 64 }
     ensures { result ≡ true → plain ≡ false → (j : ℕ) → T (turns_at j by low) → (l : ℕ) → l < 64 → lane l t ≡ lane (turned j l) t }
 {
-    if plain {
-        return true;
-    }
-    table::alike(t, by, low)
+    plain || table::alike(t, by, low)
 }
 
 // Whether the count depends on those atoms alone that are public.
@@ -23,14 +20,8 @@ pub fn even(r: Record, first: bool, second: bool, third: bool, fourth: bool) -> 
     ensures { result ≡ true → Even r first second third fourth }
 {
     let counts = nibble::counts(r.table);
-    if !settled(first, counts, 4, 0x0f0f_0f0f_0f0f_0f0f) {
-        return false;
-    }
-    if !settled(second, counts, 8, 0x00ff_00ff_00ff_00ff) {
-        return false;
-    }
-    if !settled(third, counts, 16, 0x0000_ffff_0000_ffff) {
-        return false;
-    }
-    settled(fourth, counts, 32, 0x0000_0000_ffff_ffff)
+    settled(first, counts, 4, 0x0f0f_0f0f_0f0f_0f0f)
+        && settled(second, counts, 8, 0x00ff_00ff_00ff_00ff)
+        && settled(third, counts, 16, 0x0000_ffff_0000_ffff)
+        && settled(fourth, counts, 32, 0x0000_0000_ffff_ffff)
 }

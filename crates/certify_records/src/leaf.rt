@@ -5,36 +5,27 @@ ghost use Rattle.netlist.specs.Leak.{bit};
 ghost use Rattle.evaluate.specs.Lane.{lane};
 ghost use Rattle.certify_records.specs.Leaf.{TwoIs, LeafIs, OneAtom};
 
-use crate::{Joined, NO_ATOM, Record};
+use crate::{MOST_WIRES, Record};
 use check_counts::nibble;
 use evaluate::gate;
 
-// A mask setting that decides, and the table over its atom; or there are more than two nibbles, or one.
-#[derive(Clone, Copy)]
-pub enum Two {
-    Chosen(u32, u64),
-    More,
-}
-
-// The lowest mask setting in which a table varies, if it decides the whole.
-fn chosen(t: u64) -> Two
+// The lowest mask setting in which a table varies, and the table over its atom, if that decides the whole; none where there are
+// more than two nibbles, or one.
+fn chosen(t: u64) -> Option<(u32, u64)>
     ensures { TwoIs t result }
 {
     let low = nibble::repeat(t);
     let x = t ^ low;
     if x == 0 {
-        return Two::More;
+        return None;
     }
     let m = u64::trailing_zeros(x) % 4;
     let d = nibble::repeat(nibble::at(x, nibble::first(x)) as u64);
     if x != (((x >> m) & 0x1111_1111_1111_1111) * 15) & d {
-        return Two::More;
+        return None;
     }
-    Two::Chosen(m, low ^ (d & 0xf0f0_f0f0_f0f0_f0f0))
+    Some((m, low ^ (d & 0xf0f0_f0f0_f0f0_f0f0)))
 }
-
-// The most wires that have atoms.
-const MOST_WIRES: usize = 0x1000_0000;
 
 // The atom of a wire at a mask setting, zero in the first setting of a table's atoms.
 fn own(t: u64, wire: usize, m: u32) -> u32
@@ -45,22 +36,14 @@ fn own(t: u64, wire: usize, m: u32) -> u32
 }
 
 // The record of a wire over one atom of its own, if one of its records shows only two nibbles.
-pub fn leaf(r: Record, wire: usize) -> Joined
+pub fn leaf(r: Record, wire: usize) -> Option<Record>
     ensures { LeafIs wire r result }
 {
     if MOST_WIRES <= wire {
-        return Joined::None;
+        return None;
     }
-    match chosen(r.table) {
-        Two::More => Joined::None,
-        Two::Chosen(m, table) => Joined::One(Record {
-            table,
-            first: own(r.table, wire, m),
-            second: NO_ATOM,
-            third: NO_ATOM,
-            fourth: NO_ATOM,
-        }),
-    }
+    let (m, table) = chosen(r.table)?;
+    Some(Record::over(table, own(r.table, wire, m)))
 }
 
 // What an atom of a wire is where a record's atoms have setting s, in bit 4 s.
@@ -74,8 +57,5 @@ pub fn selector(t: u64, atom: u32) -> u64
 pub fn one_atom(r: Record, a: u32, s: Record, b: u32) -> bool
     ensures { result ≡ true → OneAtom r a s b }
 {
-    if !crate::fellows(r, s) {
-        return false;
-    }
-    selector(r.table, a) == selector(s.table, b)
+    crate::fellows(r, s) && selector(r.table, a) == selector(s.table, b)
 }

@@ -8,10 +8,13 @@ mod reduce;
 mod table;
 
 ghost use Rattle.std.specs.Prelude.{◌≡◌, true, ◌<◌};
-ghost use Rattle.certify_records.specs.Record.{JoinIs, Fellows};
+ghost use Rattle.certify_records.specs.Record.{JoinIs, Fellows, over};
 
 // No atom.
 pub const NO_ATOM: u32 = 0xffff_ffff;
+
+// The most wires that have atoms.
+pub const MOST_WIRES: usize = 0x1000_0000;
 
 // Up to four atoms, rising, and a table: bit 4 s + m is the wire's bit at mask setting m where atom j has bit j of s.
 #[derive(Clone, Copy)]
@@ -23,41 +26,35 @@ pub struct Record {
     pub fourth: u32,
 }
 
-// A record, or none.
-#[derive(Clone, Copy)]
-pub enum Joined {
-    One(Record),
-    None,
+impl Record {
+    // The record over one atom.
+    pub fn over(table: u64, atom: u32) -> Record
+        ensures { result ≡ over table atom }
+    {
+        Record {
+            table,
+            first: atom,
+            second: NO_ATOM,
+            third: NO_ATOM,
+            fourth: NO_ATOM,
+        }
+    }
 }
 
 // Whether two records have the same atoms.
 pub fn fellows(r: Record, s: Record) -> bool
     ensures { result ≡ true → Fellows r s }
 {
-    if r.first != s.first {
-        return false;
-    }
-    if r.second != s.second {
-        return false;
-    }
-    if r.third != s.third {
-        return false;
-    }
-    r.fourth == s.fourth
+    r.first == s.first && r.second == s.second && r.third == s.third && r.fourth == s.fourth
 }
 
 // The record of what a kind of gate makes of two wires, from a record of each; none where it has more than four atoms. Atoms on
 // which nothing depends are left out.
-pub fn combine(kind: usize, x: Record, y: Record) -> Joined
+pub fn combine(kind: usize, x: Record, y: Record) -> Option<Record>
     requires { kind < 8 }
     ensures { JoinIs kind x y result }
 {
-    let p = align::aligned(x, y);
-    let left = p.left;
-    let right = p.right;
-    let r = align::meet(kind, left, right);
-    match r {
-        Joined::One(z) => Joined::One(reduce::reduced(z)),
-        Joined::None => Joined::None,
-    }
+    let (left, right) = align::aligned(x, y);
+    let r = align::meet(kind, left, right)?;
+    Some(reduce::reduced(r))
 }

@@ -1,87 +1,71 @@
 // Atoms on which a record's table does not depend are left out.
+ghost use Rattle.std.specs.Prelude.{◌≡◌, ℕ, ◌<◌, T};
+ghost use Rattle.evaluate.specs.Lane.{lane};
+ghost use Rattle.certify_records.specs.Place.{turned, turns_at};
 ghost use Rattle.certify_records.specs.Record.{Says};
 
-use crate::{NO_ATOM, Record, align, table};
+use crate::align::{high, low, middle};
+use crate::{NO_ATOM, Record, table};
 
-// The fourth atom left out, if nothing depends on it.
-fn without_fourth(r: Record) -> Record
+// The first place moved to the end.
+fn first_last(r: Record) -> Record
     ensures { Says r result }
 {
-    if r.fourth == NO_ATOM {
-        return r;
-    }
-    if table::alike(r.table, 32, 0x0000_0000_ffff_ffff) {
-        return Record {
-            table: r.table,
-            first: r.first,
-            second: r.second,
-            third: r.third,
-            fourth: NO_ATOM,
-        };
-    }
-    r
+    high(middle(low(r)))
 }
 
-// The third atom left out, if nothing depends on it; its place goes to the end.
-fn without_third(r: Record) -> Record
+// The second place moved to the end.
+fn second_last(r: Record) -> Record
     ensures { Says r result }
 {
-    if r.third == NO_ATOM {
-        return r;
-    }
-    if table::alike(r.table, 16, 0x0000_ffff_0000_ffff) {
-        return align::high(Record {
-            table: r.table,
-            first: r.first,
-            second: r.second,
-            third: NO_ATOM,
-            fourth: r.fourth,
-        });
-    }
-    r
+    high(middle(r))
 }
 
-// The second atom left out, if nothing depends on it.
-fn without_second(r: Record) -> Record
+// An atom left out, if nothing depends on it: `left` is the record without it, whose place `last` moves to the end.
+fn without<F: Fn(Record) -> Record>(
+    r: Record,
+    atom: u32,
+    by: u32,
+    low: u64,
+    left: Record,
+    last: F,
+) -> Record
+    requires by_in_bounds { by < 64 }
+    requires left_out { ((j : ℕ) → T (turns_at j by low) → (l : ℕ) → l < 64 → lane l r.table ≡ lane (turned j l) r.table)
+        → Says r left }
+    requires callable { F.IsAlwaysCallable last }
+    requires says { (x y : _) → F.post last x y → Says x y }
     ensures { Says r result }
 {
-    if r.second == NO_ATOM {
-        return r;
+    if atom != NO_ATOM && table::alike(r.table, by, low) {
+        last(left)
+    } else {
+        r
     }
-    if table::alike(r.table, 8, 0x00ff_00ff_00ff_00ff) {
-        return align::high(align::middle(Record {
-            table: r.table,
-            first: r.first,
-            second: NO_ATOM,
-            third: r.third,
-            fourth: r.fourth,
-        }));
-    }
-    r
-}
-
-// The first atom left out, if nothing depends on it.
-fn without_first(r: Record) -> Record
-    ensures { Says r result }
-{
-    if r.first == NO_ATOM {
-        return r;
-    }
-    if table::alike(r.table, 4, 0x0f0f_0f0f_0f0f_0f0f) {
-        return align::high(align::middle(align::low(Record {
-            table: r.table,
-            first: NO_ATOM,
-            second: r.second,
-            third: r.third,
-            fourth: r.fourth,
-        })));
-    }
-    r
 }
 
 // Every atom left out on which nothing depends.
 pub fn reduced(r: Record) -> Record
     ensures { Says r result }
 {
-    without_first(without_second(without_third(without_fourth(r))))
+    let left = Record {
+        fourth: NO_ATOM,
+        ..r
+    };
+    let a = without(r, r.fourth, 32, 0x0000_0000_ffff_ffff, left, |r| r);
+    let left = Record {
+        third: NO_ATOM,
+        ..a
+    };
+    let b = without(a, a.third, 16, 0x0000_ffff_0000_ffff, left, high);
+    let left = Record {
+        second: NO_ATOM,
+        ..b
+    };
+    let c = without(b, b.second, 8, 0x00ff_00ff_00ff_00ff, left, second_last);
+    let left = Record {
+        first: NO_ATOM,
+        ..c
+    };
+    without(c, c.first, 4, 0x0f0f_0f0f_0f0f_0f0f, left, first_last)
 }

@@ -26,26 +26,21 @@ use Rattle.evaluate.proofs.Runs.{bare-wires}
 use Rattle.evaluate.proofs.Steps.{get_d-lanes}
 use Rattle.check_counts.specs.Block.{ones_of, nibbles_of}
 use Rattle.check_counts.proofs.Inputs.{masked-long, masked-at, masked-m0, masked-m1}
-use Rattle.check_leak.specs.declared.difference.Difference.{Difference}
+use Rattle.check_leak.specs.declared.difference.Leak.{Leak}
 use Rattle.check_leak.specs.Difference.{LowestDifference}
 use Rattle.certify_records.proofs.Leaves.{chosen-lane}
 use Rattle.certify_records.proofs.Tables.{and_no}
 use Rattle.certify_pass.specs.Pass.{Masked}
 use Rattle.certify_pass.proofs.InputWires.{MaskIs, mask-place, no-mask, differs_none, input-bit}
 use Rattle.certify_search.specs.Round.{InputWord, Loaded, setting_in, Ran}
-use Rattle.certify_search.specs.Witness.{Witness}
+use Rattle.certify_search.specs.Witness.{Witnessed}
+use Rattle.std.specs.Prelude.{Option, Some, None}
 
 -- the place of a setting's first lane has no mask bits
 unmasked : (s : ℕ) → s < 16 → (lane 0 (4 * s) ≡ false) × (lane 1 (4 * s) ≡ false)
 unmasked s h = (same-below 16 (λ s. lane 0 (4 * s)) (λ s. false) tt s h, same-below 16 (λ s. lane 1 (4 * s)) (λ s. false) tt s h)
 
 -- ---- the word of one input bit
-
-pub public-word : {w : ℕ} {b : Bool} → ((j : ℕ) → j < 64 → lane j w ≡ b) → InputWord 0 w
-public-word {w} {b} all = record {
-  masked = λ j h. all j h ∙ sym (all (4 * (j / 4)) (omega arith)) ∙ sym (differs_none (lane (4 * (j / 4)) w));
-  base = λ s h. all (4 * s) (omega arith) ∙ sym (all 0 (omega arith));
-}
 
 module _ (noise code k : ℕ) (some : code ≢ 0) (mask : MaskIs k code) where
   abbrev bits : ℕ
@@ -79,41 +74,33 @@ module _ (noise code k : ℕ) (some : code ≢ 0) (mask : MaskIs k code) where
 
 -- ---- the words of all input wires
 
-pub record Loading (codes ws : List ℕ) (i : ℕ) : Type 0 where
-  pub passed : i ≤ length codes
-  pub room : length codes + 2 ≤ length ws
-  pub inputs : (k : ℕ) → k < i → InputWord (get_or codes k 0) (get_or ws k 0)
+-- of the first i inputs
+abbrev pub Loading : List ℕ → List ℕ → ℕ → Type 0
+Loading codes ws i = (k : ℕ) → k < i → InputWord (get_or codes k 0) (get_or ws k 0)
 
-pub loading-none : (codes ws : List ℕ) → length codes + 2 ≤ length ws → Loading codes ws 0
-loading-none codes ws l = record { passed = omega arith; room = l; inputs = λ k h. absurd (omega arith) }
+pub loading-more : (codes ws : List ℕ) (i w : ℕ) → Loading codes ws i → i < length ws → InputWord (get_or codes i 0) w → Loading codes (set ws i w) (i + 1)
+loading-more codes ws i w L h I k m =
+    on_bool (eqb k i)
+    (λ e.
+    let z = eqb-true k i e in
+    let f : get_or (set ws i w) k 0 ≡ w = ap (λ (n : ℕ). get_or (set ws i w) n 0) z ∙ get_or-set_same ws i w 0 h in
+    subst (InputWord (get_or codes k 0)) (sym f) (subst (λ (n : ℕ). InputWord (get_or codes n 0) w) (sym z) I))
+    (λ e.
+    let n : k ≡ i → ⊥ = eqb-false k i e in
+    subst (InputWord (get_or codes k 0)) (sym (get_or-set_other ws i k w 0 n)) (L k (omega arith)))
 
-pub loading-more : {codes ws : List ℕ} {i : ℕ} (w : ℕ) → Loading codes ws i → i < length codes → InputWord (get_or codes i 0) w → Loading codes (set ws i w) (i + 1)
-loading-more {codes} {ws} {i} w L h I = record {
-  passed = omega arith;
-  room = let e = length-set ws i w in omega (arith, L.room);
-  inputs = λ k m.
-      on_bool (eqb k i)
-      (λ e.
-      let z = eqb-true k i e in
-      let f : get_or (set ws i w) k 0 ≡ w = ap (λ (n : ℕ). get_or (set ws i w) n 0) z ∙ get_or-set_same ws i w 0 (omega (arith, L.room)) in
-      subst (InputWord (get_or codes k 0)) (sym f) (subst (λ (n : ℕ). InputWord (get_or codes n 0) w) (sym z) I))
-      (λ e.
-      let n : k ≡ i → ⊥ = eqb-false k i e in
-      subst (InputWord (get_or codes k 0)) (sym (get_or-set_other ws i k w 0 n)) (L.inputs k (omega arith)));
-}
-
-pub loading-all : {codes ws : List ℕ} {i a b : ℕ} → Loading codes ws i → length codes ≤ i → MaskIs a 1 → MaskIs b 2
+pub loading-all : (codes ws : List ℕ) {a b : ℕ} → Loading codes ws (length codes) → length codes + 2 ≤ length ws → MaskIs a 1 → MaskIs b 2
     → Loaded codes (set (set ws (length codes) a) (length codes + 1) b)
-loading-all {codes} {ws} {i} {a} {b} L l A B = record {
+loading-all codes ws {a} {b} L room A B = record {
   inputs = λ k h.
       subst (InputWord (get_or codes k 0))
       (sym (get_or-set_other (set ws n a) (n + 1) k b 0 (λ z. omega arith) ∙ get_or-set_other ws n k a 0 (λ z. omega arith)))
-      (L.inputs k (omega arith));
+      (L k h);
   first = λ j h.
-      ap (lane j) (get_or-set_other (set ws n a) (n + 1) n b 0 (λ z. omega arith) ∙ get_or-set_same ws n a 0 (omega (arith, L.room))) ∙ mask-place a 1 A j h;
+      ap (lane j) (get_or-set_other (set ws n a) (n + 1) n b 0 (λ z. omega arith) ∙ get_or-set_same ws n a 0 (omega arith)) ∙ mask-place a 1 A j h;
   second = λ j h.
       let e = length-set ws n a in
-      ap (lane j) (get_or-set_same (set ws n a) (n + 1) b 0 (omega (arith, L.room))) ∙ mask-place b 2 B j h;
+      ap (lane j) (get_or-set_same (set ws n a) (n + 1) b 0 (omega arith)) ∙ mask-place b 2 B j h;
 }
   where
     n : ℕ
@@ -232,14 +219,16 @@ module _ {N : Netlist} {codes ws : List ℕ} (R : Ran N codes ws) where
       let d = ap bit (lane-bit w s 3 (4 * s + 3) h (omega arith) refl) in
       λ i. a i + b i + c i + d i
 
-  pub witness : (base : List ℕ) {p : Difference} → ((w s : ℕ) → s < 16 → nibbles_of base w s ≡ ones_of ws w 0)
-      → LowestDifference (nibbles_of base) (ones_of ws) (length ws) 16 p → p.wire < length ws → Witness N codes ws p
-  witness base {p} first S h =
-      let D = S.differs h in
+  pub witness : (base : List ℕ) (found : Option Leak) → ((w s : ℕ) → s < 16 → nibbles_of base w s ≡ ones_of ws w 0)
+      → LowestDifference (nibbles_of base) (ones_of ws) (length ws) 16 found → Witnessed N codes ws found
+  witness base (Some p) first S =
+      let D = S.differs p refl in
       record {
+        wire = S.inside p refl;
         inside = D.inside;
-        own = D.count ∙ ran-count p.wire p.setting D.inside;
+        own = D.own ∙ ran-count p.wire p.setting D.inside;
         base = D.base ∙ first p.wire p.setting D.inside ∙ ran-count p.wire 0 (omega arith)
             ∙ ap (count N codes p.wire) (sym (R.base p.setting D.inside));
-        differ = λ e. D.other (sym D.base ∙ e ∙ D.count);
+        differ = λ e. D.other (sym D.base ∙ e ∙ D.own);
       }
+  witness base None first S = tt

@@ -5,7 +5,7 @@ ghost use Rattle.certify_search.specs.Round.{InputWord, Loaded};
 use check_counts::load;
 
 // The next number of the fixed generator: xorshift.
-pub fn next(seed: u64) -> u64 {
+fn next(seed: u64) -> u64 {
     let a = seed ^ (seed << 13);
     let b = a ^ (a >> 7);
     b ^ (b << 17)
@@ -27,14 +27,12 @@ pub fn inputs(codes: &[u8], seed: u64, words: &mut [u64]) -> u64
     requires { length codes.now + 2 ≤ length words.old }
     ensures { Loaded codes.now words.new }
 {
-    let n = codes.len();
     let mut noise = seed;
-    let mut i = 0;
-    while i < n {
+    for (i, code) in codes.iter().enumerate() {
         noise = next(noise);
-        words[i] = input(codes[i], noise);
-        i += 1;
+        words[i] = input(*code, noise);
     }
+    let n = codes.len();
     words[n] = load::mask(1);
     words[n + 1] = load::mask(2);
     noise

@@ -1,15 +1,16 @@
 // Rounds of chosen settings.
-ghost use Rattle.std.specs.Prelude.{◌≡◌, List, ℕ, ◌+◌, ◌<◌, ◌≤◌, length};
+ghost use Rattle.std.specs.Prelude.{◌≡◌, Some, List, ℕ, ◌+◌, ◌<◌, ◌≤◌, length};
 ghost use Rattle.netlist.specs.Netlist.{Netlist};
 ghost use Rattle.netlist.specs.Table.{tables, Wired, Holds};
 ghost use Rattle.certify_pass.specs.Pass.{Masked};
+ghost use Rattle.check_leak.specs.declared.difference.Leak.{Leak};
 ghost use Rattle.certify_search.specs.Round.{Ran};
-ghost use Rattle.certify_search.specs.Witness.{Witness};
+ghost use Rattle.certify_search.specs.Witness.{Witnessed};
 
 use crate::load;
 use check_counts::block;
 use check_leak::difference;
-use check_leak::difference::Difference;
+use check_leak::difference::Leak;
 
 // The words of all wires in one round. Returns the generator's last number.
 fn run(
@@ -30,14 +31,13 @@ fn run(
 }
 
 // The lowest wire with another count than its base in a round that was run.
-fn look(words: &[u64], base: &mut [u64]) -> Difference
+fn look(words: &[u64], base: &mut [u64]) -> Option<Leak>
     requires { length base.old ≡ length words.now }
-    ensures { (N : Netlist) (codes : List ℕ) → Ran N codes words.now → result.wire < length words.now
-        → Witness N codes words.now result }
+    ensures inside { (p : Leak) → result ≡ Some p → p.setting < 16 }
+    ensures witness { (N : Netlist) (codes : List ℕ) → Ran N codes words.now → Witnessed N codes words.now result }
 {
     block::first(words, base);
-    let limit = words.len();
-    difference::scan(words, base, limit)
+    difference::scan(words, base, words.len())
 }
 
 // How many rounds are run.
@@ -51,21 +51,19 @@ pub fn search(
     codes: &[u8],
     words: &mut [u64],
     base: &mut [u64],
-) -> Difference
+) -> Option<Leak>
     requires { Wired (tables operands.now results.now) (length words.old) count × (length codes.now + 2 ≤ length words.old)
         × (length base.old ≡ length words.old) }
-    ensures { (n o : ℕ) (N : Netlist) → Holds (tables operands.now results.now) count (length words.old) n
-        o N → Masked N codes.now → result.wire < length words.old → Witness N codes.now words.new result }
+    ensures inside { (p : Leak) → result ≡ Some p → p.setting < 16 }
+    ensures witness { (n o : ℕ) (N : Netlist) → Holds (tables operands.now results.now) count (length words.old) n
+        o N → Masked N codes.now → Witnessed N codes.now words.new result }
 {
     let mut seed = 0x9e37_79b9_7f4a_7c15;
-    let mut round = 0;
-    while round < ROUNDS {
+    for _ in 0..ROUNDS {
         seed = run(operands, results, count, codes, seed, words);
-        let found = look(words, base);
-        if found.wire < words.len() {
-            return found;
+        if let Some(leak) = look(words, base) {
+            return Some(leak);
         }
-        round += 1;
     }
-    difference::none(words.len())
+    None
 }

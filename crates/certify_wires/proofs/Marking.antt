@@ -1,18 +1,16 @@
 -- What marks and right records show of a wire.
-use mathlib.Core.Path.{◌≡◌, refl, sym, ap, ◌∙◌}
+use mathlib.Core.Path.{◌≡◌, sym, ap, ◌∙◌}
 use mathlib.Core.Bool.{Bool, true, false, cond}
 use mathlib.Core.List.{List}
 use mathlib.Core.Logic.{◌≢◌}
-use Prim.Native.Nat.{ℕ, ◌+◌, ◌*◌, ◌/◌, ◌^◌, ◌<◌}
-use lib.Bits.{bit_and}
+use Prim.Native.Nat.{ℕ, ◌+◌, ◌*◌, ◌/◌, ◌<◌}
 use native.Mathlib.Omega.{arith}
 use lib.Dec.{eqb}
 use lib.ListN.{get_or}
 use borrow.Author.Tests.{eqb-false, ne_eqb}
 use Rattle.netlist.specs.Netlist.{Netlist}
 use Rattle.netlist.specs.Eval.{differs}
-use Rattle.netlist.specs.Leak.{bit, count, SamePublic, EqualCounts}
-use Rattle.evaluate.proofs.Lanes.{bit-low}
+use Rattle.netlist.specs.Leak.{count, SamePublic, EqualCounts}
 use Rattle.netlist.proofs.Tests.{on_bool}
 use Rattle.evaluate.specs.Lane.{lane}
 use Rattle.certify_records.specs.declared.Record.{Record}
@@ -21,14 +19,6 @@ use Rattle.certify_records.specs.Even.{Even, atom_setting}
 use Rattle.certify_records.proofs.Evens.{setting_of, shown}
 use Rattle.certify_wires.specs.Known.{bit_of, atom_bit, Known, Open}
 use Rattle.certify_wires.specs.Store.{Marked, plain_atom}
-
--- a bit by a shift and a mask
-pub bit-one : (j n : ℕ) → eqb (bit_and (n / 2 ^ j) 1) 1 ≡ lane j n
-bit-one j n = ap (λ (k : ℕ). eqb k 1) (bit-low j n) ∙ go (lane j n)
-  where
-    go : (b : Bool) → eqb (bit b) 1 ≡ b
-    go true = refl
-    go false = refl
 
 -- bits of atoms, zero where there is none
 abbrev cut : (ℕ → Bool) → ℕ → Bool

@@ -1,5 +1,5 @@
 -- Records and marks in lent tables: five records a wire, of three entries each, and a mark: bit 0 for clean, bit 1 for public.
-use Rattle.std.specs.Prelude.{ℕ, ◌+◌, ◌*◌, ◌/◌, ◌%◌, ◌≤◌, Bool, true, cond, List, ◌≡◌, ◌≢◌, eqb, length, get_or}
+use Rattle.std.specs.Prelude.{ℕ, ◌+◌, ◌*◌, ◌/◌, ◌%◌, ◌≤◌, Bool, true, cond, List, ◌≡◌, ◌≢◌, eqb, length, get_or, Option, Some, None}
 use Rattle.netlist.specs.Netlist.{Netlist}
 use Rattle.netlist.specs.Table.{half}
 use Rattle.netlist.specs.Leak.{EqualCounts}
@@ -7,8 +7,6 @@ use Rattle.evaluate.specs.Lane.{lane}
 use Rattle.certify_records.specs.declared.Record.{Record}
 use Rattle.certify_records.specs.Record.{no_atom}
 use Rattle.certify_wires.specs.Known.{Known, Open}
-use Rattle.certify_wires.specs.declared.keep.Kept.{Kept}
-use Rattle.certify_wires.specs.declared.keep.Kept.TheVariants.{Stored, Carried}
 
 -- record q of a table
 abbrev pub record_at : List ℕ → ℕ → Record
@@ -29,6 +27,16 @@ pub record PutAt (e : List ℕ) (q : ℕ) (r : Record) (x : List ℕ) : Type 0 w
 abbrev pub Present : Record → Type 0
 Present r = r.first ≡ 0 → r.second ≡ 0 → ⊥
 
+-- the record that stands at place q, if one does
+abbrev pub StandsAt : List ℕ → ℕ → Option Record → Type 0
+StandsAt t q (Some r) = (r ≡ record_at t q) × Present r
+StandsAt t q None = ((record_at t q).first ≡ 0) × ((record_at t q).second ≡ 0)
+
+-- how many atoms a record has: the last place with one says it
+abbrev pub atoms_of : Record → ℕ
+atoms_of r =
+    cond (eqb r.fourth no_atom) (cond (eqb r.third no_atom) (cond (eqb r.second no_atom) (cond (eqb r.first no_atom) 0 1) 2) 3) 4
+
 -- the table has room for the records of wires below W
 abbrev pub Roomy : ℕ → List ℕ → Type 0
 Roomy W t = 15 * W ≤ length t
@@ -47,6 +55,6 @@ abbrev pub plain_atom : List ℕ → ℕ → Bool
 plain_atom marks a = cond (eqb a no_atom) true (lane 1 (get_or marks (a / 8) 0))
 
 -- a record that is still to be put is right for its wire
-abbrev pub Carries : Netlist → List ℕ → ℕ → Kept → Type 0
-Carries N codes w Stored = Unit
-Carries N codes w (Carried r) = Known N codes w r
+abbrev pub Carries : Netlist → List ℕ → ℕ → Option Record → Type 0
+Carries N codes w None = Unit
+Carries N codes w (Some r) = Known N codes w r

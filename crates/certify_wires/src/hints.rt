@@ -1,15 +1,12 @@
-// Hints: atoms that may be the same bit as an atom of another wire. A hint is an atom and the number of a record of its wire, and is
-// tried before it is used: nothing depends on what it says, or on the place where it stands.
+// Hints: atoms that may be the same bit as an atom of another wire. A hint is an atom and, above it, the number of a record of its
+// wire, and is tried before it is used: nothing depends on what it says, or on the place where it stands.
 ghost use Rattle.std.specs.Prelude.{List, ℕ, ◌+◌, ◌*◌, ◌<◌, ◌≤◌, length};
 ghost use Rattle.netlist.specs.Netlist.{Netlist};
 ghost use Rattle.certify_wires.specs.Known.{Known};
 ghost use Rattle.certify_wires.specs.Store.{Recorded};
 
-use crate::store;
+use crate::store::{self, HALF, packed};
 use certify_records::{NO_ATOM, Record, leaf};
-
-// 2^32: the record's number stands in the upper half of a hint.
-const HALF: u64 = 4294967296;
 
 // Bits mixed.
 fn mixed(x: u64) -> u64 {
@@ -23,8 +20,8 @@ fn place(r: Record, selector: u64, places: usize) -> usize
     requires { 0 < places }
     ensures { result < places }
 {
-    let low = r.first as u64 + r.second as u64 * HALF;
-    let high = r.third as u64 + r.fourth as u64 * HALF;
+    let low = packed(r.first, r.second);
+    let high = packed(r.third, r.fourth);
     (mixed(mixed(selector ^ low) ^ high) % places as u64) as usize
 }
 
@@ -48,19 +45,15 @@ fn tried(records: &[u64], hint: u64, w: usize, r: Record, leaf: Record) -> Recor
     if records.len() / 3 <= q {
         return leaf;
     }
-    let s = store::get(records, q);
-    if !store::present(s) {
+    let Some(s) = store::get(records, q) else {
         return leaf;
-    }
+    };
     if !leaf::one_atom(r, leaf.first, s, atom) {
         return leaf;
     }
     Record {
-        table: leaf.table,
         first: atom,
-        second: leaf.second,
-        third: leaf.third,
-        fourth: leaf.fourth,
+        ..leaf
     }
 }
 

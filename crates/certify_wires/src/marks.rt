@@ -40,14 +40,8 @@ pub fn public(marks: &[u8], r: Record) -> bool
     ensures { (N : Netlist) (codes : List ℕ) (w : ℕ) → Marked N codes marks.now → Known N codes w r → result ≡ true
         → Open N codes w }
 {
-    if !plain(marks, r.first) {
-        return false;
-    }
-    if !plain(marks, r.second) {
-        return false;
-    }
-    if !plain(marks, r.third) {
-        return false;
-    }
-    plain(marks, r.fourth)
+    plain(marks, r.first)
+        && plain(marks, r.second)
+        && plain(marks, r.third)
+        && plain(marks, r.fourth)
 }

@@ -1,27 +1,38 @@
 // Records in a lent table, three entries each.
-ghost use Rattle.std.specs.Prelude.{◌≡◌, true, ◌+◌, ◌*◌, ◌≤◌, length};
-ghost use Rattle.certify_wires.specs.Store.{record_at, PutAt, Present};
+ghost use Rattle.std.specs.Prelude.{◌≡◌, ◌+◌, ◌*◌, ◌≤◌, length};
+ghost use Rattle.netlist.specs.Table.{half};
+ghost use Rattle.certify_wires.specs.Store.{StandsAt, PutAt};
 
 use certify_records::Record;
 
 // 2^32: two atoms stand in one entry.
-const HALF: u64 = 4294967296;
+pub const HALF: u64 = 4294967296;
 
-// Record q.
-pub fn get(records: &[u64], q: usize) -> Record
+// The entry of two atoms.
+pub fn packed(low: u32, high: u32) -> u64
+    ensures { result ≡ low + high * half }
+{
+    low as u64 + high as u64 * HALF
+}
+
+// Record q, if one stands there.
+pub fn get(records: &[u64], q: usize) -> Option<Record>
     requires { 3 * q + 3 ≤ length records.now }
-    ensures { result ≡ record_at records.now q }
+    ensures { StandsAt records.now q result }
 {
     let at = 3 * q;
     let low = records[at + 1];
+    if low == 0 {
+        return None;
+    }
     let high = records[at + 2];
-    Record {
+    Some(Record {
         table: records[at],
         first: (low % HALF) as u32,
         second: (low / HALF) as u32,
         third: (high % HALF) as u32,
         fourth: (high / HALF) as u32,
-    }
+    })
 }
 
 // Puts record q.
@@ -31,16 +42,6 @@ pub fn put(records: &mut [u64], q: usize, r: Record)
 {
     let at = 3 * q;
     records[at] = r.table;
-    records[at + 1] = r.first as u64 + r.second as u64 * HALF;
-    records[at + 2] = r.third as u64 + r.fourth as u64 * HALF;
-}
-
-// Whether a record stands there.
-pub fn present(r: Record) -> bool
-    ensures { result ≡ true → Present r }
-{
-    if r.first != 0 {
-        return true;
-    }
-    r.second != 0
+    records[at + 1] = packed(r.first, r.second);
+    records[at + 2] = packed(r.third, r.fourth);
 }

@@ -8,7 +8,7 @@ use lib.ListN.{length, get_or, set, take, drop, length-set, length-map}
 use lib.Seq.{take_at}
 use Rattle.netlist.specs.Eval.{differs}
 use Rattle.netlist.specs.Leak.{mask_of}
-use Rattle.clear.proofs.Laid.{Laid, laid_none, laid_more, laid-all}
+use Rattle.netlist.proofs.Laid.{Laid, laid_none, laid_more, laid-all}
 use Rattle.evaluate.specs.Lane.{lane, lanes}
 use Rattle.evaluate.proofs.Steps.{set-lanes}
 use Rattle.check_counts.specs.Paint.{code_of, colour_of, shade}

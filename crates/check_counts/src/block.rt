@@ -31,24 +31,15 @@ pub fn run_block(
 pub fn public(paints: &[u8]) -> bool
     ensures { (result ≡ true → Secret (codes_of paints.now) → ⊥) × (result ≡ false → Secret (codes_of paints.now)) }
 {
-    let mut i = 0;
-    while i < paints.len() {
-        if paints[i] % 4 == 0 {
-            return true;
-        }
-        i += 1;
-    }
-    false
+    paints.iter().any(|paint| *paint % 4 == 0)
 }
 
 // Each word's counts in its place.
 fn tally(words: &mut [u64])
     ensures { (w s : ℕ) → s < 16 → nibbles_of words.new w s ≡ ones_of words.old w s }
 {
-    let mut w = 0;
-    while w < words.len() {
-        words[w] = nibble::counts(words[w]);
-        w += 1;
+    for word in words.iter_mut() {
+        *word = nibble::counts(*word);
     }
 }
 
@@ -57,10 +48,8 @@ pub fn first(words: &[u64], base: &mut [u64])
     requires { length base.old ≡ length words.now }
     ensures { (w s : ℕ) → s < 16 → nibbles_of base.new w s ≡ ones_of words.now w 0 }
 {
-    let mut w = 0;
-    while w < words.len() {
-        base[w] = nibble::repeat(nibble::counts(words[w]));
-        w += 1;
+    for (w, word) in words.iter().enumerate() {
+        base[w] = nibble::repeat(nibble::counts(*word));
     }
 }
 

@@ -48,9 +48,7 @@ fn chosen(i: usize, code: u8, secrets: bool, block: u64) -> u64
     requires { i < 64 }
     ensures { (j : ℕ) → j < 64 → lane j result ≡ kept secrets code (lane i ((block * 64 + j) / 4)) }
 {
-    if secrets {
-        pattern(i + 2, block)
-    } else if code == 0 {
+    if secrets || code == 0 {
         pattern(i + 2, block)
     } else {
         0
@@ -76,12 +74,10 @@ pub fn inputs(paints: &[u8], secrets: bool, block: u64, words: &mut [u64])
     ensures { (j : ℕ) → j < 64 → lanes j (take (length paints.now + 2) words.new)
         ≡ inputs_at secrets paints.now (block * 64 + j) }
 {
-    let n = paints.len();
-    let mut i = 0;
-    while i < n {
-        words[i] = input(paints[i], secrets, block);
-        i += 1;
+    for (i, paint) in paints.iter().enumerate() {
+        words[i] = input(*paint, secrets, block);
     }
+    let n = paints.len();
     words[n] = mask(1);
     words[n + 1] = mask(2);
 }

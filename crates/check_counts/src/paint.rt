@@ -8,10 +8,8 @@ pub fn each(codes: &[u8]) -> [u8; 12]
     ensures { take (length codes.now) result ≡ paint_each 0 codes.now }
 {
     let mut paints = [0u8; 12];
-    let mut i = 0;
-    while i < codes.len() {
-        paints[i] = codes[i] + 4 * (i as u8 + 1);
-        i += 1;
+    for (i, code) in codes.iter().enumerate() {
+        paints[i] = *code + 4 * (i as u8 + 1);
     }
     paints
 }

@@ -1,5 +1,7 @@
 -- The search, block by block.
-use mathlib.Core.Path.{◌≡◌, sym, ◌∙◌, subst}
+use mathlib.Core.Path.{◌≡◌, refl, sym, ◌∙◌, subst}
+use Rattle.std.specs.Prelude.{Option, Some, None}
+use Rattle.std.specs.Option.{is_some}
 use mathlib.Core.Bool.{Bool, true, false}
 use mathlib.Core.List.{List}
 use Prim.Native.Nat.{ℕ, ◌+◌, ◌-◌, ◌*◌, ◌≤◌, ◌<◌}
@@ -11,25 +13,41 @@ use Rattle.netlist.specs.Netlist.{Netlist}
 use Rattle.netlist.specs.Table.{Tables}
 use Rattle.netlist.proofs.Tests.{on_bool}
 use Rattle.evaluate.specs.Bare.{bare}
-use Rattle.check_leak.specs.declared.difference.Difference.{Difference}
+use Rattle.check_leak.specs.declared.difference.Leak.{Leak}
 use Rattle.check_counts.specs.Base.{count_in}
 use Rattle.check_counts.specs.Block.{Counted, Ready, Agree}
-use Rattle.check_leak.specs.Difference.{LowestDifference, from}
+use Rattle.check_leak.specs.Difference.{LowestDifference, Differing, wire_of, from}
 
 -- no wire differs
-pub difference-none : {f g : ℕ → ℕ → ℕ} {W S : ℕ} {p : Difference} → p.wire ≡ W → Agree f g W S → LowestDifference f g W S p
-difference-none {W = W} {p = p} e h =
-    let no : p.wire < W → ⊥ = omega arith in
-    record { within = omega arith; lower = λ w l. h w (omega arith); differs = λ l. absurd (no l) }
+pub difference-none : (f g : ℕ → ℕ → ℕ) (W S : ℕ) → Agree f g W S → LowestDifference f g W S None
+difference-none f g W S h = record { lower = h; inside = λ p e. cc; differs = λ p e. cc }
+
+-- a wire that does
+pub difference-some : {f g : ℕ → ℕ → ℕ} {W S : ℕ} (p : Leak) → p.wire < W → Agree f g p.wire S → Differing f g S p → LowestDifference f g W S (Some p)
+difference-some {f} {g} {W} {S} p l a d = record {
+  lower = a;
+  inside = λ q e. let same : p ≡ q = cc in subst (λ (r : Leak). r.wire < W) same l;
+  differs = λ q e. let same : p ≡ q = cc in subst (Differing f g S) same d;
+}
+
+-- where none is found, no wire differs
+pub none-agree : {f g : ℕ → ℕ → ℕ} {W S : ℕ} (found : Option Leak) → is_some found ≡ false → LowestDifference f g W S found → Agree f g W S
+none-agree None e h = h.lower
+none-agree (Some p) e h = cc
+
+-- a leak stands on one of the wires
+pub wire-within : {f g : ℕ → ℕ → ℕ} {W S : ℕ} (found : Option Leak) → LowestDifference f g W S found → wire_of W found ≤ W
+wire-within None h = omega arith
+wire-within {W = W} (Some p) h = let l : p.wire < W = h.inside p refl in omega arith
 
 -- by equal counts
-pub difference-same : {f g f' g' : ℕ → ℕ → ℕ} {W S : ℕ} {p : Difference} → ((w s : ℕ) → s < S → f w s ≡ f' w s) → ((w s : ℕ) → s < S → g w s ≡ g' w s)
-    → LowestDifference f g W S p → LowestDifference f' g' W S p
-difference-same {p = p} ef eg h = record {
-  within = h.within;
+pub difference-same : {f g f' g' : ℕ → ℕ → ℕ} {W S : ℕ} {found : Option Leak} → ((w s : ℕ) → s < S → f w s ≡ f' w s) → ((w s : ℕ) → s < S → g w s ≡ g' w s)
+    → LowestDifference f g W S found → LowestDifference f' g' W S found
+difference-same ef eg h = record {
   lower = λ w l s m. sym (ef w s m) ∙ h.lower w l s m ∙ eg w s m;
-  differs = λ l.
-      let d = h.differs l in
+  inside = h.inside;
+  differs = λ p is.
+      let d = h.differs p is in
       let n = d.inside in
       let e = ef p.wire p.setting n in
       let o = eg p.wire p.setting n in
@@ -38,13 +56,12 @@ difference-same {p = p} ef eg h = record {
         smaller = λ s m. sym (ef p.wire s (omega arith)) ∙ d.smaller s m ∙ eg p.wire s (omega arith);
         other = λ q. d.other (e ∙ q ∙ sym o);
         base = d.base ∙ e;
-        count = d.count ∙ o;
+        own = d.own ∙ o;
       };
 }
 
 -- T settings more, from S on, searched for wires below the best
-module _ {f g : ℕ → ℕ → ℕ} {W S T : ℕ} {best found : Difference}
-    (past : LowestDifference f g W S best) (next : LowestDifference (from S f) (from S g) best.wire T found) where
+module _ {f g : ℕ → ℕ → ℕ} {W S : ℕ} (best : Option Leak) (past : LowestDifference f g W S best) where
   -- a setting is one of those before, or one of the T
   split : {P : Type 0} (s : ℕ) → (s < S → P) → (S ≤ s → P) → P
   split s old new = on_bool (ltb s S) (λ t. old (ltb-true s S t)) (λ t. new (ltb-false s S t))
@@ -52,76 +69,72 @@ module _ {f g : ℕ → ℕ → ℕ} {W S T : ℕ} {best found : Difference}
   shifted : (w s : ℕ) → S ≤ s → from S f w (s - S) ≡ from S g w (s - S) → f w s ≡ g w s
   shifted w s k e = let q : S + (s - S) ≡ s = omega arith in subst (λ (n : ℕ). f w n ≡ g w n) q e
 
-  lower-both : Agree f g found.wire (S + T)
-  lower-both w l s m =
-      let k = next.within in
-      split s (λ h. past.lower w (omega arith) s h) (λ h. shifted w s h (next.lower w l (s - S) (omega arith)))
+  lower-both : {T : ℕ} (limit : ℕ) → limit ≤ wire_of W best → Agree (from S f) (from S g) limit T → Agree f g limit (S + T)
+  lower-both limit k next w l s m = split s (λ h. past.lower w (omega arith) s h) (λ h. shifted w s h (next w l (s - S) (omega arith)))
 
   -- a lower wire
-  pub difference-lower : found.wire < best.wire → LowestDifference f g W (S + T)
-      (record { wire = found.wire; setting = S + found.setting; base = found.base; count = found.count })
-  difference-lower h =
-      let i = past.within in
-      let d = next.differs h in
+  pub difference-lower : {T : ℕ} (p : Leak) → LowestDifference (from S f) (from S g) (wire_of W best) T (Some p)
+      → LowestDifference f g W (S + T) (Some (record { wire = p.wire; setting = S + p.setting; base = p.base; own = p.own }))
+  difference-lower p next =
+      let k : wire_of W best ≤ W = wire-within best past in
+      let h : p.wire < wire_of W best = next.inside p refl in
+      let d = next.differs p refl in
       let n = d.inside in
-      record {
-        within = omega arith;
-        lower = lower-both;
-        differs = λ _. record {
-          inside = omega arith;
-          smaller = λ s m. split s (λ q. past.lower found.wire h s q) (λ q. shifted found.wire s q (d.smaller (s - S) (omega arith)));
-          other = d.other;
-          base = d.base;
-          count = d.count;
-        };
-      }
+      difference-some (record { wire = p.wire; setting = S + p.setting; base = p.base; own = p.own }) (omega arith)
+      (lower-both p.wire (omega arith) next.lower) (record {
+        inside = omega arith;
+        smaller = λ s m. split s (λ q. past.lower p.wire h s q) (λ q. shifted p.wire s q (d.smaller (s - S) (omega arith)));
+        other = d.other;
+        base = d.base;
+        own = d.own;
+      })
 
   -- none
-  pub difference-kept : best.wire ≤ found.wire → LowestDifference f g W (S + T) best
-  difference-kept h = record {
-    within = past.within;
-    lower = λ w l. lower-both w (omega arith);
-    differs = λ l.
-        let d = past.differs l in
+  pub difference-kept : {T : ℕ} → LowestDifference (from S f) (from S g) (wire_of W best) T None → LowestDifference f g W (S + T) best
+  difference-kept next = record {
+    lower = lower-both (wire_of W best) (omega arith) next.lower;
+    inside = past.inside;
+    differs = λ p e.
+        let d = past.differs p e in
         let n = d.inside in
-        record { inside = omega arith; smaller = d.smaller; other = d.other; base = d.base; count = d.count };
+        record { inside = omega arith; smaller = d.smaller; other = d.other; base = d.base; own = d.own };
   }
 
 -- ---- the loop over the blocks
 
 -- a scan of a block's counts and of those of its bases
-pub search-block-law : {N : Netlist} {ps : List ℕ} {counts held : ℕ → ℕ → ℕ} {block limit : ℕ} {p : Difference} → Counted N true ps counts block
+pub search-block-law : {N : Netlist} {ps : List ℕ} {counts held : ℕ → ℕ → ℕ} {block limit : ℕ} {p : Option Leak} → Counted N true ps counts block
     → Counted N false ps held block
     → LowestDifference held counts limit 16 p → LowestDifference (from (block * 16) (count_in N false ps)) (from (block * 16) (count_in N true ps)) limit 16 p
 search-block-law counts based scanned = difference-same based.each counts.each scanned
 
 -- the blocks before this one are searched, and the tables keep their lengths
-pub record Finding (t : Tables) (n W : ℕ) (ps : List ℕ) (publics : Bool) (blocks : ℕ) (words base : List ℕ) (best : Difference) (block : ℕ) : Type 0 where
+pub record Finding (t : Tables) (n W : ℕ) (ps : List ℕ) (publics : Bool) (blocks : ℕ) (words base : List ℕ) (best : Option Leak) (block : ℕ) : Type 0 where
   pub passed : block ≤ blocks
   pub long-words : length words ≡ W
   pub long-base : length base ≡ W
   pub ready : Ready publics (bare t n W) ps base block
   pub lowest : LowestDifference (count_in (bare t n W) false ps) (count_in (bare t n W) true ps) W (block * 16) best
 
-pub find_none : {t : Tables} {n W : ℕ} {ps : List ℕ} {publics : Bool} (blocks : ℕ) {words base : List ℕ} {best : Difference} → length words ≡ W
-    → length base ≡ W → Ready publics (bare t n W) ps base 0 → best.wire ≡ W
-    → Finding t n W ps publics blocks words base best 0
-find_none blocks e d r w = record {
+pub find_none : {t : Tables} {n W : ℕ} {ps : List ℕ} {publics : Bool} (blocks : ℕ) {words base : List ℕ} → length words ≡ W
+    → length base ≡ W → Ready publics (bare t n W) ps base 0
+    → Finding t n W ps publics blocks words base None 0
+find_none {t} {n} {W} {ps} blocks e d r = record {
   passed = omega arith;
   long-words = e;
   long-base = d;
   ready = r;
-  lowest = difference-none w (λ w l s m. absurd (omega arith));
+  lowest = difference-none (count_in (bare t n W) false ps) (count_in (bare t n W) true ps) W 0 (λ w l s m. absurd (omega arith));
 }
 
 -- a block is searched, and the better of two spots kept
-pub find-more : {t : Tables} {n W : ℕ} {ps : List ℕ} {publics : Bool} {blocks : ℕ} {words base : List ℕ} {best : Difference} {block : ℕ}
+pub find-more : {t : Tables} {n W : ℕ} {ps : List ℕ} {publics : Bool} {blocks : ℕ} {words base : List ℕ} {best : Option Leak} {block : ℕ}
     → Finding t n W ps publics blocks words base best block → block < blocks
-    → (us vs : List ℕ) (found next : Difference) → length us ≡ length words → length vs ≡ length base
+    → (us vs : List ℕ) (found next : Option Leak) → length us ≡ length words → length vs ≡ length base
     → LowestDifference (from (block * 16) (count_in (bare t n (length words)) false ps)) (from (block * 16) (count_in (bare t n (length words)) true ps))
-    best.wire 16 found
+    (wire_of (length words) best) 16 found
     → Ready publics (bare t n (length words)) ps vs (block + 1)
-    → ((f g : ℕ → ℕ → ℕ) (W : ℕ) → LowestDifference f g W (block * 16) best → LowestDifference (from (block * 16) f) (from (block * 16) g) best.wire 16 found
+    → ((f g : ℕ → ℕ → ℕ) (W : ℕ) → LowestDifference f g W (block * 16) best → LowestDifference (from (block * 16) f) (from (block * 16) g) (wire_of W best) 16 found
     → LowestDifference f g W (block * 16 + 16) next)
     → Finding t n W ps publics blocks us vs next (block + 1)
 find-more {t} {n} {W} {ps} {publics} {best = best} {block} r l us vs found next e d turned ready better =
@@ -129,8 +142,8 @@ find-more {t} {n} {W} {ps} {publics} {best = best} {block} r l us vs found next 
     let g = count_in (bare t n W) true ps in
     let q : block * 16 + 16 ≡ (block + 1) * 16 = omega arith in
     let counts : Bool → ℕ → ℕ → ℕ → ℕ = λ secrets k. from (block * 16) (count_in (bare t n k) secrets ps) in
-    let turned' : LowestDifference (from (block * 16) f) (from (block * 16) g) best.wire 16 found =
-    subst (λ (k : ℕ). LowestDifference (counts false k) (counts true k) best.wire 16 found) r.long-words turned in
+    let turned' : LowestDifference (from (block * 16) f) (from (block * 16) g) (wire_of W best) 16 found =
+    subst (λ (k : ℕ). LowestDifference (counts false k) (counts true k) (wire_of k best) 16 found) r.long-words turned in
     record {
       passed = omega arith;
       long-words = e ∙ r.long-words;
@@ -139,7 +152,7 @@ find-more {t} {n} {W} {ps} {publics} {best = best} {block} r l us vs found next 
       lowest = subst (λ (S : ℕ). LowestDifference f g W S next) q (better f g W r.lowest turned');
     }
 
-pub find-all : {t : Tables} {n W : ℕ} {ps : List ℕ} {publics : Bool} {blocks : ℕ} {words base : List ℕ} {best : Difference} {block : ℕ}
+pub find-all : {t : Tables} {n W : ℕ} {ps : List ℕ} {publics : Bool} {blocks : ℕ} {words base : List ℕ} {best : Option Leak} {block : ℕ}
     → Finding t n W ps publics blocks words base best block → blocks ≤ block
     → LowestDifference (count_in (bare t n W) false ps) (count_in (bare t n W) true ps) W (blocks * 16) best
 find-all {t} {n} {W} {ps} {blocks = blocks} {best = best} {block} r l =

@@ -1,9 +1,15 @@
 -- What the search for a leak answers.
-use Rattle.std.specs.Prelude.{ℕ, cond, ltb}
-use Rattle.std.proofs.Math.Option.{Option, none, some}
+use Rattle.std.specs.Prelude.{Option, Some, None}
+use Rattle.std.proofs.Math.Option.{none, some}
+use Rattle.std.proofs.Math.Option as Math
 use Rattle.netlist.specs.Leak.{Found}
-use Rattle.check_leak.specs.declared.difference.Difference.{Difference}
+use Rattle.check_leak.specs.declared.difference.Leak.{Leak}
 
--- the leak that a difference among W wires shows; none where its wire is not one of them
-abbrev pub found_at : Difference → ℕ → Option Found
-found_at p W = cond (ltb p.wire W) (some (record { wire = p.wire; at = p.setting; base = p.base; own = p.count })) none
+-- what a leak says
+abbrev pub found : Leak → Found
+found p = record { wire = p.wire; at = p.setting; base = p.base; own = p.own }
+
+-- the answer that a leak stands for
+abbrev pub found_of : Option Leak → Math.Option Found
+found_of None = none
+found_of (Some p) = some (found p)

@@ -8,10 +8,10 @@ ghost use Rattle.evaluate.specs.Bare.{bare};
 ghost use Rattle.check_counts.specs.Base.{count_in};
 ghost use Rattle.check_counts.specs.Block.{Ready};
 ghost use Rattle.check_leak.specs.Difference.{LowestDifference, from};
-ghost use Rattle.check_leak.specs.Search.{found_at};
+ghost use Rattle.check_leak.specs.Search.{found_of};
 
 use crate::difference;
-use crate::difference::Difference;
+use crate::difference::Leak;
 use check_counts::{block, paint};
 
 // A block is run and searched, for wires below a limit.
@@ -25,7 +25,7 @@ fn search_block(
     words: &mut [u64],
     base: &mut [u64],
     limit: usize,
-) -> Difference
+) -> Option<Leak>
     requires wired { Wired (tables operands.now results.now) (length words.old) count }
     requires paints_in_bounds { (length paints.now + 2 ≤ length words.old) × (length base.old ≡ length words.old)
         × (limit ≤ length words.old) × Ready publics (bare (tables operands.now results.now) count (length words.old)) paints.now
@@ -51,7 +51,7 @@ fn find(
     blocks: u64,
     words: &mut [u64],
     base: &mut [u64],
-) -> Difference
+) -> Option<Leak>
     requires wired { Wired (tables operands.now results.now) (length words.old) count }
     requires paints_in_bounds { (length paints.now + 2 ≤ length words.old) × (length base.old ≡ length words.old)
         × (blocks < 65536) }
@@ -59,15 +59,13 @@ fn find(
         (count_in N false paints.now) (count_in N true paints.now) (length words.old) (blocks * 16) result }
 {
     let publics = block::public(paints);
-    let mut best = difference::none(words.len());
-    let mut block = 0;
-    while block < blocks {
-        let limit = best.wire;
+    let mut best = None;
+    for block in 0..blocks {
+        let limit = difference::limit(best, words.len());
         let found = search_block(
             operands, results, count, paints, publics, block, words, base, limit,
         );
         best = difference::better(best, found, block);
-        block += 1;
     }
     best
 }
@@ -89,12 +87,12 @@ pub fn leaks(
     codes: &[u8],
     words: &mut [u64],
     base: &mut [u64],
-) -> Difference
+) -> Option<Leak>
     requires wired { Wired (tables operands.now results.now) (length words.old) count }
     requires codes_len_bound { (length codes.now ≤ max_checked) × (length codes.now + 2 ≤ length words.old) × (length base.old ≡ length words.old)
         × ((i : ℕ) → i < length codes.now → get_or codes.now i 0 < 4) }
     ensures { (n o : ℕ) (N : Netlist) → Holds (tables operands.now results.now) count
-        (length words.old) n o N → found_at result (length words.old) ≡ leak N codes.now }
+        (length words.old) n o N → found_of result ≡ leak N codes.now }
 {
     let paints = paint::each(codes);
     let n = codes.len();

@@ -1,24 +1,21 @@
 -- Questions 10 to 12 of a netlist, and the core's verdict on it.
 use Prim.Native.Nat.{ℕ, zero, suc, ◌+◌, ◌-◌, ◌≤◌, ◌<◌}
-use mathlib.Core.Path.{◌≡◌, refl, sym, ap, ◌∙◌}
+use mathlib.Core.Path.{◌≡◌, refl, sym, ◌∙◌}
 use mathlib.Core.Bool.{Bool, true, false}
 use mathlib.Core.List.{List, [], ◌∷◌}
-use mathlib.Core.Option.{Option, none, some}
+use mathlib.Core.Option.{Option}
 use native.Mathlib.Omega.{arith}
 use lib.Dec.{eqb, leb, eqb→eq, leb→le}
 use lib.ListN.{length, get_or}
-use borrow.Author.Tests.{le-leb, lt-leb, lt-ltb, le-ltb}
+use borrow.Author.Tests.{le-leb, lt-leb}
 use Rattle.netlist.specs.Lists.{every, sum}
-use Rattle.netlist.specs.Netlist.{Netlist, input_bits}
+use Rattle.netlist.specs.Netlist.{Netlist}
 use Rattle.netlist.specs.Outcome.{Outcome, refused, done, ask}
 use Rattle.netlist.specs.Mask.{is_input_code}
 use Rattle.netlist.specs.Leak.{Found, leak}
 use Rattle.netlist.specs.Services.{list_good, ends_in_masks, max_checked, check_outcome}
-use Rattle.netlist.specs.Table.{Tables, Holds}
 use Rattle.netlist.proofs.Tests.{both, is_true, true-T, every-at, clash}
 use Rattle.netlist.proofs.Questions.{ask-done}
-use Rattle.check_leak.specs.declared.difference.Difference.{Difference}
-use Rattle.check_leak.specs.Search.{found_at}
 use Rattle.check_netlist.specs.Judge.{codes_asked}
 
 -- ---- question 10
@@ -40,20 +37,6 @@ masks-bits ws e =
 
 pub codes-length : (n : ℕ) (codes : List ℕ) → list_good is_input_code n codes ≡ true → length codes ≡ n
 codes-length n codes good = eqb→eq (length codes) n (both (eqb (length codes) n) (every is_input_code codes) (true-T (list_good is_input_code n codes) good)).0
-
--- ---- the core's verdict, where it is handed as many words as there are wires
-
-module _ {t : Tables} {m k W n o : ℕ} {N : Netlist} (codes : List ℕ) (p : Difference) (e : k ≡ W)
-    (found : (n o : ℕ) (N : Netlist) → Holds t m k n o N → found_at p k ≡ leak N codes) (h : Holds t m W n o N) where
-  told : found_at p W ≡ leak N codes
-  told = ap (found_at p) (sym e) ∙ found n o N (rw e h)
-
-  pub told-leak : p.wire < W
-      → ◌≡◌ {A = Outcome (Option Found)} (done (some (record { wire = p.wire; at = p.setting; base = p.base; own = p.count }))) (done (leak N codes))
-  told-leak l = ap done (sym (rw (lt-ltb p.wire W l) refl) ∙ told)
-
-  pub told-clean : W ≤ p.wire → ◌≡◌ {A = Outcome (Option Found)} (done none) (done (leak N codes))
-  told-clean l = ap done (sym (rw (le-ltb p.wire W l) refl) ∙ told)
 
 -- ---- questions 10 and 11, and then 12
 

@@ -8,7 +8,7 @@ ghost use Rattle.check_pairs.specs.Promise.{call, Promise};
 
 use netlist::Sizes;
 use pairs_judge::CheckedPairs;
-use read_netlist::read::Reading;
+use read_netlist::read::read;
 
 // The answer, with tables that are still to be cleared.
 fn answer(
@@ -26,26 +26,22 @@ fn answer(
     ensures { outcome_of result ≡ call sizes text.now codes.now pairs.now operands.old
         results.old marks.old words.old base.old bases.old }
 {
-    let l = netlist::large(sizes);
+    let l = sizes.large();
     let mut inputs = [0u32; 17];
     let mut outputs = [0u32; 16];
-    let two = checker::shorter(words.len(), base.len());
-    let shortest = checker::shorter(two, bases.len());
-    match read_netlist::read::read(
+    let h = read(
         text,
         &mut inputs,
         &mut outputs,
         operands,
         results,
         marks,
-        shortest,
+        &[words.len(), base.len(), bases.len()],
         l,
-    ) {
-        Reading::Refused(question) => CheckedPairs::Refused(question),
-        Reading::Done(h) => pairs_judge::judge(
-            h, inputs, codes, pairs, operands, results, words, base, bases,
-        ),
-    }
+    )?;
+    pairs_judge::judge(
+        h, inputs, codes, pairs, operands, results, words, base, bases,
+    )
 }
 
 // Whether the netlist in `text` is clean under the input codes, and each pair of wires: pair j is entries 2j and 2j + 1 of `pairs`.
@@ -69,11 +65,11 @@ pub fn check_pairs(
     let r = answer(
         text, codes, pairs, operands, results, marks, words, base, bases, sizes,
     );
-    clear::words(operands);
-    clear::words(results);
-    clear::bytes(marks);
-    clear::words(words);
-    clear::words(base);
-    clear::words(bases);
+    operands.fill(0);
+    results.fill(0);
+    marks.fill(0);
+    words.fill(0);
+    base.fill(0);
+    bases.fill(0);
     r
 }

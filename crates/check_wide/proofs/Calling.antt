@@ -1,12 +1,14 @@
 -- From the netlist that was read to the outcome of a call, and what an answer says of it.
-use Prim.Native.Nat.{ℕ, ◌-◌, min, ◌≤◌}
+use Prim.Native.Nat.{ℕ, ◌-◌, ◌≤◌}
+use Rattle.std.specs.Prelude as std
+use Rattle.std.specs.Prelude.{Result, Ok, Err}
 use mathlib.Core.Path.{◌≡◌, refl, sym, ap, ◌∙◌}
-use mathlib.Core.Bool.{Bool, true, false, ◌&&◌}
+use mathlib.Core.Bool.{true}
 use mathlib.Core.List.{List, [], ◌∷◌}
 use mathlib.Core.Option.{Option, none, some}
 use native.Mathlib.Omega.{arith}
-use lib.Dec.{leb}
 use lib.ListN.{length, take}
+use Rattle.netlist.specs.declared.Question.{Question}
 use Rattle.netlist.specs.declared.Sizes.{Sizes}
 use Rattle.netlist.specs.declared.Sizes.TheVariants.{Old, Whole}
 use Rattle.netlist.specs.Netlist.{Netlist, large, input_bits}
@@ -21,29 +23,16 @@ use Rattle.netlist.proofs.Answering.{call-refused, call-goes-on}
 use Rattle.netlist.proofs.Questions.{done-same, ask-done, and_then-done}
 use Rattle.netlist.proofs.LeakSearch.{none-clean, found-lowest}
 use Rattle.netlist.proofs.Tests.{clash}
-use Rattle.checker.proofs.Calling.{shorter-long}
 use Rattle.read_header.specs.declared.HeaderNumbers.{HeaderNumbers}
 use Rattle.read_netlist.specs.Whole.{ReadAt}
 use Rattle.pairs.specs.Call.{BothAnswers, pairs_good}
 use Rattle.pairs.proofs.PairCheck.{pairs-judged}
-use Rattle.pairs_search.specs.Search.{bad_of}
 use Rattle.wide.specs.Wide.{WideLeak, listed, few_reach, wide_answers, wide_outcome, wide_call}
-use Rattle.wide_search.specs.declared.search.WideVerdict.{WideVerdict}
-use Rattle.wide_search.specs.declared.search.WideVerdict.TheVariants.{Clean, Leak}
 use Rattle.wide_search.specs.Told.{told_of}
-use Rattle.wide_judge.specs.declared.CheckedWide.{CheckedWide}
-use Rattle.wide_judge.specs.declared.CheckedWide.TheVariants.{Done, Refused}
-use Rattle.wide_judge.specs.Judge.{outcome_in}
+use Rattle.wide_search.specs.declared.search.WideLeak as search
+use Rattle.wide_search.specs.declared.search.WideFound.{WideFound}
+use Rattle.wide_judge.specs.Judge.{both_of, outcome_of}
 use Rattle.check_wide.specs.Promise.{call, WiresJudged, Judged}
-
--- the shorter of a table and of those that stand for others
-pub shorter-also : (k x m : ℕ) {n : ℕ} {rest : Bool} → n ≡ min x m → (leb k m && true) ≡ rest → (leb k n && true) ≡ leb k x && rest
-shorter-also k x m e h =
-    ap (λ (j : ℕ). leb k j && true) e ∙ ap (λ (b : Bool). b && true) (shorter-long k x m) ∙ assoc (leb k x) (leb k m) ∙ ap (λ (b : Bool). leb k x && b) h
-  where
-    assoc : (x y : Bool) → (x && y) && true ≡ x && (y && true)
-    assoc true y = refl
-    assoc false y = refl
 
 -- numbers of wires fit in twenty bits
 pub wires-upto : (s : Sizes) → (large s).table ≤ 1048576
@@ -54,28 +43,21 @@ module _ (s : Sizes) (text codes ws o r g w b z s0 s1 s2 s3 p : List ℕ) where
   abbrev lengths : List ℕ
   lengths = length o ∷ length r ∷ length g ∷ length w ∷ length b ∷ length z ∷ length s0 ∷ length s1 ∷ length s2 ∷ length s3 ∷ length p ∷ []
 
-  module _ (n : ℕ) (least : (k : ℕ) → (leb k n && true) ≡ leb k (length w) && (leb k (length b) && (leb k (length z) && (leb k (length s0)
-      && (leb k (length s1) && (leb k (length s2) && (leb k (length s3) && (leb k (length p) && true)))))))) where
-    -- question 1 of all tables
-    pub all-long : tables_long (large s) (length o ∷ length r ∷ length g ∷ n ∷ []) ≡ tables_long (large s) lengths
-    all-long =
-        ap (λ (k : Bool). leb (large s).table (length o) && (leb (large s).table (length r) && (leb (large s).table (length g) && k))) (least (large s).table)
+  -- questions 1 to 9, and then 10, 11, 21 and 12
+  pub call-not : {q : ℕ} → ask 1 (tables_long (large s) lengths) (read_netlist (large s) text) ≡ refused q
+      → refused q ≡ call s text codes ws o r g w b z s0 s1 s2 s3 p
+  unfolding wide_call
+  call-not e = sym (call-refused (tables_long (large s) lengths) (read_netlist (large s) text) (wide_outcome codes ws) e)
 
-    -- questions 1 to 9, and then 10, 11, 21 and 12
-    pub call-not : {q : ℕ} → ask 1 (tables_long (large s) (length o ∷ length r ∷ length g ∷ n ∷ [])) (read_netlist (large s) text) ≡ refused q
-        → refused q ≡ call s text codes ws o r g w b z s0 s1 s2 s3 p
-    unfolding wide_call
-    call-not e = sym (call-refused (tables_long (large s) lengths) (read_netlist (large s) text) (wide_outcome codes ws) (rw all-long at e))
-
-    pub call-read : {ins outs : List ℕ} {tabs : Tables} {h : HeaderNumbers} {a : Outcome (BothAnswers WideLeak)}
-        → (tables_long (large s) (length o ∷ length r ∷ length g ∷ n ∷ []) ≡ true) × ReadAt (large s) text ins outs tabs h
-        → ((N : Netlist) → Holds tabs h.gates h.wires h.input_bits h.output_bits N → WellFormed N → take h.input_values ins ≡ N.inputs
-        → a ≡ wide_outcome codes ws N)
-        → a ≡ call s text codes ws o r g w b z s0 s1 s2 s3 p
-    unfolding wide_call
-    call-read k f =
-        f k.1.is k.1.holds (accepted (large s) text k.1.is k.1.read).formed k.1.inputs
-        ∙ sym (call-goes-on (tables_long (large s) lengths) (read_netlist (large s) text) (wide_outcome codes ws) (sym all-long ∙ k.0) k.1.read)
+  pub call-read : {ins outs : List ℕ} {tabs : Tables} {h : HeaderNumbers} {a : Outcome (BothAnswers WideLeak)}
+      → (tables_long (large s) lengths ≡ true) × ReadAt (large s) text ins outs tabs h
+      → ((N : Netlist) → Holds tabs h.gates h.wires h.input_bits h.output_bits N → WellFormed N → take h.input_values ins ≡ N.inputs
+      → a ≡ wide_outcome codes ws N)
+      → a ≡ call s text codes ws o r g w b z s0 s1 s2 s3 p
+  unfolding wide_call
+  call-read k f =
+      f k.1.is k.1.holds (accepted (large s) text k.1.is k.1.read).formed k.1.inputs
+      ∙ sym (call-goes-on (tables_long (large s) lengths) (read_netlist (large s) text) (wide_outcome codes ws) k.0 k.1.read)
 
   -- a call with both answers: the netlist that was read, and its outcome
   call-done : (a : BothAnswers WideLeak) → done a ≡ call s text codes ws o r g w b z s0 s1 s2 s3 p
@@ -104,19 +86,19 @@ module _ (s : Sizes) (text codes ws o r g w b z s0 s1 s2 s3 p : List ℕ) where
   some-leak n none e k = clash (cc)
   some-leak n (some f) e k = k f refl
 
-  wires-judged : (v : WideVerdict) (is : List ℕ) (N : Netlist) → told_of v is ≡ listed (length codes) (leak N codes) → WiresJudged N codes v
-  wires-judged Clean is N e = none-clean N codes (no-leak (length codes) (leak N codes) e)
-  wires-judged (Leak l j y k) is N e = λ clean. some-leak (length codes) (leak N codes) e (λ x h. let f = found-lowest N codes x h in
+  wires-judged : (v : std.Option search.WideLeak) (N : Netlist) → told_of v ≡ listed (length codes) (leak N codes) → WiresJudged N codes v
+  wires-judged std.None N e = none-clean N codes (no-leak (length codes) (leak N codes) e)
+  wires-judged (std.Some p) N e = λ clean. some-leak (length codes) (leak N codes) e (λ x h. let f = found-lowest N codes x h in
       f.breaks (clean x.wire f.wire))
 
   -- both answers follow the rules
-  pub call-judged : (a : CheckedWide) (is : List ℕ) → outcome_in a is ≡ call s text codes ws o r g w b z s0 s1 s2 s3 p → (N : Netlist)
+  pub call-judged : (a : Result WideFound Question) → outcome_of a ≡ call s text codes ws o r g w b z s0 s1 s2 s3 p → (N : Netlist)
       → read_netlist (large s) text ≡ done N → Judged N codes ws a
-  call-judged (Refused q) is e N read = tt
-  call-judged (Done v x) is e N read =
-      let a : BothAnswers WideLeak = record { leak = told_of v is; pairs = bad_of x } in
+  call-judged (Err q) e N read = tt
+  call-judged (Ok f) e N read =
+      let a : BothAnswers WideLeak = both_of f in
       let d = call-done a e in
       let h : wide_answers N codes ws ≡ a = answers-are N a (ap (wide_outcome codes ws) (done-same N d.0 (sym read ∙ d.1)) ∙ d.2) in (
-        wires-judged v is N (sym (ap (λ (x : BothAnswers WideLeak). x.leak) h)),
+        wires-judged f.leak N (sym (ap (λ (x : BothAnswers WideLeak). x.leak) h)),
         rw (ap (λ (x : BothAnswers WideLeak). x.pairs) h) at (pairs-judged N codes ws),
       )

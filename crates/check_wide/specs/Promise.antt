@@ -1,5 +1,6 @@
 -- What the check of netlists with many inputs promises of a call (document 02, No. 11).
-use Rattle.std.specs.Prelude.{ℕ, List, [], ◌∷◌, ◌≡◌, length}
+use Rattle.std.specs.Prelude.{Option, Some, None, Result, Ok, Err, ℕ, List, [], ◌∷◌, ◌≡◌, length}
+use Rattle.netlist.specs.declared.Question.{Question}
 use Rattle.netlist.specs.declared.Sizes.{Sizes}
 use Rattle.netlist.specs.Netlist.{Netlist, large}
 use Rattle.netlist.specs.Outcome.{Outcome, done}
@@ -10,11 +11,8 @@ use Rattle.pairs.specs.Pairs.{PairsJudged}
 use Rattle.pairs.specs.Call.{BothAnswers}
 use Rattle.pairs_search.specs.Search.{bad_of}
 use Rattle.wide.specs.Wide.{WideLeak, wide_call}
-use Rattle.wide_search.specs.declared.search.WideVerdict.{WideVerdict}
-use Rattle.wide_search.specs.declared.search.WideVerdict.TheVariants.{Clean, Leak}
-use Rattle.wide_judge.specs.declared.CheckedWide.{CheckedWide}
-use Rattle.wide_judge.specs.declared.CheckedWide.TheVariants.{Done, Refused}
-use Rattle.wide_judge.specs.declared.WideAnswer.{WideAnswer}
+use Rattle.wide_search.specs.declared.search.WideLeak as search
+use Rattle.wide_search.specs.declared.search.WideFound.{WideFound}
 use Rattle.wide_judge.specs.Judge.{outcome_of}
 
 -- the outcome of a call that is handed its sizes, a text, input codes, a list of pairs, and tables of operands, results, marks, words, base
@@ -27,21 +25,21 @@ call s text codes pairs o r g w b z s0 s1 s2 s3 p =
 
 -- the equal-count rule, as the one-wire answer has it: clean, so every wire meets the rule for all settings of all inputs; or a leak, so
 -- one does not
-abbrev pub WiresJudged : Netlist → List ℕ → WideVerdict → Type 0
-WiresJudged N codes Clean = L.Clean N codes
-WiresJudged N codes (Leak w k b o) = L.Clean N codes → ⊥
+abbrev pub WiresJudged : Netlist → List ℕ → Option search.WideLeak → Type 0
+WiresJudged N codes None = L.Clean N codes
+WiresJudged N codes (Some p) = L.Clean N codes → ⊥
 
 -- both answers of a netlist under input codes and a list of pairs; a refusal says nothing
-abbrev pub Judged : Netlist → List ℕ → List ℕ → CheckedWide → Type 0
-Judged N codes ws (Done v p) = WiresJudged N codes v × PairsJudged N codes ws (bad_of p)
-Judged N codes ws (Refused q) = Unit
+abbrev pub Judged : Netlist → List ℕ → List ℕ → Result WideFound Question → Type 0
+Judged N codes ws (Ok f) = WiresJudged N codes f.leak × PairsJudged N codes ws (bad_of f.pair)
+Judged N codes ws (Err q) = Unit
 
 -- the sizes, the text, the input codes and the pairs, then each table before and after the call
-pub record Promise (s : Sizes) (text codes pairs o o' r r' g g' w w' b b' z z' s0 s0' s1 s1' s2 s2' s3 s3' p p' : List ℕ) (a : WideAnswer) : Type 0 where
+pub record Promise (s : Sizes) (text codes pairs o o' r r' g g' w w' b b' z z' s0 s0' s1 s1' s2 s2' s3 s3' p p' : List ℕ) (a : Result WideFound Question) : Type 0 where
   -- the answers are those of the check over all settings of all inputs
   pub outcome : outcome_of a ≡ call s text codes pairs o r g w b z s0 s1 s2 s3 p
   -- they judge the netlist that the text reads as
-  pub judged : (N : Netlist) → read_netlist (large s) text ≡ done N → Judged N codes pairs a.checked
+  pub judged : (N : Netlist) → read_netlist (large s) text ≡ done N → Judged N codes pairs a
   pub operands : Cleared o o'
   pub results : Cleared r r'
   pub marks : Cleared g g'

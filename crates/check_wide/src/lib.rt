@@ -7,22 +7,8 @@ ghost use Rattle.wide_judge.specs.Judge.{outcome_of};
 ghost use Rattle.check_wide.specs.Promise.{call, Promise};
 
 use netlist::Sizes;
-use read_netlist::read::Reading;
-use wide_judge::WideAnswer;
-
-// The shortest of the tables that the reader does not see.
-fn shortest(a: usize, b: usize, c: usize, d: usize, e: usize, f: usize, g: usize, h: usize) -> usize
-    ensures { (k : ℕ) → (leb k result && true)
-        ≡ leb k a && (leb k b && (leb k c && (leb k d && (leb k e && (leb k f && (leb k g && (leb k h && true))))))) }
-{
-    let g = checker::shorter(g, h);
-    let f = checker::shorter(f, g);
-    let e = checker::shorter(e, f);
-    let d = checker::shorter(d, e);
-    let c = checker::shorter(c, d);
-    let b = checker::shorter(b, c);
-    checker::shorter(a, b)
-}
+use read_netlist::read::read;
+use wide_judge::CheckedWide;
 
 // The answer, with tables that are still to be cleared.
 fn answer(
@@ -41,40 +27,37 @@ fn answer(
     set3: &mut [u64],
     paints: &mut [u8],
     sizes: Sizes,
-) -> WideAnswer
+) -> CheckedWide
     ensures { outcome_of result ≡ call sizes text.now codes.now pairs.now operands.old
         results.old marks.old words.old base.old bases.old set0.old
         set1.old set2.old set3.old paints.old }
 {
-    let l = netlist::large(sizes);
+    let l = sizes.large();
     let mut inputs = [0u32; 17];
     let mut outputs = [0u32; 16];
-    let least = shortest(
-        words.len(),
-        base.len(),
-        bases.len(),
-        set0.len(),
-        set1.len(),
-        set2.len(),
-        set3.len(),
-        paints.len(),
-    );
-    match read_netlist::read::read(
+    let h = read(
         text,
         &mut inputs,
         &mut outputs,
         operands,
         results,
         marks,
-        least,
+        &[
+            words.len(),
+            base.len(),
+            bases.len(),
+            set0.len(),
+            set1.len(),
+            set2.len(),
+            set3.len(),
+            paints.len(),
+        ],
         l,
-    ) {
-        Reading::Refused(question) => wide_judge::refuse(question),
-        Reading::Done(h) => wide_judge::judge(
-            h, inputs, codes, pairs, operands, results, marks, words, base, bases, set0, set1,
-            set2, set3, paints,
-        ),
-    }
+    )?;
+    wide_judge::judge(
+        h, inputs, codes, pairs, operands, results, marks, words, base, bases, set0, set1, set2,
+        set3, paints,
+    )
 }
 
 // Whether the netlist in `text` is clean under the input codes, and each pair of wires: pair j is entries 2j and 2j + 1 of `pairs`. A
@@ -95,7 +78,7 @@ pub fn check_wide(
     set3: &mut [u64],
     paints: &mut [u8],
     sizes: Sizes,
-) -> WideAnswer
+) -> CheckedWide
     ensures { Promise sizes text.now codes.now pairs.now operands.old operands.new
         results.old results.new marks.old marks.new words.old words.new
         base.old base.new bases.old bases.new set0.old set0.new
@@ -106,16 +89,16 @@ pub fn check_wide(
         text, codes, pairs, operands, results, marks, words, base, bases, set0, set1, set2, set3,
         paints, sizes,
     );
-    clear::words(operands);
-    clear::words(results);
-    clear::bytes(marks);
-    clear::words(words);
-    clear::words(base);
-    clear::words(bases);
-    clear::words(set0);
-    clear::words(set1);
-    clear::words(set2);
-    clear::words(set3);
-    clear::bytes(paints);
+    operands.fill(0);
+    results.fill(0);
+    marks.fill(0);
+    words.fill(0);
+    base.fill(0);
+    bases.fill(0);
+    set0.fill(0);
+    set1.fill(0);
+    set2.fill(0);
+    set3.fill(0);
+    paints.fill(0);
     r
 }

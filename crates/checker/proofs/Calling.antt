@@ -1,5 +1,7 @@
 -- From a netlist that was read, and judged, to Check's promise.
 use Prim.Native.Nat.{ℕ, ◌-◌, min}
+use Rattle.std.specs.Prelude as std
+use Rattle.std.specs.Prelude.{Result, Ok, Err}
 use mathlib.Core.Path.{◌≡◌, refl, sym, ap, ◌∙◌}
 use mathlib.Core.Bool.{Bool, true, false, ◌&&◌}
 use mathlib.Core.List.{List, [], ◌∷◌}
@@ -8,6 +10,7 @@ use native.Mathlib.Omega.{arith}
 use lib.Dec.{leb}
 use lib.ListN.{length, take}
 use borrow.Author.Tests.{le-leb, lt-leb, leb-true, leb-false}
+use Rattle.netlist.specs.declared.Question.{Question}
 use Rattle.netlist.specs.declared.Limits.{Limits}
 use Rattle.netlist.specs.declared.Sizes.{Sizes}
 use Rattle.netlist.specs.Lists.{sum}
@@ -23,33 +26,14 @@ use Rattle.netlist.proofs.Questions.{done-same, ask-done}
 use Rattle.netlist.proofs.LeakSearch.{none-clean, found-lowest}
 use Rattle.read_header.specs.declared.HeaderNumbers.{HeaderNumbers}
 use Rattle.read_netlist.specs.Whole.{ReadAt}
-use Rattle.check_netlist.specs.declared.Checked.{Checked}
-use Rattle.check_netlist.specs.declared.Checked.TheVariants.{Clean, Leak, Refused}
-use Rattle.check_netlist.specs.Judge.{found, outcome_of, Judged}
+use Rattle.check_leak.specs.declared.difference.Leak.{Leak}
+use Rattle.check_leak.specs.Search.{found}
+use Rattle.check_netlist.specs.Judge.{outcome_of, Judged}
 use Rattle.checker.specs.Promise.{call}
 
 -- the input bits are those of the widths read
 pub read-bits : {L : Limits} {t ins outs : List ℕ} {tabs : Tables} {h : HeaderNumbers} → ReadAt L t ins outs tabs h → h.input_bits ≡ sum (take h.input_values ins)
 read-bits r = sym r.holds.ins ∙ ap sum (sym r.inputs)
-
--- the shorter of two tables stands for both
-pub shorter-long : (t a b : ℕ) → leb t (min a b) ≡ leb t a && leb t b
-shorter-long t a b = go (leb t a) (leb t b) refl refl
-  where
-    go : (x y : Bool) → leb t a ≡ x → leb t b ≡ y → leb t (min a b) ≡ x && y
-    go true true p q = le-leb t (min a b) (omega (arith, leb-true t a p, leb-true t b q))
-    go true false p q = lt-leb t (min a b) (omega (arith, leb-false t b q))
-    go false y p q = lt-leb t (min a b) (omega (arith, leb-false t a p))
-
-pub long-both : (L : Limits) (o r g w b : ℕ) {n : ℕ} → n ≡ min w b → tables_long L (o ∷ r ∷ g ∷ n ∷ []) ≡ tables_long L (o ∷ r ∷ g ∷ w ∷ b ∷ [])
-long-both L o r g w b e =
-    ap (λ (n : ℕ). tables_long L (o ∷ r ∷ g ∷ n ∷ [])) e
-    ∙ ap (λ (k : Bool). leb L.table o && (leb L.table r && (leb L.table g && k)))
-    (ap (λ (k : Bool). k && true) (shorter-long L.table w b) ∙ assoc (leb L.table w) (leb L.table b))
-  where
-    assoc : (x y : Bool) → (x && y) && true ≡ x && (y && true)
-    assoc true y = refl
-    assoc false y = refl
 
 -- questions 10 to 12 are passed: the answer is that of the search
 pub outcome-leak : (N : Netlist) (codes : List ℕ) (f : Option Found) → check_outcome codes N ≡ done f → leak N codes ≡ f
@@ -63,25 +47,19 @@ module _ (s : Sizes) (text codes o r g w b : List ℕ) where
   abbrev lengths : List ℕ
   lengths = length o ∷ length r ∷ length g ∷ length w ∷ length b ∷ []
 
-  module _ {n : ℕ} (shortest : n ≡ min (length w) (length b)) where
-    -- question 1 of all five tables
-    pub all-long : tables_long (large s) (length o ∷ length r ∷ length g ∷ n ∷ []) ≡ tables_long (large s) lengths
-    all-long = long-both (large s) (length o) (length r) (length g) (length w) (length b) shortest
+  -- questions 1 to 9, and then 10 to 12
+  pub call-not : {q : ℕ} → ask 1 (tables_long (large s) lengths) (read_netlist (large s) text) ≡ refused q → refused q ≡ call s text codes o r g w b
+  unfolding check_call
+  call-not p = sym (call-refused (tables_long (large s) lengths) (read_netlist (large s) text) (check_outcome codes) p)
 
-    -- questions 1 to 9, and then 10 to 12
-    pub call-not : {q : ℕ} → ask 1 (tables_long (large s) (length o ∷ length r ∷ length g ∷ n ∷ [])) (read_netlist (large s) text) ≡ refused q
-        → refused q ≡ call s text codes o r g w b
-    unfolding check_call
-    call-not p = sym (call-refused (tables_long (large s) lengths) (read_netlist (large s) text) (check_outcome codes) (rw all-long at p))
-
-    pub call-read : {ins outs : List ℕ} {tabs : Tables} {h : HeaderNumbers} {a : Outcome (Option Found)}
-        → (tables_long (large s) (length o ∷ length r ∷ length g ∷ n ∷ []) ≡ true) × ReadAt (large s) text ins outs tabs h
-        → ((N : Netlist) → Holds tabs h.gates h.wires h.input_bits h.output_bits N → take h.input_values ins ≡ N.inputs → a ≡ check_outcome codes N)
-        → a ≡ call s text codes o r g w b
-    unfolding check_call
-    call-read k f =
-        f k.1.is k.1.holds k.1.inputs
-        ∙ sym (call-goes-on (tables_long (large s) lengths) (read_netlist (large s) text) (check_outcome codes) (sym all-long ∙ k.0) k.1.read)
+  pub call-read : {ins outs : List ℕ} {tabs : Tables} {h : HeaderNumbers} {a : Outcome (Option Found)}
+      → (tables_long (large s) lengths ≡ true) × ReadAt (large s) text ins outs tabs h
+      → ((N : Netlist) → Holds tabs h.gates h.wires h.input_bits h.output_bits N → take h.input_values ins ≡ N.inputs → a ≡ check_outcome codes N)
+      → a ≡ call s text codes o r g w b
+  unfolding check_call
+  call-read k f =
+      f k.1.is k.1.holds k.1.inputs
+      ∙ sym (call-goes-on (tables_long (large s) lengths) (read_netlist (large s) text) (check_outcome codes) k.0 k.1.read)
 
   -- an answer that is no refusal is that of the search
   answer-leak : (N : Netlist) (f : Option Found) → read_netlist (large s) text ≡ done N → done f ≡ call s text codes o r g w b → leak N codes ≡ f
@@ -91,9 +69,9 @@ module _ (s : Sizes) (text codes o r g w b : List ℕ) where
       outcome-leak N codes f (sym (ap (λ (u : Outcome Netlist). and_then u (check_outcome codes)) read) ∙ one)
 
   -- the answer follows the equal-count rule
-  pub call-judged : (a : Checked) → outcome_of a ≡ call s text codes o r g w b → (N : Netlist) → read_netlist (large s) text ≡ done N → Judged N codes a
-  call-judged Clean e N read = none-clean N codes (answer-leak N none read e)
-  call-judged (Leak l j z k) e N read =
-      let f = found-lowest N codes (found l j z k) (answer-leak N (some (found l j z k)) read e) in
-      (f, λ clean. f.breaks (clean l f.wire))
-  call-judged (Refused q) e N read = tt
+  pub call-judged : (a : Result (std.Option Leak) Question) → outcome_of a ≡ call s text codes o r g w b → (N : Netlist) → read_netlist (large s) text ≡ done N → Judged N codes a
+  call-judged (Ok std.None) e N read = none-clean N codes (answer-leak N none read e)
+  call-judged (Ok (std.Some p)) e N read =
+      let f = found-lowest N codes (found p) (answer-leak N (some (found p)) read e) in
+      (f, λ clean. f.breaks (clean p.wire f.wire))
+  call-judged (Err q) e N read = tt

@@ -1,13 +1,15 @@
 -- What Check promises of a call.
-use Rattle.std.specs.Prelude.{ℕ, ◌≡◌, List, [], ◌∷◌, length}
+use Rattle.std.specs.Prelude as std
+use Rattle.std.specs.Prelude.{ℕ, Result, ◌≡◌, List, [], ◌∷◌, length}
 use Rattle.std.proofs.Math.Option.{Option}
+use Rattle.netlist.specs.declared.Question.{Question}
 use Rattle.netlist.specs.declared.Sizes.{Sizes}
 use Rattle.netlist.specs.Netlist.{Netlist, large}
 use Rattle.netlist.specs.Outcome.{Outcome, done}
 use Rattle.netlist.specs.Read.{read_netlist}
 use Rattle.netlist.specs.Leak.{Found}
 use Rattle.netlist.specs.Services.{check_call, Cleared}
-use Rattle.check_netlist.specs.declared.Checked.{Checked}
+use Rattle.check_leak.specs.declared.difference.Leak.{Leak}
 use Rattle.check_netlist.specs.Judge.{outcome_of, Judged}
 
 -- the outcome of a call that is handed its sizes, a text, input codes, and tables of operands, results, given wires, words and base words
@@ -15,7 +17,7 @@ abbrev pub call : Sizes → List ℕ → List ℕ → List ℕ → List ℕ → 
 call s text codes o r g w b = check_call (large s) (length o ∷ length r ∷ length g ∷ length w ∷ length b ∷ []) text codes
 
 -- the sizes, the text and the input codes, then each table before and after the call
-pub record Promise (s : Sizes) (text codes o o' r r' g g' w w' b b' : List ℕ) (a : Checked) : Type 0 where
+pub record Promise (s : Sizes) (text codes o o' r r' g g' w w' b b' : List ℕ) (a : Result (std.Option Leak) Question) : Type 0 where
   pub outcome : outcome_of a ≡ call s text codes o r g w b
   -- the answer judges the netlist that the text reads as
   pub judged : (N : Netlist) → read_netlist (large s) text ≡ done N → Judged N codes a

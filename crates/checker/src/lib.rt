@@ -1,23 +1,13 @@
 // Check: whether a netlist whose last input value is the mask pair leaks on one wire. Questions 1 to 12 with the large limits.
 #![tactic(auto)]
 
-ghost use Rattle.std.specs.Prelude.{◌≡◌, min};
+ghost use Rattle.std.specs.Prelude.{◌≡◌};
 ghost use Rattle.check_netlist.specs.Judge.{outcome_of};
 ghost use Rattle.checker.specs.Promise.{call, Promise};
 
 use check_netlist::Checked;
 use netlist::Sizes;
-use read_netlist::read::Reading;
-
-// The smaller of two lengths.
-pub fn shorter(a: usize, b: usize) -> usize
-    ensures { result ≡ min a b }
-{
-    if a < b {
-        return a;
-    }
-    b
-}
+use read_netlist::read::read;
 
 // The answer, with tables that are still to be cleared.
 fn answer(
@@ -33,23 +23,20 @@ fn answer(
     ensures { outcome_of result ≡ call sizes text.now codes.now operands.old results.old
         marks.old words.old base.old }
 {
-    let l = netlist::large(sizes);
+    let l = sizes.large();
     let mut inputs = [0u32; 17];
     let mut outputs = [0u32; 16];
-    let shortest = shorter(words.len(), base.len());
-    match read_netlist::read::read(
+    let h = read(
         text,
         &mut inputs,
         &mut outputs,
         operands,
         results,
         marks,
-        shortest,
+        &[words.len(), base.len()],
         l,
-    ) {
-        Reading::Refused(question) => Checked::Refused(question),
-        Reading::Done(h) => check_netlist::judge(h, inputs, codes, operands, results, words, base),
-    }
+    )?;
+    check_netlist::judge(h, inputs, codes, operands, results, words, base)
 }
 
 // Whether the netlist in `text` is clean under the input codes. The tables, of any content, are zero on return.
@@ -68,10 +55,10 @@ pub fn check(
         base.new result }
 {
     let r = answer(text, codes, operands, results, marks, words, base, sizes);
-    clear::words(operands);
-    clear::words(results);
-    clear::bytes(marks);
-    clear::words(words);
-    clear::words(base);
+    operands.fill(0);
+    results.fill(0);
+    marks.fill(0);
+    words.fill(0);
+    base.fill(0);
     r
 }

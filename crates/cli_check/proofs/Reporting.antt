@@ -19,8 +19,6 @@ use Rattle.netlist.specs.Programs.{readable, list_file, print_check, check_progr
 use Rattle.netlist.proofs.Tests.{on_bool}
 use Rattle.write_buffer.specs.Wrote.{Wrote}
 use Rattle.write_buffer.proofs.Writing.{wrote-front, front-within}
-use Rattle.check_netlist.specs.declared.Checked.{Checked}
-use Rattle.check_netlist.specs.Judge.{outcome_of}
 use Rattle.checker.specs.Promise.{call}
 use Rattle.cli_check.specs.Report.{Roomy}
 
@@ -52,10 +50,6 @@ asked-short netlist inputs codes room h e p =
     p ∙ call-roomy netlist codes room ∙ ap (check_call (large Old) [] netlist) e ∙ sym (rw (le-leb (length netlist) file_limit h))
 
 -- ---- the line
-
-pub printed : {e x : List ℕ} {r : ℕ} {a : Checked} (v : Checked) → a ≡ v → Wrote e 0 (print_check (outcome_of v)) x r
-    → Wrote e 0 (print_check (outcome_of a)) x r
-printed v p w = rw p w
 
 length_digits : (k n : ℕ) → length (digits k n) ≤ k
 length_digits zero n = omega arith

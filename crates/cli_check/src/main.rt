@@ -12,7 +12,7 @@ ghost use Rattle.check_netlist.specs.Judge.{outcome_of};
 ghost use Rattle.cli_check.specs.Report.{Roomy};
 
 use check_netlist::Checked;
-use netlist::Sizes;
+use netlist::{Question, Sizes};
 use program_text::{FILE_LIMIT, LARGE_TABLE};
 use std::io;
 use std::io::Write;
@@ -32,7 +32,7 @@ fn answer(
         (check_call (largeLimits Old) [] netlist.now (list_file inputs.old)) }
 {
     if FILE_LIMIT < netlist.len() {
-        return Checked::Refused(2);
+        return Err(Question::Length);
     }
     let n = program_text::list(inputs);
     checker::check(
@@ -52,11 +52,15 @@ fn print(out: &mut [u8], a: Checked) -> usize
     ensures { Wrote out.old 0 (print_check (outcome_of a)) out.new result }
 {
     match a {
-        Checked::Clean => program_text::clean(out),
-        Checked::Leak(wire, setting, base, count) => {
-            program_text::leak(out, wire, setting as usize, base as usize, count as usize)
-        }
-        Checked::Refused(question) => program_text::refused(out, question),
+        Ok(None) => program_text::clean(out),
+        Ok(Some(leak)) => program_text::leak(
+            out,
+            leak.wire,
+            leak.setting as usize,
+            leak.base as usize,
+            leak.own as usize,
+        ),
+        Err(question) => program_text::refused(out, question),
     }
 }
 

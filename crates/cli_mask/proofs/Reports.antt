@@ -1,4 +1,5 @@
 -- From the bytes of the three files to what *mask* prints.
+use Rattle.std.specs.Prelude.{Ok, Err, Result}
 use Prim.Native.Nat.{ℕ, ◌≤◌}
 use mathlib.Core.Path.{◌≡◌, refl, sym, ap, ap₂, ◌∙◌, subst}
 use mathlib.Core.Bool.{Bool, true}
@@ -7,14 +8,14 @@ use native.Mathlib.Omega.{arith}
 use lib.ListN.{length, take}
 use lib.Seq.{length-sets}
 use borrow.Author.Tests.{le-leb}
-use Rattle.netlist.specs.declared.Answer.{Answer}
-use Rattle.netlist.specs.declared.Answer.TheVariants.{Refused}
+use Rattle.netlist.specs.declared.Question.{Question}
+use Rattle.netlist.specs.Question.{number_of}
 use Rattle.netlist.specs.Text.{lf}
 use Rattle.netlist.specs.declared.Sizes.TheVariants.{Old}
 use Rattle.netlist.specs.Netlist.{small}
 use Rattle.netlist.specs.Outcome.{Outcome, refused, done, ask, and_then}
 use Rattle.netlist.specs.Read.{read_netlist}
-use Rattle.netlist.specs.Services.{MaskedText, tables_long, outcome_of as text_of, mask_outcome, mask_call}
+use Rattle.netlist.specs.Services.{MaskedText, stands_for, tables_long, outcome_of as text_of, mask_outcome, mask_call}
 use Rattle.netlist.specs.Programs.{list_file, print_list, print_mask, mask_program, file_limit}
 use Rattle.netlist.proofs.Answering.{take-sets}
 use Rattle.netlist.proofs.Tests.{clash}
@@ -30,13 +31,29 @@ use Rattle.cli_mask.specs.Report.{Roomy, outcome, outcome_of, Answered, Prints}
 
 -- ---- the answer
 
-answered-as : {c d : Outcome MaskedText} {x y : List ℕ} {k : ℕ} {a : Answer} → c ≡ d → Answered c x y k a → Answered d x y k a
+answered-as : {c d : Outcome MaskedText} {x y : List ℕ} {k : ℕ} {a : Result ℕ Question} → c ≡ d → Answered c x y k a → Answered d x y k a
 answered-as p h = rw p at h
 
-answered-refused : (x y : List ℕ) (k q : ℕ) {a : Answer} → a ≡ Refused q → Answered (refused q) x y k a
-answered-refused x y k q p = record {
-  outcome = ap (outcome_of x (take k y)) p;
-  counted = λ n d. clash (cc);
+-- two refusals by one number
+refused-same : (p q : ℕ) → ◌≡◌ {A = Outcome ℕ} (refused p) (refused q) → p ≡ q
+refused-same p q e = cc
+
+-- an answer that says the length of a result has one, and an answer that says a question is a refusal
+ok_is : (a : Result ℕ Question) (n : ℕ) → stands_for (λ n. n) a ≡ done n → a ≡ Ok n
+ok_is (Ok m) n e = ap {B = Result ℕ Question} Ok (done-same m n e)
+ok_is (Err q) n e = clash (cc)
+
+refused_is : (x y : List ℕ) (q : ℕ) (a : Result ℕ Question) → stands_for (λ n. n) a ≡ refused q → outcome_of x y a ≡ refused q
+refused_is x y q (Ok m) e = clash (cc)
+refused_is x y q (Err p) e = ap {B = Outcome MaskedText} refused (refused-same (number_of p) q e)
+
+not-ok : (q n : ℕ) {a : Result ℕ Question} → stands_for (λ n. n) a ≡ refused q → a ≡ Ok n → ⊥
+not-ok q n e d = let k : ◌≡◌ {A = Outcome ℕ} (done n) (refused q) = rw d at e in clash (cc)
+
+answered-refused : (x y : List ℕ) (k q : ℕ) {a : Result ℕ Question} → stands_for (λ n. n) a ≡ refused q → Answered (refused q) x y k a
+answered-refused x y k q {a} p = record {
+  outcome = refused_is x (take k y) q a p;
+  counted = λ n d. absurd (not-ok q n p d);
 }
 
 module _ (netlist codes wanted : List ℕ) {t e o r w m : List ℕ} (room : Roomy t e o r w m) where
@@ -56,29 +73,30 @@ module _ (netlist codes wanted : List ℕ) {t e o r w m : List ℕ} (room : Room
       ∙ sym (readable-short netlist _ h)
 
   -- there are as many output codes as wanted ones
-  masked-answered : {x y : List ℕ} {a : Answer} (c : Outcome MaskedText) → call Old netlist codes wanted t e o r w m ≡ c → MaskAnswers c t x e y a
+  masked-answered : {x y : List ℕ} {a : Result ℕ Question} (c : Outcome MaskedText) → call Old netlist codes wanted t e o r w m ≡ c → MaskAnswers c t x e y a
       → Answered c x y (length wanted) a
   masked-answered {x} {y} (refused q) p h = answered-refused x y (length wanted) q h.text.answer
-  masked-answered {x} {y} (done R) p h =
+  masked-answered {x} {y} {a} (done R) p h =
       let M = made Old (length o ∷ length r ∷ length m ∷ length w ∷ []) netlist codes wanted (length t) (length e) R p in
       let same = ap (λ (Q : MaskedText). length Q.codes) M.same in
       let many : length R.codes ≡ length wanted = sym same ∙ output-codes-length M.inputs ∙ sym M.inputs.wanted_length in
       let fits : length R.codes ≤ length e = omega (arith, M.room, same) in
-      let text : take (length R.text) x ≡ R.text = done-same _ _ (ap (text_of x) (sym h.text.answer) ∙ h.text.outcome) in
+      let is = ok_is a (length R.text) h.text.answer in
+      let text : take (length R.text) x ≡ R.text = done-same _ _ (ap (text_of x) (sym is) ∙ h.text.outcome) in
       let out_codes : take (length wanted) y ≡ R.codes = ap₂ take (sym many) h.codes ∙ take-sets R.codes e fits in
       record {
-        outcome = ap (outcome_of x (take (length wanted) y)) h.text.answer
+        outcome = ap (outcome_of x (take (length wanted) y)) is
             ∙ ap₂ (λ (u v : List ℕ). done (record { text = u; codes = v })) text out_codes;
         counted = λ n d. ((answered h.text).counted n d, omega (arith, ap length h.codes ∙ length-sets e 0 R.codes));
       }
 
-  pub answer-short : {x y : List ℕ} {a : Answer} → length netlist ≤ file_limit → MaskAnswers (call Old netlist codes wanted t e o r w m) t x e y a
+  pub answer-short : {x y : List ℕ} {a : Result ℕ Question} → length netlist ≤ file_limit → MaskAnswers (call Old netlist codes wanted t e o r w m) t x e y a
       → Answered (outcome netlist codes wanted) x y (length wanted) a
   answer-short h k = answered-as (call-roomy h) (masked-answered _ refl k)
 
 -- ---- what it prints
 
-pub prints-as : {a : Answer} {l x : List ℕ} {p : Printed} (text codes : List ℕ) (b : Answer) → a ≡ b
+pub prints-as : {a : Result ℕ Question} {l x : List ℕ} {p : Printed} (text codes : List ℕ) (b : Result ℕ Question) → a ≡ b
     → Prints l x p (print_mask (outcome_of text codes b))
     → Prints l x p (print_mask (outcome_of text codes a))
 prints-as text codes b e f = rw e f

@@ -1,7 +1,7 @@
 -- What the functions of *mask* rely on, and the outcome that they report.
-use Rattle.std.specs.Prelude.{ℕ, ◌≤◌, ◌≡◌, List, [], ◌++◌, length, take}
-use Rattle.netlist.specs.declared.Answer.{Answer}
-use Rattle.netlist.specs.declared.Answer.TheVariants.{Done, Refused}
+use Rattle.std.specs.Prelude.{Err, Ok, Result, ℕ, ◌≤◌, ◌≡◌, List, [], ◌++◌, length, take}
+use Rattle.netlist.specs.declared.Question.{Question}
+use Rattle.netlist.specs.Question.{number_of}
 use Rattle.netlist.specs.declared.Sizes.TheVariants.{Old}
 use Rattle.netlist.specs.Netlist.{small}
 use Rattle.netlist.specs.Outcome.{Outcome, refused, done}
@@ -23,16 +23,16 @@ abbrev pub outcome : List ℕ → List ℕ → List ℕ → Outcome MaskedText
 outcome netlist codes wanted = readable netlist (mask_call (small Old) [] netlist codes wanted file_limit (small Old).wires)
 
 -- the outcome that an answer stands for, with the buffer of the text and the output codes
-abbrev pub outcome_of : List ℕ → List ℕ → Answer → Outcome MaskedText
-outcome_of text codes (Done n) = done record { text = take n text; codes = codes }
-outcome_of text codes (Refused q) = refused q
+abbrev pub outcome_of : List ℕ → List ℕ → Result ℕ Question → Outcome MaskedText
+outcome_of text codes (Ok n) = done record { text = take n text; codes = codes }
+outcome_of text codes (Err q) = refused (number_of q)
 
 -- the text and the k output codes of an answer lie in their buffers
-abbrev pub Counted : List ℕ → List ℕ → ℕ → Answer → Type 0
-Counted text out_codes k a = (n : ℕ) → a ≡ Done n → (n ≤ length text) × (k ≤ length out_codes)
+abbrev pub Counted : List ℕ → List ℕ → ℕ → Result ℕ Question → Type 0
+Counted text out_codes k a = (n : ℕ) → a ≡ Ok n → (n ≤ length text) × (k ≤ length out_codes)
 
 -- an answer, the text's buffer, and k output codes in theirs, are a call's outcome
-pub record Answered (call : Outcome MaskedText) (text out_codes : List ℕ) (k : ℕ) (a : Answer) : Type 0 where
+pub record Answered (call : Outcome MaskedText) (text out_codes : List ℕ) (k : ℕ) (a : Result ℕ Question) : Type 0 where
   pub outcome : outcome_of text (take k out_codes) a ≡ call
   pub counted : Counted text out_codes k a
 

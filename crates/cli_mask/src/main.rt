@@ -6,7 +6,7 @@ ghost use Rattle.std.specs.Prelude.{◌+◌, ◌*◌, ◌≤◌, length, take};
 ghost use Rattle.netlist.specs.Programs.{print_mask, mask_program};
 ghost use Rattle.cli_mask.specs.Report.{Roomy, outcome, outcome_of, Answered, Counted, Prints};
 
-use netlist::{Answer, Sizes};
+use netlist::{Answer, Question, Sizes};
 use program_text::{FILE_LIMIT, SMALL_TABLE};
 use std::io;
 use std::io::Write;
@@ -35,7 +35,7 @@ fn answer(
         out_codes.new (length wanted.now) result }
 {
     if FILE_LIMIT < netlist.len() {
-        return Answer::Refused(2);
+        return Err(Question::Length);
     }
     mask::mask(
         netlist,
@@ -58,11 +58,11 @@ fn print(line: &mut [u8], text: &[u8], out_codes: &[u8], codes: usize, a: Answer
         (print_mask (outcome_of text.now (take codes out_codes.now) a)) }
 {
     match a {
-        Answer::Done(n) => Printed {
+        Ok(n) => Printed {
             line: program_text::digits(line, &out_codes[..codes]),
             text: n,
         },
-        Answer::Refused(question) => Printed {
+        Err(question) => Printed {
             line: program_text::refused(line, question),
             text: 0,
         },

@@ -1,11 +1,12 @@
 -- From the file's bytes to what *rewrite* prints.
+use Rattle.std.specs.Prelude.{Result}
 use Prim.Native.Nat.{ℕ, ◌≤◌}
 use mathlib.Core.Path.{◌≡◌, sym, ap, ◌∙◌}
 use mathlib.Core.Bool.{Bool, true}
 use mathlib.Core.List.{List, [], ◌∷◌}
 use lib.ListN.{length}
 use borrow.Author.Tests.{le-leb}
-use Rattle.netlist.specs.declared.Answer.{Answer}
+use Rattle.netlist.specs.declared.Question.{Question}
 use Rattle.netlist.specs.declared.Sizes.TheVariants.{Old}
 use Rattle.netlist.specs.Netlist.{large}
 use Rattle.netlist.specs.Outcome.{Outcome, ask, and_then}
@@ -27,12 +28,12 @@ call-roomy netlist {b} {o} {r} {g} m h =
     ∙ ap (λ (room : ℕ). and_then (read_netlist (large Old) netlist) (rewrite_outcome room)) m.text
     ∙ sym (readable-short netlist _ h)
 
-pub answer-short : (netlist : List ℕ) {b o r g x : List ℕ} {a : Answer} → Roomy b o r g → length netlist ≤ file_limit
+pub answer-short : (netlist : List ℕ) {b o r g x : List ℕ} {a : Result ℕ Question} → Roomy b o r g → length netlist ≤ file_limit
     → Answers (call Old netlist b o r g) b x a → Answered (outcome netlist) x a
 answer-short netlist m h w = answered-as (call-roomy netlist m h) (answered w)
 
 -- an answer printed
-pub prints-as : {a : Answer} {x : List ℕ} {r : ℕ} (e : List ℕ) (b : Answer) → a ≡ b → Front x r (print_rewrite (outcome_of e b))
+pub prints-as : {a : Result ℕ Question} {x : List ℕ} {r : ℕ} (e : List ℕ) (b : Result ℕ Question) → a ≡ b → Front x r (print_rewrite (outcome_of e b))
     → Front x r (print_rewrite (outcome_of e a))
 prints-as e b p f = rw p f
 

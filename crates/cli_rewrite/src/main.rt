@@ -7,7 +7,7 @@ ghost use Rattle.netlist.specs.Services.{outcome_of};
 ghost use Rattle.program_text.specs.Front.{Front, Counted, Answered};
 ghost use Rattle.cli_rewrite.specs.Report.{Roomy, outcome};
 
-use netlist::{Answer, Sizes};
+use netlist::{Answer, Question, Sizes};
 use program_text::{FILE_LIMIT, LARGE_TABLE};
 use std::io;
 use std::io::Write;
@@ -24,7 +24,7 @@ fn answer(
     ensures { Answered (outcome netlist.now) out.new result }
 {
     if FILE_LIMIT < netlist.len() {
-        return Answer::Refused(2);
+        return Err(Question::Length);
     }
     rewrite::rewrite(netlist, out, operands, results, marks, Sizes::Old)
 }
@@ -35,8 +35,8 @@ fn print(out: &mut [u8], a: Answer) -> usize
     ensures { Front out.new result (print_rewrite (outcome_of out.old a)) }
 {
     match a {
-        Answer::Done(n) => n,
-        Answer::Refused(question) => program_text::refused(out, question),
+        Ok(n) => n,
+        Err(question) => program_text::refused(out, question),
     }
 }
 

@@ -1,11 +1,12 @@
 -- From the bytes of the two files to what *run* prints.
+use Rattle.std.specs.Prelude.{Result}
 use Prim.Native.Nat.{ℕ, ◌≤◌}
 use mathlib.Core.Path.{◌≡◌, sym, ap, ◌∙◌}
 use mathlib.Core.Bool.{Bool, true}
 use mathlib.Core.List.{List, [], ◌∷◌}
 use lib.ListN.{length}
 use borrow.Author.Tests.{le-leb}
-use Rattle.netlist.specs.declared.Answer.{Answer}
+use Rattle.netlist.specs.declared.Question.{Question}
 use Rattle.netlist.specs.declared.Sizes.TheVariants.{Old}
 use Rattle.netlist.specs.Netlist.{large}
 use Rattle.netlist.specs.Outcome.{Outcome, ask, and_then}
@@ -34,13 +35,13 @@ call-roomy netlist inputs {list} {b} {o} {r} {g} {w} m h e =
     ∙ ap (λ (l : List ℕ). run_call (large Old) [] netlist l (large Old).wires) e
     ∙ sym (readable-short netlist _ h)
 
-pub answer-short : (netlist inputs list : List ℕ) {b o r g w x : List ℕ} {a : Answer} → Roomy b o r g w → length netlist ≤ file_limit
+pub answer-short : (netlist inputs list : List ℕ) {b o r g w x : List ℕ} {a : Result ℕ Question} → Roomy b o r g w → length netlist ≤ file_limit
     → list ≡ list_file inputs
     → Answers (call Old netlist list b o r g w) b x a → Answered (outcome netlist inputs) x a
 answer-short netlist inputs list m h e s = answered-as (call-roomy netlist inputs m h e) (answered s)
 
 -- an answer printed
-pub prints-as : {a : Answer} {x : List ℕ} {r : ℕ} (e : List ℕ) (b : Answer) → a ≡ b → Front x r (print_run (outcome_of e b))
+pub prints-as : {a : Result ℕ Question} {x : List ℕ} {r : ℕ} (e : List ℕ) (b : Result ℕ Question) → a ≡ b → Front x r (print_run (outcome_of e b))
     → Front x r (print_run (outcome_of e a))
 prints-as e b p f = rw p f
 

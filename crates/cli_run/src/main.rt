@@ -8,7 +8,7 @@ ghost use Rattle.netlist.specs.Services.{outcome_of};
 ghost use Rattle.program_text.specs.Front.{Front, Counted, Answered};
 ghost use Rattle.cli_run.specs.Report.{Roomy, outcome};
 
-use netlist::{Answer, Sizes};
+use netlist::{Answer, Question, Sizes};
 use program_text::{FILE_LIMIT, LARGE_TABLE};
 use std::io;
 use std::io::Write;
@@ -27,7 +27,7 @@ fn answer(
     ensures { Answered (outcome netlist.now inputs.old) bits.new result }
 {
     if FILE_LIMIT < netlist.len() {
-        return Answer::Refused(2);
+        return Err(Question::Length);
     }
     let n = program_text::list(inputs);
     run::run(
@@ -48,8 +48,8 @@ fn print(out: &mut [u8], bits: &[u8], a: Answer) -> usize
     ensures { Front out.new result (print_run (outcome_of bits.now a)) }
 {
     match a {
-        Answer::Done(n) => program_text::digits(out, &bits[..n]),
-        Answer::Refused(question) => program_text::refused(out, question),
+        Ok(n) => program_text::digits(out, &bits[..n]),
+        Err(question) => program_text::refused(out, question),
     }
 }
 

@@ -1,4 +1,5 @@
 -- From a text that was read to the outcome of a conversion.
+use Rattle.std.specs.Prelude.{Err, Ok, Result}
 use Prim.Native.Nat.{ℕ, ◌≤◌}
 use mathlib.Core.Path.{◌≡◌, refl, sym, ap, ap₂, ◌∙◌}
 use mathlib.Core.Bool.{Bool, true, false}
@@ -9,14 +10,14 @@ use lib.Seq.{length-take-le}
 use Rattle.netlist.specs.declared.Gate.{Gate}
 use Rattle.netlist.specs.declared.Limits.{Limits}
 use Rattle.netlist.specs.declared.Sizes.{Sizes}
-use Rattle.netlist.specs.declared.Answer.{Answer}
-use Rattle.netlist.specs.declared.Answer.TheVariants.{Done, Refused}
+use Rattle.netlist.specs.declared.Question.{Question}
+use Rattle.netlist.specs.declared.Question.TheVariants as Q
 use Rattle.netlist.specs.Netlist.{Netlist, large}
-use Rattle.netlist.specs.Outcome.{Outcome, refused, done, ask, and_then}
+use Rattle.netlist.specs.Outcome.{Outcome, done, ask, and_then}
 use Rattle.netlist.specs.Write.{write_netlist, gate_text}
 use Rattle.netlist.specs.Services.{tables_long, delivered, outcome_of, Answers, Delivers}
 use Rattle.netlist.specs.Table.{Tables, gates_of}
-use Rattle.netlist.proofs.Answering.{asked-again, answers-as, answers-refused, call-refused, call-goes-on}
+use Rattle.netlist.proofs.Answering.{answers-as, answers-refused, call-goes-on}
 use Rattle.netlist.proofs.Questions.{done-same, refused-done}
 use Rattle.netlist.proofs.Puts.{length-gates}
 use Rattle.old_form.specs.declared.Dialect.{Dialect}
@@ -74,39 +75,29 @@ module _ (to : Dialect) (gs : List Gate) (ins outs : List ℕ) {i o : ℕ} {r : 
     fronts = ap₂ (has_form to gs) (length-take-le i ins p) (length-take-le o outs q) ∙ sym f
 
     pub form-not : (rest : Outcome (List ℕ)) (e : List ℕ) → r ≡ false
-        → Answers (ask 15 (has_form to gs (length (take i ins)) (length (take o outs))) rest) e e (Refused 15)
+        → Answers (ask 15 (has_form to gs (length (take i ins)) (length (take o outs))) rest) e e (Err Q.OldForm)
     form-not rest e n = answers-refused e (ap (λ (b : Bool). ask 15 b rest) (fronts ∙ n))
 
-    pub form-yes : {e x bs : List ℕ} {a : Answer} → r ≡ true → Delivers bs e x a
+    pub form-yes : {e x bs : List ℕ} {a : Result ℕ Question} → r ≡ true → Delivers bs e x a
         → Answers (ask 15 (has_form to gs (length (take i ins)) (length (take o outs))) (delivered (length e) bs)) e x a
     form-yes {e} {x} {bs} y d = answers-as (sym (ap (λ (b : Bool). ask 15 b (delivered (length e) bs)) (fronts ∙ y))) d.answers
 
 module _ (from to : Dialect) (s : Sizes) (text out o r g : List ℕ) where
   -- questions 1 to 9, and then 15 and 14
-  pub call-not : {q : ℕ}
-      → ask 1 (tables_long (large s) (length o ∷ length r ∷ length g ∷ length g ∷ [])) (read_in from (large s) text) ≡ refused q
-      → Answers (call from to s text out o r g) out out (Refused q)
-  call-not p =
-      let e = asked-again (large s) (length o) (length r) (length g) in
-      answers-refused out
-      (call-refused (tables_long (large s) (length o ∷ length r ∷ length g ∷ [])) (read_in from (large s) text) (form_outcome to (length out)) (rw e at p))
-
-  pub call-read : {ins outs x : List ℕ} {tabs : Tables} {h : HeaderNumbers} {a : Answer}
-      → (tables_long (large s) (length o ∷ length r ∷ length g ∷ length g ∷ []) ≡ true) × ReadOf from (large s) text ins outs tabs h
+  pub call-read : {ins outs x : List ℕ} {tabs : Tables} {h : HeaderNumbers} {a : Result ℕ Question}
+      → (tables_long (large s) (length o ∷ length r ∷ length g ∷ []) ≡ true) × ReadOf from (large s) text ins outs tabs h
       → Answers (ask 15 (has_form to (gates_of tabs h.gates) (length (take h.input_values ins)) (length (take h.output_values outs)))
       (delivered (length out) (form_text_in to h.gates h.wires (take h.input_values ins) (take h.output_values outs) tabs))) out x a
       → Answers (call from to s text out o r g) out x a
   call-read k d =
-      let e = asked-again (large s) (length o) (length r) (length g) in
       answers-as
       (outcome-same to k.1 (length out)
-      ∙ sym (call-goes-on (tables_long (large s) (length o ∷ length r ∷ length g ∷ [])) (read_in from (large s) text) (form_outcome to (length out))
-      (sym e ∙ k.0) k.1.read))
+      ∙ sym (call-goes-on (tables_long (large s) (length o ∷ length r ∷ length g ∷ [])) (read_in from (large s) text) (form_outcome to (length out)) k.0 k.1.read))
       d
 
   -- a result is the written form of the netlist read, which has one
-  pub call-text : {x : List ℕ} {a : Answer} → Answers (call from to s text out o r g) out x a
-      → (n : ℕ) (N : Netlist) → a ≡ Done n → read_in from (large s) text ≡ done N
+  pub call-text : {x : List ℕ} {a : Result ℕ Question} → Answers (call from to s text out o r g) out x a
+      → (n : ℕ) (N : Netlist) → a ≡ Ok n → read_in from (large s) text ≡ done N
       → (has_form to N.gates (length N.inputs) (length N.outputs) ≡ true) × (take n x ≡ text_in to N)
   call-text {x} {a} w n N p e =
       let b = tables_long (large s) (length o ∷ length r ∷ length g ∷ []) in

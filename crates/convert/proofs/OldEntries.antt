@@ -1,15 +1,21 @@
 -- Question 15 of gates in tables.
-use Prim.Native.Nat.{ℕ, ◌+◌, ◌-◌, ◌/◌, ◌%◌, ◌<◌, ◌≤◌}
+use Prim.Native.Nat.{ℕ, zero, suc, ◌+◌, ◌/◌, ◌%◌, ◌<◌, ◌≤◌}
 use mathlib.Core.Path.{◌≡◌, refl, sym, ap, ◌∙◌}
-use mathlib.Core.Bool.{Bool, true, false, cond, ◌&&◌, and-true, and-false, and_assoc}
+use mathlib.Core.Bool.{Bool, true, false, cond, ◌&&◌, and-true, and_assoc}
 use mathlib.Core.List.{List, [], ◌∷◌, ◌++◌}
 use native.Mathlib.Omega.{arith}
 use lib.Dec.{eqb, leb, ltb}
-use borrow.Author.Tests.{ne_eqb, eqb-false, ltb-true, ltb-false, lt-leb, le-leb}
+use borrow.Author.Tests.{ne_eqb, eqb-true, eqb-false, lt-ltb, ltb-true, ltb-false, le-leb}
 use Rattle.netlist.specs.declared.Gate.{Gate}
-use Rattle.netlist.specs.declared.Gate.TheVariants.{Eqw, Eq}
+use Rattle.netlist.specs.declared.Gate.TheVariants.{Xor, And, Inv, Eqw, Eq}
+use lib.ListN.{length, get_or, take}
+use lib.Seq.{take-suc}
+use Rattle.std.proofs.Common.{IsTrue, EachIndex}
+use Rattle.std.proofs.lemmas.Bool.{both_ways, false_from_ne_true}
+use Rattle.std.proofs.lemmas.List.Recursion.{and_at, and_from_places}
+use Rattle.convert.specs.Convert.{old_entry}
 use Rattle.netlist.specs.Lists.{every}
-use Rattle.netlist.specs.Table.{Tables, half, gate_of, gate_in, gate_at, gates_of}
+use Rattle.netlist.specs.Table.{tables, half, gate_of, gate_at, gates_of}
 use Rattle.netlist.proofs.Tests.{on_bool}
 use Rattle.netlist.proofs.Puts.{gates-more}
 use Rattle.old_form.specs.OldWrite.{is_old_gate}
@@ -32,55 +38,54 @@ low-kind k a b c l h =
     let three : k ≡ 3 = omega arith in
     rw three))
 
-module _ (r : ℕ) where
-  pub entry-none : r / half ≡ 0 → (o : ℕ) → false ≡ is_old_gate (gate_in o r)
-  entry-none e o = rw e
+pub entry-kind : (r : ℕ) → (ltb 0 (r / half) && ltb (r / half) 4) ≡ old_entry r
+entry-kind r = on_bool (eqb (r / half) 0)
+    (λ e. let z : r / half ≡ 0 = eqb-true (r / half) 0 e in rw z)
+    (λ n. let z : r / half ≡ 0 → ⊥ = eqb-false (r / half) 0 n in
+    rw (lt-ltb 0 (r / half) (omega arith))
+    (on_bool (ltb (r / half) 4)
+    (λ e. let l = ltb-true (r / half) 4 e in e ∙ sym (low-kind (r / half) 0 0 (r % half) (omega arith) (omega arith)))
+    (λ e. let l = ltb-false (r / half) 4 e in e ∙ sym (high-kind (r / half) 0 0 (r % half) (omega arith)))))
 
-  pub entry-kind : (r / half ≡ 0 → ⊥) → (o : ℕ) → ltb (r / half) 4 ≡ is_old_gate (gate_in o r)
-  entry-kind n o =
-      on_bool (ltb (r / half) 4)
-      (λ e. let l = ltb-true (r / half) 4 e in e ∙ sym (low-kind (r / half) (o % half) (o / half) (r % half) (omega arith) (omega arith)))
-      (λ e. let l = ltb-false (r / half) 4 e in e ∙ sym (high-kind (r / half) (o % half) (o / half) (r % half) (omega arith)))
-
--- ---- the entries, from the last one down
+-- ---- the entries
 
 every-last : (gs : List Gate) (g : Gate) → every is_old_gate (gs ++ (g ∷ [])) ≡ (every is_old_gate gs && is_old_gate g)
 every-last [] g = and-true (is_old_gate g)
 every-last (x ∷ gs) g = rw (every-last gs g) (sym (and_assoc (is_old_gate x) (every is_old_gate gs) (is_old_gate g)))
 
--- the entries from `left` on are XOR, AND and INV, so that those before it decide
-pub record Down (t : Tables) (count left : ℕ) : Type 0 where
-  pub passed : left ≤ count
-  pub same : every is_old_gate (gates_of t count) ≡ every is_old_gate (gates_of t left)
+every-more : (s : List ℕ) (r : ℕ) → every old_entry (s ++ (r ∷ [])) ≡ (every old_entry s && old_entry r)
+every-more [] r = and-true (old_entry r)
+every-more (x ∷ s) r = rw (every-more s r) (sym (and_assoc (old_entry x) (every old_entry s) (old_entry r)))
 
-pub down-start : (t : Tables) (count : ℕ) → Down t count count
-down-start t count = record { passed = omega arith; same = refl }
+-- the operands do not matter
+any-operands : (k a b a' b' c : ℕ) → is_old_gate (gate_of k a b c) ≡ is_old_gate (gate_of k a' b' c)
+any-operands k a b a' b' c = go (eqb k 1) (eqb k 2) (eqb k 3) (eqb k 4) (eqb k 5)
+  where
+    go : (p q r s t : Bool) → is_old_gate (cond p (Xor a b c) (cond q (And a b c) (cond r (Inv a c) (cond s (Eqw a c) (cond t (Eq 0 c) (Eq 1 c))))))
+        ≡ is_old_gate (cond p (Xor a' b' c) (cond q (And a' b' c) (cond r (Inv a' c) (cond s (Eqw a' c) (cond t (Eq 0 c) (Eq 1 c))))))
+    go true q r s t = refl
+    go false true r s t = refl
+    go false false true s t = refl
+    go false false false true t = refl
+    go false false false false true = refl
+    go false false false false false = refl
 
-module _ {t : Tables} {count left : ℕ} (s : Down t count left) (h : 0 < left) where
-  last_entry : every is_old_gate (gates_of t count) ≡ (every is_old_gate (gates_of t (left - 1)) && is_old_gate (gate_at t (left - 1)))
-  last_entry =
-      let e : left ≡ (left - 1) + 1 = omega arith in
-      s.same ∙ ap (λ (n : ℕ). every is_old_gate (gates_of t n)) e ∙ ap (every is_old_gate) (gates-more t (left - 1))
-      ∙ every-last (gates_of t (left - 1)) (gate_at t (left - 1))
+pub entries-gates : (o r : List ℕ) (n : ℕ) → n ≤ length r → every old_entry (take n r) ≡ every is_old_gate (gates_of (tables o r) n)
+entries-gates o r zero l = refl
+entries-gates o r (suc n) l =
+    let t = tables o r in
+    let next : suc n ≡ n + 1 = omega arith in
+    ap (every old_entry) (take-suc r n 0 (omega arith)) ∙ every-more (take n r) (get_or r n 0)
+    ∙ rw (entries-gates o r n (omega arith), any-operands (get_or r n 0 / half) (0 % half) (0 / half) (get_or o n 0 % half) (get_or o n 0 / half) (get_or r n 0 % half))
+    (sym (ap (λ (k : ℕ). every is_old_gate (gates_of t k)) next ∙ ap (every is_old_gate) (gates-more t n) ∙ every-last (gates_of t n) (gate_at t n)))
 
-  pub down-more : true ≡ is_old_gate (gate_at t (left - 1)) → Down t count (left - 1)
-  down-more e = record { passed = omega (arith, s.passed); same = last_entry ∙ rw (← e) (and-true (every is_old_gate (gates_of t (left - 1)))) }
+-- a test that is true where each entry passes
+pub every-from_iff : (s : List ℕ) (r : Bool) → (IsTrue r → EachIndex s (λ k. old_entry (get_or s k 0) ≡ true))
+    → (EachIndex s (λ k. old_entry (get_or s k 0) ≡ true) → IsTrue r) → r ≡ every old_entry s
+every-from_iff s true f g = sym (and_from_places (every old_entry) old_entry refl (λ _ _. refl) s 0 (f refl))
+every-from_iff s false f g =
+    sym (false_from_ne_true _ (λ e. both_ways false refl (g (λ k l. and_at (every old_entry) old_entry refl (λ _ _. refl) s k 0 l e))))
 
-  pub down-no : false ≡ is_old_gate (gate_at t (left - 1)) → false ≡ every is_old_gate (gates_of t count)
-  down-no e = sym (last_entry ∙ rw (← e) (and-false (every is_old_gate (gates_of t (left - 1)))))
-
-pub down-all : {t : Tables} {count left : ℕ} → Down t count left → left ≤ 0 → true ≡ every is_old_gate (gates_of t count)
-down-all {t} {count} {left} s h = let e : left ≡ 0 = omega arith in sym (s.same ∙ ap (λ (n : ℕ). every is_old_gate (gates_of t n)) e)
-
--- ---- the values
-
-module _ (gates : Bool) where
-  pub form-inputs : (inputs outputs : ℕ) → 2 < inputs → false ≡ (gates && leb inputs 2 && leb outputs 1)
-  form-inputs inputs outputs h = sym (rw (lt-leb inputs 2 h, and-false gates))
-
-  module _ (inputs outputs : ℕ) (h : inputs ≤ 2) where
-    pub form-outputs : 1 < outputs → false ≡ (gates && leb inputs 2 && leb outputs 1)
-    form-outputs k = sym (rw (lt-leb outputs 1 k) (and-false (gates && leb inputs 2)))
-
-    pub form-gates : {r : Bool} → outputs ≤ 1 → r ≡ gates → r ≡ (gates && leb inputs 2 && leb outputs 1)
-    form-gates k e = e ∙ sym (rw (le-leb inputs 2 h, le-leb outputs 1 k) (and-true (gates && true) ∙ and-true gates))
+-- few values leave the question to the gates
+pub form-gates : (gates : Bool) (inputs outputs : ℕ) {r : Bool} → inputs ≤ 2 → outputs ≤ 1 → r ≡ gates → r ≡ (gates && leb inputs 2 && leb outputs 1)
+form-gates gates inputs outputs h k e = e ∙ sym (rw (le-leb inputs 2 h, le-leb outputs 1 k) (and-true (gates && true) ∙ and-true gates))

@@ -1,18 +1,23 @@
 -- The outcome of a call that reads a text in one dialect and writes its netlist in another.
-use Rattle.std.specs.Prelude.{ℕ, Bool, true, ◌&&◌, List, [], ◌∷◌, leb, length}
+use Rattle.std.specs.Prelude.{Result, ℕ, Bool, true, ◌&&◌, List, [], ◌∷◌, leb, length}
 use Rattle.netlist.specs.declared.Gate.{Gate}
-use Rattle.netlist.specs.declared.Answer.{Answer}
+use Rattle.netlist.specs.declared.Question.{Question}
 use Rattle.netlist.specs.declared.Limits.{Limits}
 use Rattle.netlist.specs.declared.Sizes.{Sizes}
 use Rattle.netlist.specs.Lists.{every}
 use Rattle.netlist.specs.Netlist.{Netlist, large}
 use Rattle.netlist.specs.Outcome.{Outcome, ask, and_then}
 use Rattle.netlist.specs.Services.{tables_long, rewrite_outcome, Answers, Cleared}
+use Rattle.netlist.specs.Table.{gate_in}
 use Rattle.old_form.specs.declared.Dialect.{Dialect}
 use Rattle.old_form.specs.declared.Dialect.TheVariants.{Fashion, Old}
 use Rattle.old_form.specs.OldWrite.{is_old_gate}
 use Rattle.old_form.specs.OldCalls.{to_old_outcome}
 use Rattle.old_form.specs.Dialects.{read_in}
+
+-- the entry of a result and its kind is that of XOR, AND or INV
+abbrev pub old_entry : ℕ → Bool
+old_entry r = is_old_gate (gate_in 0 r)
 
 -- question 15, which only the older dialect puts, of gates and of so many input and output values
 abbrev pub has_form : Dialect → List Gate → ℕ → ℕ → Bool
@@ -33,7 +38,7 @@ abbrev pub call : Dialect → Dialect → Sizes → List ℕ → List ℕ → Li
 call from to s text out o r g = convert_call from to (large s) (length o ∷ length r ∷ length g ∷ []) text (length out)
 
 -- the answer and the result buffer are those of the outcome, and the tables are zero
-pub record Converts (from to : Dialect) (s : Sizes) (text out out' o o' r r' g g' : List ℕ) (a : Answer) : Type 0 where
+pub record Converts (from to : Dialect) (s : Sizes) (text out out' o o' r r' g g' : List ℕ) (a : Result ℕ Question) : Type 0 where
   pub answers : Answers (call from to s text out o r g) out out' a
   pub operands : Cleared o o'
   pub results : Cleared r r'

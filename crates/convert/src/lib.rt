@@ -12,10 +12,9 @@ ghost use Rattle.write_netlist.specs.Form.{form_text_in};
 ghost use Rattle.convert.specs.Convert.{call, has_form, Converts};
 
 use crate::question::has_form;
-use netlist::{Answer, Sizes};
+use netlist::{Answer, Question, Sizes};
 use old_form::Dialect;
 use read_header::HeaderNumbers;
-use read_netlist::read::Reading;
 
 // Question 14 and the text in a dialect, from a header's numbers and tables that begin with its widths and gates.
 pub fn deliver(
@@ -63,14 +62,13 @@ fn write(
         (tables operands.now results.now)))) out.old out.new result }
 {
     if !has_form(
-        operands,
         results,
         h.gates as usize,
         h.input_values,
         h.output_values,
         to,
     ) {
-        return Answer::Refused(15);
+        return Err(Question::OldForm);
     }
     deliver(out, h, inputs, outputs, operands, results, to)
 }
@@ -89,24 +87,20 @@ fn answer(
     ensures { Answers (call from to sizes text.now out.old operands.old results.old
         marks.old) out.old out.new result }
 {
-    let l = netlist::large(sizes);
     let mut inputs = [0u32; 17];
     let mut outputs = [0u32; 16];
-    let shortest = marks.len();
-    match read_netlist::read::read_in(
+    let h = read_netlist::read::read_in(
         text,
         &mut inputs,
         &mut outputs,
         operands,
         results,
         marks,
-        shortest,
-        l,
+        &[],
+        sizes.large(),
         from,
-    ) {
-        Reading::Refused(question) => Answer::Refused(question),
-        Reading::Done(h) => write(out, h, inputs, outputs, operands, results, to),
-    }
+    )?;
+    write(out, h, inputs, outputs, operands, results, to)
 }
 
 // The netlist of a text in one dialect, written in the other at the front of `out`. The tables, of any content, are zero on return.
@@ -124,8 +118,8 @@ pub fn convert(
         results.old results.new marks.old marks.new result }
 {
     let r = answer(text, out, operands, results, marks, sizes, from, to);
-    clear::words(operands);
-    clear::words(results);
-    clear::bytes(marks);
+    operands.fill(0);
+    results.fill(0);
+    marks.fill(0);
     r
 }

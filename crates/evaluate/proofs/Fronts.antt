@@ -7,12 +7,16 @@ use native.Mathlib.Omega.{arith}
 use lib.ListN.{length, get_or, drop, length-map, get_or-map}
 use lib.Seq.{sets, sets-eq}
 use Rattle.netlist.specs.Leak.{bit}
-use Rattle.clear.proofs.Laid.{Laid, laid-all}
+use Rattle.netlist.proofs.Laid.{Laid, laid-all}
 
 front-eq : (s d : List ℕ) → length s ≤ length d → sets d 0 s ≡ s ++ drop (length s) d
 front-eq s d h =
     let e : 0 + length s ≡ length s = omega arith in
     sets-eq s d 0 (omega arith) ∙ ap (λ (k : ℕ). s ++ drop k d) e
+
+-- what a copy over the front leaves
+pub copied-front : (s d : List ℕ) {n : ℕ} {x : List ℕ} → x ≡ s → n ≡ length s → length s ≤ length d → x ++ drop n d ≡ sets d 0 s
+copied-front s d e l h = rw (e, l) (sym (front-eq s d h))
 
 -- what a loop has laid when it ends
 pub laid-front : {s d₀ d : List ℕ} {i : ℕ} → Laid 0 s d₀ d i → length s ≤ i → length s ≤ length d₀ → d ≡ sets d₀ 0 s

@@ -16,8 +16,8 @@ use Rattle.netlist.proofs.Answering.{take-sets}
 use Rattle.evaluate.specs.Lane.{lane, lanes, output_words}
 use Rattle.evaluate.specs.Bare.{bare}
 use Rattle.evaluate.proofs.Lanes.{lane-zero, lane-bit}
-use Rattle.evaluate.proofs.Fronts.{bits-long}
-use Rattle.evaluate.proofs.Words.{words-known}
+use Rattle.evaluate.proofs.Fronts.{copied-front, bits-long}
+use Rattle.evaluate.proofs.Words.{words-known, length-output_words}
 
 lanes-zeros : (j : ℕ) (ws : List ℕ) (k : ℕ) → lanes j (ws ++ replicate k 0) ≡ lanes j ws ++ replicate k false
 lanes-zeros j [] zero = refl
@@ -82,12 +82,14 @@ module _ (ws list laid us : List ℕ) {t : Tables} {n m o : ℕ} {N : Netlist} (
       ∙ ap₂ (λ (k : ℕ) (v : List Bool). drop (k - o) v) long (ran ∙ in_all ∙ bare-wires h (lanes j list)) ∙ out
 
   -- sixty-four runs
-  pub wide-law : (out₀ out : List ℕ) → ((i : ℕ) → get_or us i 0 < 2 ^ 64)
+  pub wide-law : (out₀ copied : List ℕ) → ((i : ℕ) → get_or us i 0 < 2 ^ 64)
       → ((j : ℕ) → j < 64 → lanes j us ≡ wire_bits (bare t n (length laid)) (lanes j (take (length list) laid)))
-      → out ≡ sets out₀ 0 (last o us) → out ≡ sets out₀ 0 (output_words N list)
-  wide-law out₀ out fits ran e =
-      e ∙ ap (sets out₀ 0) (words-known N list (last o us) (last-long ∙ sym h.outs)
-      (λ i l. rw (last-drop, get_or-drop (length us - o) us i 0) (fits (length us - o + i))) (λ j l. outputs-law j (ran j l)))
+      → copied ≡ last o us → o ≤ length out₀ → copied ++ drop o out₀ ≡ sets out₀ 0 (output_words N list)
+  wide-law out₀ copied fits ran e room =
+      let known : last o us ≡ output_words N list = words-known N list (last o us) (last-long ∙ sym h.outs)
+      (λ i l. rw (last-drop, get_or-drop (length us - o) us i 0) (fits (length us - o + i))) (λ j l. outputs-law j (ran j l)) in
+      let n : length (output_words N list) ≡ o = length-output_words N list ∙ h.outs in
+      copied-front (output_words N list) out₀ (e ∙ known) (sym n) (omega arith)
 
 -- one run, on the bits of a list, in lane 0
 pub single-law : (ws bits laid us out₀ out : List ℕ) {t : Tables} {n m o : ℕ} {N : Netlist} → Holds t n (length ws) m o N

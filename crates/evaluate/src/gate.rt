@@ -1,9 +1,8 @@
 // One gate on words: lane j of each word belongs to setting j.
-ghost use Rattle.std.specs.Prelude.{◌≡◌, ℕ, ◌<◌, [], ◌∷◌, length};
+ghost use Rattle.std.specs.Prelude.{◌≡◌, ℕ, ◌<◌, [], ◌∷◌, cond, eqb, length};
 ghost use Rattle.netlist.specs.Eval.{run_gates};
 ghost use Rattle.netlist.specs.Table.{made_of};
 ghost use Rattle.evaluate.specs.Lane.{lane, lanes};
-ghost use Rattle.evaluate.specs.Form.{factor_of, term_of};
 ghost use Rattle.gate_table.specs.Parts.{gate_by, Within};
 
 use gate_table::Parts;
@@ -18,26 +17,19 @@ pub fn spread(bits: u64, i: usize) -> u64
     ((bits >> i) & 1) * ALL
 }
 
-// Every gate is (left AND factor) XOR term. Kinds 1 to 4 are XOR, AND, INV and EQW, 5 is EQ 0, the
+// Every gate is (left AND factor) XOR term. The factor is the right operand for AND, the term that for
+// XOR; else each is the same in all lanes. Kinds 1 to 4 are XOR, AND, INV and EQW, 5 is EQ 0, the
 // others are EQ 1; bit k of these numbers is for kind k.
 const FACTORS: u64 = 0b0001_1010;
 
 const TERMS: u64 = 0b1100_1001;
 
-// The factor: the right operand for AND, else the same in all lanes.
-fn factor(kind: usize, b: u64) -> u64
+// The right operand for one kind, else bit `kind` of a number in all lanes.
+fn chosen(right: usize, bits: u64, kind: usize, b: u64) -> u64
     requires { kind < 8 }
-    ensures { (j : ℕ) → j < 64 → lane j result ≡ factor_of kind (lane j b) }
+    ensures { (j : ℕ) → j < 64 → lane j result ≡ cond (eqb kind right) (lane j b) (lane kind bits) }
 {
-    if kind == 2 { b } else { spread(FACTORS, kind) }
-}
-
-// The term: the right operand for XOR, else the same in all lanes.
-fn term(kind: usize, b: u64) -> u64
-    requires { kind < 8 }
-    ensures { (j : ℕ) → j < 64 → lane j result ≡ term_of kind (lane j b) }
-{
-    if kind == 1 { b } else { spread(TERMS, kind) }
+    if kind == right { b } else { spread(bits, kind) }
 }
 
 // What a kind makes of its operands' words. Kinds change from gate to gate, so there is no jump on
@@ -46,7 +38,7 @@ pub fn made(kind: usize, a: u64, b: u64) -> u64
     requires { kind < 8 }
     ensures { (j : ℕ) → j < 64 → lane j result ≡ made_of kind (lane j a) (lane j b) }
 {
-    (a & factor(kind, b)) ^ term(kind, b)
+    (a & chosen(2, FACTORS, kind, b)) ^ chosen(1, TERMS, kind, b)
 }
 
 // A gate, on the wires' words.
@@ -54,8 +46,5 @@ pub fn step(words: &mut [u64], gate: Parts)
     requires { Within (length words.old) gate }
     ensures { (j : ℕ) → j < 64 → lanes j words.new ≡ run_gates (lanes j words.old) (gate_by gate ∷ []) }
 {
-    let a = gate.left;
-    let b = gate.right;
-    let c = gate.result;
-    words[c] = made(gate.kind, words[a], words[b]);
+    words[gate.result] = made(gate.kind, words[gate.left], words[gate.right]);
 }

@@ -5,27 +5,13 @@ ghost use Rattle.netlist.specs.Leak.{bit};
 ghost use Rattle.netlist.specs.Services.{bools};
 ghost use Rattle.evaluate.specs.Lane.{lanes};
 
-// Words as they are.
-pub fn words(src: &[u64], dst: &mut [u64])
-    requires { length src.now ≤ length dst.old }
-    ensures { dst.new ≡ sets dst.old 0 src.now }
-{
-    let mut i = 0;
-    while i < src.len() {
-        dst[i] = src[i];
-        i += 1;
-    }
-}
-
 // Bits as words that hold them in lane 0.
 pub fn bits(src: &[u8], dst: &mut [u64])
     requires { length src.now ≤ length dst.old }
     ensures { dst.new ≡ sets dst.old 0 (map bit (bools src.now)) }
 {
-    let mut i = 0;
-    while i < src.len() {
-        dst[i] = (src[i] == 1) as u64;
-        i += 1;
+    for (i, b) in src.iter().enumerate() {
+        dst[i] = u64::from(*b == 1);
     }
 }
 
@@ -34,9 +20,7 @@ pub fn low_bits(src: &[u64], dst: &mut [u8])
     requires { length src.now ≤ length dst.old }
     ensures { dst.new ≡ sets dst.old 0 (map bit (lanes 0 src.now)) }
 {
-    let mut i = 0;
-    while i < src.len() {
-        dst[i] = (src[i] & 1) as u8;
-        i += 1;
+    for (i, w) in src.iter().enumerate() {
+        dst[i] = (*w & 1) as u8;
     }
 }

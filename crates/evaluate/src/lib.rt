@@ -23,11 +23,9 @@ fn run(operands: &[u64], results: &[u64], count: usize, words: &mut [u64])
     if count == 0 {
         return;
     }
-    let mut i = 0;
     let mut next = gate_table::split(operands[0], results[0]);
-    while i + 1 < count {
+    for i in 1..count {
         gate::step(words, next);
-        i += 1;
         next = gate_table::split(operands[i], results[i]);
     }
     gate::step(words, next);
@@ -42,6 +40,6 @@ pub fn wires(operands: &[u64], results: &[u64], count: usize, ins: usize, words:
         ≡ wire_bits (bare (tables operands.now results.now) count (length words.old))
         (lanes j (take ins words.old)) }
 {
-    clear::words(&mut words[ins..]);
+    words[ins..].fill(0);
     run(operands, results, count, words);
 }

@@ -5,8 +5,6 @@ ghost use Rattle.netlist.specs.Netlist.{Netlist};
 ghost use Rattle.netlist.specs.Table.{tables, Wired, Holds};
 ghost use Rattle.evaluate.specs.Lane.{output_words};
 
-use crate::lay;
-
 // The output words of the tables' netlist, over the front of `out`. The words, one for each wire,
 // are working store.
 pub fn outputs(
@@ -23,8 +21,8 @@ pub fn outputs(
     ensures { (N : Netlist) → Holds (tables operands.now results.now) count (length words.old)
         (length list.now) outs N → out.new ≡ sets out.old 0 (output_words N list.now) }
 {
-    lay::words(list, words);
+    words[..list.len()].copy_from_slice(list);
     crate::wires(operands, results, count, list.len(), words);
     let from = words.len() - outs;
-    lay::words(&words[from..], out);
+    out[..outs].copy_from_slice(&words[from..]);
 }

@@ -1,17 +1,15 @@
--- A choice put to use: one entry, one entry more, and what the tables hold then.
-use Prim.Native.Nat.{ℕ, zero, suc, ◌+◌, ◌*◌, ◌%◌, ◌/◌, ◌^◌, ◌≤◌, ◌<◌}
+-- A choice put to use: one entry more, and what the tables hold then.
+use Prim.Native.Nat.{ℕ, zero, suc, ◌+◌, ◌%◌, ◌≤◌, ◌<◌}
 use mathlib.Core.Path.{◌≡◌, refl, sym, ap, ap₂, ◌∙◌}
-use mathlib.Core.Bool.{Bool, true, false, cond}
 use mathlib.Core.List.{List, [], ◌∷◌, ◌++◌}
 use native.Mathlib.Nat.{mod-eq_of_lt}
 use native.Mathlib.Omega.{arith}
 use lib.Dec.{eqb}
-use borrow.Author.Tests.{eqb-true, eqb-false, eq-eqb, ne_eqb}
+use borrow.Author.Tests.{eqb-true, eqb-false}
 use lib.ListN.{length, get_or, set, take, length-set}
 use lib.Seq.{get_or-set_same, get_or-set_other, get_or-take, ext_get_or, length-take-le}
 use Rattle.netlist.specs.declared.Gate.{Gate}
-use Rattle.netlist.specs.declared.Gate.TheVariants.{Xor, And, Inv, Eqw, Eq}
-use Rattle.netlist.specs.Table.{tables, half, gate_of, gate_at, gates_of, Wired}
+use Rattle.netlist.specs.Table.{tables, gate_at, gates_of, Wired}
 use Rattle.netlist.proofs.Tests.{on_bool}
 use Rattle.netlist.proofs.Puts.{length-gates}
 use Rattle.fewest.specs.Choice.{Choice, Agree, input_ways, chosen_code, chosen_gate, chosen_gates, chosen_inputs}
@@ -19,117 +17,24 @@ use Rattle.fewest.proofs.Chosen.{length-chosen_codes}
 use Rattle.fewest.proofs.Same.{chosen-append}
 use Rattle.fewest_walk.specs.Advance.{choice_of}
 use Rattle.fewest_walk.proofs.Filling.{chosen-code-at}
-use Rattle.fewest_apply.specs.Apply.{SwapsEntry, Swapped, free_code, Chosen}
+use Rattle.fewest_walk.specs.Ends.{free_code}
+use Rattle.fewest_apply.specs.Apply.{SwapsEntry, Swapped, Chosen}
 
--- ---- one entry
+-- ---- the loop over the gates
 
-other_way : (d k a b c : ℕ) → (d ≡ 1 → ⊥) → chosen_gate d (gate_of k a b c) ≡ gate_of k a b c
-other_way d k a b c h = go (eqb k 1) (eqb k 2) (eqb k 3) (eqb k 4) (eqb k 5)
-  where
-    go : (p q r s t : Bool) → chosen_gate d (cond p (Xor a b c) (cond q (And a b c) (cond r (Inv a c) (cond s (Eqw a c) (cond t (Eq 0 c) (Eq 1 c))))))
-        ≡ cond p (Xor a b c) (cond q (And a b c) (cond r (Inv a c) (cond s (Eqw a c) (cond t (Eq 0 c) (Eq 1 c)))))
-    go true q r s t = refl
-    go false true r s t = rw (ne_eqb d 1 h) refl
-    go false false true s t = refl
-    go false false false true t = refl
-    go false false false false true = refl
-    go false false false false false = refl
-
-other-kind : (d k a b c : ℕ) → (k ≡ 2 → ⊥) → chosen_gate d (gate_of k a b c) ≡ gate_of k a b c
-other-kind d k a b c h = rw (ne_eqb k 2 h) (go (eqb k 1) (eqb k 3) (eqb k 4) (eqb k 5))
-  where
-    go : (p r s t : Bool) → chosen_gate d (cond p (Xor a b c) (cond r (Inv a c) (cond s (Eqw a c) (cond t (Eq 0 c) (Eq 1 c)))))
-        ≡ cond p (Xor a b c) (cond r (Inv a c) (cond s (Eqw a c) (cond t (Eq 0 c) (Eq 1 c))))
-    go true r s t = refl
-    go false true s t = refl
-    go false false true t = refl
-    go false false false true = refl
-    go false false false false = refl
-
-swap_and : (d k a b c : ℕ) → d ≡ 1 → k ≡ 2 → gate_of k b a c ≡ chosen_gate d (gate_of k a b c)
-swap_and d k a b c p q = rw (p, q) refl
-
-module _ (d o r : ℕ) where
-  pub entry-way : (d ≡ 1 → ⊥) → SwapsEntry d o r o
-  entry-way h = record { gate = sym (other_way d (r / half) (o % half) (o / half) (r % half) h); left = λ W a b. a; right = λ W a b. b }
-
-  pub entry-kind : (r / half ≡ 2 → ⊥) → SwapsEntry d o r o
-  entry-kind h = record { gate = sym (other-kind d (r / half) (o % half) (o / half) (r % half) h); left = λ W a b. a; right = λ W a b. b }
-
-  pub entry-and : d ≡ 1 → r / half ≡ 2 → o / half < half → SwapsEntry d o r (o / half + o % half * half)
-  entry-and p q h =
-      let low : (o / half + o % half * half) % half ≡ o / half = omega arith in
-      let high : (o / half + o % half * half) / half ≡ o % half = omega arith in
-      record {
-        gate = ap₂ (λ (a b : ℕ). gate_of (r / half) a b (r % half)) low high ∙ swap_and d (r / half) (o % half) (o / half) (r % half) p q;
-        left = λ W a b. rw low b;
-        right = λ W a b. rw high a;
-      }
-
--- an entry of two halves fits 64 bits
-pub entry-fits : (a b : ℕ) → a < half → b < half → a + b * half < 2 ^ 64
-entry-fits a b h k = omega arith
-
--- ---- the loops
-
-pub record Swapping (r : List ℕ) (count n : ℕ) (way o₀ o : List ℕ) (i : ℕ) : Type 0 where
-  pub so : Swapped r i n way o₀ o
-  pub high : i ≤ count
-
-pub swapping-none : (r : List ℕ) (count n : ℕ) (way o : List ℕ) → Swapping r count n way o o 0
-swapping-none r count n way o = record { so = record { each = λ j h. absurd (omega arith); kept = λ j h. refl; size = refl }; high = omega arith }
-
-pub swapping-more : {r : List ℕ} {count n : ℕ} {way o₀ o : List ℕ} {i x : ℕ} → Swapping r count n way o₀ o i → i < count → count ≤ length o₀
-    → SwapsEntry (get_or way (n + i) 0) (get_or o i 0) (get_or r i 0) x → Swapping r count n way o₀ (set o i x) (i + 1)
-swapping-more {r} {count} {n} {way} {o₀} {o} {i} {x} I h l E =
-    let s = I.so.size in
-    let k : get_or o i 0 ≡ get_or o₀ i 0 = I.so.kept i (omega arith) in
+pub swapping-more : {r : List ℕ} {n : ℕ} {way o₀ o : List ℕ} {i x : ℕ} → Swapped r i n way o₀ o → i < length o₀
+    → SwapsEntry (get_or way (n + i) 0) (get_or o i 0) (get_or r i 0) x → Swapped r (i + 1) n way o₀ (set o i x)
+swapping-more {r} {n} {way} {o₀} {o} {i} {x} I l E =
+    let s = I.size in
+    let k : get_or o i 0 ≡ get_or o₀ i 0 = I.kept i (omega arith) in
     let E' : SwapsEntry (get_or way (n + i) 0) (get_or o₀ i 0) (get_or r i 0) x = rw k at E in
     record {
-      so = record {
-        each = λ j b. on_bool (eqb j i)
-            (λ t. let e = eqb-true j i t in rw (e, get_or-set_same o i x 0 (omega arith)) E')
-            (λ t. let e : j ≡ i → ⊥ = eqb-false j i t in rw (get_or-set_other o i j x 0 e) (I.so.each j (omega arith)));
-        kept = λ j b. get_or-set_other o i j x 0 (λ e. omega arith) ∙ I.so.kept j (omega arith);
-        size = length-set o i x ∙ s;
-      };
-      high = omega arith;
+      each = λ j b. on_bool (eqb j i)
+          (λ t. let e = eqb-true j i t in rw (e, get_or-set_same o i x 0 (omega arith)) E')
+          (λ t. let e : j ≡ i → ⊥ = eqb-false j i t in rw (get_or-set_other o i j x 0 e) (I.each j (omega arith)));
+      kept = λ j b. get_or-set_other o i j x 0 (λ e. omega arith) ∙ I.kept j (omega arith);
+      size = length-set o i x ∙ s;
     }
-
-pub swapping-all : {r : List ℕ} {count n : ℕ} {way o₀ o : List ℕ} {i : ℕ} → Swapping r count n way o₀ o i → count ≤ i → Swapped r count n way o₀ o
-swapping-all {count = count} {i = i} I h = let e : i ≡ count = (let k = I.high in omega arith) in rw e at I.so
-
-pub record Filling (codes way u₀ u : List ℕ) (i : ℕ) : Type 0 where
-  pub so : Chosen codes way i u₀ u
-  pub high : i ≤ length codes
-
-pub filling-none : (codes way u : List ℕ) → Filling codes way u u 0
-filling-none codes way u = record { so = record { each = λ w b. absurd (omega arith); kept = λ w b. refl; size = refl }; high = omega arith }
-
-pub filling-more : {codes way u₀ u : List ℕ} {i x : ℕ} → Filling codes way u₀ u i → i < length codes → length codes ≤ length u₀
-    → x ≡ free_code (get_or codes i 0) (get_or way i 0) → Filling codes way u₀ (set u i x) (i + 1)
-filling-more {codes} {way} {u₀} {u} {i} {x} I h l e =
-    let s = I.so.size in
-    record {
-      so = record {
-        each = λ w b. on_bool (eqb w i)
-            (λ t. rw (eqb-true w i t) (get_or-set_same u i x 0 (omega arith) ∙ e))
-            (λ t. let n : w ≡ i → ⊥ = eqb-false w i t in get_or-set_other u i w x 0 n ∙ I.so.each w (omega arith));
-        kept = λ w b. get_or-set_other u i w x 0 (λ e. omega arith) ∙ I.so.kept w (omega arith);
-        size = length-set u i x ∙ s;
-      };
-      high = omega arith;
-    }
-
-pub filling-all : {codes way u₀ u : List ℕ} {i : ℕ} → Filling codes way u₀ u i → length codes ≤ i → Chosen codes way (length codes) u₀ u
-filling-all {codes} {i = i} I h = let e : i ≡ length codes = (let k = I.high in omega arith) in rw e at I.so
-
-module _ (e d : ℕ) where
-  pub code_free : e ≡ 4 → d % 4 + 1 ≡ free_code e d
-  code_free p = sym (rw (eq-eqb e 4 p) refl)
-
-  pub code_fixed : (e ≡ 4 → ⊥) → e ≡ free_code e d
-  code_fixed n = sym (rw (ne_eqb e 4 n) refl)
 
 -- ---- what the tables hold then
 
@@ -174,5 +79,5 @@ codes-chosen codes way {u₀} {u} d C l a t =
     let w : choice_of way i ≡ d i = a i b in
     let x : choice_of way i < input_ways (get_or codes i 0) = (let y = t i b in omega arith) in
     let z : 0 + i ≡ i = omega arith in
-    get_or-take (length codes) u i 0 b ∙ C.each i b ∙ free-code (get_or codes i 0) (choice_of way i) x ∙ ap (λ (q : ℕ). chosen_code q (get_or codes i 0)) w
+    get_or-take (length codes) u i 0 b ∙ C.filled i b ∙ free-code (get_or codes i 0) (choice_of way i) x ∙ ap (λ (q : ℕ). chosen_code q (get_or codes i 0)) w
     ∙ sym (chosen-code-at d 0 codes i b ∙ ap (λ (q : ℕ). chosen_code (d q) (get_or codes i 0)) z))

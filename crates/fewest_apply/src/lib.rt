@@ -4,10 +4,10 @@
 ghost use Rattle.std.specs.Prelude.{◌≡◌, ℕ, ◌+◌, ◌≤◌, length};
 ghost use Rattle.netlist.specs.Table.{tables, gate_in, Wired};
 ghost use Rattle.fewest.specs.Choice.{chosen_gate};
-ghost use Rattle.fewest_apply.specs.Apply.{SwapsEntry, Swapped, free_code, Chosen};
+ghost use Rattle.fewest_apply.specs.Apply.{SwapsEntry, Swapped, Chosen};
 
-// 2^32: the right operand stands in the upper half of its entry.
-const HALF: u64 = 4294967296;
+use fewest_walk::inputs;
+use gate_table::HALF;
 
 // The entry of a gate's operands, exchanged where it is an AND whose way is the swapped one.
 fn swapped(way: u8, operands: u64, results: u64) -> u64
@@ -27,21 +27,9 @@ pub fn swap(operands: &mut [u64], results: &[u64], count: usize, n: usize, way: 
     requires { (count ≤ length operands.old) × (count ≤ length results.now) × (n + count ≤ length way.now) }
     ensures { Swapped results.now count n way.now operands.old operands.new }
 {
-    let mut i = 0;
-    while i < count {
+    for i in 0..count {
         operands[i] = swapped(way[n + i], operands[i], results[i]);
-        i += 1;
     }
-}
-
-// The code of an input: by its way where it is free.
-fn code(e: u8, d: u8) -> u8
-    ensures { result ≡ free_code e d }
-{
-    if e == 4 {
-        return d % 4 + 1;
-    }
-    e
 }
 
 // The codes of the inputs, at the front of `out`.
@@ -49,9 +37,5 @@ pub fn codes(codes: &[u8], way: &[u8], out: &mut [u8])
     requires { (length codes.now ≤ length way.now) × (length codes.now ≤ length out.old) }
     ensures { Chosen codes.now way.now (length codes.now) out.old out.new }
 {
-    let mut i = 0;
-    while i < codes.len() {
-        out[i] = code(codes[i], way[i]);
-        i += 1;
-    }
+    inputs::fill(codes, way, out, inputs::masked);
 }

@@ -1,5 +1,5 @@
 -- The loop of the search: where it stands, for every netlist that the gate tables hold.
-use Prim.Native.Nat.{ℕ, zero, suc, ◌+◌, ◌-◌, ◌^◌, ◌≤◌, ◌<◌, min}
+use Prim.Native.Nat.{ℕ, suc, ◌+◌, ◌-◌, ◌^◌, ◌≤◌, ◌<◌, min}
 use mathlib.Core.Path.{◌≡◌, refl, sym, ap, ◌∙◌}
 use mathlib.Core.Logic.{⊎_elim}
 use mathlib.Core.List.{List, [], ◌∷◌}
@@ -53,12 +53,8 @@ min-below a b c h k =
     (λ z. let g = leb-false a b z in let l : b ≤ a = omega arith in rw (min-eq_right l) k)
 
 -- as the code tells that a place moved, and that choices are left
-pub moved-some : (r : ℕ) → (r ≡ 0 → ⊥) → r ≡ suc (r - 1)
-moved-some zero h = absurd (h refl)
-moved-some (suc r) h = omega arith
-
 pub left-some : (r : ℕ) → (r ≡ 0 → ⊥) → 1 ≤ r
-left-some r h = let e = moved-some r h in omega arith
+left-some r h = omega arith
 
 -- ---- the loop
 

@@ -3,16 +3,15 @@ use Prim.Native.Nat.{ℕ, suc, ◌+◌, ◌-◌, ◌^◌, ◌≤◌, ◌<◌}
 use mathlib.Core.Path.{◌≡◌, refl, sym, ap, ◌∙◌}
 use mathlib.Core.Logic.{inl, inr}
 use mathlib.Core.Bool.{true, false}
-use mathlib.Core.List.{List, ◌++◌, append-nil}
+use mathlib.Core.List.{List}
 use native.Mathlib.Omega.{arith}
 use lib.Dec.{eqb, ltb}
 use borrow.Author.Tests.{ltb-true, ltb-false, lt-ltb, le-ltb}
-use lib.ListN.{length, get_or, set, replicate, drop_of_length-le}
+use lib.ListN.{length, get_or, set, replicate}
 use lib.Seq.{get_or-set_same}
 use Rattle.netlist.specs.Table.{Tables, gates_of, Wired}
 use Rattle.netlist.proofs.Tests.{on_bool, clash}
 use Rattle.netlist.proofs.Puts.{length-gates}
-use Rattle.clear.proofs.Laid.{Laid, laid-all}
 use Rattle.gate_table.specs.declared.Parts.{Parts}
 use Rattle.gate_table.specs.Parts.{parts_of}
 use Rattle.fewest.specs.Fewest.{twices}
@@ -26,12 +25,6 @@ use Rattle.fewest_walk.specs.Advance.{ways_at}
 use Rattle.fewest_walk.specs.Span.{Spanned}
 use Rattle.fewest_search.specs.Search.{Begun}
 use Rattle.fewest_search.specs.Turn.{IdleFits, idle_at, cost_of, Entered, TurnIs}
-
--- a whole table was copied
-pub copied : {s d₀ d : List ℕ} {i : ℕ} → Laid 0 s d₀ d i → length s ≤ i → length d₀ ≡ length s → d ≡ s
-copied {s} {d₀} L h e =
-    let l : length d₀ ≤ length s = omega arith in
-    laid-all L h ∙ ap (λ (l : List ℕ). s ++ l) (drop_of_length-le d₀ l) ∙ append-nil s
 
 -- whether a place is idle
 module _ (o : List ℕ) (n place : ℕ) (u : List ℕ) where

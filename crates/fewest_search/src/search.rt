@@ -6,7 +6,7 @@ ghost use Rattle.fewest_search.specs.Turn.{Fits};
 ghost use Rattle.fewest_search.specs.Search.{Source, Searchable, Begun, Found};
 
 // More changes than any choice has.
-const MANY: u32 = 4294967295;
+const MANY: u32 = u32::MAX;
 
 // The changes of the choice that is given, and the floor.
 #[derive(Clone, Copy)]
@@ -34,11 +34,11 @@ fn start(
         way.old code.old lows.old spans.old way.new best.new
         code.new lows.new spans.new result }
 {
-    clear::bytes(way);
+    way.fill(0);
     fewest_walk::spans::spans(codes, results, count, spans);
     lows[0] = fewest_walk::twices::twices(operands, results, count);
     crate::turn::enter(operands, results, count, codes, way, code, lows, 0, MANY);
-    crate::turn::keep(way, best);
+    best.copy_from_slice(way);
     crate::turn::weigh(code, lows, count, wanted)
 }
 
@@ -87,13 +87,12 @@ pub fn search(
             };
         }
         left -= span;
-        let moved = fewest_walk::next::next(codes, results, stop, way);
-        if moved == 0 {
+        let Some(place) = fewest_walk::next::next(codes, results, stop, way) else {
             return Tally {
                 changes: least,
                 floor: least,
             };
-        }
+        };
         if left == 0 {
             return Tally {
                 changes: least,
@@ -101,17 +100,7 @@ pub fn search(
             };
         }
         let t = crate::turn::turn(
-            operands,
-            results,
-            count,
-            codes,
-            wanted,
-            way,
-            best,
-            code,
-            lows,
-            moved - 1,
-            least,
+            operands, results, count, codes, wanted, way, best, code, lows, place, least,
         );
         stop = t.stop;
         least = t.least;

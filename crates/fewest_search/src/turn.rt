@@ -75,18 +75,6 @@ pub fn weigh(code: &[u8], lows: &[u32], count: usize, wanted: &[u8]) -> u32
     lows[count] + fewest_walk::outputs::outputs(code, code.len() - wanted.len(), wanted)
 }
 
-// A copy of the table of ways.
-pub fn keep(way: &[u8], best: &mut [u8])
-    requires { length best.old ≡ length way.now }
-    ensures { best.new ≡ way.now }
-{
-    let mut i = 0;
-    while i < way.len() {
-        best[i] = way[i];
-        i += 1;
-    }
-}
-
 // The choice in `way`, whose last place that moved is `place`; `best` gets it where it has fewer changes than the least so far.
 pub fn turn(
     operands: &[u64],
@@ -124,6 +112,6 @@ pub fn turn(
     if least <= c {
         return Step { stop, least };
     }
-    keep(way, best);
+    best.copy_from_slice(way);
     Step { stop, least: c }
 }

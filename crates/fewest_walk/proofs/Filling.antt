@@ -1,11 +1,11 @@
 -- The codes of the inputs under a choice.
-use Prim.Native.Nat.{ℕ, zero, suc, ◌+◌, ◌%◌, ◌≤◌, ◌<◌}
+use Prim.Native.Nat.{ℕ, zero, suc, ◌+◌, ◌%◌, ◌<◌}
 use mathlib.Core.Path.{◌≡◌, refl, sym, ap, ◌∙◌}
 use mathlib.Core.List.{List, [], ◌∷◌, map}
 use native.Mathlib.Nat.{mod-eq_of_lt}
 use native.Mathlib.Omega.{arith}
 use lib.Dec.{eqb}
-use borrow.Author.Tests.{eqb-true, eqb-false, eq-eqb, ne_eqb}
+use borrow.Author.Tests.{eqb-true, eqb-false, ne_eqb}
 use lib.ListN.{length, get_or, set, length-set, length-map, get_or-append}
 use lib.Seq.{get_or-set_same, get_or-set_other}
 use Rattle.netlist.specs.Netlist.{Netlist}
@@ -13,46 +13,22 @@ use Rattle.netlist.proofs.Tests.{on_bool}
 use Rattle.fewest.specs.Choice.{Choice, input_ways, chosen_code, chosen_codes, chosen_inputs}
 use Rattle.fewest.specs.Codes.{code_at, input_code, first_codes}
 use Rattle.fewest_walk.specs.Advance.{choice_of}
-use Rattle.fewest_walk.specs.Ends.{way_code, Filled}
+use Rattle.fewest_walk.specs.Ends.{way_code, FilledBy}
 use Rattle.fewest.proofs.Chosen.{length-chosen_codes}
-
--- ---- one input, as the code tells it
-
-module _ (e d : ℕ) where
-  pub way-public : e ≡ 0 → 1 ≡ way_code e d
-  way-public p = sym (rw (eq-eqb e 0 p) refl)
-
-  pub way-free : (e ≡ 0 → ⊥) → e ≡ 4 → d % 4 + 1 ≡ way_code e d
-  way-free n p = sym (rw (ne_eqb e 0 n, eq-eqb e 4 p) refl)
-
-  pub way-fixed : (e ≡ 0 → ⊥) → (e ≡ 4 → ⊥) → e ≡ way_code e d
-  way-fixed n m = sym (rw (ne_eqb e 0 n, ne_eqb e 4 m) refl)
 
 -- ---- the loop: the first i inputs are filled
 
-pub record Filling (codes way u₀ u : List ℕ) (i : ℕ) : Type 0 where
-  pub so : Filled codes way i u₀ u
-  pub high : i ≤ length codes
-
-pub filling-none : (codes way u : List ℕ) → Filling codes way u u 0
-filling-none codes way u = record { so = record { filled = λ w b. absurd (omega arith); size = refl }; high = omega arith }
-
-pub filling-more : {codes way u₀ u : List ℕ} {i x : ℕ} → Filling codes way u₀ u i → i < length codes → length codes ≤ length u₀
-    → x ≡ way_code (get_or codes i 0) (get_or way i 0) → Filling codes way u₀ (set u i x) (i + 1)
-filling-more {codes} {way} {u₀} {u} {i} {x} I h l e =
-    let s = I.so.size in
+pub filling-more : {f : ℕ → ℕ → ℕ} {codes way u₀ u : List ℕ} {i x : ℕ} → FilledBy f codes way i u₀ u → i < length u₀
+    → x ≡ f (get_or codes i 0) (get_or way i 0) → FilledBy f codes way (i + 1) u₀ (set u i x)
+filling-more {f} {codes} {way} {u₀} {u} {i} {x} I h e =
+    let s = I.size in
     record {
-      so = record {
-        filled = λ w b. on_bool (eqb w i)
-            (λ t. rw (eqb-true w i t) (get_or-set_same u i x 0 (omega arith) ∙ e))
-            (λ t. let n : w ≡ i → ⊥ = eqb-false w i t in get_or-set_other u i w x 0 n ∙ I.so.filled w (omega arith));
-        size = length-set u i x ∙ s;
-      };
-      high = omega arith;
+      filled = λ w b. on_bool (eqb w i)
+          (λ t. rw (eqb-true w i t) (get_or-set_same u i x 0 (omega arith) ∙ e))
+          (λ t. let n : w ≡ i → ⊥ = eqb-false w i t in get_or-set_other u i w x 0 n ∙ I.filled w (omega arith));
+      kept = λ w b. get_or-set_other u i w x 0 (λ e. omega arith) ∙ I.kept w (omega arith);
+      size = length-set u i x ∙ s;
     }
-
-pub filling-all : {codes way u₀ u : List ℕ} {i : ℕ} → Filling codes way u₀ u i → length codes ≤ i → Filled codes way (length codes) u₀ u
-filling-all {codes} {i = i} I h = let e : i ≡ length codes = let k = I.high in omega arith in rw e at I.so
 
 -- the code of an input under a choice that takes one of its ways
 way-code : (e d : ℕ) → d < input_ways e → way_code e d ≡ input_code (chosen_code d e)

@@ -1,130 +1,29 @@
 -- The gates from one on, in tables: one gate by its kind, one gate more, and what the whole is worth.
-use Prim.Native.Nat.{ℕ, zero, suc, ◌+◌, ◌-◌, ◌/◌, ◌%◌, ◌^◌, ◌≤◌, ◌<◌}
-use mathlib.Core.Path.{◌≡◌, refl, sym, ap, ap₂, ◌∙◌}
-use mathlib.Core.Bool.{Bool, true, false, cond}
+use Prim.Native.Nat.{ℕ, zero, suc, ◌+◌, ◌-◌, ◌^◌, ◌≤◌, ◌<◌}
+use mathlib.Core.Path.{◌≡◌, sym, ap, ap₂, ◌∙◌}
+use mathlib.Core.Bool.{Bool, true, false}
 use mathlib.Core.List.{List, [], ◌∷◌}
 use native.Mathlib.Omega.{arith}
 use lib.Dec.{eqb}
-use mir.Val.{bool_byte}
-use borrow.Author.Tests.{eqb-true, eqb-false, eq-eqb, ne_eqb}
+use borrow.Author.Tests.{eqb-true, eqb-false}
 use lib.ListN.{length, get_or, set, drop, length-set, get_or-append}
 use lib.Seq.{get_or_at, get_or-set_same, get_or-set_other, drop-cons}
 use Rattle.netlist.specs.declared.Gate.{Gate}
 use Rattle.netlist.specs.declared.Gate.TheVariants.{Xor, And, Inv, Eqw, Eq}
-use Rattle.netlist.specs.Netlist.{Netlist, input_bits, result}
+use Rattle.netlist.specs.Netlist.{Netlist, input_bits}
 use Rattle.netlist.specs.Read.{WellFormed}
-use Rattle.netlist.specs.Table.{Tables, half, gate_of, gate_in, gate_at, gates_of}
-use Rattle.netlist.specs.Mask.{third, after}
+use Rattle.netlist.specs.Table.{Tables, gate_at, gates_of}
 use Rattle.netlist.specs.Leak.{bit}
 use Rattle.netlist.proofs.Tests.{on_bool}
 use Rattle.netlist.proofs.Puts.{length-gates}
-use Rattle.gate_table.specs.declared.Parts.{Parts}
-use Rattle.gate_table.specs.Parts.{parts_of}
 use Rattle.fewest.specs.Choice.{Choice, chosen_gate}
 use Rattle.fewest.specs.Fewest.{twice, twices}
-use Rattle.fewest.specs.Codes.{code_at, second_code, gate_code, gate_change, coded, least_before}
-use Rattle.fewest_walk.specs.Walk.{code_by, added_change, added_by, Stepped, codes_to, added_to, Done, Walked}
-use Rattle.fewest.proofs.Chosen.{chosen-result}
+use Rattle.fewest.specs.Codes.{code_at, gate_change, coded, least_before}
+use Rattle.fewest_walk.specs.Walk.{added_change, Stepped, codes_to, added_to, Done, Walked}
 use Rattle.fewest.proofs.Twices.{way-change, twice-change}
 use Rattle.fewest.proofs.Retried.{Ready, ready-next}
 
 -- ---- one gate, by its kind
-
-result_by : (k d a b c : ℕ) → result (chosen_gate d (gate_of k a b c)) ≡ c
-result_by k d a b c = chosen-result d (gate_of k a b c) ∙ go (eqb k 1) (eqb k 2) (eqb k 3) (eqb k 4) (eqb k 5)
-  where
-    go : (p q r s t : Bool) → result (cond p (Xor a b c) (cond q (And a b c) (cond r (Inv a c) (cond s (Eqw a c) (cond t (Eq 0 c) (Eq 1 c)))))) ≡ c
-    go true q r s t = refl
-    go false true r s t = refl
-    go false false true s t = refl
-    go false false false true t = refl
-    go false false false false true = refl
-    go false false false false false = refl
-
-code_by_lem : (u : ℕ → ℕ) (k d a b c : ℕ) → gate_code u (chosen_gate d (gate_of k a b c)) ≡ code_by k d (u a) (u b)
-code_by_lem u k d a b c = go (eqb k 1) (eqb k 2) (eqb k 3) (eqb k 4) (eqb k 5)
-  where
-    go : (p q r s t : Bool) → gate_code u (chosen_gate d (cond p (Xor a b c) (cond q (And a b c) (cond r (Inv a c) (cond s (Eqw a c) (cond t (Eq 0 c) (Eq 1 c)))))))
-        ≡ cond p (third (u a) (second_code (u a) (u b))) (cond q (cond (eqb d 1) (u b) (u a)) (cond r (u a) (cond s (u a) 1)))
-    go true q r s t = refl
-    go false true r s t = on_bool (eqb d 1) (λ e. rw e refl) (λ e. rw e refl)
-    go false false true s t = refl
-    go false false false true t = refl
-    go false false false false true = refl
-    go false false false false false = refl
-
-added-by : (u : ℕ → ℕ) (k a b c : ℕ) → added_change u (gate_of k a b c) ≡ added_by k a b (u a) (u b)
-added-by u k a b c = go (eqb k 1) (eqb k 2) (eqb k 3) (eqb k 4) (eqb k 5) (eqb a b) refl
-  where
-    go : (p q r s t e : Bool) → eqb a b ≡ e → added_change u (cond p (Xor a b c) (cond q (And a b c) (cond r (Inv a c) (cond s (Eqw a c) (cond t (Eq 0 c) (Eq 1 c))))))
-        ≡ cond e 0 (cond p (bit (eqb (u a) (u b))) (cond q (bit (eqb (u a) (u b))) 0))
-    go true q r s t e h = rw h refl
-    go false true r s t e h = rw h refl
-    go false false true s t true h = refl
-    go false false true s t false h = refl
-    go false false false true t true h = refl
-    go false false false true t false h = refl
-    go false false false false true true h = refl
-    go false false false false true false h = refl
-    go false false false false false true h = refl
-    go false false false false false false h = refl
-
-pub stepped-is : (u : List ℕ) (d o r : ℕ) {g : Parts} {x y : ℕ} → g ≡ parts_of o r → x ≡ code_by g.kind d (code_at u g.left) (code_at u g.right)
-    → y ≡ added_by g.kind g.left g.right (code_at u g.left) (code_at u g.right) → Stepped u d (gate_in o r) (set u g.result x) y
-stepped-is u d o r {g} e p q =
-    let k : g.kind ≡ r / half = ap (λ (w : Parts). w.kind) e in
-    let a : g.left ≡ o % half = ap (λ (w : Parts). w.left) e in
-    let b : g.right ≡ o / half = ap (λ (w : Parts). w.right) e in
-    let c : g.result ≡ r % half = ap (λ (w : Parts). w.result) e in
-    record {
-      codes = ap₂ (λ (i v : ℕ). set u i v) (c ∙ sym (result_by (r / half) d (o % half) (o / half) (r % half)))
-          ((rw (k, a, b) at p) ∙ sym (code_by_lem (code_at u) (r / half) d (o % half) (o / half) (r % half)));
-      added = (rw (k, a, b) at q) ∙ sym (added-by (code_at u) (r / half) (o % half) (o / half) (r % half));
-    }
-
-pub byte-bit : (b : Bool) → bool_byte b ≡ bit b
-byte-bit true = refl
-byte-bit false = refl
-
--- the second operand, as the code tells it
-pub second-same : (e f g h : ℕ) → e ≡ f → g ≡ after f → h ≡ third f g → h ≡ second_code e f
-second-same e f g h p q r = r ∙ ap (third f) q ∙ sym (rw (eq-eqb e f p) refl)
-
-pub second-other : (e f : ℕ) → (e ≡ f → ⊥) → f ≡ second_code e f
-second-other e f n = sym (rw (ne_eqb e f n) refl)
-
--- the kinds, as the code tells them apart
-module _ (k d e f : ℕ) where
-  pub code-xor : (g h : ℕ) → k ≡ 1 → g ≡ second_code e f → h ≡ third e g → h ≡ code_by k d e f
-  code-xor g h p q r = r ∙ ap (third e) q ∙ sym (rw (eq-eqb k 1 p) refl)
-
-  pub code-swapped : (k ≡ 1 → ⊥) → k ≡ 2 → d ≡ 1 → f ≡ code_by k d e f
-  code-swapped n p q = sym (rw (ne_eqb k 1 n, eq-eqb k 2 p, eq-eqb d 1 q) refl)
-
-  pub code-written : (k ≡ 1 → ⊥) → k ≡ 2 → (d ≡ 1 → ⊥) → e ≡ code_by k d e f
-  code-written n p q = sym (rw (ne_eqb k 1 n, eq-eqb k 2 p, ne_eqb d 1 q) refl)
-
-  pub code_copy : (k ≡ 1 → ⊥) → (k ≡ 2 → ⊥) → k ≡ 3 → e ≡ code_by k d e f
-  code_copy n m p = sym (rw (ne_eqb k 1 n, ne_eqb k 2 m, eq-eqb k 3 p) refl)
-
-  pub code-four : (k ≡ 1 → ⊥) → (k ≡ 2 → ⊥) → (k ≡ 3 → ⊥) → k ≡ 4 → e ≡ code_by k d e f
-  code-four n m l p = sym (rw (ne_eqb k 1 n, ne_eqb k 2 m, ne_eqb k 3 l, eq-eqb k 4 p) refl)
-
-  pub code_one : (k ≡ 1 → ⊥) → (k ≡ 2 → ⊥) → (k ≡ 3 → ⊥) → (k ≡ 4 → ⊥) → 1 ≡ code_by k d e f
-  code_one n m l o = sym (rw (ne_eqb k 1 n, ne_eqb k 2 m, ne_eqb k 3 l, ne_eqb k 4 o) refl)
-
-module _ (k a b e f : ℕ) where
-  pub added_twice : a ≡ b → 0 ≡ added_by k a b e f
-  added_twice p = sym (rw (eq-eqb a b p) refl)
-
-  pub added-xor : (a ≡ b → ⊥) → k ≡ 1 → bool_byte (eqb e f) ≡ added_by k a b e f
-  added-xor m p = byte-bit (eqb e f) ∙ sym (rw (ne_eqb a b m, eq-eqb k 1 p) refl)
-
-  pub added-and : (a ≡ b → ⊥) → (k ≡ 1 → ⊥) → k ≡ 2 → bool_byte (eqb e f) ≡ added_by k a b e f
-  added-and m n p = byte-bit (eqb e f) ∙ sym (rw (ne_eqb a b m, ne_eqb k 1 n, eq-eqb k 2 p) refl)
-
-  pub added_none : (a ≡ b → ⊥) → (k ≡ 1 → ⊥) → (k ≡ 2 → ⊥) → 0 ≡ added_by k a b e f
-  added_none m n o = sym (rw (ne_eqb a b m, ne_eqb k 1 n, ne_eqb k 2 o) refl)
 
 pub bit-most : (b : Bool) → bit b ≤ 1
 bit-most true = omega arith
@@ -166,17 +65,6 @@ walked-most {t} {count} {n} {way} {from} {bound} {u₀} {b₀} {u} {b} {r} W =
 
 -- ---- one gate more
 
-pub done_none : (t : Tables) (n : ℕ) (way : List ℕ) (from : ℕ) (u b : List ℕ) → Done t from n way from u b u b
-done_none t n way from u b =
-    let z : from - from ≡ 0 = omega arith in
-    record {
-      codes = rw z refl;
-      lows = λ k h. let k0 : k ≡ 0 = omega arith in rw k0 (let f : from + 0 ≡ from = omega arith in rw f (omega arith));
-      kept = λ k h. refl;
-      code_length = refl;
-      low_length = refl;
-    }
-
 done_more : {t : Tables} {i n : ℕ} {way : List ℕ} {from : ℕ} {u₀ b₀ u b v : List ℕ} {r : ℕ} → Done t i n way from u₀ b₀ u b → from ≤ i
     → suc i < length b → Stepped u (get_or way (n + i) 0) (gate_at t i) v r → Done t (i + 1) n way from u₀ b₀ v (set b (i + 1) (get_or b i 0 + r))
 done_more {t} {i} {n} {way} {from} {u₀} {b₀} {u} {b} {v} {r} R l h S =
@@ -208,7 +96,6 @@ done_more {t} {i} {n} {way} {from} {u₀} {b₀} {u} {b} {v} {r} R l h S =
 pub record Walking (t : Tables) (count n : ℕ) (way : List ℕ) (from : ℕ) (u₀ b₀ u b : List ℕ) (i low : ℕ) : Type 0 where
   pub so : Done t i n way from u₀ b₀ u b
   pub after : from ≤ i
-  pub high : i ≤ count
   pub entry : low ≡ get_or b i 0
   pub room : low + (count - i) < 2 ^ 32
 
@@ -223,23 +110,14 @@ walking-more {t} {count} {n} {way} {from} {u₀} {b₀} {u} {b} {v} {i} {low} {r
     record {
       so = rw I.entry (done_more I.so low' (omega arith) S);
       after = omega arith;
-      high = omega arith;
       entry = sym (get_or-set_same b (i + 1) (low + r) 0 (omega arith));
       room = omega arith;
     }
 
 -- the bound is reached
 pub walked-cut : {t : Tables} {count n : ℕ} {way : List ℕ} {from bound : ℕ} {u₀ b₀ u b : List ℕ} {i low : ℕ} → Walking t count n way from u₀ b₀ u b i low
-    → from < i → bound ≤ low → Walked t count n way from bound u₀ b₀ u b i
-walked-cut I f h = let e = I.entry in record { done = I.so; on = λ k. f; low = I.after; high = I.high; cut = λ k. omega arith }
-
--- all gates are done
-pub walked_all : {t : Tables} {count n : ℕ} {way : List ℕ} {from bound : ℕ} {u₀ b₀ u b : List ℕ} {i low : ℕ} → Walking t count n way from u₀ b₀ u b i low
-    → count ≤ i → Walked t count n way from bound u₀ b₀ u b count
-walked_all {t} {count} {n} {way} {from} {bound} {u₀} {b₀} {u} {b} {i} I h =
-    let e : i ≡ count = let k = I.high in omega arith in
-    let f = I.after in
-    record { done = rw e at I.so; on = λ k. k; low = omega arith; high = omega arith; cut = λ k. absurd (omega arith) }
+    → from < i → i ≤ count → bound ≤ low → Walked t count n way from bound u₀ b₀ u b i
+walked-cut I f k h = let e = I.entry in record { done = I.so; on = λ k. f; low = I.after; high = k; cut = λ k. omega arith }
 
 -- ---- what the codes and the least changes are worth: ready for the gates behind
 

@@ -1,5 +1,5 @@
 -- From one choice to the next, in the table of ways.
-use Rattle.std.specs.Prelude.{ℕ, suc, ◌-◌, ◌/◌, ◌≤◌, ◌<◌, cond, List, ◌≡◌, eqb, ltb, length, get_or}
+use Rattle.std.specs.Prelude.{ℕ, suc, ◌-◌, ◌/◌, ◌≤◌, ◌<◌, cond, List, ◌≡◌, eqb, ltb, length, get_or, Option, Some, None}
 use Rattle.netlist.specs.Table.{half}
 use Rattle.fewest.specs.Choice.{Choice, input_ways}
 use Rattle.fewest.specs.Codes.{moved}
@@ -12,6 +12,11 @@ ways_at codes results p =
 -- the choice of a table of ways
 abbrev pub choice_of : List ℕ → Choice
 choice_of way p = get_or way p 0
+
+-- one more than the place that moved, or 0 where none did
+abbrev pub behind : Option ℕ → ℕ
+behind (Some p) = suc p
+behind None = 0
 
 -- with w ways of each of the first P places: r is 0 where every place takes its last way, otherwise one more than the last place that
 -- does not; there the choice has moved. The places from P on are kept

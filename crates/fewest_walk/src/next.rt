@@ -1,9 +1,8 @@
 // From one choice to the next: the last place that has a further way takes it, and the places behind it take their first.
 ghost use Rattle.std.specs.Prelude.{◌≡◌, ◌+◌, ◌≤◌, ◌<◌, length};
-ghost use Rattle.fewest_walk.specs.Advance.{ways_at, Advanced};
+ghost use Rattle.fewest_walk.specs.Advance.{ways_at, behind, Advanced};
 
-// 2^32: the kind stands in the upper half of its entry.
-const HALF: u64 = 4294967296;
+use gate_table::HALF;
 
 // How many ways a place has: an input by its code, a gate by its kind.
 pub fn ways(codes: &[u8], results: &[u64], p: usize) -> u8
@@ -23,24 +22,20 @@ pub fn ways(codes: &[u8], results: &[u64], p: usize) -> u8
     1
 }
 
-// The next choice of the inputs and the first gates in the table of ways, where the places behind take their first way: one more
-// than the place that moved, or 0 where there is none.
-pub fn next(codes: &[u8], results: &[u64], count: usize, way: &mut [u8]) -> usize
+// The next choice of the inputs and the first gates in the table of ways, where the places behind take their first way: the place
+// that moved, if there is one.
+pub fn next(codes: &[u8], results: &[u64], count: usize, way: &mut [u8]) -> Option<usize>
     requires { (count ≤ length results.now) × (length codes.now + count ≤ length way.old) }
     ensures { Advanced (ways_at codes.now results.now) (length codes.now + count) way.old
-        way.new result }
+        way.new (behind result) }
 {
-    let mut p = codes.len() + count;
-    while p > 0 {
-        let q = p - 1;
-        let d = way[q];
-        let w = ways(codes, results, q);
-        if d < w - 1 {
-            way[q] = d + 1;
-            return p;
+    for p in (0..codes.len() + count).rev() {
+        let d = way[p];
+        if d < ways(codes, results, p) - 1 {
+            way[p] = d + 1;
+            return Some(p);
         }
-        way[q] = 0;
-        p = q;
+        way[p] = 0;
     }
-    0
+    None
 }

@@ -21,11 +21,9 @@ pub fn outputs(code: &[u8], from: usize, wanted: &[u8]) -> u32
     requires { (from + length wanted.now ≡ length code.now) × (length wanted.now < 2 ^ 31) }
     ensures { result ≡ end_changes (drop from code.now) wanted.now }
 {
-    let mut i = 0;
     let mut sum = 0;
-    while i < wanted.len() {
-        sum += output(code[from + i], wanted[i]);
-        i += 1;
+    for (i, want) in wanted.iter().enumerate() {
+        sum += output(code[from + i], *want);
     }
     sum
 }

@@ -24,11 +24,9 @@ pub fn twices(operands: &[u64], results: &[u64], count: usize) -> u32
     requires { (count ≤ length operands.now) × (count ≤ length results.now) × (count < 2 ^ 32) }
     ensures { result ≡ allTwice (gates_of (tables operands.now results.now) count) }
 {
-    let mut i = 0;
     let mut sum = 0;
-    while i < count {
+    for i in 0..count {
         sum += twice(operands[i], results[i]);
-        i += 1;
     }
     sum
 }

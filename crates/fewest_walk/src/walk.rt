@@ -94,14 +94,12 @@ pub fn walk(
     ensures { Walked (tables operands.now results.now) count n way.now from bound code.old
         lows.old code.new lows.new result }
 {
-    let mut i = from;
     let mut low = lows[from];
-    while i < count {
+    for i in from..count {
         low += step(code, way[n + i], operands[i], results[i]);
-        i += 1;
-        lows[i] = low;
+        lows[i + 1] = low;
         if bound <= low {
-            return i;
+            return i + 1;
         }
     }
     count

@@ -1,4 +1,5 @@
 -- From a file that was read to the promise.
+use Rattle.std.specs.Prelude.{Err, Ok, Result}
 use Prim.Native.Nat.{ℕ}
 use mathlib.Core.Path.{◌≡◌, refl, sym, ap, ap₂, ◌∙◌, subst}
 use mathlib.Core.Bool.{Bool, true, false}
@@ -7,8 +8,7 @@ use native.Mathlib.Omega.{arith}
 use lib.ListN.{length, take}
 use Rattle.netlist.specs.declared.Limits.{Limits}
 use Rattle.netlist.specs.declared.Sizes.{Sizes}
-use Rattle.netlist.specs.declared.Answer.{Answer}
-use Rattle.netlist.specs.declared.Answer.TheVariants.{Done, Refused}
+use Rattle.netlist.specs.declared.Question.{Question}
 use Rattle.netlist.specs.Netlist.{Netlist, small}
 use Rattle.netlist.specs.Outcome.{Outcome, refused, ask, and_then}
 use Rattle.netlist.specs.Write.{write_netlist, gate_text}
@@ -23,10 +23,9 @@ use Rattle.write_netlist.specs.Form.{form_text}
 use Rattle.aiger.specs.Call.{read_aiger, aiger_call}
 use Rattle.aiger.specs.Delivered.{Delivered}
 use Rattle.aiger.proofs.Reading.{aiger-delivered}
-use Rattle.read_aiger.specs.WholeAnswers.{OneValue, asked_aiger, NetlistAt, NetlistIs}
+use Rattle.read_aiger.specs.WholeAnswers.{OneValue, asked_aiger, NetlistAt}
 use Rattle.read_aiger.specs.declared.read.NetlistNumbers.{NetlistNumbers}
-use Rattle.read_aiger.specs.declared.read.Reading.{Reading}
-use Rattle.read_aiger.specs.declared.read.Reading.TheVariants as R
+use Rattle.netlist.specs.Question.{number_of}
 use Rattle.from_aiger.specs.Promise.{call}
 
 -- the tables' written form is that of the netlist
@@ -44,22 +43,18 @@ form-same {tabs = tabs} {m = m} a =
     ap₂ ◌++◌ p (ap gate_text (sym a.gates)) ∙ header-gates N
 
 -- questions 2, 19, 20, 19, 5 and 14
-pub file-read : (o : Outcome Netlist) (tabs : Tables) (m : NetlistNumbers) {e x : List ℕ} {r : Answer} → NetlistAt o tabs m
+pub file-read : (o : Outcome Netlist) (tabs : Tables) (m : NetlistNumbers) {e x : List ℕ} {r : Result ℕ Question} → NetlistAt o tabs m
     → Delivers (form_text m.gates m.wires (m.inputs ∷ []) (m.outputs ∷ []) tabs) e x r → Answers (and_then o (rewrite_outcome (length e))) e x r
 file-read o tabs m {e} {x} {r} a d =
     let k : Delivers (write_netlist a.is) e x r = subst (λ (bs : List ℕ). Delivers bs e x r) (form-same a) d in
     answers-as (sym (ap (λ (o : Outcome Netlist). and_then o (rewrite_outcome (length e))) a.outcome)) k.answers
 
-pub file-not : (o : Outcome Netlist) (e : List ℕ) (q : ℕ) → o ≡ refused q → Answers (and_then o (rewrite_outcome (length e))) e e (Refused q)
+pub file-not : (o : Outcome Netlist) (e : List ℕ) (q : Question) → o ≡ refused (number_of q) → Answers (and_then o (rewrite_outcome (length e))) e e (Err q)
 file-not o e q n = answers-refused e (ap (λ (o : Outcome Netlist). and_then o (rewrite_outcome (length e))) n)
 
--- the answers of the reader, which was handed the limits of the sizes
-module _ {l L : Limits} (is : l ≡ L) (lengths t : List ℕ) (tabs : Tables) (r : Reading) where
-  pub read_is : (m : NetlistNumbers) → r ≡ R.Done m → NetlistIs (asked_aiger l lengths t) tabs r → NetlistAt (asked_aiger L lengths t) tabs m
-  read_is m e h = subst (λ (k : Limits). NetlistAt (asked_aiger k lengths t) tabs m) is (subst (NetlistIs (asked_aiger l lengths t) tabs) e h)
-
-  pub read-not : (q : ℕ) → r ≡ R.Refused q → NetlistIs (asked_aiger l lengths t) tabs r → asked_aiger L lengths t ≡ refused q
-  read-not q e h = subst (λ (k : Limits). asked_aiger k lengths t ≡ refused q) is (subst (NetlistIs (asked_aiger l lengths t) tabs) e h)
+-- a refusal of the reader, which was handed the limits of the sizes
+pub asked-not : {l L : Limits} (lengths t : List ℕ) {q : ℕ} → l ≡ L → asked_aiger l lengths t ≡ refused q → asked_aiger L lengths t ≡ refused q
+asked-not lengths t {q} is e = subst (λ (k : Limits). asked_aiger k lengths t ≡ refused q) is e
 
 -- what the reader requires of the limits of the sizes
 pub one_value : (s : Sizes) → OneValue (small s)
@@ -79,11 +74,11 @@ module _ (s : Sizes) (text out o r v : List ℕ) where
       go true = refl
       go false = refl
 
-  pub call-read : {x : List ℕ} {a : Answer} → Answers (and_then (asked_aiger (small s) lengths text) (rewrite_outcome (length out))) out x a
+  pub call-read : {x : List ℕ} {a : Result ℕ Question} → Answers (and_then (asked_aiger (small s) lengths text) (rewrite_outcome (length out))) out x a
       → Answers (call s text out o r v) out x a
   call-read h = answers-as asked h
 
   -- the result
-  pub call-delivered : {x : List ℕ} {a : Answer} → Answers (call s text out o r v) out x a → (n : ℕ) → a ≡ Done n → Delivered (small s) text (take n x)
+  pub call-delivered : {x : List ℕ} {a : Result ℕ Question} → Answers (call s text out o r v) out x a → (n : ℕ) → a ≡ Ok n → Delivered (small s) text (take n x)
   call-delivered {x} {a} w n p =
       aiger-delivered (roomy-small s) lengths text (length out) (take n x) (sym w.outcome ∙ ap (outcome_of x) p)

@@ -1,7 +1,6 @@
 -- What reading an AIGER file promises of a call.
-use Rattle.std.specs.Prelude.{ℕ, ◌≡◌, List, [], ◌∷◌, length, take}
-use Rattle.netlist.specs.declared.Answer.{Answer}
-use Rattle.netlist.specs.declared.Answer.TheVariants.{Done}
+use Rattle.std.specs.Prelude.{Ok, Result, ℕ, ◌≡◌, List, [], ◌∷◌, length, take}
+use Rattle.netlist.specs.declared.Question.{Question}
 use Rattle.netlist.specs.declared.Sizes.{Sizes}
 use Rattle.netlist.specs.Netlist.{small}
 use Rattle.netlist.specs.Outcome.{Outcome}
@@ -14,10 +13,10 @@ abbrev pub call : Sizes → List ℕ → List ℕ → List ℕ → List ℕ → 
 call s text out o r v = aiger_call (small s) (length o ∷ length r ∷ length v ∷ []) text (length out)
 
 -- the sizes and the text, then the result buffer and each table before and after the call
-pub record Promise (s : Sizes) (text out out' o o' r r' v v' : List ℕ) (a : Answer) : Type 0 where
+pub record Promise (s : Sizes) (text out out' o o' r r' v v' : List ℕ) (a : Result ℕ Question) : Type 0 where
   pub answers : Answers (call s text out o r v) out out' a
   -- the text written reads back as the netlist made, which is well formed and computes the file's outputs
-  pub delivered : (n : ℕ) → a ≡ Done n → Delivered (small s) text (take n out')
+  pub delivered : (n : ℕ) → a ≡ Ok n → Delivered (small s) text (take n out')
   pub operands : Cleared o o'
   pub results : Cleared r r'
   pub variables : Cleared v v'

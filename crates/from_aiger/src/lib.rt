@@ -9,7 +9,7 @@ ghost use Rattle.write_netlist.specs.Form.{form_text};
 ghost use Rattle.from_aiger.specs.Promise.{call, Promise};
 
 use netlist::{Answer, Sizes};
-use read_aiger::read::{NetlistNumbers, Reading};
+use read_aiger::read::NetlistNumbers;
 
 // Question 14 and the text of a netlist whose gates the tables begin with.
 pub fn write(out: &mut [u8], m: NetlistNumbers, operands: &[u64], results: &[u64]) -> Answer
@@ -17,9 +17,15 @@ pub fn write(out: &mut [u8], m: NetlistNumbers, operands: &[u64], results: &[u64
     ensures { Delivers (form_text m.gates m.wires (m.inputs ∷ []) (m.outputs ∷ [])
         (tables operands.now results.now)) out.old out.new result }
 {
-    let ins = [m.inputs; 1];
-    let outs = [m.outputs; 1];
-    write_netlist::deliver(out, m.gates, m.wires, &ins, &outs, operands, results)
+    write_netlist::deliver(
+        out,
+        m.gates,
+        m.wires,
+        &[m.inputs],
+        &[m.outputs],
+        operands,
+        results,
+    )
 }
 
 // The file read, and its netlist's text.
@@ -34,11 +40,8 @@ fn answer(
     ensures { Answers (call sizes text.now out.old operands.old results.old
         variables.old) out.old out.new result }
 {
-    let l = netlist::small(sizes);
-    match read_aiger::read::read(text, operands, results, variables, l) {
-        Reading::Refused(question) => Answer::Refused(question),
-        Reading::Done(m) => write(out, m, operands, results),
-    }
+    let m = read_aiger::read::read(text, operands, results, variables, sizes.small())?;
+    write(out, m, operands, results)
 }
 
 // The netlist made of the AIGER file in `text`, in the written form, at the front of `out`. The tables, of any content, are
@@ -55,8 +58,8 @@ pub fn from_aiger(
         results.old results.new variables.old variables.new result }
 {
     let r = answer(text, out, operands, results, variables, sizes);
-    clear::words(operands);
-    clear::words(results);
-    clear::wires(variables);
+    operands.fill(0);
+    results.fill(0);
+    variables.fill(0);
     r
 }

@@ -1,6 +1,7 @@
 -- From a text that was read to the promise.
+use Rattle.std.specs.Prelude.{Err, Ok, Result}
 use Prim.Native.Nat.{ℕ, ◌+◌, ◌*◌, ◌≤◌, ◌<◌}
-use mathlib.Core.Path.{◌≡◌, sym, ap, ◌∙◌, subst}
+use mathlib.Core.Path.{◌≡◌, sym, ap, ◌∙◌}
 use mathlib.Core.Bool.{true, false}
 use mathlib.Core.List.{List, [], ◌∷◌}
 use native.Mathlib.Omega.{arith}
@@ -8,29 +9,17 @@ use lib.ListN.{length, take}
 use Rattle.netlist.specs.declared.Limits.{Limits}
 use Rattle.netlist.specs.declared.Sizes.{Sizes}
 use Rattle.netlist.specs.declared.Sizes.TheVariants.{Old, Whole}
-use Rattle.netlist.specs.declared.Answer.{Answer}
-use Rattle.netlist.specs.declared.Answer.TheVariants.{Done, Refused}
+use Rattle.netlist.specs.declared.Question.{Question}
+use Rattle.netlist.specs.declared.Question.TheVariants as Q
 use Rattle.netlist.specs.Netlist.{small}
-use Rattle.netlist.specs.Outcome.{refused, and_then}
+use Rattle.netlist.specs.Outcome.{and_then}
 use Rattle.netlist.specs.Services.{tables_long, rewrite_outcome, outcome_of, Answers}
-use Rattle.netlist.specs.Table.{half, Tables}
+use Rattle.netlist.specs.Table.{half}
 use Rattle.netlist.proofs.Answering.{answers_one, answers-rest, tables-long}
 use Rattle.verilog.specs.Call.{read_equations, equations_call}
 use Rattle.verilog.specs.Delivered.{Delivered}
 use Rattle.verilog.proofs.Accepted.{equations-delivered}
-use Rattle.read_aiger.specs.WholeAnswers.{NetlistAt, NetlistIs}
-use Rattle.read_aiger.specs.declared.read.NetlistNumbers.{NetlistNumbers}
-use Rattle.read_aiger.specs.declared.read.Reading.{Reading}
-use Rattle.read_aiger.specs.declared.read.Reading.TheVariants as R
 use Rattle.from_verilog.specs.Promise.{entries_of, call}
-
--- the answers of the reader, which was handed the limits of the sizes
-module _ {l L : Limits} (is : l ≡ L) (t : List ℕ) (tabs : Tables) (r : Reading) where
-  pub read_is : (m : NetlistNumbers) → r ≡ R.Done m → NetlistIs (read_equations l t) tabs r → NetlistAt (read_equations L t) tabs m
-  read_is m e h = subst (λ (k : Limits). NetlistAt (read_equations k t) tabs m) is (subst (NetlistIs (read_equations l t) tabs) e h)
-
-  pub read-not : (q : ℕ) → r ≡ R.Refused q → NetlistIs (read_equations l t) tabs r → read_equations L t ≡ refused q
-  read-not q e h = subst (λ (k : Limits). read_equations k t ≡ refused q) is (subst (NetlistIs (read_equations l t) tabs) e h)
 
 -- what the reader requires of the limits of the sizes
 pub record Fits (L : Limits) : Type 0 where
@@ -90,12 +79,12 @@ long s a b c d e f g h =
 module _ (s : Sizes) (text out o r h w l st ws : List ℕ) where
   pub call-one : tables_long (small s) (length o ∷ length r ∷ entries_of (length h) ∷ entries_of (length w) ∷ entries_of (length l) ∷ entries_of (length st) ∷
       entries_of (length ws) ∷ []) ≡ false
-      → Answers (call s text out o r h w l st ws) out out (Refused 1)
+      → Answers (call s text out o r h w l st ws) out out (Err Q.Tables)
   unfolding equations_call
   call-one p = answers_one (tables_long (small s) (length o ∷ length r ∷ entries_of (length h) ∷ entries_of (length w) ∷ entries_of (length l) ∷ entries_of
       (length st) ∷ entries_of (length ws) ∷ [])) _ out p
 
-  pub call-rest : {x : List ℕ} {a : Answer}
+  pub call-rest : {x : List ℕ} {a : Result ℕ Question}
       → tables_long (small s) (length o ∷ length r ∷ entries_of (length h) ∷ entries_of (length w) ∷ entries_of (length l) ∷ entries_of (length st) ∷ entries_of
       (length ws) ∷ []) ≡ true
       → Answers (and_then (read_equations (small s) text) (rewrite_outcome (length out))) out x a → Answers (call s text out o r h w l st ws) out x a
@@ -104,7 +93,7 @@ module _ (s : Sizes) (text out o r h w l st ws : List ℕ) where
       (length st) ∷ entries_of (length ws) ∷ [])) p k
 
   -- the result
-  pub call-delivered : {x : List ℕ} {a : Answer} → Answers (call s text out o r h w l st ws) out x a → (n : ℕ) → a ≡ Done n → Delivered s text (take n x)
+  pub call-delivered : {x : List ℕ} {a : Result ℕ Question} → Answers (call s text out o r h w l st ws) out x a → (n : ℕ) → a ≡ Ok n → Delivered s text (take n x)
   call-delivered {x} {a} k n p =
       equations-delivered s (length o ∷ length r ∷ entries_of (length h) ∷ entries_of (length w) ∷ entries_of (length l) ∷ entries_of (length st) ∷ entries_of
       (length ws) ∷ []) text (length out) (take n x) (sym k.outcome ∙ ap (outcome_of x) p)

@@ -2,57 +2,15 @@
 // limits.
 #![tactic(auto)]
 
-ghost use Rattle.std.specs.Prelude.{◌≡◌, [], ◌∷◌, ◌*◌, ◌/◌, ◌≤◌, ◌<◌, length, replicate};
+ghost use Rattle.std.specs.Prelude.{◌≡◌, ◌*◌, ◌≤◌, ◌<◌, length, replicate};
 ghost use Rattle.netlist.specs.Netlist.{small as smallLimits};
 ghost use Rattle.netlist.specs.Outcome.{and_then};
-ghost use Rattle.netlist.specs.Services.{tables_long, rewrite_outcome, Answers};
+ghost use Rattle.netlist.specs.Services.{rewrite_outcome, Answers};
 ghost use Rattle.verilog.specs.Call.{read_equations};
-ghost use Rattle.from_verilog.specs.Promise.{entries_of, call, Promise};
+ghost use Rattle.from_verilog.specs.Promise.{call, Promise};
 
-use netlist::{Answer, Sizes};
-use read_aiger::read::Reading;
-
-// Numbers that one entry of a table of names has.
-const NUMBERS: usize = 8;
-
-// Question 1 of the lengths of two tables of gates and five of names, whose entries have eight numbers each.
-fn tables_long(
-    a: usize,
-    b: usize,
-    c: usize,
-    d: usize,
-    e: usize,
-    f: usize,
-    g: usize,
-    sizes: Sizes,
-) -> bool
-    ensures { result ≡ tables_long (smallLimits sizes) (a ∷ b ∷ entries_of c ∷ entries_of d ∷ entries_of e ∷ entries_of f ∷ entries_of g ∷ []) }
-{
-    let l = netlist::small(sizes);
-    let least = l.table;
-    if a < least {
-        return false;
-    }
-    if b < least {
-        return false;
-    }
-    if c / NUMBERS < least {
-        return false;
-    }
-    if d / NUMBERS < least {
-        return false;
-    }
-    if e / NUMBERS < least {
-        return false;
-    }
-    if f / NUMBERS < least {
-        return false;
-    }
-    if g / NUMBERS < least {
-        return false;
-    }
-    true
-}
+use netlist::{Answer, Question, Sizes};
+use read_verilog::read::NUMBERS;
 
 // Questions 2, 16, 17, 18, 5 and 14, with tables that question 1 admits.
 fn read_and_write(
@@ -74,13 +32,18 @@ fn read_and_write(
     ensures { Answers (and_then (read_equations (smallLimits sizes) text.now) (rewrite_outcome (length out.old)))
         out.old out.new result }
 {
-    let l = netlist::small(sizes);
-    match read_verilog::read::read(
-        text, l, heads, words, links, states, wires, operands, results,
-    ) {
-        Reading::Refused(question) => Answer::Refused(question),
-        Reading::Done(m) => from_aiger::write(out, m, operands, results),
-    }
+    let m = read_verilog::read::read(
+        text,
+        sizes.small(),
+        heads,
+        words,
+        links,
+        states,
+        wires,
+        operands,
+        results,
+    )?;
+    from_aiger::write(out, m, operands, results)
 }
 
 // Question 1, and then the others.
@@ -100,20 +63,20 @@ fn answer(
         heads.old words.old links.old states.old wires.old) out.old
         out.new result }
 {
-    if !tables_long(
+    let lengths = [
         operands.len(),
         results.len(),
-        heads.len(),
-        words.len(),
-        links.len(),
-        states.len(),
-        wires.len(),
-        sizes,
-    ) {
-        return Answer::Refused(1);
+        heads.len() / NUMBERS,
+        words.len() / NUMBERS,
+        links.len() / NUMBERS,
+        states.len() / NUMBERS,
+        wires.len() / NUMBERS,
+    ];
+    if !sizes.small().admit(&lengths) {
+        return Err(Question::Tables);
     }
-    clear::words(heads);
-    clear::wires(wires);
+    heads.fill(0);
+    wires.fill(0);
     read_and_write(
         text, out, operands, results, heads, words, links, states, wires, sizes,
     )
@@ -140,12 +103,12 @@ pub fn from_verilog(
     let r = answer(
         text, out, operands, results, heads, words, links, states, wires, sizes,
     );
-    clear::words(operands);
-    clear::words(results);
-    clear::words(heads);
-    clear::words(words);
-    clear::words(links);
-    clear::wires(states);
-    clear::wires(wires);
+    operands.fill(0);
+    results.fill(0);
+    heads.fill(0);
+    words.fill(0);
+    links.fill(0);
+    states.fill(0);
+    wires.fill(0);
     r
 }

@@ -1,5 +1,6 @@
 -- The calls of a reader counted.
 use Prim.Native.Nat.{ℕ, zero, suc, ◌+◌, ◌-◌, ◌<◌, ◌≤◌}
+use Rattle.std.specs.Prelude.{Option as Maybe, Some, None, Result, Ok, Err}
 use mathlib.Core.Path.{◌≡◌, refl, sym, ap, ◌∙◌, subst}
 use mathlib.Core.Bool.{◌&&◌}
 use mathlib.Core.List.{List, [], ◌∷◌}
@@ -12,6 +13,8 @@ use borrow.Author.Tests.{le-leb}
 use Rattle.netlist.specs.declared.Gate.{Gate}
 use Rattle.netlist.specs.declared.Limits.{Limits}
 use Rattle.netlist.specs.Outcome.{Outcome, refused, done, ask, and_then}
+use Rattle.netlist.specs.declared.Question.{Question}
+use Rattle.netlist.specs.Question.{number_of}
 use Rattle.netlist.specs.Text.{word_lines}
 use Rattle.netlist.specs.Header.{Header}
 use Rattle.netlist.specs.GateLine.{gate_line}
@@ -27,9 +30,6 @@ use Rattle.gate_reader.specs.Steps.{step_said, place_after, StepIs}
 use Rattle.gate_reader.specs.Opens.{numbers_of, opening_call, OpeningIs}
 use Rattle.gate_reader.specs.Calls.{left_after, left_at, AtCall, Behind, ReaderIs, CurrentIs, AdvanceIs, Called, CallIs}
 use Rattle.gate_reader.specs.declared.calls.Call.{Call}
-use Rattle.gate_reader.specs.declared.step.Step.{Step}
-use Rattle.gate_reader.specs.declared.step.Step.TheVariants as S
-use Rattle.gate_reader.specs.declared.opening.Opening.TheVariants as O
 
 -- ---- what is left of the gate lines
 
@@ -65,7 +65,7 @@ left-next k s = rw add-one (go k s)
 -- ---- a reader before its k-th call
 
 -- an answer of the reader, and what the reader's laws add to it
-reader-is : {L : Limits} {t : List ℕ} {k : ℕ} {r : Step} → step_said r ≡ reader_says L t k → Behind L t k r → ReaderIs L t k r
+reader-is : {L : Limits} {t : List ℕ} {k : ℕ} {r : Result (Maybe (Gate × ℕ)) Question} → step_said r ≡ reader_says L t k → Behind L t k r → ReaderIs L t k r
 reader-is {L} {t} {k} p b = record {
   said = p;
   in_order = λ N e. p ∙ reader-in-order L t N e k;
@@ -88,28 +88,28 @@ module _ {L : Limits} {t : List ℕ} {k at : ℕ} (a : AtCall L t k at) where
       ap (λ (x : Said). left_after x (drop at t)) e ∙ ap (λ (s : List ℕ). left_after (says (word_lines s)) s) a.left
       ∙ sym (left-next k (behind_lines 3 t))
 
-  behind-step : (r : Step) → StepIs t at r → Behind L t k r
-  behind-step (S.On g to) s =
+  behind-step : (r : Result (Maybe (Gate × ℕ)) Question) → StepIs t at r → Behind L t k r
+  behind-step (Ok (Some (g, to))) s =
       record { head = a.head; opens = a.opens; left = s.passed.0 ∙ next-left s.said; within = s.passed.2 }
-  behind-step S.End s = tt
-  behind-step (S.Refused q) s = tt
+  behind-step (Ok None) s = tt
+  behind-step (Err q) s = tt
 
   -- what it says at its place is the k-th answer
-  reader-current : {r : Step} → StepIs t at r → ReaderIs L t k r
+  reader-current : {r : Result (Maybe (Gate × ℕ)) Question} → StepIs t at r → ReaderIs L t k r
   reader-current {r} s = reader-is (s.said ∙ sym says_here) (behind-step r s)
 
   -- that answer takes it before the next call
-  reader-advance : (r : Step) → ReaderIs L t k r → AtCall L t (k + 1) (place_after at r)
-  reader-advance (S.On g to) c = c.behind
-  reader-advance S.End c = record { head = a.head; opens = a.opens; left = next-left (c.said ∙ says_here); within = a.within }
-  reader-advance (S.Refused q) c = record { head = a.head; opens = a.opens; left = next-left (c.said ∙ says_here); within = a.within }
+  reader-advance : (r : Result (Maybe (Gate × ℕ)) Question) → ReaderIs L t k r → AtCall L t (k + 1) (place_after at r)
+  reader-advance (Ok (Some (g, to))) c = c.behind
+  reader-advance (Ok None) c = record { head = a.head; opens = a.opens; left = next-left (c.said ∙ says_here); within = a.within }
+  reader-advance (Err q) c = record { head = a.head; opens = a.opens; left = next-left (c.said ∙ says_here); within = a.within }
 
 -- ---- the struct's functions
 
-pub current-is : {t : List ℕ} {at : ℕ} {r : Step} → StepIs t at r → CurrentIs t at r
+pub current-is : {t : List ℕ} {at : ℕ} {r : Result (Maybe (Gate × ℕ)) Question} → StepIs t at r → CurrentIs t at r
 current-is s = record { step = s; call = λ L k a. reader-current a s }
 
-pub advance-is : {at : ℕ} (t : List ℕ) (r : Step) {to : ℕ} → to ≡ place_after at r → AdvanceIs t at r to
+pub advance-is : {at : ℕ} (t : List ℕ) (r : Result (Maybe (Gate × ℕ)) Question) {to : ℕ} → to ≡ place_after at r → AdvanceIs t at r to
 advance-is t r e = record { place = e; call = λ L k a c. subst (AtCall L t (k + 1)) (sym e) (reader-advance a r c) }
 
 -- ---- calls in a row
@@ -134,10 +134,10 @@ module _ {t : List ℕ} {from k at i : ℕ} (c : Calling t from k at i) {a : Cal
       later : i + (k - i) ≡ k
       later = omega (arith, c.few)
 
-      go : (L : Limits) (r : Step) → a.at ≡ place_after at r → StepIs t at r → ReaderIs L t i r → ReaderIs L t k r
-      go L (S.On g p) q u x = absurd (omega (arith, u.passed.1))
-      go L S.End q u x = reader-is (sym (rw later at (x.end_again refl (k - i)))) tt
-      go L (S.Refused n) q u x = reader-is (sym (rw later at (x.no_again n refl (k - i)))) tt
+      go : (L : Limits) (r : Result (Maybe (Gate × ℕ)) Question) → a.at ≡ place_after at r → StepIs t at r → ReaderIs L t i r → ReaderIs L t k r
+      go L (Ok (Some (g, p))) q u x = absurd (omega (arith, u.passed.1))
+      go L (Ok None) q u x = reader-is (sym (rw later at (x.end_again refl (k - i)))) tt
+      go L (Err n) q u x = reader-is (sym (rw later at (x.no_again (number_of n) refl (k - i)))) tt
 
   -- the last call
   pub calling-end : k ≤ i → CallIs t from k a.step
@@ -149,20 +149,20 @@ module _ {t : List ℕ} {from k at i : ℕ} (c : Calling t from k at i) {a : Cal
 
 module _ {L : Limits} {t ins ins' outs outs' : List ℕ} where
   -- a refused opening is all that is said, where the widths have room
-  pub reader-no : {k q : ℕ} → L.inputs ≤ length ins → L.outputs ≤ length outs → OpeningIs L t ins ins' outs outs' (O.Refused q) → ReaderIs L t k (S.Refused q)
+  pub reader-no : {k : ℕ} {q : Question} → L.inputs ≤ length ins → L.outputs ≤ length outs → OpeningIs L t ins ins' outs outs' (Err q) → ReaderIs L t k (Err q)
   unfolding reader_says opening_call
   reader-no {k} {q} i j o = reader-is (go (opening L t) refl o.said) tt
     where
       go : (x : Outcome Header) → opening L t ≡ x
-          → refused q
+          → refused (number_of q)
           ≡ (and_then (and_then x λ H. ask 14 (leb (length H.inputs) (length ins) && leb (length H.outputs) (length outs)) (done H)) λ H.
           done (numbers_of H))
-          → no q ≡ after_opening x (call_says k (drop 3 (word_lines t)))
-      go (refused p) w e = let z : q ≡ p = cc in ap no z
+          → no (number_of q) ≡ after_opening x (call_says k (drop 3 (word_lines t)))
+      go (refused p) w e = let z : number_of q ≡ p = cc in ap no z
       go (done H) w e =
           let h = opened L t H w in
           let f = rw (le-leb (length H.inputs) (length ins) (omega (arith, h.inputs)), le-leb (length H.outputs) (length outs) (omega (arith, h.outputs))) at e in
           clash (cc)
 
-  pub reader-on : {h : HeaderNumbers} {at k : ℕ} {r : Step} → OpeningIs L t ins ins' outs outs' (O.At h at) → CallIs t at k r → ReaderIs L t k r
+  pub reader-on : {h : HeaderNumbers} {at k : ℕ} {r : Result (Maybe (Gate × ℕ)) Question} → OpeningIs L t ins ins' outs outs' (Ok (h, at)) → CallIs t at k r → ReaderIs L t k r
   reader-on o c = c.call L o.place

@@ -1,5 +1,7 @@
 -- The calls of a reader counted from 0: where it stands, and what it says.
-use Rattle.std.specs.Prelude.{ℕ, zero, suc, ◌+◌, ◌≤◌, ◌≡◌, List, length, drop}
+use Rattle.std.specs.Prelude.{ℕ, Option, Some, None, Result, Ok, Err, zero, suc, ◌+◌, ◌≤◌, ◌≡◌, List, length, drop}
+use Rattle.netlist.specs.declared.Gate.{Gate}
+use Rattle.netlist.specs.declared.Question.{Question}
 use Rattle.netlist.specs.declared.Limits.{Limits}
 use Rattle.netlist.specs.Netlist.{Netlist}
 use Rattle.netlist.specs.Text.{word_lines}
@@ -10,8 +12,6 @@ use Rattle.netlist.specs.GateReader.{Said, gate, end, no, says, reader_says, kth
 use Rattle.read_text.specs.Line.{behind_line, behind_lines}
 use Rattle.gate_reader.specs.Steps.{step_said, place_after, StepIs}
 use Rattle.gate_reader.specs.declared.calls.Call.{Call}
-use Rattle.gate_reader.specs.declared.step.Step.{Step}
-use Rattle.gate_reader.specs.declared.step.Step.TheVariants as S
 
 -- what is left of a text after an answer on its first line with words: what stands behind a gate's line, and otherwise the same
 abbrev pub left_after : Said → List ℕ → List ℕ
@@ -32,13 +32,13 @@ pub record AtCall (L : Limits) (t : List ℕ) (k at : ℕ) : Type 0 where
   pub within : at ≤ length t
 
 -- behind a gate the reader stands before its next call
-abbrev pub Behind : Limits → List ℕ → ℕ → Step → Type 0
-Behind L t k (S.On g to) = AtCall L t (k + 1) to
-Behind L t k S.End = Unit {0}
-Behind L t k (S.Refused q) = Unit {0}
+abbrev pub Behind : Limits → List ℕ → ℕ → Result (Option (Gate × ℕ)) Question → Type 0
+Behind L t k (Ok (Some (g, to))) = AtCall L t (k + 1) to
+Behind L t k (Ok None) = Unit {0}
+Behind L t k (Err q) = Unit {0}
 
 -- r is the k-th answer of the reader of t
-pub record ReaderIs (L : Limits) (t : List ℕ) (k : ℕ) (r : Step) : Type 0 where
+pub record ReaderIs (L : Limits) (t : List ℕ) (k : ℕ) (r : Result (Option (Gate × ℕ)) Question) : Type 0 where
   pub said : step_said r ≡ reader_says L t k
   -- of a text that reads as a netlist: its k-th gate, or the end
   pub in_order : (N : Netlist) → read_netlist L t ≡ done N → step_said r ≡ kth_said N.gates k
@@ -50,12 +50,12 @@ pub record ReaderIs (L : Limits) (t : List ℕ) (k : ℕ) (r : Step) : Type 0 wh
 -- ---- what the struct's functions promise
 
 -- s is what the reader at a place says: of the lines from there on; and before its k-th call, the k-th answer
-pub record CurrentIs (t : List ℕ) (at : ℕ) (s : Step) : Type 0 where
+pub record CurrentIs (t : List ℕ) (at : ℕ) (s : Result (Option (Gate × ℕ)) Question) : Type 0 where
   pub step : StepIs t at s
   pub call : (L : Limits) (k : ℕ) → AtCall L t k at → ReaderIs L t k s
 
 -- the reader goes from a place to another by the answer s: by the k-th answer from before its k-th call to before the next
-pub record AdvanceIs (t : List ℕ) (at : ℕ) (s : Step) (to : ℕ) : Type 0 where
+pub record AdvanceIs (t : List ℕ) (at : ℕ) (s : Result (Option (Gate × ℕ)) Question) (to : ℕ) : Type 0 where
   pub place : to ≡ place_after at s
   pub call : (L : Limits) (k : ℕ) → AtCall L t k at → ReaderIs L t k s → AtCall L t (k + 1) to
 
@@ -67,5 +67,5 @@ pub record Called (t : List ℕ) (at : ℕ) (c : Call) : Type 0 where
   pub on : AdvanceIs t at c.step c.at
 
 -- r is the k-th answer of the reader that stands at the place `from` before its first call
-pub record CallIs (t : List ℕ) (from k : ℕ) (r : Step) : Type 0 where
+pub record CallIs (t : List ℕ) (from k : ℕ) (r : Result (Option (Gate × ℕ)) Question) : Type 0 where
   pub call : (L : Limits) → AtCall L t 0 from → ReaderIs L t k r

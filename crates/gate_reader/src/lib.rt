@@ -19,26 +19,31 @@ pub struct GateReader<'a> {
     pub at: usize,
 }
 
-// The reader at a place of a text: made of the place that opening the text gives, it stands before its first call.
-pub fn reader<'a>(text: &'a [u8], at: usize) -> GateReader<'a>
-    ensures { (result.text ≡ text.entry) × (result.at ≡ at)
-        × ((L : Limits) (k : ℕ) → AtCall L text.now k at → AtCall L result.text.now k result.at) }
-{
-    GateReader { text, at }
-}
+impl<'a> GateReader<'a> {
+    // The reader at a place of a text: made of the place that opening the text gives, it stands before its first call.
+    pub fn new(text: &'a [u8], at: usize) -> Self
+        ensures { (result.text ≡ text.entry) × (result.at ≡ at)
+            × ((L : Limits) (k : ℕ) → AtCall L text.now k at → AtCall L result.text.now k result.at) }
+    {
+        GateReader { text, at }
+    }
 
-// What the reader says: before its k-th call, the k-th answer.
-pub fn current<'a>(r: GateReader<'a>) -> Step
-    ensures { CurrentIs r.entry.text.now r.entry.at result }
-{
-    step_at(r.text, r.at)
-}
+    // What the reader says: before its k-th call, the k-th answer.
+    pub fn current(self) -> Step
+        ensures { CurrentIs self.entry.text.now self.entry.at result }
+    {
+        step_at(self.text, self.at)
+    }
 
-// The reader after what it said. Behind a gate it stands before the next line, otherwise where it stood: after its k-th answer,
-// before the next call.
-pub fn advance<'a>(r: GateReader<'a>, s: Step) -> GateReader<'a>
-    ensures { (result.text ≡ r.entry.text) × AdvanceIs r.entry.text.now r.entry.at s result.at }
-{
-    let at = place_after(r.at, s);
-    GateReader { text: r.text, at }
+    // The reader after what it said. Behind a gate it stands before the next line, otherwise where it stood: after its k-th answer,
+    // before the next call.
+    pub fn advance(self, s: Step) -> Self
+        ensures { (result.text ≡ self.entry.text) × AdvanceIs self.entry.text.now self.entry.at s result.at }
+    {
+        let at = place_after(self.at, s);
+        GateReader {
+            text: self.text,
+            at,
+        }
+    }
 }

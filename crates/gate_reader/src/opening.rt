@@ -1,55 +1,46 @@
 // Opening a gate reader: questions 2 to 6 with the large limits, and 14 of the buffers for the widths.
 ghost use Rattle.std.specs.Prelude.{◌≡◌, ◌≤◌, length, take};
 ghost use Rattle.std.proofs.lemmas.List.Edits.{sets};
-ghost use Rattle.netlist.specs.Netlist.{large as largeLimits};
+ghost use Rattle.netlist.specs.Netlist.{large as large_limits};
 ghost use Rattle.gate_reader.specs.Opens.{OpeningIs};
 
-use netlist::{Sizes, large};
-use read_header::head::{Head, read_opening};
-use read_header::{HeaderNumbers, keep};
+use netlist::{Question, Sizes};
+use read_header::HeaderNumbers;
+use read_header::head::read_opening;
 use read_text::count::count_lines;
 
-// What the header says, with the place of the reader's first call; or the first question with a no.
-#[derive(Clone, Copy)]
-pub enum Opening {
-    At(HeaderNumbers, usize),
-    Refused(u8),
-}
-
-// The first widths to the front of a table, as many as it has room for.
+// The first widths to the front of a table.
 fn copy(widths: &[u32], count: usize, table: &mut [u32])
-    requires { count ≤ length widths.now }
+    requires { (count ≤ length widths.now) × (count ≤ length table.old) }
     ensures { table.new ≡ sets table.old 0 (take count widths.now) }
 {
-    let mut i = 0;
-    while i < count {
-        keep(table, i, widths[i]);
-        i += 1;
-    }
+    table[..count].copy_from_slice(&widths[..count]);
 }
 
-// Questions 2 to 6, and 14 of the two buffers. The widths of the values go to their fronts; on a refusal they stay untouched.
-pub fn open_at(text: &[u8], inputs: &mut [u32], outputs: &mut [u32], sizes: Sizes) -> Opening
-    ensures { OpeningIs (largeLimits sizes) text.now inputs.old inputs.new outputs.old
+// Questions 2 to 6, and 14 of the two buffers: the header's numbers, with the place of the reader's first call. The widths of the values go
+// to the buffers' fronts; on a refusal they stay untouched.
+pub fn open_at(
+    text: &[u8],
+    inputs: &mut [u32],
+    outputs: &mut [u32],
+    sizes: Sizes,
+) -> Result<(HeaderNumbers, usize), Question>
+    ensures { OpeningIs (large_limits sizes) text.now inputs.old inputs.new outputs.old
         outputs.new result }
 {
     let mut ins = [0u32; 17];
     let mut outs = [0u32; 16];
-    match read_opening(text, large(sizes), &mut ins, &mut outs) {
-        Head::Refused(question) => Opening::Refused(question),
-        Head::Is(h, at) => {
-            if count_lines(text, at) != h.gates as usize {
-                return Opening::Refused(6);
-            }
-            if inputs.len() < h.input_values {
-                return Opening::Refused(14);
-            }
-            if outputs.len() < h.output_values {
-                return Opening::Refused(14);
-            }
-            copy(&ins, h.input_values, inputs);
-            copy(&outs, h.output_values, outputs);
-            Opening::At(h, at.at)
-        }
+    let (h, at) = read_opening(text, sizes.large(), &mut ins, &mut outs)?;
+    if count_lines(text, at) != h.gates as usize {
+        return Err(Question::Count);
     }
+    if inputs.len() < h.input_values {
+        return Err(Question::Room);
+    }
+    if outputs.len() < h.output_values {
+        return Err(Question::Room);
+    }
+    copy(&ins, h.input_values, inputs);
+    copy(&outs, h.output_values, outputs);
+    Ok((h, at.at))
 }

@@ -2,6 +2,10 @@
 // The kinds are those of `gate_table`; a gate of one operand has 0 as its second, and the operand of EQ is its constant.
 #![tactic(auto)]
 
+ghost use Rattle.std.specs.Prelude.{◌≡◌};
+
+use netlist::{Gate, Twin};
+
 // One gate.
 #[repr(C)]
 #[derive(Clone, Copy)]
@@ -15,7 +19,7 @@ pub struct GateRecord {
 // A source gate: its gate, the wire that its result stands on in the masked netlist and the code of the mask on it, and the place
 // of its first masked gate among the masked gates.
 #[repr(C)]
-#[derive(Clone, Copy)]
+#[derive(Clone, Copy, Default)]
 pub struct SourceRecord {
     pub kind: u32,
     pub first: u32,
@@ -24,4 +28,74 @@ pub struct SourceRecord {
     pub wire: u32,
     pub from: u32,
     pub code: u8,
+}
+
+impl From<Gate> for GateRecord {
+    ghost use Rattle.gate_records.specs.Records.{record_of};
+
+    ghost from_gives = { λ g r. r ≡ record_of g };
+
+    fn from(g: Gate) -> Self {
+        let (kind, first, second, result) = match g {
+            Gate::Xor(a, b, c) => (1, a, b, c),
+            Gate::And(a, b, c) => (2, a, b, c),
+            Gate::Inv(a, c) => (3, a, 0, c),
+            Gate::Eqw(a, c) => (4, a, 0, c),
+            Gate::Eq(v, c) => (5, v, 0, c),
+        };
+        GateRecord {
+            kind,
+            first,
+            second,
+            result,
+        }
+    }
+}
+
+impl From<SourceRecord> for GateRecord {
+    ghost use Rattle.gate_records.specs.Records.{gate_in};
+
+    ghost from_gives = { λ r g. g ≡ gate_in r };
+
+    fn from(r: SourceRecord) -> Self {
+        GateRecord {
+            kind: r.kind,
+            first: r.first,
+            second: r.second,
+            result: r.result,
+        }
+    }
+}
+
+impl GateRecord {
+    ghost use Rattle.gate_records.specs.Records.{source_record};
+
+    // The source gate of this record, with its result's twin and the place of its first masked gate.
+    pub fn source(self, twin: Twin, from: u32) -> SourceRecord
+        ensures { result ≡ source_record self twin from }
+    {
+        SourceRecord {
+            kind: self.kind,
+            first: self.first,
+            second: self.second,
+            result: self.result,
+            wire: twin.wire,
+            from,
+            code: twin.code,
+        }
+    }
+}
+
+impl SourceRecord {
+    ghost use Rattle.gate_records.specs.Records.{twin_in};
+
+    // Its result's twin.
+    pub fn twin(self) -> Twin
+        ensures { result ≡ twin_in self }
+    {
+        Twin {
+            wire: self.wire,
+            code: self.code,
+        }
+    }
 }

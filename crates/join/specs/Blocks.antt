@@ -1,27 +1,18 @@
 -- A text with its input codes, read into tables: questions 1 to 11; and question 25 of two of them.
-use Rattle.std.specs.Prelude.{ℕ, ◌-◌, ◌≤◌, ◌≡◌, Bool, true, ◌&&◌, List, T, eqb, leb, length, take}
+use Rattle.std.specs.Prelude.{ℕ, ◌-◌, ◌≤◌, ◌≡◌, Result, Ok, Err, Bool, true, ◌&&◌, List, T, eqb, leb, length, take}
 use Rattle.netlist.specs.declared.Limits.{Limits}
+use Rattle.netlist.specs.declared.Question.{Question}
+use Rattle.netlist.specs.Question.{number_of}
 use Rattle.netlist.specs.Lists.{every, same_bytes}
 use Rattle.netlist.specs.Netlist.{Netlist, input_bits}
-use Rattle.netlist.specs.Outcome.{Outcome, refused, done, ask}
+use Rattle.netlist.specs.Outcome.{refused, ask}
 use Rattle.netlist.specs.Mask.{is_input_code}
 use Rattle.netlist.specs.Services.{tables_long, list_good, ends_in_masks}
 use Rattle.netlist.specs.Table.{Tables, Wired, Holds}
 use Rattle.read_header.specs.declared.HeaderNumbers.{HeaderNumbers}
-use Rattle.read_netlist.specs.declared.read.Reading.{Reading}
-use Rattle.read_netlist.specs.declared.read.Reading.TheVariants as R
 use Rattle.read_netlist.specs.Whole.{ReadAt}
 use Rattle.joined.specs.Call.{read_block, is_secret}
 use Rattle.join_gates.specs.declared.SeamNumbers.{SeamNumbers}
-
--- what a reading stands for
-abbrev pub header_of : Reading → Outcome HeaderNumbers
-header_of (R.Done h) = done h
-header_of (R.Refused q) = refused q
-
--- questions 10 and 11 of a header, from the widths of its input values
-abbrev pub ask_block : List ℕ → List ℕ → HeaderNumbers → Outcome HeaderNumbers
-ask_block widths codes h = ask 10 (ends_in_masks widths) (ask 11 (list_good is_input_code (h.input_bits - 2) codes) (done h))
 
 -- the text reads as a netlist that the tables hold, and questions 10 and 11 get a yes
 pub record BlockAt (L : Limits) (text codes ins outs : List ℕ) (t : Tables) (h : HeaderNumbers) : Type 0 where
@@ -30,9 +21,9 @@ pub record BlockAt (L : Limits) (text codes ins outs : List ℕ) (t : Tables) (h
   pub list : T (list_good is_input_code (input_bits at.is - 2) codes)
 
 -- what an answer to questions 1 to 11 stands for, with lent tables of these lengths
-abbrev pub BlockIs : Limits → List ℕ → List ℕ → List ℕ → List ℕ → List ℕ → Tables → Reading → Type 0
-BlockIs L lengths text codes ins outs t (R.Done h) = (tables_long L lengths ≡ true) × BlockAt L text codes ins outs t h
-BlockIs L lengths text codes ins outs t (R.Refused q) = ask 1 (tables_long L lengths) (read_block L text codes) ≡ refused q
+abbrev pub BlockIs : Limits → List ℕ → List ℕ → List ℕ → List ℕ → List ℕ → Tables → Result HeaderNumbers Question → Type 0
+BlockIs L lengths text codes ins outs t (Ok h) = (tables_long L lengths ≡ true) × BlockAt L text codes ins outs t h
+BlockIs L lengths text codes ins outs t (Err q) = ask 1 (tables_long L lengths) (read_block L text codes) ≡ refused (number_of q)
 
 -- the numbers of a block and its gates in tables
 pub record Numbers (h : HeaderNumbers) (t : Tables) : Type 0 where

@@ -1,7 +1,6 @@
 -- What Join promises of a call (document 02, No. 14).
-use Rattle.std.specs.Prelude.{ℕ, ◌≡◌, List, [], ◌∷◌, length, take}
-use Rattle.netlist.specs.declared.Answer.{Answer}
-use Rattle.netlist.specs.declared.Answer.TheVariants.{Done}
+use Rattle.std.specs.Prelude.{Ok, Result, ℕ, ◌≡◌, List, [], ◌∷◌, length, take}
+use Rattle.netlist.specs.declared.Question.{Question}
 use Rattle.netlist.specs.declared.Sizes.{Sizes}
 use Rattle.netlist.specs.Netlist.{large}
 use Rattle.netlist.specs.Outcome.{Outcome}
@@ -19,10 +18,10 @@ abbrev pub call : Sizes → List ℕ → List ℕ → List ℕ → List ℕ → 
 call s first second codes out_codes inner out o r g w b = join_call (large s) (lengths o r g w b) first codes out_codes second inner (length out)
 
 -- the sizes, the texts and the codes, then the result buffer and each table before and after the call
-pub record Promise (s : Sizes) (first second codes out_codes inner out out' o o' r r' g g' w w' b b' : List ℕ) (a : Answer) : Type 0 where
+pub record Promise (s : Sizes) (first second codes out_codes inner out out' o o' r r' g g' w w' b b' : List ℕ) (a : Result ℕ Question) : Type 0 where
   pub answers : Answers (call s first second codes out_codes inner out o r g w b) out out' a
   -- the text written is that of the joined netlist, with all that is said of it
-  pub delivered : (n : ℕ) → a ≡ Done n → Delivered s (lengths o r g w b) first codes out_codes second inner (length out) (take n out')
+  pub delivered : (n : ℕ) → a ≡ Ok n → Delivered s (lengths o r g w b) first codes out_codes second inner (length out) (take n out')
   pub operands : Cleared o o'
   pub results : Cleared r r'
   pub marks : Cleared g g'

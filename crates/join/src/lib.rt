@@ -3,7 +3,7 @@
 #![tactic(auto)]
 
 ghost use Rattle.std.specs.Prelude.{◌≡◌, [], ◌∷◌, ◌+◌, ◌-◌, ◌≤◌, length, take};
-ghost use Rattle.netlist.specs.Lists.{every, sum};
+ghost use Rattle.netlist.specs.Lists.{every};
 ghost use Rattle.netlist.specs.Netlist.{Netlist};
 ghost use Rattle.netlist.specs.Outcome.{and_then};
 ghost use Rattle.netlist.specs.Services.{Answers, Delivers};
@@ -13,29 +13,13 @@ ghost use Rattle.read_netlist.specs.Whole.{Readable};
 ghost use Rattle.joined.specs.Join.{join as join_of};
 ghost use Rattle.joined.specs.Call.{is_secret, read_block, join_outcome};
 ghost use Rattle.join_gates.specs.Appended.{wires_of, Meeting};
-ghost use Rattle.join.specs.Blocks.{header_of, ask_block, BlockIs, Numbers, First, Second, seam_holds, seam_of};
+ghost use Rattle.join.specs.Blocks.{BlockIs, Numbers, First, Second, seam_holds, seam_of};
 ghost use Rattle.join.specs.Promise.{call, Promise};
 
 use join_gates::SeamNumbers;
-use netlist::{Answer, Limits, Sizes};
+use netlist::{Answer, Limits, Question, Sizes};
 use old_form::Dialect;
 use read_header::HeaderNumbers;
-use read_netlist::read::Reading;
-
-// Questions 10 and 11 of a header, with the widths of its input values at the front of a table.
-fn admit(h: HeaderNumbers, widths: &[u32], codes: &[u8]) -> Reading
-    requires { (h.input_values ≤ length widths.now) × (h.input_bits ≡ sum (take h.input_values widths.now)) }
-    ensures { header_of result ≡ ask_block (take h.input_values widths.now) codes.now h }
-{
-    let values = h.input_values;
-    if !check_netlist::ends_in_masks(&widths[..values]) {
-        return Reading::Refused(10);
-    }
-    if !lists::valid_codes(codes, h.input_bits as usize - 2) {
-        return Reading::Refused(11);
-    }
-    Reading::Done(h)
-}
 
 // Questions 1 to 11 of a text with its input codes, as `read_netlist::read::read` puts 1 to 9.
 fn read_block(
@@ -46,48 +30,34 @@ fn read_block(
     operands: &mut [u64],
     results: &mut [u64],
     marks: &mut [u8],
-    shortest: usize,
+    others: &[usize],
     l: Limits,
-) -> Reading
+) -> Result<HeaderNumbers, Question>
     requires { Readable l }
-    ensures { BlockIs l (length operands.old ∷ length results.old ∷ length marks.old ∷ shortest ∷ [])
+    ensures { BlockIs l (length operands.old ∷ length results.old ∷ length marks.old ∷ others.now)
         text.now codes.now inputs.new outputs.new
         (tables operands.new results.new) result }
 {
-    match read_netlist::read::read(text, inputs, outputs, operands, results, marks, shortest, l) {
-        Reading::Refused(question) => Reading::Refused(question),
-        Reading::Done(h) => admit(h, inputs, codes),
-    }
+    let h = read_netlist::read::read(text, inputs, outputs, operands, results, marks, others, l)?;
+    check_netlist::ask_codes(h, *inputs, codes)?;
+    Ok(h)
 }
 
 // Whether no code is 0.
 fn all_secret(codes: &[u8]) -> bool
     ensures { result ≡ every is_secret codes.now }
 {
-    let mut i = 0;
-    while i < codes.len() {
-        if codes[i] == 0 {
-            return false;
-        }
-        i += 1;
-    }
-    true
+    !codes.contains(&0)
 }
 
 // Question 25.
 fn seam_holds(a: HeaderNumbers, out_codes: &[u8], b: HeaderNumbers, codes: &[u8]) -> bool
     ensures { result ≡ seam_holds a out_codes.now b codes.now }
 {
-    if out_codes.len() as u64 != a.output_bits {
-        return false;
-    }
-    if !read_text::bytes::same(out_codes, codes) {
-        return false;
-    }
-    if !all_secret(codes) {
-        return false;
-    }
-    b.output_bits <= b.gates as u64
+    out_codes.len() as u64 == a.output_bits
+        && read_text::bytes::same(out_codes, codes)
+        && all_secret(codes)
+        && b.output_bits <= b.gates as u64
 }
 
 // Question 14 and the joined text: the second's gates go behind the first's.
@@ -117,7 +87,7 @@ fn write(
         outs: a.output_bits as u32,
         ins: a.input_bits as u32,
         second: b.wires,
-        inner: inner,
+        inner,
     };
     join_gates::append(
         operands,
@@ -162,11 +132,11 @@ fn deliver(
         → Answers (join_outcome l out_codes.now codes.now (length out.old) A B) out.old out.new result }
 {
     if !seam_holds(a, out_codes, b, codes) {
-        return Answer::Refused(25);
+        return Err(Question::Seam);
     }
     let wires = a.wires as u64 + b.wires as u64 - b.input_bits;
     if (l.wires as u64) < wires {
-        return Answer::Refused(5);
+        return Err(Question::Limits);
     }
     write(out, a, b, inputs, outputs, operands, results, words, base)
 }
@@ -196,8 +166,7 @@ fn read_second(
 {
     let mut inner = [0u32; 17];
     let mut outputs = [0u32; 16];
-    let shortest = marks.len();
-    match read_block(
+    let b = read_block(
         second,
         codes,
         &mut inner,
@@ -205,14 +174,12 @@ fn read_second(
         words,
         base,
         marks,
-        shortest,
+        &[],
         l,
-    ) {
-        Reading::Refused(question) => Answer::Refused(question),
-        Reading::Done(b) => deliver(
-            out_codes, codes, out, a, b, inputs, outputs, operands, results, words, base, l,
-        ),
-    }
+    )?;
+    deliver(
+        out_codes, codes, out, a, b, inputs, outputs, operands, results, words, base, l,
+    )
 }
 
 // The answer, with tables that are still to be cleared.
@@ -234,11 +201,10 @@ fn answer(
         out.old operands.old results.old marks.old words.old base.old)
         out.old out.new result }
 {
-    let l = netlist::large(sizes);
+    let l = sizes.large();
     let mut inputs = [0u32; 17];
     let mut outputs = [0u32; 16];
-    let shortest = checker::shorter(words.len(), base.len());
-    match read_block(
+    let a = read_block(
         first,
         codes,
         &mut inputs,
@@ -246,14 +212,12 @@ fn answer(
         operands,
         results,
         marks,
-        shortest,
+        &[words.len(), base.len()],
         l,
-    ) {
-        Reading::Refused(question) => Answer::Refused(question),
-        Reading::Done(a) => read_second(
-            second, out_codes, inner, out, a, inputs, operands, results, marks, words, base, l,
-        ),
-    }
+    )?;
+    read_second(
+        second, out_codes, inner, out, a, inputs, operands, results, marks, words, base, l,
+    )
 }
 
 // The joined netlist of the texts `first`, with its input and output codes, and `second`, with its input codes, at the front of `out`. The
@@ -279,10 +243,10 @@ pub fn join(
     let r = answer(
         first, second, codes, out_codes, inner, out, operands, results, marks, words, base, sizes,
     );
-    clear::words(operands);
-    clear::words(results);
-    clear::bytes(marks);
-    clear::words(words);
-    clear::words(base);
+    operands.fill(0);
+    results.fill(0);
+    marks.fill(0);
+    words.fill(0);
+    base.fill(0);
     r
 }

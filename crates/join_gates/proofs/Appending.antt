@@ -2,7 +2,7 @@
 use Prim.Native.Nat.{ℕ, ◌+◌, ◌*◌, ◌/◌, ◌%◌, ◌≤◌, ◌<◌}
 use mathlib.Core.Path.{◌≡◌, refl, sym, ap, ap₂, ◌∙◌, subst}
 use mathlib.Core.Bool.{Bool, true, false, cond}
-use mathlib.Core.List.{List, [], ◌∷◌, ◌++◌, map, map-append, append_assoc, append-nil}
+use mathlib.Core.List.{List, [], ◌∷◌, ◌++◌, map, map-append, append_assoc}
 use native.Mathlib.Omega.{arith}
 use lib.Dec.{eqb}
 use lib.ListN.{length, get_or, length-set}
@@ -94,43 +94,19 @@ module _ {s : SeamNumbers} (M : Meeting s) {o r : ℕ} (N : Named s.second o r) 
     result = rw (entry-low (f (r % half)) (r / half) result_fits) (goes-below M (r % half) N.result);
   }
 
--- wires of the first are wires of both
-named-wider : {W W' o r : ℕ} → W ≤ W' → Named W o r → Named W' o r
-named-wider {W} {W'} {o} {r} l N =
-    let a : o % half < W = N.left in
-    let b : o / half < W = N.right in
-    let c : r % half < W = N.result in
-    record { kind = N.kind; left = omega arith; right = omega arith; result = omega arith }
-
-first-inside : {s : SeamNumbers} → Meeting s → s.wires ≤ wires_of s
-first-inside {s} M = let e : s.inner ≤ s.second = M.inner in omega arith
-
--- the first's tables t, the second's v, and i of its k gates put behind the first's m
-pub record Appending (s : SeamNumbers) (t : Tables) (m : ℕ) (v : Tables) (k : ℕ) (u : Tables) (i : ℕ) : Type 0 where
-  pub passed : i ≤ k
-  pub so : Appended s t m v i u
-
-pub appending-none : {s : SeamNumbers} {t : Tables} {m : ℕ} (v : Tables) (k : ℕ) → Meeting s → Wired t s.wires m → Appending s t m v k t 0
-appending-none {s} {t} {m} v k M w =
-    let z : m + 0 ≡ m = omega arith in
-    let wider : Wired t (wires_of s) m = record { operands = w.operands; results = w.results; each = λ i l. named-wider (first-inside M) (w.each i l) } in
-    record {
-      passed = omega arith;
-      so = record { gates = rw z (sym (append-nil (gates_of t m))); wired = rw z wider; operands = refl; results = refl };
-    }
-
+-- one more
 pub appending-more : {s : SeamNumbers} {t v u : Tables} {m k i : ℕ} {o r : ℕ} → Meeting s → Wired v s.second k → m + k ≤ length t.operands
-    → m + k ≤ length t.results → Appending s t m v k u i → i < k
+    → m + k ≤ length t.results → Appended s t m v i u → i < k
     → o ≡ goes_to s (get_or v.operands i 0 % half) + goes_to s (get_or v.operands i 0 / half) * half
     → r ≡ goes_to s (get_or v.results i 0 % half) + get_or v.results i 0 / half * half
-    → Appending s t m v k (put_entry u (m + i) o r) (i + 1)
+    → Appended s t m v (i + 1) (put_entry u (m + i) o r)
 appending-more {s} {t} {v} {u} {m} {k} {i} {o} {r} M w p q a h d e =
     let f = renumbered (goes_to s) in
     let N = w.each i h in
     let x = get_or v.operands i 0 in
     let y = get_or v.results i 0 in
-    let lo : length u.operands ≡ length t.operands = a.so.operands in
-    let lr : length u.results ≡ length t.results = a.so.results in
+    let lo : length u.operands ≡ length t.operands = a.operands in
+    let lr : length u.results ≡ length t.results = a.results in
     let room : Room u (m + i) = record { operands = omega arith; results = omega arith } in
     let n : Named (wires_of s) o r = rw (d, e) (entry_named M N) in
     let g : gate_in o r ≡ f (gate_at v i) = ap₂ gate_in d e ∙ entry-gate M N in
@@ -138,18 +114,12 @@ appending-more {s} {t} {v} {u} {m} {k} {i} {o} {r} M w p q a h d e =
     let all : gates_of (put_entry u (m + i) o r) (m + (i + 1)) ≡ gates_of t m ++ map f (gates_of v (i + 1))
     = ap (gates_of (put_entry u (m + i) o r)) (sym next)
     ∙ gates-put u (m + i) o r room
-    ∙ ap₂ (λ (gs : List Gate) (z : Gate). gs ++ (z ∷ [])) a.so.gates g
+    ∙ ap₂ (λ (gs : List Gate) (z : Gate). gs ++ (z ∷ [])) a.gates g
     ∙ append_assoc (gates_of t m) (map f (gates_of v i)) (f (gate_at v i) ∷ [])
     ∙ ap (λ (gs : List Gate). gates_of t m ++ gs) (sym (ap (map f) (gates-more v i) ∙ map-append f (gates_of v i) (gate_at v i ∷ []))) in
     record {
-      passed = omega arith;
-      so = record {
-        gates = all;
-        wired = subst (Wired (put_entry u (m + i) o r) (wires_of s)) next (wired-put u (m + i) o r room (wires_of s) a.so.wired n);
-        operands = length-set u.operands (m + i) o ∙ lo;
-        results = length-set u.results (m + i) r ∙ lr;
-      };
+      gates = all;
+      wired = subst (Wired (put_entry u (m + i) o r) (wires_of s)) next (wired-put u (m + i) o r room (wires_of s) a.wired n);
+      operands = length-set u.operands (m + i) o ∙ lo;
+      results = length-set u.results (m + i) r ∙ lr;
     }
-
-pub appending-all : {s : SeamNumbers} {t v u : Tables} {m k i : ℕ} → Appending s t m v k u i → k ≤ i → Appended s t m v k u
-appending-all {s} {t} {v} {u} {m} {k} {i} a l = let z : i ≡ k = omega (arith, a.passed) in rw z at a.so

@@ -69,11 +69,8 @@ pub fn append(
     ensures { Appended s (tables operands.old results.old) count (tables ops.now res.now) more
         (tables operands.new results.new) }
 {
-    let mut i = 0;
-    while i < more {
-        let at = count + i;
-        operands[at] = operands_entry(s, ops[i]);
-        results[at] = result_entry(s, res[i]);
-        i += 1;
+    for i in 0..more {
+        operands[count + i] = operands_entry(s, ops[i]);
+        results[count + i] = result_entry(s, res[i]);
     }
 }

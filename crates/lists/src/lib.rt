@@ -11,24 +11,14 @@ ghost use Rattle.lists.specs.Range.{up_to};
 fn all_up_to(list: &[u8], most: u8) -> bool
     ensures { result ≡ every (up_to most) list.now }
 {
-    let mut i = 0;
-    while i < list.len() {
-        if most < list[i] {
-            return false;
-        }
-        i += 1;
-    }
-    true
+    list.iter().all(|e| *e <= most)
 }
 
 // Whether there are n entries, each at most `most`.
 fn good(list: &[u8], n: usize, most: u8) -> bool
     ensures { result ≡ list_good (up_to most) n list.now }
 {
-    if list.len() != n {
-        return false;
-    }
-    all_up_to(list, most)
+    list.len() == n && all_up_to(list, most)
 }
 
 // Run's input list: 0 or 1 for each of n bits.

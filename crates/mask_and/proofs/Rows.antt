@@ -67,31 +67,31 @@ row_at {t} {i} s h =
     }
 
 -- the first i rows of the table t were written; `places` holds the operands ps and these steps' wires
-pub record Walked (t : List (List ℕ)) (e : List ℕ) (at : ℕ) (ps : List ℕ) (c : ℕ) (x places : List ℕ) (r w i : ℕ) : Type 0 where
+pub record Walked (t : List (List ℕ)) (e : List ℕ) (at : ℕ) (ps : List ℕ) (c : ℕ) (x places : List ℕ) (r i : ℕ) : Type 0 where
   pub steps : Steps t
   pub passed : i ≤ 7
   pub long : length places ≡ 12
-  pub wire : w ≡ c + i
   pub done : List Gate
   pub wrote : WroteGates e at done x r
-  pub left : row_gates rows ps c ≡ done ++ row_gates (drop i rows) (take (5 + i) places) w
+  pub left : row_gates rows ps c ≡ done ++ row_gates (drop i rows) (take (5 + i) places) (c + i)
 
 pub walked_none : (t : List (List ℕ)) (e : List ℕ) (at a b p q o c : ℕ) (zs : List ℕ) → Steps t → length zs ≡ 7 → length e ≤ top → at ≤ top
-    → Walked t e at (a ∷ b ∷ p ∷ q ∷ o ∷ []) c e (a ∷ b ∷ p ∷ q ∷ o ∷ zs) at c 0
+    → Walked t e at (a ∷ b ∷ p ∷ q ∷ o ∷ []) c e (a ∷ b ∷ p ∷ q ∷ o ∷ zs) at 0
 walked_none t e at a b p q o c zs s z h k = record {
   steps = s;
   passed = omega arith;
   long = omega arith;
-  wire = omega arith;
   done = [];
   wrote = gates-none e at h k;
-  left = refl;
+  left = ap (row_gates rows (a ∷ b ∷ p ∷ q ∷ o ∷ [])) (omega arith);
 }
 
-pub walked_more : {t : List (List ℕ)} {e ps m x places : List ℕ} {at c r w i s : ℕ} → Walked t e at ps c m places r w i → i < 7
-    → WroteGates m r (row_of (cell t i 0) (get_or places (cell t i 1) 0) (get_or places (cell t i 2) 0) w ∷ []) x s
-    → Walked t e at ps c x (set places (5 + i) w) s (w + 1) (i + 1)
-walked_more {t} {ps = ps} {places = places} {c = c} {w = w} {i = i} h l a =
+pub walked_more : {t : List (List ℕ)} {e ps m x places : List ℕ} {at c r i s : ℕ} → Walked t e at ps c m places r i → i < 7
+    → WroteGates m r (row_of (cell t i 0) (get_or places (cell t i 1) 0) (get_or places (cell t i 2) 0) (c + i) ∷ []) x s
+    → Walked t e at ps c x (set places (5 + i) (c + i)) s (i + 1)
+walked_more {t} {ps = ps} {places = places} {c = c} {i = i} h l a =
+    let w : ℕ = c + i in
+    let one : w + 1 ≡ c + (i + 1) = omega arith in
     let R = row_at h.steps l in
     let g : Gate = row_of (cell t i 0) (get_or places (cell t i 1) 0) (get_or places (cell t i 2) 0) w in
     let five : 5 + (i + 1) ≡ suc (5 + i) = omega arith in
@@ -99,24 +99,23 @@ walked_more {t} {ps = ps} {places = places} {c = c} {w = w} {i = i} h l a =
     let grown : take (5 + (i + 1)) (set places (5 + i) w) ≡ take (5 + i) places ++ (w ∷ []) = rw five (take-suc-set places (5 + i) w inside) in
     let same : row_gate (step_of (get_or t i [])) (take (5 + i) places) w ≡ g
     = rw (get_or-take (5 + i) places (cell t i 1) 0 R.first, get_or-take (5 + i) places (cell t i 2) 0 R.second) in
-    let next : row_gates (drop i rows) (take (5 + i) places) w ≡ g ∷ row_gates (drop (i + 1) rows) (take (5 + (i + 1)) (set places (5 + i) w)) (w + 1)
-    = rw (R.here, grown, add-one i) (ap (λ (q : Gate). q ∷ row_gates (drop (suc i) rows) (take (5 + i) places ++ (w ∷ [])) (w + 1)) same) in
+    let next : row_gates (drop i rows) (take (5 + i) places) w ≡ g ∷ row_gates (drop (i + 1) rows) (take (5 + (i + 1)) (set places (5 + i) w)) (c + (i + 1))
+    = rw (← one) (rw (R.here, grown, add-one i) (ap (λ (q : Gate). q ∷ row_gates (drop (suc i) rows) (take (5 + i) places ++ (w ∷ [])) (w + 1)) same)) in
     record {
       steps = h.steps;
       passed = omega arith;
       long = length-set places (5 + i) w ∙ h.long;
-      wire = omega (arith, h.wire);
       done = h.done ++ (g ∷ []);
       wrote = gates-then h.wrote a;
       left =
           h.left ∙ ap (λ (l : List Gate). h.done ++ l) next
-          ∙ sym (append_assoc h.done (g ∷ []) (row_gates (drop (i + 1) rows) (take (5 + (i + 1)) (set places (5 + i) w)) (w + 1)));
+          ∙ sym (append_assoc h.done (g ∷ []) (row_gates (drop (i + 1) rows) (take (5 + (i + 1)) (set places (5 + i) w)) (c + (i + 1))));
     }
 
-pub walked_all : {t : List (List ℕ)} {e ps x places : List ℕ} {at c r w i : ℕ} → Walked t e at ps c x places r w i → 7 ≤ i → WroteGates e at (row_gates rows ps c) x r
-walked_all {places = places} {w = w} {i = i} h l =
+pub walked_all : {t : List (List ℕ)} {e ps x places : List ℕ} {at c r i : ℕ} → Walked t e at ps c x places r i → 7 ≤ i → WroteGates e at (row_gates rows ps c) x r
+walked_all {places = places} {c = c} {i = i} h l =
     let seven : i ≡ 7 = omega (arith, h.passed) in
-    let none : row_gates (drop i rows) (take (5 + i) places) w ≡ [] = rw seven in
+    let none : row_gates (drop i rows) (take (5 + i) places) (c + i) ≡ [] = rw seven in
     gates-as (sym (h.left ∙ ap (λ (l : List Gate). h.done ++ l) none ∙ append-nil h.done)) h.wrote
 
 -- a step's record, by its operation

@@ -44,9 +44,10 @@ fn row(d: &[u64], out: &mut [u8], at: usize, operation: u8, a: u32, b: u32, c: u
     ensures { WroteGates out.old at (row_of operation a b c ∷ []) out.new result }
 {
     if operation == 1 {
-        return write_gates::gate::and(d, out, at, a, b, c);
+        write_gates::gate::and(d, out, at, a, b, c)
+    } else {
+        write_gates::gate::xor(d, out, at, a, b, c)
     }
-    write_gates::gate::xor(d, out, at, a, b, c)
 }
 
 // The steps' gates at the wires from c, with the operands a and b, their mask wires p and q, and
@@ -69,16 +70,12 @@ pub fn steps(
     let rows = ROWS;
     let mut places = [a, b, p, q, o, 0, 0, 0, 0, 0, 0, 0];
     let mut next = at;
-    let mut wire = c;
-    let mut i = 0;
-    while i < 7 {
-        let step = rows[i];
+    for (i, step) in rows.iter().enumerate() {
+        let wire = c + i as u32;
         let x = places[step[1] as usize];
         let y = places[step[2] as usize];
         next = row(d, out, next, step[0], x, y, wire);
         places[5 + i] = wire;
-        wire += 1;
-        i += 1;
     }
     next
 }

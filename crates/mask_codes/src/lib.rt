@@ -23,8 +23,5 @@ pub fn mask_wire(n: u32, e: u8) -> u32
     requires { n < 2 ^ 31 }
     ensures { result ≡ mask_wire n e }
 {
-    if e == 0 {
-        return n;
-    }
-    n + (e - 1) as u32
+    n + u32::from(e.saturating_sub(1))
 }

@@ -1,4 +1,6 @@
 -- The stages of a call: the choice that is given, question 14 and the results.
+use Rattle.std.specs.Prelude as std
+use Rattle.std.specs.Prelude.{Err, Ok}
 use Prim.Native.Nat.{ℕ, ◌+◌, ◌≤◌}
 use mathlib.Core.Path.{◌≡◌, refl, sym, ap, ◌∙◌}
 use mathlib.Core.Bool.{Bool, true, false, ◌&&◌}
@@ -8,14 +10,14 @@ use lib.Dec.{T, leb}
 use borrow.Author.Tests.{le-leb}
 use lib.ListN.{length, set, drop, get_or-append}
 use lib.Seq.{sets, sets-eq}
-use Rattle.netlist.specs.declared.Answer.{Answer}
-use Rattle.netlist.specs.declared.Answer.TheVariants.{Done, Refused}
+use Rattle.netlist.specs.declared.Question.{Question}
+use Rattle.netlist.specs.Question.{number_of}
 use Rattle.netlist.specs.Lists.{every, sum}
 use Rattle.netlist.specs.Netlist.{Netlist, input_bits}
-use Rattle.netlist.specs.Outcome.{refused, done}
+use Rattle.netlist.specs.Outcome.{Outcome, refused, done}
 use Rattle.netlist.specs.Write.{write_netlist}
 use Rattle.netlist.specs.Mask.{mask_netlist}
-use Rattle.netlist.specs.Services.{masked_text, deliver_outcome, holds, Answers}
+use Rattle.netlist.specs.Services.{stands_for, masked_text, deliver_outcome, holds, Answers}
 use Rattle.netlist.specs.Table.{Tables, tables, Wired}
 use Rattle.netlist.proofs.Tests.{both, on_bool, clash}
 use Rattle.netlist.proofs.Puts.{wired-same, length-gates}
@@ -107,15 +109,19 @@ two-set [] a b h = absurd (omega arith)
 two-set (x ∷ []) a b h = absurd (omega arith)
 two-set (x ∷ y ∷ ts) a b h = refl
 
-refused-done : (q n : ℕ) → Refused q ≡ Done n → ⊥
-refused-done q n e = clash (cc)
+-- an answer is no refusal and a result at once
+not-done : {w : std.Result ℕ Question} (q : Question) (n : ℕ) → w ≡ Err q → stands_for (λ n. n) w ≡ done n → ⊥
+not-done q n p e = let a : ◌≡◌ {A = Outcome ℕ} (refused (number_of q)) (done n) = rw p at e in clash (cc)
+
+not-refused : {w : std.Result ℕ Question} (q n : ℕ) → w ≡ Ok n → stands_for (λ n. n) w ≡ refused q → ⊥
+not-refused q n p e = let a : ◌≡◌ {A = Outcome ℕ} (done n) (refused q) = rw p at e in clash (cc)
 
 room-is : (a b c d : Bool) → b ≡ true → d ≡ true → a && b && c && d ≡ a && c
 room-is true b true d p q = rw (p, q) refl
 room-is true b false d p q = rw p refl
 room-is false b c d p q = refl
 
-module _ (N : Netlist) (codes wanted : List ℕ) (r : Tally) (is ts : List ℕ) {e x f y : List ℕ} {w : Answer} (hi : length codes ≤ length is) (ht : 2 ≤ length ts)
+module _ (N : Netlist) (codes wanted : List ℕ) (r : Tally) (is ts : List ℕ) {e x f y : List ℕ} {w : std.Result ℕ Question} (hi : length codes ≤ length is) (ht : 2 ≤ length ts)
     (A : MaskAnswers (deliver_outcome (length e) (length f) (masked_text (mask_netlist N codes wanted))) e x f y w) where
   same-room : room_for (room e is f ts) (given N codes wanted r) ≡ (holds (length e) (write_netlist (mask_netlist N codes wanted).netlist) && holds (length f)
       (mask_netlist N codes wanted).codes)
@@ -123,19 +129,19 @@ module _ (N : Netlist) (codes wanted : List ℕ) (r : Tally) (is ts : List ℕ) 
       room-is (holds (length e) (write_netlist (mask_netlist N codes wanted).netlist)) _ (holds (length f) (mask_netlist N codes wanted).codes) _
       (le-leb (length codes) (length is) hi) (le-leb 2 (length ts) ht)
 
-  pub give-refused : {q : ℕ} → w ≡ Refused q
-      → FewestAnswers (deliver (room e is f ts) (given N codes wanted r)) e x is is f y ts ts (Refused q)
+  pub give-refused : {q : Question} → w ≡ Err q
+      → FewestAnswers (deliver (room e is f ts) (given N codes wanted r)) e x is is f y ts ts (Err q)
   give-refused {q} p =
       let text = write_netlist (mask_netlist N codes wanted).netlist in
       on_bool (holds (length e) (write_netlist (mask_netlist N codes wanted).netlist) && holds (length f) (mask_netlist N codes wanted).codes)
-      (λ z. let a : w ≡ Done (length text) = (let t = A.text.answer in rw z at t) in absurd (refused-done q (length text) (sym p ∙ a)))
+      (λ z. let a : stands_for (λ n. n) w ≡ done (length text) = (let t = A.text.answer in rw z at t) in absurd (not-done q (length text) p a))
       (λ z. let k = same-room ∙ z in
       let A' : Answers (refused 14) e x w = rw z at A.text in
       let c : y ≡ sets f 0 [] = rw z at A.codes in
       rw k (record { text = rw p at A'; inputs = refl; outputs = c; tally = refl }))
 
-  pub give-done : {n : ℕ} {is' ts' : List ℕ} → w ≡ Done n → is' ≡ sets is 0 codes → ts' ≡ sets ts 0 (r.changes ∷ r.floor ∷ [])
-      → FewestAnswers (deliver (room e is f ts) (given N codes wanted r)) e x is is' f y ts ts' (Done n)
+  pub give-done : {n : ℕ} {is' ts' : List ℕ} → w ≡ Ok n → is' ≡ sets is 0 codes → ts' ≡ sets ts 0 (r.changes ∷ r.floor ∷ [])
+      → FewestAnswers (deliver (room e is f ts) (given N codes wanted r)) e x is is' f y ts ts' (Ok n)
   give-done {n} p i t =
       let text = write_netlist (mask_netlist N codes wanted).netlist in
       on_bool (holds (length e) (write_netlist (mask_netlist N codes wanted).netlist) && holds (length f) (mask_netlist N codes wanted).codes)
@@ -143,7 +149,7 @@ module _ (N : Netlist) (codes wanted : List ℕ) (r : Tally) (is ts : List ℕ) 
       let A' : Answers (done text) e x w = rw z at A.text in
       let c : y ≡ sets f 0 (mask_netlist N codes wanted).codes = rw z at A.codes in
       rw k (record { text = rw p at A'; inputs = i; outputs = c; tally = t }))
-      (λ z. let a : w ≡ Refused 14 = (let t = A.text.answer in rw z at t) in absurd (refused-done 14 n (sym a ∙ p)))
+      (λ z. let a : stands_for (λ n. n) w ≡ refused 14 = (let t = A.text.answer in rw z at t) in absurd (not-refused 14 n p a))
 
 pub source-codes : {t : Tables} {count W n n' m : ℕ} {ins outs : List ℕ} {N : Netlist} → n' ≡ n → MaskSource t count W n m ins outs N
     → MaskSource t count W n' m ins outs N

@@ -1,5 +1,7 @@
 -- From a source that was read to the promise.
-use Prim.Native.Nat.{ℕ, ◌+◌, ◌≤◌, ◌<◌, min}
+use Rattle.std.specs.Prelude as std
+use Rattle.std.specs.Prelude.{Err, Ok}
+use Prim.Native.Nat.{ℕ, ◌+◌, ◌≤◌, ◌<◌}
 use mathlib.Core.Path.{◌≡◌, refl, sym, ap, ap₂, ◌∙◌}
 use mathlib.Core.Bool.{Bool, true, false, ◌&&◌}
 use mathlib.Core.List.{List, [], ◌∷◌}
@@ -8,10 +10,10 @@ use lib.Dec.{T, eqb, leb, leb→le}
 use borrow.Author.Tests.{le-leb, lt-leb, eq-eqb}
 use lib.ListN.{length, take, set}
 use lib.Seq.{sets}
-use Rattle.netlist.specs.declared.Limits.{Limits}
 use Rattle.netlist.specs.declared.Sizes.{Sizes}
-use Rattle.netlist.specs.declared.Answer.{Answer}
-use Rattle.netlist.specs.declared.Answer.TheVariants.{Done, Refused}
+use Rattle.netlist.specs.declared.Question.{Question}
+use Rattle.netlist.specs.declared.Question.TheVariants as Q
+use Rattle.netlist.specs.Question.{number_of}
 use Rattle.netlist.specs.Lists.{every}
 use Rattle.netlist.specs.Netlist.{Netlist, input_bits, output_bits, small}
 use Rattle.netlist.specs.Outcome.{Outcome, refused, done, ask}
@@ -28,7 +30,6 @@ use Rattle.mask_twins.proofs.Made.{codes-length}
 use Rattle.mask_text.specs.Whole.{Source as MaskSource}
 use Rattle.mask.specs.Fronts.{Read}
 use Rattle.mask.proofs.Promised.{read_of, source_of, masked-formed}
-use Rattle.checker.proofs.Calling.{shorter-long}
 use Rattle.fewest.specs.Choice.{Choice, Takes, is_call_code, ways, choice, chosen_source, chosen_inputs}
 use Rattle.fewest.specs.Fewest.{given as given_number}
 use Rattle.fewest.specs.Call.{Result, Room as Rooms, result_of, deliver, fewest_outcome, fewest_call}
@@ -42,12 +43,12 @@ use Rattle.mask_fewest.specs.Promise.{call, Gives}
 
 -- ---- answers
 
-pub fewest-as : {c d : Outcome Result} {out out' is is' es es' ts ts' : List ℕ} {a : Answer} → c ≡ d → FewestAnswers c out out' is is' es es' ts ts' a
+pub fewest-as : {c d : Outcome Result} {out out' is is' es es' ts ts' : List ℕ} {a : std.Result ℕ Question} → c ≡ d → FewestAnswers c out out' is is' es es' ts ts' a
     → FewestAnswers d out out' is is' es es' ts ts' a
 fewest-as p h = rw p at h
 
 -- a refusal leaves all buffers as they were
-pub fewest-refused : {c : Outcome Result} (out is es ts : List ℕ) {q : ℕ} → c ≡ refused q → FewestAnswers c out out is is es es ts ts (Refused q)
+pub fewest-refused : {c : Outcome Result} (out is es ts : List ℕ) {q : Question} → c ≡ refused (number_of q) → FewestAnswers c out out is is es es ts ts (Err q)
 fewest-refused out is es ts p = record { text = answers-refused out (rw p); inputs = rw p refl; outputs = rw p refl; tally = rw p refl }
 
 -- ---- questions 11, 13, 22 and 14
@@ -59,18 +60,18 @@ module _ {h : HeaderNumbers} {t : Tables} {is os : List ℕ} {N : Netlist} (a : 
   wanted-good : (b : Bool) → list_good is_wanted h.output_bits wanted ≡ b → list_good is_wanted (output_bits N) wanted ≡ b
   wanted-good b e = ap (λ (n : ℕ). list_good is_wanted n wanted) a.holds.outs ∙ e
 
-  abbrev Answered : ℕ → Type 0
-  Answered q = FewestAnswers (fewest_outcome codes wanted budget (room out ins ends tal) N) out out ins ins ends ends tal tal (Refused q)
+  abbrev Answered : Question → Type 0
+  Answered q = FewestAnswers (fewest_outcome codes wanted budget (room out ins ends tal) N) out out ins ins ends ends tal tal (Err q)
 
-  pub fewest-11 : list_good is_call_code h.input_bits codes ≡ false → Answered 11
+  pub fewest-11 : list_good is_call_code h.input_bits codes ≡ false → Answered Q.Inputs
   fewest-11 p = fewest-refused out ins ends tal (rw (codes-good false p))
 
   module _ (p : list_good is_call_code h.input_bits codes ≡ true) where
-    pub fewest-13 : list_good is_wanted h.output_bits wanted ≡ false → Answered 13
+    pub fewest-13 : list_good is_wanted h.output_bits wanted ≡ false → Answered Q.Wanted
     fewest-13 q = fewest-refused out ins ends tal (rw (codes-good true p, wanted-good false q))
 
     module _ (q : list_good is_wanted h.output_bits wanted ≡ true) where
-      pub fewest-22 : budget ≡ 0 → Answered 22
+      pub fewest-22 : budget ≡ 0 → Answered Q.Budget
       fewest-22 z = fewest-refused out ins ends tal (rw (codes-good true p, wanted-good true q, z) refl)
 
       lengths : length codes ≡ h.input_bits
@@ -128,14 +129,14 @@ module _ {h : HeaderNumbers} {t : Tables} {is os : List ℕ} {N : Netlist} (a : 
         false-last true false z v e = refl
         false-last false y z v e = refl
 
-        pub fewest-14-inputs : length ins < length codes → Answered 14
+        pub fewest-14-inputs : length ins < length codes → Answered Q.Room
         fewest-14-inputs k =
             let l = chosen-length in
             let b : holds (length ins) (chosen_inputs codes d) ≡ false = lt-leb (length (chosen_inputs codes d)) (length ins) (omega arith) in
             let e = false-one (holds (length out) its-result.text) _ (holds (length ends) its-result.outputs) (holds (length tal) its-result.tally) b in
             fewest-refused out ins ends tal (accepted ∙ rw e refl)
 
-        pub fewest-14-tally : length tal < 2 → Answered 14
+        pub fewest-14-tally : length tal < 2 → Answered Q.Room
         fewest-14-tally k =
             let b : leb 2 (length tal) ≡ false = lt-leb 2 (length tal) k in
             let e = false-last (holds (length out) its-result.text) (holds (length ins) its-result.inputs) (holds (length ends) its-result.outputs) _ b in
@@ -176,7 +177,7 @@ module _ {h : HeaderNumbers} {t : Tables} {is os : List ℕ} {N : Netlist} (a : 
           pub chosen-masked : WellFormed (mask_netlist (chosen_source N (choice N codes (given_number N codes wanted budget))) (take (length codes) ys) wanted).netlist
           chosen-masked = masked-formed read-chosen (take (length codes) ys) wanted good-codes q
 
-          pub fewest-14 : {out' ins' ends' tal' : List ℕ} {x : Answer}
+          pub fewest-14 : {out' ins' ends' tal' : List ℕ} {x : std.Result ℕ Question}
               → FewestAnswers (deliver (room out ins ends tal) (given (chosen_source N (choice N codes (given_number N codes wanted budget)))
               (take (length codes) ys) wanted r))
               out out' ins ins' ends ends' tal tal' x
@@ -193,22 +194,6 @@ module _ {h : HeaderNumbers} {t : Tables} {is os : List ℕ} {N : Netlist} (a : 
 
 -- ---- questions 1 to 9
 
--- the shortest of four tables stands for them
-long-four : (L : Limits) (o r m w y b z : ℕ) {i j n : ℕ} → i ≡ min w y → j ≡ min b z → n ≡ min i j
-    → tables_long L (o ∷ r ∷ m ∷ n ∷ []) ≡ tables_long L (o ∷ r ∷ m ∷ w ∷ y ∷ b ∷ z ∷ [])
-long-four L o r m w y b z {i} {j} p q e =
-    ap (λ (k : ℕ). tables_long L (o ∷ r ∷ m ∷ k ∷ [])) (e ∙ ap₂ (λ (k v : ℕ). min k v) p q)
-    ∙ ap (λ (k : Bool). leb L.table o && (leb L.table r && (leb L.table m && k)))
-    (ap (λ (k : Bool). k && true)
-    (shorter-long L.table (min w y) (min b z) ∙ ap₂ (λ (k v : Bool). k && v) (shorter-long L.table w y) (shorter-long L.table b z))
-    ∙ assoc (leb L.table w) (leb L.table y) (leb L.table b) (leb L.table z))
-  where
-    assoc : (x y v u : Bool) → ((x && y) && (v && u)) && true ≡ x && (y && (v && (u && true)))
-    assoc true true true u = refl
-    assoc true true false u = refl
-    assoc true false v u = refl
-    assoc false y v u = refl
-
 module _ (s : Sizes) (text codes wanted : List ℕ) (budget : ℕ) (out ins ends tal o r w m y b z : List ℕ) where
   abbrev lengths' : List ℕ
   lengths' = length o ∷ length r ∷ length m ∷ length w ∷ length y ∷ length b ∷ length z ∷ []
@@ -216,33 +201,28 @@ module _ (s : Sizes) (text codes wanted : List ℕ) (budget : ℕ) (out ins ends
   abbrev rooms : Rooms
   rooms = room out ins ends tal
 
-  module _ {i j n : ℕ} (p : i ≡ min (length w) (length y)) (q : j ≡ min (length b) (length z)) (e : n ≡ min i j) where
-    pub all-long : tables_long (small s) (length o ∷ length r ∷ length m ∷ n ∷ []) ≡ tables_long (small s)
-        (length o ∷ length r ∷ length m ∷ length w ∷ length y ∷ length b ∷ length z ∷ [])
-    all-long = long-four (small s) (length o) (length r) (length m) (length w) (length y) (length b) (length z) p q e
+  pub call-not : {k : Question} → ask 1 (tables_long (small s) lengths') (read_netlist (small s) text) ≡ refused (number_of k)
+      → FewestAnswers (call s text codes wanted budget (room out ins ends tal) o r w m y b z) out out ins ins ends ends tal tal (Err k)
+  unfolding fewest_call
+  call-not h =
+      fewest-refused out ins ends tal
+      (call-refused (tables_long (small s) lengths') (read_netlist (small s) text) (fewest_outcome codes wanted budget rooms) h)
 
-    pub call-not : {k : ℕ} → ask 1 (tables_long (small s) (length o ∷ length r ∷ length m ∷ n ∷ [])) (read_netlist (small s) text) ≡ refused k
-        → FewestAnswers (call s text codes wanted budget (room out ins ends tal) o r w m y b z) out out ins ins ends ends tal tal (Refused k)
-    unfolding fewest_call
-    call-not h =
-        fewest-refused out ins ends tal
-        (call-refused (tables_long (small s) lengths') (read_netlist (small s) text) (fewest_outcome codes wanted budget rooms) (rw all-long at h))
-
-    pub call-read : {out' ins' ends' tal' is os : List ℕ} {t : Tables} {h : HeaderNumbers} {a : Answer}
-        → (tables_long (small s) (length o ∷ length r ∷ length m ∷ n ∷ []) ≡ true) × ReadAt (small s) text is os t h
-        → ((N : Netlist) → Read h t is os N → FewestAnswers (fewest_outcome codes wanted budget (room out ins ends tal) N) out out' ins ins' ends ends' tal tal' a)
-        → FewestAnswers (call s text codes wanted budget (room out ins ends tal) o r w m y b z) out out' ins ins' ends ends' tal tal' a
-    unfolding fewest_call
-    call-read k d =
-        fewest-as
-        (sym (call-goes-on (tables_long (small s) lengths') (read_netlist (small s) text) (fewest_outcome codes wanted budget rooms) (sym all-long ∙ k.0) k.1.read))
-        (d k.1.is (read_of k.1))
+  pub call-read : {out' ins' ends' tal' is os : List ℕ} {t : Tables} {h : HeaderNumbers} {a : std.Result ℕ Question}
+      → (tables_long (small s) lengths' ≡ true) × ReadAt (small s) text is os t h
+      → ((N : Netlist) → Read h t is os N → FewestAnswers (fewest_outcome codes wanted budget (room out ins ends tal) N) out out' ins ins' ends ends' tal tal' a)
+      → FewestAnswers (call s text codes wanted budget (room out ins ends tal) o r w m y b z) out out' ins ins' ends ends' tal tal' a
+  unfolding fewest_call
+  call-read k d =
+      fewest-as
+      (sym (call-goes-on (tables_long (small s) lengths') (read_netlist (small s) text) (fewest_outcome codes wanted budget rooms) k.0 k.1.read))
+      (d k.1.is (read_of k.1))
 
   -- ---- the promise
 
-  pub call-gives : {out' ins' ends' tal' : List ℕ} {a : Answer}
+  pub call-gives : {out' ins' ends' tal' : List ℕ} {a : std.Result ℕ Question}
       → FewestAnswers (call s text codes wanted budget (room out ins ends tal) o r w m y b z) out out' ins ins' ends ends' tal tal' a
-      → (n : ℕ) → a ≡ Done n
+      → (n : ℕ) → a ≡ Ok n
       → Gives s text codes wanted budget (call s text codes wanted budget (room out ins ends tal) o r w m y b z) (take n out') ins' ends' tal'
   call-gives {out'} {ins'} {ends'} {tal'} {a} A n p =
       let c = call s text codes wanted budget rooms o r w m y b z in

@@ -1,7 +1,7 @@
 -- What Mask with fewer changes promises of a call.
-use Rattle.std.specs.Prelude.{ℕ, ◌≡◌, List, [], ◌∷◌, length, take}
-use Rattle.netlist.specs.declared.Answer.{Answer}
-use Rattle.netlist.specs.declared.Answer.TheVariants.{Done}
+use Rattle.std.specs.Prelude as std
+use Rattle.std.specs.Prelude.{Ok, ℕ, ◌≡◌, List, [], ◌∷◌, length, take}
+use Rattle.netlist.specs.declared.Question.{Question}
 use Rattle.netlist.specs.declared.Sizes.{Sizes}
 use Rattle.netlist.specs.Netlist.{small}
 use Rattle.netlist.specs.Outcome.{Outcome, done}
@@ -28,9 +28,9 @@ pub record Gives (s : Sizes) (text codes wanted : List ℕ) (budget : ℕ) (outc
 
 -- the sizes, the text, the two lists and the budget, then each result buffer and each table before and after the call
 pub record Promise (s : Sizes) (text codes wanted : List ℕ) (budget : ℕ) (out out' is is' es es' ts ts' o o' r r' w w' m m' y y' b b' z z' : List ℕ)
-    (a : Answer) : Type 0 where
+    (a : std.Result ℕ Question) : Type 0 where
   pub answers : FewestAnswers (call s text codes wanted budget (room out is es ts) o r w m y b z) out out' is is' es es' ts ts' a
-  pub gives : (n : ℕ) → a ≡ Done n
+  pub gives : (n : ℕ) → a ≡ Ok n
       → Gives s text codes wanted budget (call s text codes wanted budget (room out is es ts) o r w m y b z) (take n out') is' es' ts'
   pub operands : Cleared o o'
   pub results : Cleared r r'

@@ -1,7 +1,8 @@
 -- The stages of a call: tables that hold a netlist that was read, the choice that is given, and the results in their buffers.
+use Rattle.std.specs.Prelude as std
 use Rattle.std.specs.Prelude.{ℕ, ◌≤◌, ◌≡◌, List, [], ◌∷◌, length, take}
 use Rattle.std.proofs.lemmas.List.Edits.{sets}
-use Rattle.netlist.specs.declared.Answer.{Answer}
+use Rattle.netlist.specs.declared.Question.{Question}
 use Rattle.netlist.specs.Netlist.{Netlist}
 use Rattle.netlist.specs.Outcome.{Outcome, done, and_then}
 use Rattle.netlist.specs.Write.{write_netlist}
@@ -69,7 +70,7 @@ abbrev pub part : (Result → List ℕ) → Outcome Result → Outcome (List ℕ
 part f call = and_then call λ R. done (f R)
 
 -- the answer, and each buffer before and after the call, are those of its outcome
-pub record FewestAnswers (call : Outcome Result) (out out' is is' es es' ts ts' : List ℕ) (a : Answer) : Type 0 where
+pub record FewestAnswers (call : Outcome Result) (out out' is is' es es' ts ts' : List ℕ) (a : std.Result ℕ Question) : Type 0 where
   pub text : Answers (part (λ R. R.text) call) out out' a
   pub inputs : is' ≡ sets is 0 (written (part (λ R. R.inputs) call))
   pub outputs : es' ≡ sets es 0 (written (part (λ R. R.outputs) call))

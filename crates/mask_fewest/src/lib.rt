@@ -15,9 +15,9 @@ ghost use Rattle.mask_fewest.specs.Stages.{Room, Choosable, Chose, Givable, give
 ghost use Rattle.mask_fewest.specs.Promise.{call, Promise};
 
 use fewest_search::search::Tally;
-use netlist::{Answer, Sizes};
+use netlist::{Answer, Question, Sizes};
 use read_header::HeaderNumbers;
-use read_netlist::read::Reading;
+use read_netlist::read::read;
 
 // The choice that is given: its ANDs are swapped in the table of operands, its input codes stand at the front of `ways`; its changes and
 // the floor.
@@ -89,7 +89,7 @@ fn give(
         (given N (take n ways.now) wanted.now r)) out.old out.new ins.old
         ins.new ends.old ends.new tally.old tally.new result }
 {
-    match mask::deliver(
+    let size = mask::deliver(
         out,
         ends,
         h,
@@ -101,15 +101,11 @@ fn give(
         results,
         wires,
         marks,
-    ) {
-        Answer::Refused(question) => Answer::Refused(question),
-        Answer::Done(size) => {
-            fewest_search::turn::keep(&ways[..n], &mut ins[..n]);
-            tally[0] = r.changes as u64;
-            tally[1] = r.floor as u64;
-            Answer::Done(size)
-        }
-    }
+    )?;
+    ins[..n].copy_from_slice(&ways[..n]);
+    tally[0] = r.changes as u64;
+    tally[1] = r.floor as u64;
+    Ok(size)
 }
 
 // Questions 11, 13, 22 and 14, and the masked netlist.
@@ -140,22 +136,21 @@ fn deliver(
         ins.old ins.new ends.old ends.new tally.old tally.new result }
 {
     if !lists::free_codes(codes, h.input_bits as usize) {
-        return Answer::Refused(11);
+        return Err(Question::Inputs);
     }
     if !lists::valid_wanted(wanted, h.output_bits as usize) {
-        return Answer::Refused(13);
+        return Err(Question::Wanted);
     }
     if budget == 0 {
-        return Answer::Refused(22);
+        return Err(Question::Budget);
     }
     if ins.len() < codes.len() {
-        return Answer::Refused(14);
+        return Err(Question::Room);
     }
     if tally.len() < 2 {
-        return Answer::Refused(14);
+        return Err(Question::Room);
     }
-    let last = h.input_values;
-    inputs[last] = 2;
+    inputs[h.input_values] = 2;
     let r = choose(
         codes, wanted, budget, h, operands, results, wires, marks, ways, best, spans,
     );
@@ -203,28 +198,23 @@ fn answer(
         out.new ins.old ins.new ends.old ends.new tally.old
         tally.new result }
 {
-    let l = netlist::small(sizes);
+    let l = sizes.small();
     let mut inputs = [0u32; 17];
     let mut outputs = [0u32; 16];
-    let two = checker::shorter(wires.len(), ways.len());
-    let others = checker::shorter(best.len(), spans.len());
-    let shortest = checker::shorter(two, others);
-    match read_netlist::read::read(
+    let h = read(
         text,
         &mut inputs,
         &mut outputs,
         operands,
         results,
         marks,
-        shortest,
+        &[wires.len(), ways.len(), best.len(), spans.len()],
         l,
-    ) {
-        Reading::Refused(question) => Answer::Refused(question),
-        Reading::Done(h) => deliver(
-            out, ins, ends, tally, h, codes, wanted, budget, inputs, outputs, operands, results,
-            wires, marks, ways, best, spans,
-        ),
-    }
+    )?;
+    deliver(
+        out, ins, ends, tally, h, codes, wanted, budget, inputs, outputs, operands, results, wires,
+        marks, ways, best, spans,
+    )
 }
 
 // The masked netlist of `text` under the first choice with the fewest mask changes among as many as `budget` allows, at the front of
@@ -258,12 +248,12 @@ pub fn mask_fewest(
         text, codes, wanted, budget, out, ins, ends, tally, operands, results, wires, marks, ways,
         best, spans, sizes,
     );
-    clear::words(operands);
-    clear::words(results);
-    clear::wires(wires);
-    clear::bytes(marks);
-    clear::bytes(ways);
-    clear::bytes(best);
-    clear::words(spans);
+    operands.fill(0);
+    results.fill(0);
+    wires.fill(0);
+    marks.fill(0);
+    ways.fill(0);
+    best.fill(0);
+    spans.fill(0);
     r
 }

@@ -30,28 +30,29 @@ pub out-changed : {e x : List ℕ} {at c f m r : ℕ} (n : ℕ) (t : Twin) (want
 out-changed {c = c} n t want z y a b w = rw (ne_eqb want 0 z, ne_eqb want t.code y) (gates-as (ap (λ (k : ℕ). Xor t.wire k c ∷ []) (b ∙ ap (mask_wire n) a)) w)
 
 -- the first i output gates were written
-pub record Outed (e : List ℕ) (at n c : ℕ) (ws es : List ℕ) (from : ℕ) (vs x : List ℕ) (r w i : ℕ) : Type 0 where
+pub record Outed (e : List ℕ) (at n c : ℕ) (ws es : List ℕ) (from : ℕ) (vs x : List ℕ) (r i : ℕ) : Type 0 where
   pub passed : i ≤ length vs
-  pub wire : w ≡ c + i
   pub done : List Gate
   pub wrote : WroteGates e at done x r
-  pub left : out_gates n c (drop from (twins_of ws es)) vs ≡ done ++ out_gates n w (drop (from + i) (twins_of ws es)) (drop i vs)
+  pub left : out_gates n c (drop from (twins_of ws es)) vs ≡ done ++ out_gates n (c + i) (drop (from + i) (twins_of ws es)) (drop i vs)
 
-pub outed-none : (e : List ℕ) (at n c : ℕ) (ws es : List ℕ) (from : ℕ) (vs : List ℕ) → length e ≤ top → at ≤ top → Outed e at n c ws es from vs e at c 0
+pub outed-none : (e : List ℕ) (at n c : ℕ) (ws es : List ℕ) (from : ℕ) (vs : List ℕ) → length e ≤ top → at ≤ top → Outed e at n c ws es from vs e at 0
 outed-none e at n c ws es from vs h k =
     let z : from ≡ from + 0 = omega arith in
+    let w : c ≡ c + 0 = omega arith in
     record {
       passed = omega arith;
-      wire = omega arith;
       done = [];
       wrote = gates-none e at h k;
-      left = ap (λ (j : ℕ). out_gates n c (drop j (twins_of ws es)) vs) z;
+      left = ap₂ (λ (k j : ℕ). out_gates n k (drop j (twins_of ws es)) vs) w z;
     }
 
-pub outed-more : {e ws es vs m x : List ℕ} {at n c from r w i s : ℕ} {t : Twin} → Outed e at n c ws es from vs m r w i → i < length vs → from + length vs ≡
+pub outed-more : {e ws es vs m x : List ℕ} {at n c from r i s : ℕ} {t : Twin} → Outed e at n c ws es from vs m r i → i < length vs → from + length vs ≡
     length ws → length es ≡ length ws
-    → t ≡ get_or (twins_of ws es) (from + i) no_twin → WroteGates m r (out_gate n w t (get_or vs i 0) ∷ []) x s → Outed e at n c ws es from vs x s (w + 1) (i + 1)
-outed-more {ws = ws} {es = es} {vs = vs} {n = n} {from = from} {w = w} {i = i} {t = t} h l f k p a =
+    → t ≡ get_or (twins_of ws es) (from + i) no_twin → WroteGates m r (out_gate n (c + i) t (get_or vs i 0) ∷ []) x s → Outed e at n c ws es from vs x s (i + 1)
+outed-more {ws = ws} {es = es} {vs = vs} {n = n} {c = c} {from = from} {i = i} {t = t} h l f k p a =
+    let w : ℕ = c + i in
+    let one : w + 1 ≡ c + (i + 1) = omega arith in
     let T : List Twin = twins_of ws es in
     let here : from + i < length T = rw (twins-length ws es k) (omega arith) in
     let next : from + (i + 1) ≡ suc (from + i) = omega arith in
@@ -59,23 +60,22 @@ outed-more {ws = ws} {es = es} {vs = vs} {n = n} {from = from} {w = w} {i = i} {
     let split : drop (from + i) T ≡ t ∷ drop (from + (i + 1)) T
     = drop-cons T (from + i) no_twin here ∙ ap₂ (λ (u : Twin) (q : ℕ). u ∷ drop q T) (sym p) (sym next) in
     let split' : drop i vs ≡ get_or vs i 0 ∷ drop (i + 1) vs = rw (add-one i) (drop-cons vs i 0 l) in
-    let on : out_gates n w (drop (from + i) T) (drop i vs) ≡ g ∷ out_gates n (w + 1) (drop (from + (i + 1)) T) (drop (i + 1) vs)
-    = ap₂ (out_gates n w) split split' in
+    let on : out_gates n w (drop (from + i) T) (drop i vs) ≡ g ∷ out_gates n (c + (i + 1)) (drop (from + (i + 1)) T) (drop (i + 1) vs)
+    = rw (← one) (ap₂ (out_gates n w) split split') in
     record {
       passed = omega arith;
-      wire = omega (arith, h.wire);
       done = h.done ++ (g ∷ []);
       wrote = gates-then h.wrote a;
       left =
           h.left ∙ ap (λ (l : List Gate). h.done ++ l) on
-          ∙ sym (append_assoc h.done (g ∷ []) (out_gates n (w + 1) (drop (from + (i + 1)) T) (drop (i + 1) vs)));
+          ∙ sym (append_assoc h.done (g ∷ []) (out_gates n (c + (i + 1)) (drop (from + (i + 1)) T) (drop (i + 1) vs)));
     }
 
-pub outed-all : {e ws es vs x : List ℕ} {at n c from r w i : ℕ} → Outed e at n c ws es from vs x r w i → length vs ≤ i → WroteGates e at
+pub outed-all : {e ws es vs x : List ℕ} {at n c from r i : ℕ} → Outed e at n c ws es from vs x r i → length vs ≤ i → WroteGates e at
     (out_gates n c (drop from (twins_of ws es)) vs) x r
-outed-all {ws = ws} {es = es} {vs = vs} {n = n} {from = from} {w = w} {i = i} h l =
+outed-all {ws = ws} {es = es} {vs = vs} {n = n} {c = c} {from = from} {i = i} h l =
     let T : List Twin = twins_of ws es in
-    let none : out_gates n w (drop (from + i) T) (drop i vs) ≡ [] = rw (drop_of_length-le vs {i = i} l) (out-end n w (drop (from + i) T)) in
+    let none : out_gates n (c + i) (drop (from + i) T) (drop i vs) ≡ [] = rw (drop_of_length-le vs {i = i} l) (out-end n (c + i) (drop (from + i) T)) in
     gates-as (sym (h.left ∙ ap (λ (l : List Gate). h.done ++ l) none ∙ append-nil h.done)) h.wrote
 
 -- the codes of the twins

@@ -13,7 +13,6 @@ use Rattle.netlist.proofs.GateCount.{next-emit_all}
 use Rattle.netlist.proofs.OutputGates.{length-out_gates, length-out_codes}
 use Rattle.write_gates.specs.Gates.{WroteGates}
 use Rattle.write_gates.proofs.GateLines.{gates-then, gates-as}
-use Rattle.mask_pass.specs.declared.gates.Next.{Next}
 use Rattle.mask_twins.specs.State.{twins_of, state_of, Started}
 use Rattle.mask_twins.proofs.States.{twins-length}
 use Rattle.mask_twins.proofs.Finishes.{begun, finished}
@@ -64,29 +63,29 @@ module _ (t : Tables) (count W : ℕ) (cs vs ws es : List ℕ) (N : Netlist) (s 
       }
 
 module _ (t : Tables) (count W c₁ : ℕ) (cs vs ws₁ es₁ ws₂ es₂ : List ℕ) (N : Netlist) (s : Holds t count W (length cs) (length vs) N) where
-  pub pass-made : {e m₁ m₂ m₃ x : List ℕ} {at a b r : ℕ} (R : Next) → length vs ≤ W → length ws₂ ≡ W → length es₂ ≡ W → Started (length cs + 5) cs W c₁ ws₁ es₁
+  pub pass-made : {e m₁ m₂ m₃ x : List ℕ} {at a b r : ℕ} (R : ℕ × ℕ) → length vs ≤ W → length ws₂ ≡ W → length es₂ ≡ W → Started (length cs + 5) cs W c₁ ws₁ es₁
       → WroteGates e at (mask_gates (length cs)) m₁ a → WroteGates m₁ a (public_gates (length cs) (length cs + 5) 0 cs) m₂ b
-      → WroteAll m₂ b (length cs) (state_of c₁ ws₁ es₁) t count m₃ R (state_of R.next ws₂ es₂)
-      → WroteGates m₃ R.at (out_gates (length cs) R.next (drop (length ws₂ - length vs) (twins_of ws₂ es₂)) vs) x r
-      → WrotePass e at (mask_netlist N cs vs) (length cs) vs x (record { at = r; next = R.next + length vs }) es₂
+      → WroteAll m₂ b (length cs) (state_of c₁ ws₁ es₁) t count m₃ R (state_of R.1 ws₂ es₂)
+      → WroteGates m₃ R.0 (out_gates (length cs) R.1 (drop (length ws₂ - length vs) (twins_of ws₂ es₂)) vs) x r
+      → WrotePass e at (mask_netlist N cs vs) (length cs) vs x (r, R.1 + length vs) es₂
   unfolding mask_netlist
   pass-made R small kw ke h masks publics g outs =
       let S : State = state_of c₁ ws₁ es₁ in
       let first : S ≡ start N cs = begun t count W cs N s h in
-      let last : state_of R.next ws₂ es₂ ≡ finish N cs = finished t count W cs N s ws₂ es₂ h g.state in
+      let last : state_of R.1 ws₂ es₂ ≡ finish N cs = finished t count W cs N s ws₂ es₂ h g.state in
       let from : length ws₂ - length vs ≡ N.wires - output_bits N = ap₂ ◌-◌ (kw ∙ sym s.wires) (sym s.outs) in
-      let same : pass_gates cs vs S (gates_of t count) R.next ws₂ es₂ ≡ (mask_netlist N cs vs).netlist.gates
+      let same : pass_gates cs vs S (gates_of t count) R.1 ws₂ es₂ ≡ (mask_netlist N cs vs).netlist.gates
       = λ i. mask_gates (sym s.ins i) ++ public_gates (sym s.ins i) (sym s.ins i + 5) 0 cs ++ emit_all (sym s.ins i) (first i) (sym s.gates i)
       ++ out_gates (sym s.ins i) (last i).next (drop (from i) (last i).twins) vs in
-      let wires : R.next + length vs ≡ (mask_netlist N cs vs).netlist.wires = λ i. (last i).next + sym s.outs i in
+      let wires : R.1 + length vs ≡ (mask_netlist N cs vs).netlist.wires = λ i. (last i).next + sym s.outs i in
       let T : List Twin = drop (length ws₂ - length vs) (twins_of ws₂ es₂) in
       let codes : out_codes T vs ≡ (mask_netlist N cs vs).codes = λ i. out_codes (drop (from i) (last i).twins) vs in
       let long : length es₂ ≡ length ws₂ = ke ∙ sym kw in
-      let next : (advance_all S (gates_of t count)).next ≡ R.next = λ i. (sym g.state i).next in
+      let next : (advance_all S (gates_of t count)).next ≡ R.1 = λ i. (sym g.state i).next in
       record {
         wrote = gates-as same (gates-then (gates-then (gates-then masks publics) g.wrote) outs);
         wires = wires;
-        count = ap (λ (l : List Gate). length l + (length cs + 2)) (sym same) ∙ counted cs vs S (gates_of t count) R.next ws₂ es₂ h.next next long
+        count = ap (λ (l : List Gate). length l + (length cs + 2)) (sym same) ∙ counted cs vs S (gates_of t count) R.1 ws₂ es₂ h.next next long
             (omega arith) ∙ wires;
         codes =
             ap (λ (k : ℕ). codes_of (drop (k - length vs) es₂) vs) long ∙ out-codes ws₂ es₂ vs (length ws₂ - length vs) long

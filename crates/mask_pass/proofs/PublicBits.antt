@@ -38,23 +38,23 @@ past-length n c k (e ∷ es) =
     (λ z. rw z (past-length n c (k + 1) es))
 
 -- the gates of the first i inputs were written
-pub record Opened (e : List ℕ) (at n c : ℕ) (cs x : List ℕ) (r v w i : ℕ) : Type 0 where
-  pub inputs : Passed c cs v w i
+pub record Opened (e : List ℕ) (at n c : ℕ) (cs x : List ℕ) (r v i : ℕ) : Type 0 where
+  pub inputs : Passed c cs v i
   pub wrote : WroteGates e at (public_gates n c 0 (take i cs)) x r
 
-pub opened-none : (e : List ℕ) (at n c : ℕ) (cs : List ℕ) → length e ≤ top → at ≤ top → Opened e at n c cs e at c 0 0
+pub opened-none : (e : List ℕ) (at n c : ℕ) (cs : List ℕ) → length e ≤ top → at ≤ top → Opened e at n c cs e at c 0
 opened-none e at n c cs h k = record { inputs = passed_none c cs; wrote = gates-none e at h k }
 
-pub opened-more : {e cs m x : List ℕ} {at n c r s v v' w i : ℕ} → Opened e at n c cs m r v w i → i < length cs
-    → WroteGates m r (public_gate n v w (get_or cs i 0)) x s → v' ≡ past_public v (get_or cs i 0) → Opened e at n c cs x s v' (w + 1) (i + 1)
-opened-more {cs = cs} {n = n} {c = c} {v = v} {w = w} {i = i} h l g p =
+pub opened-more : {e cs m x : List ℕ} {at n c r s v v' i : ℕ} → Opened e at n c cs m r v i → i < length cs
+    → WroteGates m r (public_gate n v i (get_or cs i 0)) x s → v' ≡ past_public v (get_or cs i 0) → Opened e at n c cs x s v' (i + 1)
+opened-more {cs = cs} {n = n} {c = c} {v = v} {i = i} h l g p =
     let e : ℕ = get_or cs i 0 in
-    let here : public_gate n v w e ≡ public_gate n (past_publics c (take i cs)) (0 + i) e
-    = ap₂ (λ (u j : ℕ). public_gate n u j e) h.inputs.next (omega (arith, h.inputs.input)) in
+    let here : public_gate n v i e ≡ public_gate n (past_publics c (take i cs)) (0 + i) e
+    = ap₂ (λ (u j : ℕ). public_gate n u j e) h.inputs.next (omega arith) in
     record {
       inputs = passed-more h.inputs l p;
       wrote = gates-as (ap (λ (l : List Gate). public_gates n c 0 (take i cs) ++ l) here ∙ rw add-one (publics-more n c 0 cs i l)) (gates-then h.wrote g);
     }
 
-pub opened-all : {e cs x : List ℕ} {at n c r v w i : ℕ} → Opened e at n c cs x r v w i → length cs ≤ i → WroteGates e at (public_gates n c 0 cs) x r
+pub opened-all : {e cs x : List ℕ} {at n c r v i : ℕ} → Opened e at n c cs x r v i → length cs ≤ i → WroteGates e at (public_gates n c 0 cs) x r
 opened-all {cs = cs} {n = n} {c = c} {i = i} h l = gates-as (ap (public_gates n c 0) (take_all i cs l)) h.wrote

@@ -1,5 +1,5 @@
 -- What a source gate makes of the state.
-use Prim.Native.Nat.{ℕ, ◌+◌, ◌/◌, ◌%◌, ◌≤◌, ◌<◌}
+use Prim.Native.Nat.{ℕ, ◌+◌, ◌/◌, ◌%◌, ◌≤◌}
 use mathlib.Core.Path.{◌≡◌, refl, sym, ap, ap₂, ◌∙◌}
 use mathlib.Core.List.{List, [], ◌∷◌, ◌++◌, append_assoc, append-nil}
 use native.Mathlib.Omega.{arith}
@@ -13,41 +13,39 @@ use Rattle.netlist.specs.Mask.{State, twin, emit, result_twin, advance, emit_all
 use Rattle.netlist.proofs.Puts.{gates-more}
 use Rattle.write_buffer.specs.Wrote.{top}
 use Rattle.write_gates.proofs.GateLines.{gates-none, gates-then, gates-as}
-use Rattle.mask_gate.specs.declared.Emitted.{Emitted}
 use Rattle.mask_rule.specs.Rule.{operands}
 use Rattle.mask_gate.specs.Emitted.{WroteKind}
 use Rattle.mask_rule.proofs.ByKind.{emit-of, twin-of, result-of}
 use Rattle.mask_gate.proofs.Emits.{kind-small}
-use Rattle.mask_pass.specs.declared.gates.Next.{Next}
 use Rattle.mask_twins.specs.State.{twins_of, state_of}
 use Rattle.mask_twins.proofs.States.{twins-set, state_with, advance_all-more}
 use Rattle.mask_pass.specs.State.{WroteStep, WroteAll}
 
 -- one step: with the operands' twins the gates are written, and the result's twin is stored
-step-made : {e x : List ℕ} {at n c : ℕ} {R : Emitted} {A B : Twin} (ws es : List ℕ) (o r : ℕ) → A ≡ twin (state_of c ws es) (o % half) → B ≡ twin
+step-made : {e x : List ℕ} {at n c : ℕ} {R : ℕ × Twin} {A B : Twin} (ws es : List ℕ) (o r : ℕ) → A ≡ twin (state_of c ws es) (o % half) → B ≡ twin
     (state_of c ws es) (o / half)
     → WroteKind e at n c (r / half) A B x R
-    → WroteStep e at n (state_of c ws es) (gate_in o r) x (record { at = R.at; next = R.twin.wire + 1 })
-    (state_of (R.twin.wire + 1) (set ws (r % half) R.twin.wire) (set es (r % half) R.twin.code))
+    → WroteStep e at n (state_of c ws es) (gate_in o r) x (R.0, R.1.wire + 1)
+    (state_of (R.1.wire + 1) (set ws (r % half) R.1.wire) (set es (r % half) R.1.code))
 step-made {n = n} {c = c} {R = R} ws es o r a b h =
     let S : State = state_of c ws es in
     let k : ℕ = r / half in
     let d : ℕ = r % half in
-    let t : R.twin ≡ result_twin S (gate_in o r)
+    let t : R.1 ≡ result_twin S (gate_in o r)
     = h.twin ∙ ap₂ (λ (A B : Twin). result_twin (operands c A B) (gate_of k 0 1 2)) a b ∙ sym (twin-of S k (o % half) (o / half) d) in
     record {
       wrote = gates-as (ap₂ (λ (A B : Twin). emit n (operands c A B) (gate_of k 0 1 2)) a b ∙ sym (emit-of S k (o % half) (o / half) d n)) h.wrote;
       state =
-          ap (state_with (R.twin.wire + 1)) (twins-set ws es d R.twin.wire R.twin.code)
+          ap (state_with (R.1.wire + 1)) (twins-set ws es d R.1.wire R.1.code)
           ∙ ap₂ (λ (u : Twin) (i : ℕ). state_with (u.wire + 1) (set (twins_of ws es) i u)) t (sym (result-of k (o % half) (o / half) d));
       grown = kind-small h;
     }
 
 -- the same step by the parts of the gate's entries
-pub step-parts : {e x : List ℕ} {at n c : ℕ} {R : Emitted} {A B : Twin} {p : Parts} (ws es : List ℕ) (o r : ℕ) → p ≡ parts_of o r
+pub step-parts : {e x : List ℕ} {at n c : ℕ} {R : ℕ × Twin} {A B : Twin} {p : Parts} (ws es : List ℕ) (o r : ℕ) → p ≡ parts_of o r
     → A ≡ twin (state_of c ws es) p.left → B ≡ twin (state_of c ws es) p.right → WroteKind e at n c p.kind A B x R
-    → WroteStep e at n (state_of c ws es) (gate_in o r) x (record { at = R.at; next = R.twin.wire + 1 })
-    (state_of (R.twin.wire + 1) (set ws p.result R.twin.wire) (set es p.result R.twin.code))
+    → WroteStep e at n (state_of c ws es) (gate_in o r) x (R.0, R.1.wire + 1)
+    (state_of (R.1.wire + 1) (set ws p.result R.1.wire) (set es p.result R.1.code))
 step-parts ws es o r q a b h = rw q (step-made ws es o r (rw q at a) (rw q at b) (rw q at h))
 
 emit_all-more : (n : ℕ) (S : State) (gs : List Gate) (g : Gate) → emit_all n S (gs ++ (g ∷ [])) ≡ emit_all n S gs ++ emit n (advance_all S gs) g
@@ -56,27 +54,25 @@ emit_all-more n S (h ∷ gs) g =
     ap (λ (l : List Gate). emit n S h ++ l) (emit_all-more n (advance S h) gs g)
     ∙ sym (append_assoc (emit n S h) (emit_all n (advance S h) gs) (emit n (advance_all (advance S h) gs) g))
 
--- the first i gates of m were masked; the tables have kept their length W
-pub record Emitting (e : List ℕ) (at n : ℕ) (t : Tables) (m : ℕ) (S₀ : State) (x : List ℕ) (r c W : ℕ) (ws es : List ℕ) (i : ℕ) : Type 0 where
-  pub passed : i ≤ m
+-- the first i gates were masked; the tables have kept their length W
+pub record Emitting (e : List ℕ) (at n : ℕ) (t : Tables) (S₀ : State) (x : List ℕ) (r c W : ℕ) (ws es : List ℕ) (i : ℕ) : Type 0 where
   pub wires : length ws ≡ W
   pub codes : length es ≡ W
-  pub made : WroteAll e at n S₀ t i x (record { at = r; next = c }) (state_of c ws es)
+  pub made : WroteAll e at n S₀ t i x (r, c) (state_of c ws es)
 
-pub emitting-none : (e : List ℕ) (at n : ℕ) (t : Tables) (m c : ℕ) (ws es : List ℕ) → length es ≡ length ws → length e ≤ top → at ≤ top
-    → Emitting e at n t m (state_of c ws es) e at c (length ws) ws es 0
-emitting-none e at n t m c ws es l h k = record {
-  passed = omega arith;
+pub emitting-none : (e : List ℕ) (at n : ℕ) (t : Tables) (c : ℕ) (ws es : List ℕ) → length es ≡ length ws → length e ≤ top → at ≤ top
+    → Emitting e at n t (state_of c ws es) e at c (length ws) ws es 0
+emitting-none e at n t c ws es l h k = record {
   wires = refl;
   codes = l;
   made =
       record { wrote = gates-none e at h k; state = refl; grown = omega arith };
 }
 
-pub emitting-more : {e x y : List ℕ} {at n m r c W i : ℕ} {t : Tables} {S₀ : State} {ws es ws' es' : List ℕ} {R : Next} → Emitting e at n t m S₀ x r c W ws es i → i < m
+pub emitting-more : {e x y : List ℕ} {at n r c W i : ℕ} {t : Tables} {S₀ : State} {ws es ws' es' : List ℕ} {R : ℕ × ℕ} → Emitting e at n t S₀ x r c W ws es i
     → length ws' ≡ length ws → length es' ≡ length es
-    → WroteStep x r n (state_of c ws es) (gate_at t i) y R (state_of R.next ws' es') → Emitting e at n t m S₀ y R.at R.next W ws' es' (i + 1)
-emitting-more {n = n} {c = c} {i = i} {t = t} {S₀ = S₀} {ws = ws} {es = es} h l kw ke s =
+    → WroteStep x r n (state_of c ws es) (gate_at t i) y R (state_of R.1 ws' es') → Emitting e at n t S₀ y R.0 R.1 W ws' es' (i + 1)
+emitting-more {n = n} {c = c} {i = i} {t = t} {S₀ = S₀} {ws = ws} {es = es} h kw ke s =
     let g : Gate = gate_at t i in
     let p = h.made.state in
     let more : emit_all n S₀ (gates_of t i) ++ emit n (state_of c ws es) g ≡ emit_all n S₀ (gates_of t (i + 1))
@@ -84,12 +80,7 @@ emitting-more {n = n} {c = c} {i = i} {t = t} {S₀ = S₀} {ws = ws} {es = es} 
     let on : advance (state_of c ws es) g ≡ advance_all S₀ (gates_of t (i + 1))
     = ap (λ (S : State). advance S g) p ∙ sym (ap (advance_all S₀) (gates-more t i) ∙ advance_all-more S₀ (gates_of t i) g) in
     record {
-      passed = omega arith;
       wires = kw ∙ h.wires;
       codes = ke ∙ h.codes;
       made = record { wrote = gates-as more (gates-then h.made.wrote s.wrote); state = s.state ∙ on; grown = omega (arith, h.made.grown, s.grown) };
     }
-
-pub emitting-all : {e x : List ℕ} {at n m r c W i : ℕ} {t : Tables} {S₀ : State} {ws es : List ℕ} → Emitting e at n t m S₀ x r c W ws es i → m ≤ i
-    → WroteAll e at n S₀ t m x (record { at = r; next = c }) (state_of c ws es)
-emitting-all {m = m} {i = i} h l = let q : i ≡ m = omega (arith, h.passed) in rw q at h.made

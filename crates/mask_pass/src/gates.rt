@@ -5,14 +5,7 @@ ghost use Rattle.netlist.specs.Table.{gate_in, tables, Named, Wired};
 ghost use Rattle.mask_twins.specs.State.{state_of};
 ghost use Rattle.mask_pass.specs.State.{WroteStep, WroteAll};
 
-// The next place in the buffer, and the next wire.
-#[derive(Clone, Copy)]
-pub struct Next {
-    pub at: usize,
-    pub next: u32,
-}
-
-// The source gate of two entries, at the wires from c. Its result's twin is the one that changes.
+// The source gate of two entries, at the wires from c: the next place, and the next wire. Its result's twin is the one that changes.
 fn step(
     d: &[u64],
     out: &mut [u8],
@@ -23,28 +16,24 @@ fn step(
     results: u64,
     wire: &mut [u32],
     code: &mut [u8],
-) -> Next
+) -> (usize, u32)
     requires word_table { WordTable d.now }
     requires n_bound { (n < 2 ^ 31) × (c < 2 ^ 31) }
     requires named { Named (length wire.old) operands results × (length code.old ≡ length wire.old) }
     ensures { WroteStep out.old at n (state_of c wire.old code.old) (gate_in operands results)
-        out.new result (state_of result.next wire.new code.new) }
+        out.new result (state_of result.1 wire.new code.new) }
 {
     let g = gate_table::split(operands, results);
     let result = g.result;
     let a = mask_twins::twin(wire, code, g.left);
     let b = mask_twins::twin(wire, code, g.right);
-    let made = mask_gate::emit(d, out, at, n, c, g.kind as u64, a, b);
-    let t = made.twin;
+    let (end, t) = mask_gate::emit(d, out, at, n, c, g.kind as u64, a, b);
     wire[result] = t.wire;
     code[result] = t.code;
-    Next {
-        at: made.at,
-        next: t.wire + 1,
-    }
+    (end, t.wire + 1)
 }
 
-// The tables' first gates, at the wires from c.
+// The tables' first gates, at the wires from c, likewise.
 pub fn gates(
     d: &[u64],
     out: &mut [u8],
@@ -56,22 +45,18 @@ pub fn gates(
     count: usize,
     wire: &mut [u32],
     code: &mut [u8],
-) -> Next
+) -> (usize, u32)
     requires word_table { WordTable d.now }
     requires n_bound { (n < 2 ^ 31) × (c + 8 * count < 2 ^ 31) }
     requires wired { Wired (tables operands.now results.now) (length wire.old) count × (length code.old ≡ length wire.old) }
     ensures { WroteAll out.old at n (state_of c wire.old code.old)
         (tables operands.now results.now) count out.new result
-        (state_of result.next wire.new code.new) }
+        (state_of result.1 wire.new code.new) }
 {
     let mut place = at;
     let mut next = c;
-    let mut i = 0;
-    while i < count {
-        let t = step(d, out, place, n, next, operands[i], results[i], wire, code);
-        place = t.at;
-        next = t.next;
-        i += 1;
+    for i in 0..count {
+        (place, next) = step(d, out, place, n, next, operands[i], results[i], wire, code);
     }
-    Next { at: place, next }
+    (place, next)
 }

@@ -15,8 +15,6 @@ ghost use Rattle.write_gates.specs.Gates.{WroteGates};
 ghost use Rattle.mask_twins.specs.Place.{Ready};
 ghost use Rattle.mask_pass.specs.Pass.{WrotePass};
 
-use crate::gates::Next;
-
 // The three gates that always follow the inputs: the sum, the product and the OR of the masks.
 fn masks(d: &[u64], out: &mut [u8], at: usize, n: u32) -> usize
     requires word_table { WordTable d.now }
@@ -28,7 +26,7 @@ fn masks(d: &[u64], out: &mut [u8], at: usize, n: u32) -> usize
     write_gates::gate::xor(d, out, third, n + 2, n + 3, n + 4)
 }
 
-// The gates of the masked netlist. The tables `wire` and `code` have an entry for each source wire,
+// The gates of the masked netlist: the next place, and the next wire. The tables `wire` and `code` have an entry for each source wire,
 // and may hold anything.
 pub fn pass(
     d: &[u64],
@@ -41,7 +39,7 @@ pub fn pass(
     wanted: &[u8],
     wire: &mut [u32],
     code: &mut [u8],
-) -> Next
+) -> (usize, u32)
     requires word_table { WordTable d.now }
     requires ready { Ready (tables operands.now results.now) count codes.now wanted.now wire.old code.old }
     ensures { (N : Netlist) → Holds (tables operands.now results.now) count (length wire.old)
@@ -50,14 +48,13 @@ pub fn pass(
         wanted.now out.new result code.new }
 {
     let n = codes.len() as u32;
-    let next = mask_twins::inputs::start(n + 5, codes, wire, code);
+    let first = mask_twins::inputs::start(n + 5, codes, wire, code);
     let second = masks(d, out, at, n);
     let third = crate::publics::publics(d, out, second, n, n + 5, codes);
-    let t = crate::gates::gates(d, out, third, n, next, operands, results, count, wire, code);
+    let (place, next) = crate::gates::gates(
+        d, out, third, n, first, operands, results, count, wire, code,
+    );
     let from = wire.len() - wanted.len();
-    let end = crate::outs::outs(d, out, t.at, n, t.next, wire, code, from, wanted);
-    Next {
-        at: end,
-        next: t.next + wanted.len() as u32,
-    }
+    let end = crate::outs::outs(d, out, place, n, next, wire, code, from, wanted);
+    (end, next + wanted.len() as u32)
 }

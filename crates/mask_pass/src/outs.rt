@@ -16,10 +16,7 @@ fn one(d: &[u64], out: &mut [u8], at: usize, n: u32, c: u32, t: Twin, want: u8) 
     requires n_bound { n < 2 ^ 31 }
     ensures { WroteGates out.old at (out_gate n c t want ∷ []) out.new result }
 {
-    if want == 0 {
-        return write_gates::gate::eqw(d, out, at, t.wire, c);
-    }
-    if want == t.code {
+    if want == 0 || want == t.code {
         return write_gates::gate::eqw(d, out, at, t.wire, c);
     }
     let f = third_code(t.code, want);
@@ -46,13 +43,9 @@ pub fn outs(
         wanted.now) out.new result }
 {
     let mut place = at;
-    let mut next = c;
-    let mut i = 0;
-    while i < wanted.len() {
+    for (i, want) in wanted.iter().enumerate() {
         let t = mask_twins::twin(wire, code, from + i);
-        place = one(d, out, place, n, next, t, wanted[i]);
-        next += 1;
-        i += 1;
+        place = one(d, out, place, n, c + i as u32, t, *want);
     }
     place
 }
@@ -61,10 +54,7 @@ pub fn outs(
 fn pick(e: u8, want: u8) -> u8
     ensures { result ≡ out_code e want }
 {
-    if want == 0 {
-        return e;
-    }
-    want
+    if want == 0 { e } else { want }
 }
 
 // The output codes, of the source wires from a wire on.
@@ -73,8 +63,7 @@ pub fn codes(code: &[u8], from: usize, wanted: &[u8], res: &mut [u8])
     ensures { Wrote res.old 0 (codes_of (drop from code.now) wanted.now) res.new
         (length wanted.now) }
 {
-    let mut i = 0;
-    while i < wanted.len() {
-        i = write_buffer::put(res, i, pick(code[from + i], wanted[i]));
+    for (i, want) in wanted.iter().enumerate() {
+        write_buffer::put(res, i, pick(code[from + i], *want));
     }
 }

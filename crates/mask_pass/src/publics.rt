@@ -9,10 +9,11 @@ fn one(d: &[u64], out: &mut [u8], at: usize, n: u32, c: u32, w: u32, e: u8) -> u
     requires { WordTable d.now }
     ensures { WroteGates out.old at (public_gate n c w e) out.new result }
 {
-    if e != 0 {
-        return at;
+    if e == 0 {
+        write_gates::gate::xor(d, out, at, w, n, c)
+    } else {
+        at
     }
-    write_gates::gate::xor(d, out, at, w, n, c)
 }
 
 // The gates of all inputs, at the wires from c.
@@ -23,14 +24,9 @@ pub fn publics(d: &[u64], out: &mut [u8], at: usize, n: u32, c: u32, codes: &[u8
 {
     let mut place = at;
     let mut next = c;
-    let mut w = 0;
-    let mut i = 0;
-    while i < codes.len() {
-        let e = codes[i];
-        place = one(d, out, place, n, next, w, e);
-        next = mask_twins::inputs::past(next, e);
-        w += 1;
-        i += 1;
+    for (i, e) in codes.iter().enumerate() {
+        place = one(d, out, place, n, next, i as u32, *e);
+        next = mask_twins::inputs::past(next, *e);
     }
     place
 }

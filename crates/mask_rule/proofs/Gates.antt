@@ -6,7 +6,7 @@ use mathlib.Core.List.{List, [], ◌∷◌, ◌++◌, map}
 use native.Mathlib.Omega.{arith}
 use lib.Dec.{eqb}
 use lib.ListN.{length, get_or, length-map}
-use borrow.Author.Tests.{eq-eqb, ne_eqb}
+use borrow.Author.Tests.{ne_eqb}
 use Rattle.netlist.specs.declared.Gate.{Gate}
 use Rattle.netlist.specs.declared.Gate.TheVariants.{Xor, Inv, Eqw, Eq}
 use Rattle.netlist.specs.declared.Twin.{Twin}
@@ -57,12 +57,6 @@ module _ (A B : Twin) where
 
 -- how many mask changes
 module _ (A B : Twin) where
-  pub bit-same : A.code ≡ B.code → 1 ≡ bit (changes A B)
-  bit-same e = rw (eq-eqb A.code B.code e)
-
-  pub bit-other : (A.code ≡ B.code → ⊥) → 0 ≡ bit (changes A B)
-  bit-other e = rw (ne_eqb A.code B.code e)
-
   pub bit-most : bit (changes A B) ≤ 1
   bit-most = on_bool (changes A B) (λ e. rw e (omega arith)) (λ e. rw e (omega arith))
 

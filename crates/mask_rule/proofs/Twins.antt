@@ -3,8 +3,8 @@ use Prim.Native.Nat.{ℕ, ◌+◌, ◌≤◌}
 use mathlib.Core.Path.{◌≡◌, ap, ◌∙◌}
 use mathlib.Core.List.{[], ◌∷◌}
 use native.Mathlib.Omega.{arith}
-use lib.Dec.{eqb}
-use borrow.Author.Tests.{eq-eqb, ne_eqb}
+use lib.Dec.{eqb, leb}
+use borrow.Author.Tests.{eq-eqb, ne_eqb, leb-true, leb-false}
 use Rattle.netlist.specs.declared.Twin.{Twin}
 use Rattle.netlist.specs.Table.{gate_of}
 use Rattle.netlist.specs.Mask.{third, after, changes, changed, past, xor_twin, and_twin}
@@ -35,6 +35,12 @@ xor-twin c A B p q d = λ i. tw (q i) ((d ∙ ap (λ (t : Twin). third A.code t.
 
 pub and-twin : {w : ℕ} (c : ℕ) (A B : Twin) → w ≡ past c A B → tw (w + 6) A.code ≡ and_twin c A B
 and-twin c A B q = λ i. tw (q i + 6) A.code
+
+-- the twin of an INV's result, and of an EQW's
+pub copied-twin : (k c : ℕ) (A B : Twin) → 3 ≤ k → k ≤ 4 → tw c A.code ≡ twin_of c k A B
+copied-twin k c A B h l =
+    on_bool (leb k 3) (λ t. let e : k ≡ 3 = omega (arith, leb-true k 3 t) in rw e)
+    (λ f. let e : k ≡ 4 = omega (arith, leb-false k 3 f) in rw e)
 
 -- a constant's twin
 pub constant-twin : (k c : ℕ) (A B : Twin) → (k ≡ 1 → ⊥) → (k ≡ 2 → ⊥) → (k ≡ 3 → ⊥) → (k ≡ 4 → ⊥) → tw c 1 ≡ twin_of c k A B

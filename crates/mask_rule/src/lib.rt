@@ -18,14 +18,13 @@ use netlist::Twin;
 pub fn changed(c: u32, a: Twin, b: Twin) -> Twin
     ensures { result ≡ changedTwin c a b }
 {
-    let e = b.code;
-    if a.code != e {
+    if a.code != b.code {
         return b;
     }
-    let f = code_after(e);
+    let f = code_after(b.code);
     Twin {
         wire: c,
-        code: third_code(e, f),
+        code: third_code(b.code, f),
     }
 }
 
@@ -34,11 +33,7 @@ pub fn past(c: u32, a: Twin, b: Twin) -> u32
     requires { c < 2 ^ 31 }
     ensures { result ≡ pastWire c a b }
 {
-    let e = b.code;
-    if a.code != e {
-        return c;
-    }
-    c + 1
+    if a.code == b.code { c + 1 } else { c }
 }
 
 // The twin of an XOR's result.
@@ -58,9 +53,8 @@ pub fn and_twin(c: u32, a: Twin, b: Twin) -> Twin
     requires { c < 2 ^ 31 }
     ensures { result ≡ and_twin c a b }
 {
-    let w = past(c, a, b);
     Twin {
-        wire: w + 6,
+        wire: past(c, a, b) + 6,
         code: a.code,
     }
 }
@@ -74,11 +68,7 @@ pub fn twin(c: u32, kind: u64, a: Twin, b: Twin) -> Twin
     match kind {
         gate_table::XOR => xor_twin(c, a, b),
         gate_table::AND => and_twin(c, a, b),
-        gate_table::INV => Twin {
-            wire: c,
-            code: a.code,
-        },
-        gate_table::EQW => Twin {
+        gate_table::INV | gate_table::EQW => Twin {
             wire: c,
             code: a.code,
         },
@@ -90,7 +80,7 @@ pub fn twin(c: u32, kind: u64, a: Twin, b: Twin) -> Twin
 fn extra(a: Twin, b: Twin) -> usize
     ensures { result ≡ bit (changes a b) }
 {
-    if a.code == b.code { 1 } else { 0 }
+    usize::from(a.code == b.code)
 }
 
 // How many masked gates a source gate of a kind gets.

@@ -1,4 +1,5 @@
 -- Header and gates put together to the whole text, and question 14.
+use Rattle.std.specs.Prelude.{Err, Ok}
 use Prim.Native.Nat.{ℕ, ◌+◌, ◌*◌, ◌-◌, ◌≤◌, ◌<◌}
 use mathlib.Core.Path.{◌≡◌, refl, sym, ap, ◌∙◌}
 use mathlib.Core.Bool.{true, false}
@@ -9,7 +10,7 @@ use lib.Dec.{leb, lit<}
 use lib.ListN.{length, drop, take}
 use lib.Seq.{sets}
 use borrow.Author.Tests.{le-leb, lt-leb, leb-true}
-use Rattle.netlist.specs.declared.Answer.TheVariants.{Done, Refused}
+use Rattle.netlist.specs.declared.Question.TheVariants.{Room}
 use Rattle.netlist.specs.Netlist.{Netlist}
 use Rattle.netlist.specs.Table.{Tables, gates_of, Holds}
 use Rattle.netlist.specs.Mask.{Masked, mask_netlist}
@@ -27,7 +28,6 @@ use Rattle.write_buffer.proofs.Writing.{wrote_then, wrote_as}
 use Rattle.write_gates.specs.Room.{longest_line}
 use Rattle.write_gates.proofs.Delivering.{ample-holds}
 use Rattle.write_header.proofs.Headers.{header-gates}
-use Rattle.mask_pass.specs.declared.gates.Next.{Next}
 use Rattle.mask_pass.specs.State.{codes_of}
 use Rattle.mask_twins.specs.Place.{Ready}
 use Rattle.mask_pass.specs.Pass.{WrotePass, Counted}
@@ -51,8 +51,8 @@ module _ {t : Tables} {count W n m : ℕ} {ins outs : List ℕ} {N : Netlist} (h
   masked-text g w a b =
       text-made (mask_netlist N cs vs).netlist g w ins outs a b (h.inputs ∙ masked-inputs N cs vs) (h.outputs ∙ masked-outputs N cs vs)
 
-  pub write-made : {e y x es : List ℕ} {g w a : ℕ} {R : Next} → Numbers (mask_netlist N cs vs) (length vs) g w → Wrote e 0 (header_text g w ins outs) y a →
-      WrotePass y a (mask_netlist N cs vs) n vs x R es → WroteText e (mask_netlist N cs vs) vs x es R.at
+  pub write-made : {e y x es : List ℕ} {g w a : ℕ} {R : ℕ × ℕ} → Numbers (mask_netlist N cs vs) (length vs) g w → Wrote e 0 (header_text g w ins outs) y a →
+      WrotePass y a (mask_netlist N cs vs) n vs x R es → WroteText e (mask_netlist N cs vs) vs x es R.0
   write-made {g = g} {w = w} z a b =
       record { wrote = wrote_as (masked-text g w z.gates z.wires) (wrote_then a b.wrote.wrote); codes = b.codes }
 
@@ -88,16 +88,16 @@ least-counted cs vs {t = t} {count = count} {W = W} {n = n} {m = m} h =
 -- question 14
 module _ (M : Masked) {e f : List ℕ} where
   pub short-text : leb (length (write_netlist M.netlist)) (length e) ≡ false
-      → MaskAnswers (deliver_outcome (length e) (length f) (masked_text M)) e e f f (Refused 14)
+      → MaskAnswers (deliver_outcome (length e) (length f) (masked_text M)) e e f f (Err Room)
   short-text t = record { text = answers-refused e (rw t); codes = rw t }
 
-  pub short-codes : length f < length M.codes → MaskAnswers (deliver_outcome (length e) (length f) (masked_text M)) e e f f (Refused 14)
+  pub short-codes : length f < length M.codes → MaskAnswers (deliver_outcome (length e) (length f) (masked_text M)) e e f f (Err Room)
   short-codes l =
       let u = lt-leb (length M.codes) (length f) l in
       on_bool (leb (length (write_netlist M.netlist)) (length e)) (λ t. record { text = answers-refused e (rw (t, u)); codes = rw (t, u) }) short-text
 
   pub delivered : {x y : List ℕ} {s : ℕ} → leb (length (write_netlist M.netlist)) (length e) ≡ true → length e < top → length M.codes ≤ length f
-      → Filled M e x f y s → MaskAnswers (deliver_outcome (length e) (length f) (masked_text M)) e x f y (Done s)
+      → Filled M e x f y s → MaskAnswers (deliver_outcome (length e) (length f) (masked_text M)) e x f y (Ok s)
   delivered {s = s} t small l d =
       let fits = leb-true (length (write_netlist M.netlist)) (length e) t in
       let n : s ≡ length (write_netlist M.netlist) = omega (arith, d.wrote.next) in

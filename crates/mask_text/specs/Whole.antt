@@ -1,7 +1,7 @@
 -- The masked text and the output codes in their buffers.
-use Rattle.std.specs.Prelude.{ℕ, ◌-◌, ◌≡◌, List, [], ◌∷◌, ◌++◌, length, drop}
+use Rattle.std.specs.Prelude.{Result, ℕ, ◌-◌, ◌≡◌, List, [], ◌∷◌, ◌++◌, length, drop}
 use Rattle.std.proofs.lemmas.List.Edits.{sets}
-use Rattle.netlist.specs.declared.Answer.{Answer}
+use Rattle.netlist.specs.declared.Question.{Question}
 use Rattle.netlist.specs.Netlist.{Netlist}
 use Rattle.netlist.specs.Table.{Tables, Holds}
 use Rattle.netlist.specs.Outcome.{Outcome, done, and_then}
@@ -41,6 +41,6 @@ abbrev pub codes_in : Outcome MaskedText → Outcome (List ℕ)
 codes_in call = and_then call λ R. done R.codes
 
 -- the answer, the text buffer e that became x, and the code buffer f that became y, are those of a call's outcome
-pub record MaskAnswers (call : Outcome MaskedText) (e x f y : List ℕ) (a : Answer) : Type 0 where
+pub record MaskAnswers (call : Outcome MaskedText) (e x f y : List ℕ) (a : Result ℕ Question) : Type 0 where
   pub text : Answers (text_in call) e x a
   pub codes : y ≡ sets f 0 (written (codes_in call))

@@ -12,164 +12,101 @@ ghost use Rattle.netlist.specs.Table.{tables};
 ghost use Rattle.netlist.specs.Services.{masked_text, deliver_outcome};
 ghost use Rattle.write_buffer.specs.Wrote.{top};
 ghost use Rattle.mask_twins.specs.Place.{Ready};
-ghost use Rattle.mask_text.specs.Whole.{Source, Numbers, WroteText, Filled, MaskAnswers};
+ghost use Rattle.mask_text.specs.Whole.{Source, WroteText, Filled, MaskAnswers};
+ghost use Rattle.mask_text.specs.Job.{ReadyFor, masked, SourceOf, NumbersOf};
 
-use netlist::Answer;
+use netlist::{Answer, Question};
 
-// The masked text, with the numbers of its line one.
-fn write(
-    d: &[u64],
-    out: &mut [u8],
+// What a source is masked by: its gate tables, the codes of its inputs and the wanted ones of its outputs, the widths of the
+// masked values, and the numbers of the masked text's line one.
+#[derive(Clone, Copy)]
+struct Job<'a> {
+    operands: &'a [u64],
+    results: &'a [u64],
+    count: usize,
+    codes: &'a [u8],
+    wanted: &'a [u8],
+    ins: &'a [u32],
+    outs: &'a [u32],
     gates: usize,
     wires: usize,
-    operands: &[u64],
-    results: &[u64],
-    count: usize,
-    codes: &[u8],
-    wanted: &[u8],
-    ins: &[u32],
-    outs: &[u32],
-    wire: &mut [u32],
-    code: &mut [u8],
-) -> usize
+}
+
+// The masked text.
+fn write<'a>(d: &[u64], out: &mut [u8], j: Job<'a>, wire: &mut [u32], code: &mut [u8]) -> usize
     requires word_table { WordTable d.now }
-    requires ready { Ready (tables operands.now results.now) count codes.now wanted.now wire.old code.old }
-    ensures { (N : Netlist)
-        → Source (tables operands.now results.now) count (length wire.old) (length codes.now)
-        (length wanted.now) ins.now outs.now N
-        → Numbers (mask_netlist N codes.now wanted.now) (length wanted.now) gates wires
-        → WroteText out.old (mask_netlist N codes.now wanted.now) wanted.now out.new
-        code.new result }
+    requires ready { ReadyFor j wire.old code.old }
+    ensures { (N : Netlist) → SourceOf j.entry (length wire.old) N → NumbersOf j.entry N
+        → WroteText out.old (masked j.entry N) j.entry.wanted.now out.new code.new result }
 {
-    let at = write_header::header(out, 0, gates, wires, ins, outs);
-    let t = mask_pass::pass(
-        d, out, at, operands, results, count, codes, wanted, wire, code,
+    let at = write_header::header(out, 0, j.gates, j.wires, j.ins, j.outs);
+    let (end, _) = mask_pass::pass(
+        d, out, at, j.operands, j.results, j.count, j.codes, j.wanted, wire, code,
     );
-    t.at
+    end
 }
 
 // The masked text and the output codes, each into its buffer.
-fn fill(
+fn fill<'a>(
     d: &[u64],
     out: &mut [u8],
     out_codes: &mut [u8],
-    gates: usize,
-    wires: usize,
-    operands: &[u64],
-    results: &[u64],
-    count: usize,
-    codes: &[u8],
-    wanted: &[u8],
-    ins: &[u32],
-    outs: &[u32],
+    j: Job<'a>,
     wire: &mut [u32],
     code: &mut [u8],
 ) -> usize
     requires word_table { WordTable d.now }
-    requires ready { Ready (tables operands.now results.now) count codes.now wanted.now wire.old code.old }
-    ensures { (N : Netlist)
-        → Source (tables operands.now results.now) count (length wire.old) (length codes.now)
-        (length wanted.now) ins.now outs.now N
-        → Numbers (mask_netlist N codes.now wanted.now) (length wanted.now) gates wires
-        → Filled (mask_netlist N codes.now wanted.now) out.old out.new out_codes.old
-        out_codes.new result }
+    requires ready { ReadyFor j wire.old code.old }
+    ensures { (N : Netlist) → SourceOf j.entry (length wire.old) N → NumbersOf j.entry N
+        → Filled (masked j.entry N) out.old out.new out_codes.old out_codes.new result }
 {
-    let size = write(
-        d, out, gates, wires, operands, results, count, codes, wanted, ins, outs, wire, code,
-    );
-    let from = code.len() - wanted.len();
-    mask_pass::outs::codes(code, from, wanted, out_codes);
+    let size = write(d, out, j, wire, code);
+    let from = code.len() - j.wanted.len();
+    mask_pass::outs::codes(code, from, j.wanted, out_codes);
     size
 }
 
 // Question 14 of the text: yes where lines of the longest kind would fit, and otherwise as it is measured.
-fn holds(
-    d: &[u64],
-    room: usize,
-    gates: usize,
-    wires: usize,
-    operands: &[u64],
-    results: &[u64],
-    count: usize,
-    codes: &[u8],
-    wanted: &[u8],
-    ins: &[u32],
-    outs: &[u32],
-    wire: &mut [u32],
-    code: &mut [u8],
-) -> bool
+fn holds<'a>(d: &[u64], room: usize, j: Job<'a>, wire: &mut [u32], code: &mut [u8]) -> bool
     requires word_table { WordTable d.now }
-    requires ready { Ready (tables operands.now results.now) count codes.now wanted.now wire.old code.old × (room < top) }
-    ensures { (N : Netlist)
-        → Source (tables operands.now results.now) count (length wire.old) (length codes.now)
-        (length wanted.now) ins.now outs.now N
-        → Numbers (mask_netlist N codes.now wanted.now) (length wanted.now) gates wires
-        → WellFormed (mask_netlist N codes.now wanted.now).netlist
-        → result ≡ leb (length (write_netlist (mask_netlist N codes.now wanted.now).netlist)) room }
+    requires ready { ReadyFor j wire.old code.old × (room < top) }
+    ensures { (N : Netlist) → SourceOf j.entry (length wire.old) N → NumbersOf j.entry N
+        → WellFormed (masked j.entry N).netlist
+        → result ≡ leb (length (write_netlist (masked j.entry N).netlist)) room }
 {
     let mut none = [0u8; 1];
-    let header = write_header::header(&mut none, 0, gates, wires, ins, outs);
-    if write_gates::room::ample(room, header, gates, wires) {
+    let header = write_header::header(&mut none, 0, j.gates, j.wires, j.ins, j.outs);
+    if write_gates::room::ample(room, header, j.gates, j.wires) {
         return true;
     }
-    let size = write(
-        d, &mut none, gates, wires, operands, results, count, codes, wanted, ins, outs, wire, code,
-    );
+    let size = write(d, &mut none, j, wire, code);
     size <= room
 }
 
-// Question 14, and the text and the codes, with the numbers of line one.
-fn answer(
+// Question 14, and the text and the codes.
+fn answer<'a>(
     d: &[u64],
     out: &mut [u8],
     out_codes: &mut [u8],
-    gates: usize,
-    wires: usize,
-    operands: &[u64],
-    results: &[u64],
-    count: usize,
-    codes: &[u8],
-    wanted: &[u8],
-    ins: &[u32],
-    outs: &[u32],
+    j: Job<'a>,
     wire: &mut [u32],
     code: &mut [u8],
 ) -> Answer
     requires word_table { WordTable d.now }
-    requires ready { Ready (tables operands.now results.now) count codes.now wanted.now wire.old code.old }
-    ensures { (N : Netlist)
-        → Source (tables operands.now results.now) count (length wire.old) (length codes.now)
-        (length wanted.now) ins.now outs.now N
-        → Numbers (mask_netlist N codes.now wanted.now) (length wanted.now) gates wires
-        → WellFormed (mask_netlist N codes.now wanted.now).netlist
+    requires ready { ReadyFor j wire.old code.old }
+    ensures { (N : Netlist) → SourceOf j.entry (length wire.old) N → NumbersOf j.entry N
+        → WellFormed (masked j.entry N).netlist
         → MaskAnswers (deliver_outcome (length out.old) (length out_codes.old)
-        (masked_text (mask_netlist N codes.now wanted.now))) out.old out.new out_codes.old
-        out_codes.new result }
+        (masked_text (masked j.entry N))) out.old out.new out_codes.old out_codes.new result }
 {
-    if out_codes.len() < wanted.len() {
-        return Answer::Refused(14);
+    if out_codes.len() < j.wanted.len() {
+        return Err(Question::Room);
     }
-    if !holds(
-        d,
-        out.len(),
-        gates,
-        wires,
-        operands,
-        results,
-        count,
-        codes,
-        wanted,
-        ins,
-        outs,
-        wire,
-        code,
-    ) {
-        return Answer::Refused(14);
+    if holds(d, out.len(), j, wire, code) {
+        Ok(fill(d, out, out_codes, j, wire, code))
+    } else {
+        Err(Question::Room)
     }
-    Answer::Done(fill(
-        d, out, out_codes, gates, wires, operands, results, count, codes, wanted, ins, outs, wire,
-        code,
-    ))
 }
 
 // Question 14, and the text and the codes where it gets a yes. `ins` are the widths of the masked input values, the last of
@@ -201,17 +138,21 @@ pub fn deliver(
         operands, results, count, codes, wanted, wire, code,
     ) as usize;
     let gates = wires - (codes.len() + 2);
+    let j = Job {
+        operands,
+        results,
+        count,
+        codes,
+        wanted,
+        ins,
+        outs,
+        gates,
+        wires,
+    };
     if wires <= 100 {
-        let none = [0u64; 0];
-        return answer(
-            &none, out, out_codes, gates, wires, operands, results, count, codes, wanted, ins,
-            outs, wire, code,
-        );
+        return answer(&[], out, out_codes, j, wire, code);
     }
     let mut table = [0u64; 2000];
     write_wires::table::fill(&mut table, 100);
-    answer(
-        &table, out, out_codes, gates, wires, operands, results, count, codes, wanted, ins, outs,
-        wire, code,
-    )
+    answer(&table, out, out_codes, j, wire, code)
 }

@@ -1,5 +1,5 @@
 -- The state advanced without its gates.
-use Prim.Native.Nat.{ℕ, ◌+◌, ◌/◌, ◌%◌, ◌≤◌, ◌<◌}
+use Prim.Native.Nat.{ℕ, ◌+◌, ◌/◌, ◌%◌}
 use mathlib.Core.Path.{◌≡◌, refl, sym, ap, ap₂, ◌∙◌}
 use mathlib.Core.List.{List}
 use native.Mathlib.Omega.{arith}
@@ -40,22 +40,20 @@ pub advanced-parts : {c : ℕ} {A B t : Twin} {p : Parts} (ws es : List ℕ) (o 
     → Advanced (state_of c ws es) (gate_in o r) (state_of (t.wire + 1) (set ws p.result t.wire) (set es p.result t.code))
 advanced-parts ws es o r q a b h = rw q (advanced-made ws es o r (rw q at a) (rw q at b) (rw q at h))
 
--- the state has advanced by the first i gates of m; the tables have kept their length W
-pub record Advancing (t : Tables) (m : ℕ) (S₀ : State) (c W : ℕ) (ws es : List ℕ) (i : ℕ) : Type 0 where
-  pub passed : i ≤ m
+-- the state has advanced by the first i gates; the tables have kept their length W
+pub record Advancing (t : Tables) (S₀ : State) (c W : ℕ) (ws es : List ℕ) (i : ℕ) : Type 0 where
   pub wires : length ws ≡ W
   pub codes : length es ≡ W
   pub made : AdvancedAll S₀ t i (state_of c ws es)
 
-pub advancing-none : (t : Tables) (m c : ℕ) (ws es : List ℕ) → length es ≡ length ws → Advancing t m (state_of c ws es) c (length ws) ws es 0
-advancing-none t m c ws es l = record { passed = omega arith; wires = refl; codes = l; made = record { state = refl; grown = omega arith } }
+pub advancing-none : (t : Tables) (c : ℕ) (ws es : List ℕ) → length es ≡ length ws → Advancing t (state_of c ws es) c (length ws) ws es 0
+advancing-none t c ws es l = record { wires = refl; codes = l; made = record { state = refl; grown = omega arith } }
 
-pub advancing-more : {m c r W i : ℕ} {t : Tables} {S₀ : State} {ws es ws' es' : List ℕ} → Advancing t m S₀ c W ws es i → i < m → length ws' ≡ length ws
-    → length es' ≡ length es → Advanced (state_of c ws es) (gate_at t i) (state_of r ws' es') → Advancing t m S₀ r W ws' es' (i + 1)
-advancing-more {i = i} {t = t} {S₀ = S₀} h l kw ke s =
+pub advancing-more : {c r W i : ℕ} {t : Tables} {S₀ : State} {ws es ws' es' : List ℕ} → Advancing t S₀ c W ws es i → length ws' ≡ length ws
+    → length es' ≡ length es → Advanced (state_of c ws es) (gate_at t i) (state_of r ws' es') → Advancing t S₀ r W ws' es' (i + 1)
+advancing-more {i = i} {t = t} {S₀ = S₀} h kw ke s =
     let g : Gate = gate_at t i in
     record {
-      passed = omega arith;
       wires = kw ∙ h.wires;
       codes = ke ∙ h.codes;
       made = record {
@@ -65,6 +63,3 @@ advancing-more {i = i} {t = t} {S₀ = S₀} h l kw ke s =
         grown = omega (arith, h.made.grown, s.grown);
       };
     }
-
-pub advancing-all : {m c W i : ℕ} {t : Tables} {S₀ : State} {ws es : List ℕ} → Advancing t m S₀ c W ws es i → m ≤ i → AdvancedAll S₀ t m (state_of c ws es)
-advancing-all {m = m} {i = i} h l = let q : i ≡ m = omega (arith, h.passed) in rw q at h.made

@@ -26,25 +26,23 @@ input-at c k (e ∷ es) (suc i) h =
     let z : k + suc i ≡ k + 1 + i = omega arith in
     ap (λ (w : ℕ). input_twin (past_publics (past_public c e) (take i es)) w (get_or es i 0)) z ∙ input-at (past_public c e) (k + 1) es i (le_of_suc-le-suc h)
 
--- the first i inputs were passed: the next input is w, the next wire v
-pub record Passed (c : ℕ) (cs : List ℕ) (v w i : ℕ) : Type 0 where
+-- the first i inputs were passed: the next wire is v
+pub record Passed (c : ℕ) (cs : List ℕ) (v i : ℕ) : Type 0 where
   pub passed : i ≤ length cs
-  pub input : w ≡ i
   pub next : v ≡ past_publics c (take i cs)
   pub most : v ≤ c + i
 
-pub passed_none : (c : ℕ) (cs : List ℕ) → Passed c cs c 0 0
-passed_none c cs = record { passed = omega arith; input = refl; next = refl; most = omega arith }
+pub passed_none : (c : ℕ) (cs : List ℕ) → Passed c cs c 0
+passed_none c cs = record { passed = omega arith; next = refl; most = omega arith }
 
-pub passed-more : {c v v' w i : ℕ} {cs : List ℕ} → Passed c cs v w i → i < length cs → v' ≡ past_public v (get_or cs i 0) → Passed c cs v' (w + 1) (i + 1)
+pub passed-more : {c v v' i : ℕ} {cs : List ℕ} → Passed c cs v i → i < length cs → v' ≡ past_public v (get_or cs i 0) → Passed c cs v' (i + 1)
 passed-more {c} {v} {i = i} {cs = cs} h l p =
     let e : ℕ = get_or cs i 0 in
     record {
       passed = omega arith;
-      input = omega (arith, h.input);
       next = p ∙ ap (λ (u : ℕ). past_public u e) h.next ∙ sym (ap (λ (j : ℕ). past_publics c (take j cs)) (add-one i) ∙ past_more c cs i l);
       most = omega (arith, h.most, past-most v e);
     }
 
-pub passed-all : {c v w i : ℕ} {cs : List ℕ} → Passed c cs v w i → length cs ≤ i → v ≡ past_publics c cs
+pub passed-all : {c v i : ℕ} {cs : List ℕ} → Passed c cs v i → length cs ≤ i → v ≡ past_publics c cs
 passed-all {c} {i = i} {cs = cs} h l = h.next ∙ ap (past_publics c) (take_all i cs l)

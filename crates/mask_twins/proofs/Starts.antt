@@ -7,19 +7,19 @@ use lib.ListN.{length, get_or, set, drop, replicate, length-set}
 use Rattle.netlist.specs.declared.Twin.{Twin}
 use Rattle.netlist.specs.Mask.{input_twin, input_twins, past_public, past_publics, no_twin}
 use Rattle.netlist.proofs.PublicGates.{length-input_twins, past-within}
-use Rattle.clear.proofs.Laid.{Laid, laid_none, laid_more, laid-all, drop-replicate}
+use Rattle.netlist.proofs.Laid.{Laid, laid_none, laid_more, laid-all, drop-replicate}
 use Rattle.mask_twins.specs.State.{twins_of, Started}
 use Rattle.mask_twins.proofs.States.{twins-set, twins-length}
 use Rattle.mask_twins.proofs.PublicWires.{Passed, passed_none, passed-more, passed-all, input-at}
 
 -- the twins of the first i inputs are laid; the tables have kept their length
-pub record Entered (c : ℕ) (cs ws₀ es₀ ws es : List ℕ) (v w i : ℕ) : Type 0 where
-  pub inputs : Passed c cs v w i
+pub record Entered (c : ℕ) (cs ws₀ es₀ ws es : List ℕ) (v i : ℕ) : Type 0 where
+  pub inputs : Passed c cs v i
   pub wires : length ws ≡ length ws₀
   pub codes : length es ≡ length ws₀
   pub laid : Laid no_twin (input_twins c 0 cs) (twins_of ws₀ es₀) (twins_of ws es) i
 
-pub entered-none : (c : ℕ) (cs ws es : List ℕ) → length es ≡ length ws → Entered c cs ws es ws es c 0 0
+pub entered-none : (c : ℕ) (cs ws es : List ℕ) → length es ≡ length ws → Entered c cs ws es ws es c 0
 entered-none c cs ws es l = record {
   inputs = passed_none c cs;
   wires = refl;
@@ -27,10 +27,10 @@ entered-none c cs ws es l = record {
   laid = laid_none no_twin (input_twins c 0 cs) (twins_of ws es);
 }
 
-pub entered-more : {cs ws₀ es₀ ws es : List ℕ} {c v v' w i : ℕ} {t : Twin} → Entered c cs ws₀ es₀ ws es v w i → i < length cs → length cs ≤ length ws₀
-    → t ≡ input_twin v w (get_or cs i 0) → v' ≡ past_public v (get_or cs i 0) → Entered c cs ws₀ es₀ (set ws i t.wire) (set es i t.code) v' (w + 1) (i + 1)
-entered-more {cs} {ws = ws} {es = es} {c = c} {w = w} {i = i} {t = t} h l k p q =
-    let z : w ≡ 0 + i = omega (arith, h.inputs.input) in
+pub entered-more : {cs ws₀ es₀ ws es : List ℕ} {c v v' i : ℕ} {t : Twin} → Entered c cs ws₀ es₀ ws es v i → i < length cs → length cs ≤ length ws₀
+    → t ≡ input_twin v i (get_or cs i 0) → v' ≡ past_public v (get_or cs i 0) → Entered c cs ws₀ es₀ (set ws i t.wire) (set es i t.code) v' (i + 1)
+entered-more {cs} {ws = ws} {es = es} {c = c} {i = i} {t = t} h l k p q =
+    let z : i ≡ 0 + i = omega arith in
     let n : length (input_twins c 0 cs) ≡ length cs = length-input_twins c 0 cs in
     let m : length (twins_of ws es) ≡ length ws = twins-length ws es (h.codes ∙ sym h.wires) in
     let here : t ≡ get_or (input_twins c 0 cs) i no_twin
@@ -42,7 +42,7 @@ entered-more {cs} {ws = ws} {es = es} {c = c} {w = w} {i = i} {t = t} h l k p q 
       laid = rw (twins-set ws es i t.wire t.code) (laid_more t h.laid (omega arith) (omega (arith, h.wires)) here);
     }
 
-pub entered_all : {cs ws₀ es₀ ws es : List ℕ} {c v w i : ℕ} → Entered c cs ws₀ es₀ ws es v w i → length cs ≤ i
+pub entered_all : {cs ws₀ es₀ ws es : List ℕ} {c v i : ℕ} → Entered c cs ws₀ es₀ ws es v i → length cs ≤ i
     → (v ≡ past_publics c cs) × (twins_of ws es ≡ input_twins c 0 cs ++ drop (length cs) (twins_of ws₀ es₀))
 entered_all {cs} {ws₀} {es₀} {c = c} h l =
     let n : length (input_twins c 0 cs) ≡ length cs = length-input_twins c 0 cs in

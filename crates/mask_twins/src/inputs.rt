@@ -10,20 +10,18 @@ pub fn past(c: u32, e: u8) -> u32
     requires { c < 2 ^ 31 }
     ensures { result ≡ past_public c e }
 {
-    if e != 0 {
-        return c;
-    }
-    c + 1
+    if e == 0 { c + 1 } else { c }
 }
 
 // The twin of input w: where it is public the wire c of its gate, with code 1, and otherwise its own wire, with its code.
 fn input(c: u32, w: u32, e: u8) -> Twin
     ensures { result ≡ input_twin c w e }
 {
-    if e != 0 {
-        return Twin { wire: w, code: e };
+    if e == 0 {
+        Twin { wire: c, code: 1 }
+    } else {
+        Twin { wire: w, code: e }
     }
-    Twin { wire: c, code: 1 }
 }
 
 // The twins of the inputs, with the public bits' gates at the wires from c, and the next wire; the other entries are kept.
@@ -33,17 +31,12 @@ fn inputs(c: u32, codes: &[u8], wire: &mut [u32], code: &mut [u8]) -> u32
         (twins_of wire.new code.new ≡ input_twins c 0 codes.now ++ drop (length codes.now)
         (twins_of wire.old code.old)) }
 {
-    let mut i = 0;
-    let mut w = 0;
     let mut next = c;
-    while i < codes.len() {
-        let e = codes[i];
-        let t = input(next, w, e);
+    for (i, e) in codes.iter().enumerate() {
+        let t = input(next, i as u32, *e);
         wire[i] = t.wire;
         code[i] = t.code;
-        next = past(next, e);
-        w += 1;
-        i += 1;
+        next = past(next, *e);
     }
     next
 }
@@ -53,7 +46,7 @@ pub fn start(c: u32, codes: &[u8], wire: &mut [u32], code: &mut [u8]) -> u32
     requires { (length code.old ≡ length wire.old) × (length codes.now ≤ length wire.old) × (c + length codes.now < 2 ^ 31) }
     ensures { Started c codes.now (length wire.old) result wire.new code.new }
 {
-    clear::wires(wire);
-    clear::bytes(code);
+    wire.fill(0);
+    code.fill(0);
     inputs(c, codes, wire, code)
 }

@@ -36,10 +36,8 @@ fn gates(
         count (state_of result wire.new code.new) }
 {
     let mut next = c;
-    let mut i = 0;
-    while i < count {
+    for i in 0..count {
         next = step(next, operands[i], results[i], wire, code);
-        i += 1;
     }
     next
 }

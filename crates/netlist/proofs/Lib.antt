@@ -46,5 +46,6 @@ pub mod Puts
 pub mod Answering
 -- known results
 pub mod KnownResults
+pub mod Laid
 -- the edges of the limits
 pub mod Edges

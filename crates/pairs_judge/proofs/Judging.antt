@@ -12,21 +12,21 @@ use Rattle.netlist.specs.Netlist.{Netlist}
 use Rattle.netlist.specs.Outcome.{Outcome, refused, done}
 use Rattle.netlist.specs.Leak.{Found, leak}
 use Rattle.netlist.specs.Services.{max_checked, check_outcome}
-use Rattle.netlist.specs.Table.{Tables, Holds}
 use Rattle.netlist.proofs.Tests.{both, true-T, every-at}
-use Rattle.pairs_search.specs.declared.search.WiresVerdict.{WiresVerdict}
+use Rattle.check_leak.specs.Search.{found_of}
 use Rattle.check_netlist.specs.Judge.{codes_asked}
 use Rattle.check_netlist.proofs.Judging.{outcome-refused, outcome-twelve, outcome-told}
 use Rattle.pairs.specs.Pairs.{clean_pair, first_bad}
 use Rattle.pairs.specs.Call.{BothAnswers, pairs_good, pairs_outcome}
 use Rattle.pairs.proofs.PairCalls.{pairs-refused, pairs-bad, pairs-told}
-use Rattle.pairs_search.specs.declared.search.PairsVerdict.{PairsVerdict}
-use Rattle.pairs_search.specs.Search.{found_of, bad_of}
+use Rattle.pairs_search.specs.declared.search.PairsFound.{PairsFound}
+use Rattle.pairs_search.specs.Search.{bad_of}
+use Rattle.pairs_judge.specs.Judge.{both_of}
 
 -- ---- question 21
 
-pub good-odd : (W : ℕ) (ws : List ℕ) → (length ws % 2 ≡ 0 → ⊥) → false ≡ pairs_good W ws
-good-odd W ws h = sym (rw (ne_eqb (length ws % 2) 0 h))
+pub good-odd : (W : ℕ) (ws : List ℕ) → (length ws % 2 ≡ 0 → ⊥) → eqb (length ws % 2) 0 ≡ pairs_good W ws
+good-odd W ws h = rw (ne_eqb (length ws % 2) 0 h)
 
 pub good-even : (W : ℕ) (ws : List ℕ) {r : Bool} → length ws % 2 ≡ 0 → r ≡ every (λ w. ltb w W) ws → r ≡ pairs_good W ws
 good-even W ws h e = e ∙ sym (rw (eq-eqb (length ws % 2) 0 h))
@@ -36,17 +36,14 @@ good-below W ws e i l =
     ltb→lt (get_or ws i 0) W
     (every-at (λ w. ltb w W) ws (both (eqb (length ws % 2) 0) (every (λ w. ltb w W) ws) (true-T (pairs_good W ws) e)).1 i l)
 
--- ---- the core's verdicts, where it is handed as many words as there are wires
+-- ---- the core's answers
 
 abbrev answers_of : Netlist → List ℕ → List ℕ → BothAnswers Found
 answers_of N codes ws = record { leak = leak N codes; pairs = first_bad (clean_pair N codes) ws }
 
-pub told : {t : Tables} {m k W n o : ℕ} {N : Netlist} (codes ws : List ℕ) (v : WiresVerdict) (p : PairsVerdict) → k ≡ W
-    → ((n o : ℕ) (N : Netlist) → Holds t m k n o N → (found_of v ≡ leak N codes) × (bad_of p ≡ first_bad (clean_pair N codes) ws)) → Holds t m W n o N
-    → ◌≡◌ {A = Outcome (BothAnswers Found)} (done (record { leak = found_of v; pairs = bad_of p })) (done (answers_of N codes ws))
-told {n = n} {o = o} {N = N} codes ws v p e f h =
-    let g = f n o N (rw e h) in
-    ap₂ (λ (l : Option Found) (b : Option ℕ). done (record { leak = l; pairs = b })) g.0 g.1
+pub told : (N : Netlist) (codes ws : List ℕ) (f : PairsFound) → (found_of f.leak ≡ leak N codes) × (bad_of f.pair ≡ first_bad (clean_pair N codes) ws)
+    → ◌≡◌ {A = Outcome (BothAnswers Found)} (done (both_of f)) (done (answers_of N codes ws))
+told N codes ws f g = ap₂ (λ (l : Option Found) (b : Option ℕ). done (record { leak = l; pairs = b })) g.0 g.1
 
 -- ---- the questions in order
 

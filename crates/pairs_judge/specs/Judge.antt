@@ -1,30 +1,32 @@
 -- What an answer of Check with pairs says.
-use Rattle.std.specs.Prelude.{ℕ, List}
+use Rattle.std.specs.Prelude.{ℕ, Result, Ok, Err, Option, Some, None, List}
+use Rattle.netlist.specs.declared.Question.{Question}
 use Rattle.netlist.specs.Netlist.{Netlist}
-use Rattle.netlist.specs.Outcome.{Outcome, refused, done}
-use Rattle.netlist.specs.Leak.{Found, LowestLeak}
-use Rattle.netlist.specs.Leak as L
-use Rattle.pairs_search.specs.declared.search.WiresVerdict.{WiresVerdict}
-use Rattle.pairs_search.specs.declared.search.WiresVerdict.TheVariants.{Clean, Leak}
-use Rattle.check_netlist.specs.Judge.{found}
+use Rattle.netlist.specs.Outcome.{Outcome}
+use Rattle.netlist.specs.Services.{stands_for}
+use Rattle.netlist.specs.Leak.{Found, LowestLeak, Clean}
+use Rattle.check_leak.specs.declared.difference.Leak.{Leak}
+use Rattle.check_leak.specs.Search.{found, found_of}
 use Rattle.pairs.specs.Pairs.{PairsJudged}
 use Rattle.pairs.specs.Call.{BothAnswers}
-use Rattle.pairs_search.specs.Search.{found_of, bad_of}
-use Rattle.pairs_judge.specs.declared.CheckedPairs.{CheckedPairs}
-use Rattle.pairs_judge.specs.declared.CheckedPairs.TheVariants.{Done, Refused}
+use Rattle.pairs_search.specs.declared.search.PairsFound.{PairsFound}
+use Rattle.pairs_search.specs.Search.{bad_of}
+
+-- both answers
+abbrev pub both_of : PairsFound → BothAnswers Found
+both_of f = record { leak = found_of f.leak; pairs = bad_of f.pair }
 
 -- the outcome that an answer stands for
-abbrev pub outcome_of : CheckedPairs → Outcome (BothAnswers Found)
-outcome_of (Done v p) = done (record { leak = found_of v; pairs = bad_of p })
-outcome_of (Refused q) = refused q
+abbrev pub outcome_of : Result PairsFound Question → Outcome (BothAnswers Found)
+outcome_of a = stands_for both_of a
 
 -- the equal-count rule, as the one-wire answer has it: clean, so every wire meets the rule; or the lowest leak, so one does not
-abbrev pub WiresJudged : Netlist → List ℕ → WiresVerdict → Type 0
-WiresJudged N codes Clean = L.Clean N codes
-WiresJudged N codes (Leak w s b o) = LowestLeak N codes (found w s b o) × (L.Clean N codes → ⊥)
+abbrev pub WiresJudged : Netlist → List ℕ → Option Leak → Type 0
+WiresJudged N codes None = Clean N codes
+WiresJudged N codes (Some p) = LowestLeak N codes (found p) × (Clean N codes → ⊥)
 
 -- both answers of a netlist under input codes and a list of pairs: the one on wires, and clean exactly where every listed pair meets
 -- the rule, otherwise the first that does not; a refusal says nothing
-abbrev pub Judged : Netlist → List ℕ → List ℕ → CheckedPairs → Type 0
-Judged N codes ws (Done v p) = WiresJudged N codes v × PairsJudged N codes ws (bad_of p)
-Judged N codes ws (Refused q) = Unit
+abbrev pub Judged : Netlist → List ℕ → List ℕ → Result PairsFound Question → Type 0
+Judged N codes ws (Ok f) = WiresJudged N codes f.leak × PairsJudged N codes ws (bad_of f.pair)
+Judged N codes ws (Err q) = Unit

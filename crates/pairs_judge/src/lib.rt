@@ -12,77 +12,18 @@ ghost use Rattle.pairs.specs.Pairs.{clean_pair, first_bad};
 ghost use Rattle.pairs.specs.Call.{pairs_good, pairs_outcome};
 ghost use Rattle.pairs_judge.specs.Judge.{outcome_of};
 
-use check_netlist::Asked;
-use pairs_search::search::{PairsVerdict, WiresVerdict};
+use netlist::Question;
+use pairs_search::search::PairsFound;
 use read_header::HeaderNumbers;
 
 // Both answers; or the first question that gets a no.
-#[derive(Clone, Copy)]
-pub enum CheckedPairs {
-    Done(WiresVerdict, PairsVerdict),
-    Refused(u8),
-}
-
-// Whether each entry is a wire below `wires`.
-fn all_below(list: &[u32], wires: usize) -> bool
-    ensures { result ≡ every (λ w. ltb w wires) list.now }
-{
-    let mut i = 0;
-    while i < list.len() {
-        if wires <= list[i] as usize {
-            return false;
-        }
-        i += 1;
-    }
-    true
-}
+pub type CheckedPairs = Result<PairsFound, Question>;
 
 // Question 21: an even number of entries, each a wire below `wires`.
 pub fn pairs_good(pairs: &[u32], wires: usize) -> bool
     ensures { result ≡ pairs_good wires pairs.now }
 {
-    if pairs.len() % 2 != 0 {
-        return false;
-    }
-    all_below(pairs, wires)
-}
-
-// The verdicts on `count` gates over `wires` wires, for which the tables of words have room.
-fn verdicts(
-    count: usize,
-    wires: usize,
-    codes: &[u8],
-    pairs: &[u32],
-    operands: &[u64],
-    results: &[u64],
-    words: &mut [u64],
-    base: &mut [u64],
-    bases: &mut [u64],
-) -> CheckedPairs
-    requires wired { Wired (tables operands.now results.now) wires count }
-    requires codes_len_bound { (length codes.now ≤ max_checked) × (length codes.now + 2 ≤ wires) × (wires ≤ length words.old) × (wires ≤ length base.old)
-        × (wires ≤ length bases.old) × ((i : ℕ) → i < length pairs.now → get_or pairs.now i 0 < wires)
-        × ((i : ℕ) → i < length codes.now → get_or codes.now i 0 < 4) }
-    ensures { (n o : ℕ) (N : Netlist) → Holds (tables operands.now results.now) count wires n o N
-        → outcome_of result ≡ done (record {
-          leak = leakOf N codes.now;
-          pairs = first_bad (clean_pair N codes.now)
-              pairs.now;
-        }) }
-{
-    let found = pairs_search::search::search(
-        operands,
-        results,
-        count,
-        codes,
-        pairs,
-        &mut words[..wires],
-        &mut bases[..wires],
-        &mut base[..wires],
-    );
-    let wires = found.wires;
-    let pairs = found.pairs;
-    CheckedPairs::Done(wires, pairs)
+    pairs.len() % 2 == 0 && pairs.iter().all(|w| (*w as usize) < wires)
 }
 
 // Questions 10 to 12 and 21 and both verdicts, from a header's numbers and tables that begin with its input widths and its gates.
@@ -104,26 +45,23 @@ pub fn judge(
         h.output_bits N
         → take h.input_values widths ≡ N.inputs → outcome_of result ≡ pairs_outcome codes.now pairs.now N }
 {
-    match check_netlist::ask_codes(h, widths, codes) {
-        Asked::Refused(question) => CheckedPairs::Refused(question),
-        Asked::Passed => {
-            if check_netlist::MOST_BITS < codes.len() {
-                return CheckedPairs::Refused(12);
-            }
-            if !pairs_good(pairs, h.wires as usize) {
-                return CheckedPairs::Refused(21);
-            }
-            verdicts(
-                h.gates as usize,
-                h.wires as usize,
-                codes,
-                pairs,
-                operands,
-                results,
-                words,
-                base,
-                bases,
-            )
-        }
+    check_netlist::ask_codes(h, widths, codes)?;
+    if check_netlist::MOST_BITS < codes.len() {
+        return Err(Question::Settings);
     }
+    let wires = h.wires as usize;
+    if !pairs_good(pairs, wires) {
+        return Err(Question::Pairs);
+    }
+    let found = pairs_search::search::search(
+        operands,
+        results,
+        h.gates as usize,
+        codes,
+        pairs,
+        &mut words[..wires],
+        &mut bases[..wires],
+        &mut base[..wires],
+    );
+    Ok(found)
 }

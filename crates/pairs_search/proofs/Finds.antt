@@ -1,19 +1,19 @@
 -- The search over the blocks, and its two answers.
-use mathlib.Core.Path.{◌≡◌, sym, ap, ap₂, ◌∙◌, subst}
+use mathlib.Core.Path.{◌≡◌, refl, sym, ap, ap₂, ◌∙◌, subst}
 use mathlib.Core.Bool.{Bool, true, false}
 use mathlib.Core.List.{List}
 use mathlib.Core.Option.{none, some}
+use Rattle.std.specs.Prelude.{Option, Some, None}
+use Rattle.std.specs.Option.{unwrap_or, option_or}
 use Prim.Native.Nat.{ℕ, ◌+◌, ◌*◌, ◌/◌, ◌%◌, ◌^◌, ◌≤◌, ◌<◌}
 use native.Mathlib.Nat.{mod-lt}
 use native.Mathlib.Omega.{arith}
-use lib.Dec.{T, ltb}
+use lib.Dec.{T}
 use lib.ListN.{length, get_or}
 use lib.Pow.{pow_pos}
-use borrow.Author.Tests.{ltb-true, ltb-false}
 use Rattle.netlist.specs.Netlist.{Netlist}
 use Rattle.netlist.specs.Leak.{count, setting}
 use Rattle.netlist.specs.Table.{Tables, Holds}
-use Rattle.netlist.proofs.Tests.{on_bool}
 use Rattle.netlist.proofs.Settings.{setting-mod}
 use Rattle.evaluate.specs.Bare.{bare}
 use Rattle.evaluate.proofs.Runs.{bare-wires}
@@ -22,31 +22,32 @@ use Rattle.check_counts.specs.Paint.{paint_each}
 use Rattle.check_counts.specs.Base.{part}
 use Rattle.check_counts.proofs.Paints.{codes-each, paint-each, each-count}
 use Rattle.check_counts.specs.Block.{ones_of, nibbles_of, Evaluated}
-use Rattle.check_leak.specs.declared.difference.Difference.{Difference}
-use Rattle.check_leak.specs.Difference.{LowestDifference, from}
+use Rattle.check_leak.specs.declared.difference.Leak.{Leak}
+use Rattle.check_leak.specs.Difference.{LowestDifference, wire_of, from}
 use Rattle.check_leak.proofs.Differences.{difference-none, difference-same}
 use Rattle.pairs.specs.Pairs.{both_count, clean_pair, first_bad}
 use Rattle.pairs.proofs.PairCheck.{ThreeAsBase, passes-three, three-passes, first-is}
-use Rattle.pairs_search.specs.declared.search.Best.{Best}
+use Rattle.pairs_search.specs.declared.search.PairsFound.{PairsFound}
 use Rattle.pairs_search.specs.Level.{Counts, counts_of, held_in, held_base, on_from, Alike, Level, LevelAt, FirstUneven}
 use Rattle.pairs_search.specs.Bases.{Based, HeldOn}
-use Rattle.pairs_search.specs.Search.{bad_at, Found}
+use Rattle.pairs_search.specs.Search.{bad_of, Found}
 use Rattle.pairs_search.proofs.Levels.{alike-setting, alike-base, level-as, level-back, level-on, level-off}
 use Rattle.pairs_search.proofs.Uneven.{uneven-none, uneven-as, uneven-more}
 
 -- ---- what one block shows
 
-pub look-law : (words bases base ws : List ℕ) (block : ℕ) {best : Best} {found next : Difference} {k : ℕ}
-    → LowestDifference (nibbles_of base) (ones_of words) best.difference.wire 16 found
-    → FirstUneven (LevelAt (held_base bases base) (held_in words) ws) best.pair 16 k
-    → ((f g : ℕ → ℕ → ℕ) (W : ℕ) → LowestDifference f g W (block * 16) best.difference → LowestDifference (from (block * 16) f) (from (block * 16) g)
-    best.difference.wire 16 found
+pub look-law : (words bases base ws : List ℕ) (limit block : ℕ) {best : PairsFound} {found next : Option Leak} (k : Option ℕ)
+    → LowestDifference (nibbles_of base) (ones_of words) (wire_of limit best.leak) 16 found
+    → FirstUneven (LevelAt (held_base bases base) (held_in words) ws) (unwrap_or best.pair (length ws / 2)) 16 k
+    → ((f g : ℕ → ℕ → ℕ) (W : ℕ) → LowestDifference f g W (block * 16) best.leak → LowestDifference (from (block * 16) f) (from (block * 16) g)
+    (wire_of W best.leak) 16 found
     → LowestDifference f g W (block * 16 + 16) next)
-    → (based counts : Counts) (W n : ℕ) → Alike (held_base bases base) (on_from (block * 16) based) → Alike (held_in words) (on_from (block * 16) counts)
-    → Found based counts ws W n (block * 16) best → Found based counts ws W n (block * 16 + 16) (record { difference = next; pair = k })
-look-law words bases base ws block scanned uneven better based counts W n a b past = record {
-  lowest = better based.one counts.one W past.lowest (difference-same a.one b.one scanned);
-  uneven = uneven-more past.uneven
+    → (based counts : Counts) → Alike (held_base bases base) (on_from (block * 16) based) → Alike (held_in words) (on_from (block * 16) counts)
+    → Found based counts ws limit (length ws / 2) (block * 16) best
+    → Found based counts ws limit (length ws / 2) (block * 16 + 16) (record { leak = next; pair = option_or k best.pair })
+look-law words bases base ws limit block k scanned uneven better based counts a b past = record {
+  lowest = better based.one counts.one limit past.lowest (difference-same a.one b.one scanned);
+  uneven = uneven-more past.uneven k
       (uneven-as (λ j s l h. level-on (block * 16) (first j) (second j) s (level-as a b (first j) (second j) s l h))
       (λ j s l h. level-back a b (first j) (second j) s l (level-off (block * 16) (first j) (second j) s h)) uneven);
 }
@@ -66,7 +67,7 @@ abbrev setting_counts : Tables → ℕ → ℕ → List ℕ → Counts
 setting_counts t n W ps = counts_of (bare t n W) true ps
 
 -- the blocks before this one are searched, and the tables keep their lengths
-pub record Finding (t : Tables) (n W limit : ℕ) (ps ws : List ℕ) (publics : Bool) (blocks : ℕ) (words bases base : List ℕ) (best : Best) (block : ℕ) : Type 0 where
+pub record Finding (t : Tables) (n W limit : ℕ) (ps ws : List ℕ) (publics : Bool) (blocks : ℕ) (words bases base : List ℕ) (best : PairsFound) (block : ℕ) : Type 0 where
   pub passed : block ≤ blocks
   pub long-words : length words ≡ W
   pub long-bases : length bases ≡ W
@@ -74,30 +75,29 @@ pub record Finding (t : Tables) (n W limit : ℕ) (ps ws : List ℕ) (publics : 
   pub held : HeldOn publics (bare t n W) ps bases base block
   pub found : Found (base_counts t n W ps) (setting_counts t n W ps) ws limit (length ws / 2) (block * 16) best
 
-pub find_none : {t : Tables} {n W limit : ℕ} {ps : List ℕ} (ws : List ℕ) {publics : Bool} (blocks : ℕ) {words bases base : List ℕ} {best : Best}
+pub find_none : {t : Tables} {n W limit : ℕ} {ps : List ℕ} (ws : List ℕ) {publics : Bool} (blocks : ℕ) {words bases base : List ℕ}
     → length words ≡ W → length bases ≡ W → length base ≡ W → HeldOn publics (bare t n W) ps bases base 0
-    → best.difference.wire ≡ limit → best.pair ≡ length ws / 2 → Finding t n W limit ps ws publics blocks words bases base best 0
-find_none {t} {n} {W} {limit} {ps} ws blocks {best = best} a b c h w p = record {
+    → Finding t n W limit ps ws publics blocks words bases base (record { leak = None; pair = None }) 0
+find_none {t} {n} {W} {limit} {ps} ws blocks a b c h = record {
   passed = omega arith;
   long-words = a;
   long-bases = b;
   long-base = c;
   held = h;
   found = record {
-    lowest = difference-none w (λ w l s m. absurd (omega arith));
-    uneven = subst (FirstUneven (LevelAt (base_counts t n W ps) (setting_counts t n W ps) ws) (length ws / 2) 0) (sym p)
-        (uneven-none (LevelAt (base_counts t n W ps) (setting_counts t n W ps) ws) (length ws / 2));
+    lowest = difference-none (base_counts t n W ps).one (setting_counts t n W ps).one limit 0 (λ w l s m. absurd (omega arith));
+    uneven = uneven-none (LevelAt (base_counts t n W ps) (setting_counts t n W ps) ws) (length ws / 2) 0 (λ j l s m. absurd (omega arith));
   };
 }
 
 -- a block is run and looked at
-pub find-more : {t : Tables} {n W limit : ℕ} {ps ws : List ℕ} {publics : Bool} {blocks : ℕ} {words bases base : List ℕ} {best : Best} {block : ℕ}
+pub find-more : {t : Tables} {n W limit : ℕ} {ps ws : List ℕ} {publics : Bool} {blocks : ℕ} {words bases base : List ℕ} {best : PairsFound} {block : ℕ}
     → Finding t n W limit ps ws publics blocks words bases base best block → block < blocks
-    → (us vs zs : List ℕ) (next : Best) → length us ≡ length words → length vs ≡ length bases → length zs ≡ length base
+    → (us vs zs : List ℕ) (next : PairsFound) → length us ≡ length words → length vs ≡ length bases → length zs ≡ length base
     → Evaluated (bare t n (length words)) true ps us block × Based (bare t n (length words)) ps vs zs block
     × HeldOn publics (bare t n (length words)) ps vs zs (block + 1)
-    → ((based counts : Counts) (W n : ℕ) → Alike (held_base vs zs) (on_from (block * 16) based) → Alike (held_in us) (on_from (block * 16) counts)
-    → Found based counts ws W n (block * 16) best → Found based counts ws W n (block * 16 + 16) next)
+    → ((based counts : Counts) → Alike (held_base vs zs) (on_from (block * 16) based) → Alike (held_in us) (on_from (block * 16) counts)
+    → Found based counts ws limit (length ws / 2) (block * 16) best → Found based counts ws limit (length ws / 2) (block * 16 + 16) next)
     → Finding t n W limit ps ws publics blocks us vs zs next (block + 1)
 find-more {t} {n} {W} {limit} {ps} {ws} {publics} {best = best} {block} r l us vs zs next a b c ran looked =
     let q : block * 16 + 16 ≡ (block + 1) * 16 = omega arith in
@@ -111,10 +111,10 @@ find-more {t} {n} {W} {limit} {ps} {ws} {publics} {best = best} {block} r l us v
       long-base = c ∙ r.long-base;
       held = ran'.2;
       found = subst (λ (S : ℕ). Found (base_counts t n W ps) (setting_counts t n W ps) ws limit (length ws / 2) S next) q
-          (looked (base_counts t n W ps) (setting_counts t n W ps) limit (length ws / 2) (alike-base ran'.1) (alike-setting ran'.0) r.found);
+          (looked (base_counts t n W ps) (setting_counts t n W ps) (alike-base ran'.1) (alike-setting ran'.0) r.found);
     }
 
-pub find-all : {t : Tables} {n W limit : ℕ} {ps ws : List ℕ} {publics : Bool} {blocks : ℕ} {words bases base : List ℕ} {best : Best} {block : ℕ}
+pub find-all : {t : Tables} {n W limit : ℕ} {ps ws : List ℕ} {publics : Bool} {blocks : ℕ} {words bases base : List ℕ} {best : PairsFound} {block : ℕ}
     → Finding t n W limit ps ws publics blocks words bases base best block → blocks ≤ block
     → Found (base_counts t n W ps) (setting_counts t n W ps) ws limit (length ws / 2) (blocks * 16) best
 find-all {t} {n} {W} {limit} {ps} {ws} {blocks = blocks} {best = best} {block} r l =
@@ -176,19 +176,20 @@ module _ {t : Tables} {m W n o : ℕ} {N : Netlist} (h : Holds t m W n o N) (cod
         three-level s (subst (ThreeAsBase N codes u v) (sym (setting-mod (length codes) s))
         (passes-three N codes u v c (s % 2 ^ length codes) (mod-lt s (pow_pos (length codes)))))
 
-  module _ (ws : List ℕ) (S k : ℕ) (room : 2 ^ length codes ≤ S)
-      (uneven : FirstUneven (LevelAt (base_counts t m W (paint_each 0 codes)) (setting_counts t m W (paint_each 0 codes)) ws) (length ws / 2) S k) where
-    before-clean : (j : ℕ) → j < k → T (clean_pair N codes (get_or ws (2 * j) 0) (get_or ws (2 * j + 1) 0))
+  module _ (ws : List ℕ) (S : ℕ) (found : Option ℕ) (room : 2 ^ length codes ≤ S)
+      (uneven : FirstUneven (LevelAt (base_counts t m W (paint_each 0 codes)) (setting_counts t m W (paint_each 0 codes)) ws) (length ws / 2) S found) where
+    before-clean : (j : ℕ) → j < unwrap_or found (length ws / 2) → T (clean_pair N codes (get_or ws (2 * j) 0) (get_or ws (2 * j + 1) 0))
     before-clean j l = level-clean (get_or ws (2 * j) 0) (get_or ws (2 * j + 1) 0) S room (uneven.before j l)
 
-    pub tells-pairs : bad_at k (length ws / 2) ≡ first_bad (clean_pair N codes) ws
-    tells-pairs =
-        on_bool (ltb k (length ws / 2))
-        (λ t. let l : k < length ws / 2 = ltb-true k (length ws / 2) t in
-        rw t (first-is (clean_pair N codes) ws (some k) (record {
+    tells : (k : Option ℕ) → found ≡ k → bad_of k ≡ first_bad (clean_pair N codes) ws
+    tells None e = first-is (clean_pair N codes) ws none (λ j i. before-clean j (rw e (omega arith)))
+    tells (Some k) e =
+        let l : k < length ws / 2 = uneven.inside k e in
+        first-is (clean_pair N codes) ws (some k) (record {
           inside = omega arith;
-          before = before-clean;
-          bad = λ c. uneven.bad l (λ s _. clean-level (get_or ws (2 * k) 0) (get_or ws (2 * k + 1) 0) c s);
-        })))
-        (λ t. let l = ltb-false k (length ws / 2) t in
-        rw t (first-is (clean_pair N codes) ws none (λ j i. before-clean j (omega arith))))
+          before = λ j i. before-clean j (rw e i);
+          bad = λ c. uneven.bad k e (λ s _. clean-level (get_or ws (2 * k) 0) (get_or ws (2 * k + 1) 0) c s);
+        })
+
+    pub tells-pairs : bad_of found ≡ first_bad (clean_pair N codes) ws
+    tells-pairs = tells found refl

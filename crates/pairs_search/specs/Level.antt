@@ -1,5 +1,6 @@
 -- The counts of wires and of pairs of wires, and whether a pair has those of its base.
-use Rattle.std.specs.Prelude.{ℕ, ◌+◌, ◌*◌, ◌≤◌, ◌<◌, Bool, List, ◌≡◌, get_or}
+use Rattle.std.specs.Prelude.{ℕ, ◌+◌, ◌*◌, ◌<◌, Bool, List, ◌≡◌, Option, Some, get_or}
+use Rattle.std.specs.Option.{unwrap_or}
 use Rattle.std.specs.Int.Bits.{bit_and}
 use Rattle.netlist.specs.Netlist.{Netlist}
 use Rattle.check_counts.specs.Paint.{codes_of, paint}
@@ -50,8 +51,8 @@ pub record Level (base counts : Counts) (u v s : ℕ) : Type 0 where
 abbrev pub LevelAt : Counts → Counts → List ℕ → ℕ → ℕ → Type 0
 LevelAt base counts ws j s = Level base counts (get_or ws (2 * j) 0) (get_or ws (2 * j + 1) 0) s
 
--- of n pairs, k is the first that is not level in some setting below S, or it is n
-pub record FirstUneven (level : ℕ → ℕ → Type 0) (n S k : ℕ) : Type 0 where
-  pub within : k ≤ n
-  pub before : (j : ℕ) → j < k → (s : ℕ) → s < S → level j s
-  pub bad : k < n → ((s : ℕ) → s < S → level k s) → ⊥
+-- of n pairs, the first that is not level in some setting below S is found; or none, and all are
+pub record FirstUneven (level : ℕ → ℕ → Type 0) (n S : ℕ) (found : Option ℕ) : Type 0 where
+  pub before : (j : ℕ) → j < unwrap_or found n → (s : ℕ) → s < S → level j s
+  pub inside : (k : ℕ) → found ≡ Some k → k < n
+  pub bad : (k : ℕ) → found ≡ Some k → ((s : ℕ) → s < S → level k s) → ⊥

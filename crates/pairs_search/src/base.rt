@@ -13,10 +13,8 @@ fn repeat(words: &[u64], bases: &mut [u64])
     requires { length bases.old ≡ length words.now }
     ensures { (w j : ℕ) → j < 64 → lane j (get_or bases.new w 0) ≡ lane (j % 4) (get_or words.now w 0) }
 {
-    let mut w = 0;
-    while w < words.len() {
-        bases[w] = nibble::repeat(words[w]);
-        w += 1;
+    for (w, word) in words.iter().enumerate() {
+        bases[w] = nibble::repeat(*word);
     }
 }
 
@@ -25,10 +23,8 @@ fn tally(bases: &[u64], base: &mut [u64])
     requires { length base.old ≡ length bases.now }
     ensures { (w s : ℕ) → s < 16 → nibbles_of base.new w s ≡ ones_of bases.now w s }
 {
-    let mut w = 0;
-    while w < bases.len() {
-        base[w] = nibble::counts(bases[w]);
-        w += 1;
+    for (w, word) in bases.iter().enumerate() {
+        base[w] = nibble::counts(*word);
     }
 }
 

@@ -24,7 +24,7 @@ fn level(u: usize, v: usize, words: &[u64], bases: &[u64], base: &[u64], agreed:
     (first | second | both) == 0
 }
 
-// The first of the pairs below a limit that is not level in a block, or the limit.
+// The first of the pairs below a limit that is not level in a block.
 pub fn scan(
     pairs: &[u32],
     limit: usize,
@@ -32,21 +32,19 @@ pub fn scan(
     bases: &[u64],
     base: &[u64],
     agreed: bool,
-) -> usize
+) -> Option<usize>
     requires { (2 * limit ≤ length pairs.now) × (length bases.now ≡ length words.now) × (length base.now ≡ length words.now)
         × ((i : ℕ) → i < length pairs.now → get_or pairs.now i 0 < length words.now)
         × (agreed ≡ true → Agree (nibbles_of base.now) (ones_of words.now) (length words.now) 16) }
     ensures { FirstUneven (LevelAt (held_base bases.now base.now) (held_in words.now)
         pairs.now) limit 16 result }
 {
-    let mut j = 0;
-    while j < limit {
+    for j in 0..limit {
         let u = pairs[2 * j] as usize;
         let v = pairs[2 * j + 1] as usize;
         if !level(u, v, words, bases, base, agreed) {
-            return j;
+            return Some(j);
         }
-        j += 1;
     }
-    limit
+    None
 }

@@ -1,48 +1,29 @@
 // The search for a leak on a wire and for a bad pair, block by block.
 ghost use Rattle.std.specs.Prelude.{◌≡◌, true, false, ℕ, ◌+◌, ◌*◌, ◌/◌, ◌^◌, ◌<◌, ◌≤◌, length, get_or};
+ghost use Rattle.std.specs.Option.{unwrap_or};
 ghost use Rattle.netlist.specs.Netlist.{Netlist};
 ghost use Rattle.netlist.specs.Leak.{leak as leakOf};
 ghost use Rattle.netlist.specs.Services.{max_checked};
 ghost use Rattle.netlist.specs.Table.{tables, Wired, Holds};
 ghost use Rattle.evaluate.specs.Bare.{bare};
 ghost use Rattle.check_counts.specs.Block.{Evaluated};
-ghost use Rattle.check_leak.specs.Search.{found_at};
+ghost use Rattle.check_leak.specs.Difference.{wire_of};
+ghost use Rattle.check_leak.specs.Search.{found_of};
 ghost use Rattle.pairs.specs.Pairs.{clean_pair, first_bad};
 ghost use Rattle.pairs_search.specs.Level.{Counts, counts_of, held_in, held_base, on_from, Alike};
 ghost use Rattle.pairs_search.specs.Bases.{Based, HeldOn};
-ghost use Rattle.pairs_search.specs.Search.{found_of, bad_of, bad_at, Found};
+ghost use Rattle.pairs_search.specs.Search.{bad_of, Found};
 
 use crate::{base, pair};
 use check_counts::{block, paint};
 use check_leak::difference;
-use check_leak::difference::Difference;
+use check_leak::difference::Leak;
 
-// Clean, or a leak: its wire, its setting, its base's count and the setting's.
-#[derive(Clone, Copy)]
-pub enum WiresVerdict {
-    Clean,
-    Leak(usize, u64, u8, u8),
-}
-
-// Clean, or how many pairs stand before the first bad one.
-#[derive(Clone, Copy)]
-pub enum PairsVerdict {
-    Clean,
-    Bad(usize),
-}
-
-// Both answers.
-#[derive(Clone, Copy)]
-pub struct Verdicts {
-    pub wires: WiresVerdict,
-    pub pairs: PairsVerdict,
-}
-
-// The lowest difference on a wire so far, and the first bad pair so far or the number of pairs.
-#[derive(Clone, Copy)]
-pub struct Best {
-    pub difference: Difference,
-    pub pair: usize,
+// The lowest leak, and how many pairs stand before the first bad one; none where all are clean.
+#[derive(Clone, Copy, Debug, PartialEq, Eq)]
+pub struct PairsFound {
+    pub leak: Option<Leak>,
+    pub pair: Option<usize>,
 }
 
 // A block is run: the words of its settings, the words of their bases, and the counts of these.
@@ -72,23 +53,34 @@ fn run(
     );
 }
 
-// The better of the best so far and what a block shows. Wires above the lowest difference, and pairs behind the first bad one, are looked at no more.
-fn look(words: &[u64], bases: &[u64], base: &[u64], pairs: &[u32], best: Best, block: u64) -> Best
-    requires { (block < 65536) × (best.difference.wire ≤ length words.now) × (2 * best.pair ≤ length pairs.now)
+// The better of the best so far, of wires below a limit, and what a block shows. Wires above the lowest leak, and pairs behind the first
+// bad one, are looked at no more.
+fn look(
+    words: &[u64],
+    bases: &[u64],
+    base: &[u64],
+    pairs: &[u32],
+    limit: usize,
+    best: PairsFound,
+    block: u64,
+) -> PairsFound
+    requires { (block < 65536) × (wire_of limit best.leak ≤ length words.now)
+        × (unwrap_or best.pair (length pairs.now / 2) ≤ length pairs.now / 2)
         × (length bases.now ≡ length words.now) × (length base.now ≡ length words.now)
         × ((i : ℕ) → i < length pairs.now → get_or pairs.now i 0 < length words.now) }
-    ensures { (based counts : Counts) (W n : ℕ) → Alike (held_base bases.now base.now) (on_from (block * 16) based)
+    ensures { (based counts : Counts) → Alike (held_base bases.now base.now) (on_from (block * 16) based)
         → Alike (held_in words.now) (on_from (block * 16) counts)
-        → Found based counts pairs.now W n (block * 16) best → Found based counts pairs.now W n (block * 16 + 16) result }
+        → Found based counts pairs.now limit (length pairs.now / 2) (block * 16) best
+        → Found based counts pairs.now limit (length pairs.now / 2) (block * 16 + 16) result }
 {
-    let limit = best.difference.wire;
-    let found = difference::scan(words, base, limit);
-    let first = best.pair;
-    let agreed = found.wire == words.len();
-    let pair = pair::scan(pairs, first, words, bases, base, agreed);
-    Best {
-        difference: difference::better(best.difference, found, block),
-        pair: pair,
+    let wires = difference::limit(best.leak, limit);
+    let found = difference::scan(words, base, wires);
+    let agreed = wires == words.len() && found.is_none();
+    let before = best.pair.unwrap_or(pairs.len() / 2);
+    let pair = pair::scan(pairs, before, words, bases, base, agreed);
+    PairsFound {
+        leak: difference::better(best.leak, found, block),
+        pair: pair.or(best.pair),
     }
 }
 
@@ -104,7 +96,7 @@ pub fn find(
     words: &mut [u64],
     bases: &mut [u64],
     base: &mut [u64],
-) -> Best
+) -> PairsFound
     requires wired { Wired (tables operands.now results.now) (length words.old) count }
     requires paints_in_bounds { (length paints.now + 2 ≤ length words.old) × (length bases.old ≡ length words.old)
         × (length base.old ≡ length words.old) × (blocks < 65536) × (limit ≤ length words.old)
@@ -114,42 +106,17 @@ pub fn find(
         (length pairs.now / 2) (blocks * 16) result }
 {
     let publics = block::public(paints);
-    let mut best = Best {
-        difference: difference::none(limit),
-        pair: pairs.len() / 2,
+    let mut best = PairsFound {
+        leak: None,
+        pair: None,
     };
-    let mut block = 0;
-    while block < blocks {
+    for block in 0..blocks {
         run(
             operands, results, count, paints, publics, block, words, bases, base,
         );
-        best = look(words, bases, base, pairs, best, block);
-        block += 1;
+        best = look(words, bases, base, pairs, limit, best, block);
     }
     best
-}
-
-// What a difference among so many wires says, or none.
-fn wires_verdict_of(found: Difference, wires: usize) -> WiresVerdict
-    ensures { found_of result ≡ found_at found wires }
-{
-    let wire = found.wire;
-    if wire < wires {
-        WiresVerdict::Leak(wire, found.setting, found.base, found.count)
-    } else {
-        WiresVerdict::Clean
-    }
-}
-
-// What the first bad one of so many pairs says, or none.
-pub fn pairs_verdict_of(pair: usize, count: usize) -> PairsVerdict
-    ensures { bad_of result ≡ bad_at pair count }
-{
-    if pair < count {
-        PairsVerdict::Bad(pair)
-    } else {
-        PairsVerdict::Clean
-    }
 }
 
 // Whether the tables' netlist is clean under the input codes, and each listed pair of its wires. The three tables of words, one
@@ -163,20 +130,20 @@ pub fn search(
     words: &mut [u64],
     bases: &mut [u64],
     base: &mut [u64],
-) -> Verdicts
+) -> PairsFound
     requires wired { Wired (tables operands.now results.now) (length words.old) count }
     requires codes_len_bound { (length codes.now ≤ max_checked) × (length codes.now + 2 ≤ length words.old) × (length bases.old ≡ length words.old)
         × (length base.old ≡ length words.old) × ((i : ℕ) → i < length pairs.now → get_or pairs.now i 0 < length words.old)
         × ((i : ℕ) → i < length codes.now → get_or codes.now i 0 < 4) }
     ensures { (n o : ℕ) (N : Netlist) → Holds (tables operands.now results.now) count
         (length words.old) n o N
-        → (found_of result.wires ≡ leakOf N codes.now) ×
-        (bad_of result.pairs ≡ first_bad (clean_pair N codes.now) pairs.now) }
+        → (found_of result.leak ≡ leakOf N codes.now) ×
+        (bad_of result.pair ≡ first_bad (clean_pair N codes.now) pairs.now) }
 {
     let paints = paint::each(codes);
     let n = codes.len();
     let wires = words.len();
-    let best = find(
+    find(
         operands,
         results,
         count,
@@ -187,9 +154,5 @@ pub fn search(
         words,
         bases,
         base,
-    );
-    Verdicts {
-        wires: wires_verdict_of(best.difference, words.len()),
-        pairs: pairs_verdict_of(best.pair, pairs.len() / 2),
-    }
+    )
 }

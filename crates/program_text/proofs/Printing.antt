@@ -8,9 +8,9 @@ use lib.ListN.{length, take, get_or, length-append}
 use lib.Seq.{take-suc, take_all}
 use Rattle.netlist.specs.Number.{decimal}
 use Rattle.netlist.specs.Programs.{print_list}
-use Rattle.write_buffer.specs.Wrote.{top, Wrote, WroteFew}
+use Rattle.write_buffer.specs.Wrote.{Wrote, WroteFew}
 use Rattle.write_buffer.proofs.Decimals.{digits-most}
-use Rattle.write_buffer.proofs.Writing.{wrote_none, wrote_then, wrote_as}
+use Rattle.write_buffer.proofs.Writing.{wrote_then, wrote_as}
 
 print_list-append : (xs ys : List ℕ) → print_list (xs ++ ys) ≡ print_list xs ++ print_list ys
 print_list-append [] ys = refl
@@ -22,9 +22,6 @@ pub record Printing (e : List ℕ) (at : ℕ) (s x : List ℕ) (r i : ℕ) : Typ
   pub passed : i ≤ length s
   pub wrote : Wrote e at (print_list (take i s)) x r
   pub few : length (print_list (take i s)) ≤ 3 * i
-
-pub printing-none : (e : List ℕ) (at : ℕ) (s : List ℕ) → length e ≤ top → at ≤ top → Printing e at s e at 0
-printing-none e at s h k = record { passed = omega arith; wrote = wrote_none e at h k; few = omega arith }
 
 pub printing-more : {e m x s : List ℕ} {at r t i v : ℕ} → Printing e at s m r i → i < length s → v ≡ get_or s i 0 → v < 256 → Wrote m r (decimal v) x t
     → Printing e at s x t (i + 1)

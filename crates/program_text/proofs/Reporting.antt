@@ -1,4 +1,5 @@
 -- From a call's outcome to what a program prints.
+use Rattle.std.specs.Prelude.{Ok, Result}
 use Prim.Native.Nat.{ℕ, zero, suc, ◌/◌, ◌≤◌}
 use mathlib.Core.Path.{◌≡◌, sym, ap, ◌∙◌}
 use mathlib.Core.List.{List}
@@ -7,10 +8,9 @@ use lib.Dec.{leb}
 use lib.ListN.{length, take, length-append, length-take}
 use borrow.Author.Tests.{le-leb}
 use Rattle.netlist.specs.Number.{digits, decimal}
-use Rattle.netlist.specs.declared.Answer.{Answer}
-use Rattle.netlist.specs.declared.Answer.TheVariants.{Done}
+use Rattle.netlist.specs.declared.Question.{Question}
 use Rattle.netlist.specs.Outcome.{Outcome, refused, done}
-use Rattle.netlist.specs.Services.{outcome_of, answer_of, Answers}
+use Rattle.netlist.specs.Services.{outcome_of, Counts, Answers}
 use Rattle.netlist.specs.Programs.{readable, print_refused, file_limit}
 use Rattle.netlist.proofs.Tests.{clash, on_bool}
 use Rattle.netlist.proofs.Questions.{done-same}
@@ -25,17 +25,17 @@ readable-short file o h = rw (le-leb (length file) file_limit h)
 
 -- ---- a service's answer
 
-counted-done : (o : Outcome (List ℕ)) (x : List ℕ) {a : Answer} (n : ℕ) → a ≡ answer_of o → outcome_of x a ≡ o → a ≡ Done n → n ≤ length x
+counted-done : (o : Outcome (List ℕ)) (x : List ℕ) {a : Result ℕ Question} (n : ℕ) → Counts o a → outcome_of x a ≡ o → a ≡ Ok n → n ≤ length x
 counted-done (refused q) x n p e d = clash (cc)
 counted-done (done bytes) x n p e d =
     let same : n ≡ length bytes = cc in
     let is : take n x ≡ bytes = done-same _ _ (ap (outcome_of x) (sym d) ∙ e) in
     omega (arith, length-take n x, ap length is)
 
-pub answered : {o : Outcome (List ℕ)} {e x : List ℕ} {a : Answer} → Answers o e x a → Answered o x a
+pub answered : {o : Outcome (List ℕ)} {e x : List ℕ} {a : Result ℕ Question} → Answers o e x a → Answered o x a
 answered {o} {x = x} w = record { outcome = w.outcome; counted = λ n. counted-done o x n w.answer w.outcome }
 
-pub answered-as : {o p : Outcome (List ℕ)} {x : List ℕ} {a : Answer} → o ≡ p → Answered o x a → Answered p x a
+pub answered-as : {o p : Outcome (List ℕ)} {x : List ℕ} {a : Result ℕ Question} → o ≡ p → Answered o x a → Answered p x a
 answered-as e w = rw e at w
 
 -- ---- lines in a buffer that holds them

@@ -1,7 +1,6 @@
 -- What stands at the front of a buffer.
-use Rattle.std.specs.Prelude.{ℕ, ◌≤◌, ◌≡◌, List, length, take}
-use Rattle.netlist.specs.declared.Answer.{Answer}
-use Rattle.netlist.specs.declared.Answer.TheVariants.{Done}
+use Rattle.std.specs.Prelude.{Ok, Result, ℕ, ◌≤◌, ◌≡◌, List, length, take}
+use Rattle.netlist.specs.declared.Question.{Question}
 use Rattle.netlist.specs.Outcome.{Outcome}
 use Rattle.netlist.specs.Services.{outcome_of}
 
@@ -11,10 +10,10 @@ pub record Front (buffer : List ℕ) (r : ℕ) (bytes : List ℕ) : Type 0 where
   pub same : take r buffer ≡ bytes
 
 -- an answer counts no more entries than its buffer has
-abbrev pub Counted : List ℕ → Answer → Type 0
-Counted buffer a = (n : ℕ) → a ≡ Done n → n ≤ length buffer
+abbrev pub Counted : List ℕ → Result ℕ Question → Type 0
+Counted buffer a = (n : ℕ) → a ≡ Ok n → n ≤ length buffer
 
 -- an answer and its buffer are a call's outcome
-pub record Answered (call : Outcome (List ℕ)) (buffer : List ℕ) (a : Answer) : Type 0 where
+pub record Answered (call : Outcome (List ℕ)) (buffer : List ℕ) (a : Result ℕ Question) : Type 0 where
   pub outcome : outcome_of buffer a ≡ call
   pub counted : Counted buffer a

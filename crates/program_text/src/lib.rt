@@ -4,10 +4,12 @@
 ghost use Rattle.std.specs.Prelude.{◌≡◌, [], ◌∷◌, ◌++◌, ◌+◌, ◌*◌, ◌≤◌, min, length, take};
 ghost use Rattle.netlist.specs.Text.{space, lf};
 ghost use Rattle.netlist.specs.Number.{decimal};
+ghost use Rattle.netlist.specs.Question.{number_of};
 ghost use Rattle.netlist.specs.Programs.{list_bytes, entry as entry_of, list_file, print_list, print_refused, print_clean, print_leak};
 ghost use Rattle.write_buffer.specs.Wrote.{Wrote, WroteFew};
 ghost use Rattle.program_text.specs.Front.{Front};
 
+use netlist::Question;
 use read_text::ends::without_end;
 
 // The most bytes that a program reads of a file.
@@ -22,13 +24,10 @@ pub const LARGE_TABLE: usize = 18431;
 fn entry(b: u8) -> u8
     ensures { result ≡ entry_of b }
 {
-    if b < 48 {
-        return 9;
+    match b {
+        b'0'..=b'9' => b - b'0',
+        _ => 9,
     }
-    if 57 < b {
-        return 9;
-    }
-    b - 48
 }
 
 // How many bytes of a buffer its first n are.
@@ -37,10 +36,7 @@ pub fn front(buffer: &[u8], n: usize) -> usize
     ensures within { result ≤ length buffer.now }
     ensures front { result ≡ length (take result buffer.now) }
 {
-    if buffer.len() < n {
-        return buffer.len();
-    }
-    n
+    n.min(buffer.len())
 }
 
 // How many bytes of a list file count: a longer file is cut, and one LF or CR LF at the end comes off.
@@ -56,19 +52,19 @@ pub fn list(file: &mut [u8]) -> usize
     ensures { Front file.new result (list_file file.old) }
 {
     let n = counted(file);
-    for i in 0..n {
-        file[i] = entry(file[i]);
+    for b in &mut file[..n] {
+        *b = entry(*b);
     }
     n
 }
 
 // A refusal's line.
-pub fn refused(out: &mut [u8], question: u8) -> usize
-    ensures { Wrote out.old 0 (print_refused question) out.new result }
+pub fn refused(out: &mut [u8], question: Question) -> usize
+    ensures { Wrote out.old 0 (print_refused (number_of question)) out.new result }
 {
     let at = write_buffer::bytes(out, 0, b"refused ");
-    let end = write_buffer::number(out, at, question as usize);
-    write_buffer::put(out, end, 10)
+    let end = write_buffer::number(out, at, usize::from(question.number()));
+    write_buffer::put(out, end, b'\n')
 }
 
 // Check's line for a clean netlist.
@@ -82,7 +78,7 @@ pub fn clean(out: &mut [u8]) -> usize
 fn spaced(out: &mut [u8], at: usize, n: usize) -> usize
     ensures { Wrote out.old at (space ∷ decimal n) out.new result }
 {
-    let next = write_buffer::put(out, at, 32);
+    let next = write_buffer::put(out, at, b' ');
     write_buffer::number(out, next, n)
 }
 
@@ -95,13 +91,7 @@ pub fn leak(out: &mut [u8], wire: usize, setting: usize, base: usize, count: usi
     let c = spaced(out, b, setting);
     let d = spaced(out, c, base);
     let e = spaced(out, d, count);
-    write_buffer::put(out, e, 10)
-}
-
-fn wide(b: u8) -> usize
-    ensures { result ≡ b }
-{
-    b as usize
+    write_buffer::put(out, e, b'\n')
 }
 
 // A list as digits, and LF.
@@ -111,7 +101,7 @@ pub fn digits(out: &mut [u8], list: &[u8]) -> usize
 {
     let mut at = 0;
     for entry in list {
-        at = write_buffer::number(out, at, wide(*entry));
+        at = write_buffer::number(out, at, usize::from(*entry));
     }
-    write_buffer::put(out, at, 10)
+    write_buffer::put(out, at, b'\n')
 }

@@ -1,6 +1,6 @@
 -- Outputs that the end of a table keeps, and outputs that have marks.
 use Prim.Native.Nat.{ℕ, ◌+◌, ◌-◌, ◌≤◌, ◌<◌}
-use mathlib.Core.Path.{◌≡◌, refl, sym, ap, ◌∙◌, subst}
+use mathlib.Core.Path.{◌≡◌, refl, ap, ◌∙◌, subst}
 use mathlib.Core.Bool.{true, false}
 use mathlib.Core.List.{List, [], ◌++◌, map}
 use mathlib.Core.Option.{some}
@@ -10,20 +10,20 @@ use borrow.Rule.Slice.PartMut.{mid_of, put_mid}
 use Rattle.netlist.specs.Lists.{every}
 use Rattle.netlist.specs.Table.{Tables, tables}
 use Rattle.aiger.specs.File.{Literal, literal, File}
-use Rattle.aiger.specs.Lines.{Head, output_line, formed, file_lines, file}
+use Rattle.aiger.specs.Lines.{Head, file}
 use Rattle.aiger.specs.Rules.{readable, giving, rules_kept}
 use Rattle.aiger.specs.Made.{build}
 use Rattle.aiger_gates.specs.Places.{Places, Standing}
 use Rattle.aiger_ands.specs.StepAnswers.{InputsAt}
 use Rattle.aiger_ands.specs.AndAnswers.{AndsAt}
-use Rattle.aiger_outputs.specs.OutAnswers.{LiteralsAt, Low, OutputsIs, PutOut, MarksAt}
+use Rattle.aiger_outputs.specs.OutAnswers.{LiteralsAt, OutputsIs, PutOut, MarksAt}
 use Rattle.read_aiger.specs.WholeAnswers.{LinesAt}
-use Rattle.read_aiger.proofs.TableEnd.{kept-long, both_long, both-kept, both-front}
-use Rattle.read_aiger.proofs.WholeLines.{input_wires, lines-no-outputs, lines-no-outs, lines-made, lines-large}
+use Rattle.read_aiger.proofs.TableEnd.{kept-long, both-kept, both-front}
+use Rattle.read_aiger.proofs.WholeLines.{input_wires, lines-no-outs, lines-made, lines-large}
 
 -- ---- literals at the end of the table of results
 
-module _ (H : Head) (t r kept : List ℕ) (at : ℕ) (fits : H.outputs ≤ length r)
+module _ (H : Head) (left : List (List (List ℕ))) (r kept : List ℕ) (fits : H.outputs ≤ length r)
     (long : length kept ≡ length (mid_of (length r - H.outputs) (length r - (length r - H.outputs)) r)) where
   abbrev room : ℕ
   room = length r - H.outputs
@@ -37,14 +37,8 @@ module _ (H : Head) (t r kept : List ℕ) (at : ℕ) (fits : H.outputs ≤ lengt
   all-kept : length kept ≡ H.outputs
   all-kept = let l = kept-long r kept room inside long in omega arith
 
-  pub kept-no-outputs : (ls : List (List (List ℕ))) {table : List ℕ} → InputsAt ls t H.inputs H.most table at
-      → ((xs : List Literal) → formed output_line (length kept) (file_lines (drop at t)) ≡ some xs → ⊥)
-      → (F : File) → file H ls ≡ some F → rules_kept F ≡ true → ⊥
-  kept-no-outputs ls A bad = lines-no-outputs H ls t A (λ xs e. bad xs (ap (λ (k : ℕ). formed output_line k (file_lines (drop at t))) all-kept ∙ e))
-
-  pub kept-literals : {to : ℕ} → LiteralsAt (file_lines (drop at t)) t (length kept) (map literal kept) to
-      → LiteralsAt (file_lines (drop at t)) t H.outputs (map literal kept) to
-  kept-literals {to} B = subst (λ (k : ℕ). LiteralsAt (file_lines (drop at t)) t k (map literal kept) to) all-kept B
+  pub kept-literals : {rest : List (List (List ℕ))} → LiteralsAt left (length kept) (map literal kept) rest → LiteralsAt left H.outputs (map literal kept) rest
+  kept-literals {rest} B = subst (λ (k : ℕ). LiteralsAt left k (map literal kept) rest) all-kept B
 
   module _ (front : List ℕ) (same : length front ≡ length (take room end)) where
     abbrev whole : List ℕ
@@ -53,39 +47,34 @@ module _ (H : Head) (t r kept : List ℕ) (at : ℕ) (fits : H.outputs ≤ lengt
     behind : drop room whole ≡ kept
     behind = both-kept r kept room inside long front same
 
-    pub whole-inside : room ≤ length whole
-    whole-inside = let l = both_long r kept room inside long front same in omega arith
-
-    pub whole-low : Low kept → Low (drop room whole)
-    whole-low l = subst Low (sym behind) l
-
     pub whole-outputs : length (drop room whole) ≡ H.outputs
     whole-outputs = ap length behind ∙ all-kept
 
-    module _ (ls : List (List (List ℕ))) {table : List ℕ} {to : ℕ} {after o : List ℕ} {k e : ℕ} {u : Tables} (A : InputsAt ls t H.inputs H.most table at)
-        (B : LiteralsAt (file_lines (drop at t)) t H.outputs (map literal kept) to)
-        (D : AndsAt (file_lines (drop to t)) t H.ands H.most H.inputs (giving [] A.are) (input_wires H.most H.inputs A.are) after
-        (tables o front) k e) where
+    module _ (ls : List (List (List ℕ))) {rest end₁ : List (List (List ℕ))} {table after o : List ℕ} {k : ℕ} {u : Tables}
+        (A : InputsAt ls H.inputs H.most table left)
+        (B : LiteralsAt left H.outputs (map literal kept) rest)
+        (D : AndsAt rest H.ands H.most H.inputs (giving [] A.are) (input_wires H.most H.inputs A.are) after
+        (tables o front) k end₁) where
       pub whole-no-outs : OutputsIs after o whole u room H.inputs k false → (F : File) → file H ls ≡ some F → rules_kept F ≡ true → ⊥
-      whole-no-outs O = lines-no-outs H ls t A B D (rw behind at (O.read _ _ D.standing.places))
+      whole-no-outs O = lines-no-outs H ls A B D (rw behind at (O.read _ _ D.standing.places))
 
       pub whole-made : OutputsIs after o whole u room H.inputs k true → LinesAt H ls u (k + H.outputs)
       whole-made O =
           let N = build (input_wires H.most H.inputs A.are) H.inputs D.are in
           let S : Standing after (tables o (take room whole)) H.inputs k (giving (giving [] A.are) (map (λ a. a.left) D.are)) N.table N.gates =
           rw (both-front r kept room inside long front same) D.standing in
-          lines-made H ls t A B D (rw behind at (O.read _ _ D.standing.places)) (rw (whole-outputs, behind) at (O.keeps refl _ _ _ S))
+          lines-made H ls A B D (rw behind at (O.read _ _ D.standing.places)) (rw (whole-outputs, behind) at (O.keeps refl _ _ _ S))
 
 -- ---- marks
 
-module _ (H : Head) (t : List ℕ) (ls : List (List (List ℕ))) {table : List ℕ} {at : ℕ} (A : InputsAt ls t H.inputs H.most table at) {marks : List ℕ} {to : ℕ}
-    (B : MarksAt (file_lines (drop at t)) t H.outputs H.most marks to) {after : List ℕ} {tabs : Tables} {k e : ℕ}
-    (D : AndsAt (file_lines (drop to t)) t H.ands H.most H.inputs (giving [] A.are) (input_wires H.most H.inputs A.are) after tabs k e) where
+module _ (H : Head) (ls : List (List (List ℕ))) {left rest end₁ : List (List (List ℕ))} {table : List ℕ} (A : InputsAt ls H.inputs H.most table left)
+    {marks : List ℕ} (B : MarksAt left H.outputs H.most marks rest) {after : List ℕ} {tabs : Tables} {k : ℕ}
+    (D : AndsAt rest H.ands H.most H.inputs (giving [] A.are) (input_wires H.most H.inputs A.are) after tabs k end₁) where
   pub marks-no-outs : ((given wires : List ℕ) (are : List Literal) → Places after given wires → PutOut H.most marks are → false ≡ every (readable given) are)
       → (F : File) → file H ls ≡ some F → rules_kept F ≡ true → ⊥
-  marks-no-outs h = lines-no-outs H ls t A B.literals D (h _ _ B.are D.standing.places B.out)
+  marks-no-outs h = lines-no-outs H ls A B.literals D (h _ _ B.are D.standing.places B.out)
 
   pub marks-made : {u : Tables} → ((given wires : List ℕ) (are : List Literal) → Places after given wires → PutOut H.most marks are → true ≡ every
       (readable given) are)
       → length u.results < H.outputs → LinesAt H ls u (k + H.outputs)
-  marks-made h l = lines-large H ls t A B.literals D (h _ _ B.are D.standing.places B.out) (omega arith)
+  marks-made h l = lines-large H ls A B.literals D (h _ _ B.are D.standing.places B.out) (omega arith)

@@ -1,7 +1,7 @@
 -- The opening and the header.
 use Prim.Native.Nat.{ℕ, zero, suc, ◌^◌, ◌≤◌, ◌<◌}
 use mathlib.Core.Path.{◌≡◌, refl, sym, ap, ◌∙◌, subst}
-use mathlib.Core.Bool.{Bool, true, false, cond, ◌&&◌}
+use mathlib.Core.Bool.{Bool, true, false, ◌&&◌}
 use mathlib.Core.List.{List, [], ◌∷◌, ◌++◌}
 use mathlib.Core.Option.{Option, none, some}
 use native.Mathlib.Omega.{arith}
@@ -13,17 +13,15 @@ use Rattle.netlist.specs.Lists.{ascii, same_bytes}
 use Rattle.netlist.specs.Number.{number, max_digits}
 use Rattle.netlist.specs.Header.{cons_option, numbers}
 use Rattle.netlist.specs.Outcome.{refused, done, ask}
-use Rattle.netlist.proofs.Tests.{All, empty, each, both_true, on_bool, clash}
+use Rattle.netlist.proofs.Tests.{All, empty, each, both_true, clash}
 use Rattle.netlist.proofs.Questions.{none-some, some_same}
-use Rattle.read_text.specs.declared.cursor.Cursor.{Cursor}
 use Rattle.aiger.specs.Lines.{file_line, opens, Head, head_of, head, head_good}
 use Rattle.aiger.specs.Call.{head_outcome}
 use Rattle.aiger_lines.specs.Stray.{stray_at}
-use Rattle.aiger_lines.specs.LineAnswers.{NotSoMany, FileLineAt, FileLineIs}
+use Rattle.aiger_lines.specs.declared.lines.Lines.{Lines}
+use Rattle.aiger_lines.specs.LineAnswers.{NotSoMany, FileLineAt}
 use Rattle.read_aiger.specs.HeadAnswers.{head_said, head_asked, HeadAt}
 use Rattle.read_aiger.specs.declared.head.HeadNumbers.{HeadNumbers}
-use Rattle.aiger_lines.specs.declared.numbers.Line.{Line}
-use Rattle.aiger_lines.specs.declared.numbers.Line.TheVariants as L
 use Rattle.read_aiger.proofs.NumberBound.{number-below}
 
 -- ---- the opening
@@ -42,9 +40,6 @@ opens-places t e =
     let l : length t ≡ suc (suc (suc (suc (length (drop 4 t))))) = ap length q in
     let s : stray_at t ≡ suc (suc (suc (suc (stray_at (drop 4 t))))) = ap stray_at q in
     (omega arith, omega arith)
-
-pub opens-short : (t : List ℕ) → length t < 4 → false ≡ opens t
-opens-short t h = on_bool (opens t) (λ e. absurd (let p = opens-places t e in omega arith)) (λ e. sym e)
 
 -- ---- the numbers
 
@@ -89,16 +84,12 @@ head_from xs = record { most = get_or xs 0 0; inputs = get_or xs 1 0; latches = 
 -- ---- the questions
 
 module _ (L : Limits) (t : List ℕ) where
-  -- other opening bytes
-  pub head-shut : opens t ≡ false → head_outcome L t ≡ refused 19
-  head-shut e = rw e
-
   module _ (o : opens t ≡ true) where
     -- a first line that has not five numbers
     pub head-not : NotSoMany (numbers (file_line (drop 4 t))) 5 → head_outcome L t ≡ refused 19
     head-not h = let n : head t ≡ none = no-head (numbers (file_line (drop 4 t))) h in rw (o, n)
 
-    module _ (xs : List ℕ) (to : ℕ) (A : FileLineAt t 4 5 xs to) where
+    module _ (xs : List ℕ) (l : Lines) (same : l.text.now ≡ t) (A : FileLineAt (drop 4 t) 5 xs (drop l.at l.text.now)) where
       abbrev H : Head
       H = head_said (head_from xs)
 
@@ -108,35 +99,18 @@ module _ (L : Limits) (t : List ℕ) where
       asked : head_outcome L t ≡ ask 19 (head_good L H) (ask 20 (eqb H.latches 0) (done H))
       asked = rw (o, said)
 
-      pub head-refused : (q : ℕ) → q ≡ head_asked L H → (q ≡ 0 → ⊥) → head_outcome L t ≡ refused q
-      head-refused q e n = asked ∙ go (head_good L H) (eqb H.latches 0) e
+      pub head-taken : done (tt {0}) ≡ head_asked L H → HeadAt L t (head_from xs) l
+      head-taken e = go (head_good L H) (eqb H.latches 0) refl refl e
         where
-          go : (a b : Bool) → q ≡ cond a (cond b 0 20) 19 → ask 19 a (ask 20 b (done H)) ≡ refused q
-          go true true e = absurd (n e)
-          go true false e = ap refused (sym e)
-          go false b e = ap refused (sym e)
-
-      pub head-taken : (q : ℕ) → q ≡ head_asked L H → q ≡ 0 → HeadAt L t (head_from xs) to
-      head-taken q e z = go (head_good L H) (eqb H.latches 0) refl refl (sym e ∙ z)
-        where
-          go : (a b : Bool) → head_good L H ≡ a → eqb H.latches 0 ≡ b → ◌≡◌ {A = ℕ} (cond a (cond b 0 20) 19) 0 → HeadAt L t (head_from xs) to
-          go true false p q e = absurd (omega arith)
-          go false b p q e = absurd (omega arith)
+          go : (a b : Bool) → head_good L H ≡ a → eqb H.latches 0 ≡ b → done (tt {0}) ≡ ask 19 a (ask 20 b (done (tt {0}))) → HeadAt L t (head_from xs) l
+          go true false p q e = clash (cc)
+          go false b p q e = clash (cc)
           go true true p q e =
               let low = numbers-low (file_line (drop 4 t)) xs A.line in
               record {
                 outcome = asked ∙ rw (p, q);
                 most = ltb-true H.most L.wires (both_true (leb 1 H.inputs && leb 1 H.outputs) (ltb H.most L.wires) p).1;
                 low = record { inputs = entry-low 1 low; outputs = entry-low 3 low; ands = entry-low 4 low };
-                left = A.next.left;
-                within = A.within;
+                text = same;
+                next = ap (drop l.at) (sym same) ∙ A.next;
               }
-
--- ---- the answers
-
-module _ (t : List ℕ) (at n : ℕ) (xs : List ℕ) (r : Line) where
-  pub file-line-is : (c : Cursor) → r ≡ L.Is c → FileLineIs t at n xs r → FileLineAt t at n xs c.at
-  file-line-is c e h = subst (FileLineIs t at n xs) e h
-
-  pub file-line-not : r ≡ L.Not → FileLineIs t at n xs r → NotSoMany (numbers (file_line (drop at t))) n
-  file-line-not e h = subst (FileLineIs t at n xs) e h

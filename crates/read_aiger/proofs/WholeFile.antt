@@ -1,36 +1,28 @@
 -- From a header and the lines behind it to the questions of a whole file.
-use Prim.Native.Nat.{ℕ, ◌+◌, ◌≤◌, ◌<◌}
+use Prim.Native.Nat.{ℕ, ◌≤◌, ◌<◌}
 use mathlib.Core.Path.{◌≡◌, refl, sym, ap, ◌∙◌, subst}
-use mathlib.Core.Bool.{Bool, true}
-use mathlib.Core.List.{List, [], ◌∷◌}
+use mathlib.Core.Bool.{true}
+use mathlib.Core.List.{List}
 use mathlib.Core.Option.{Option, none, some}
-use native.Mathlib.Omega.{arith}
 use lib.ListN.{length, drop}
 use borrow.Author.Tests.{le-leb, lt-leb}
+use Rattle.std.specs.Prelude.{Result}
 use Rattle.netlist.specs.declared.Limits.{Limits}
-use Rattle.netlist.specs.Lists.{sum}
+use Rattle.netlist.specs.declared.Question.{Question}
 use Rattle.netlist.specs.Netlist.{Netlist}
-use Rattle.netlist.specs.Outcome.{Outcome, refused, ask, given, and_then}
-use Rattle.netlist.specs.Header.{within_limits}
-use Rattle.netlist.specs.Read.{header_of}
-use Rattle.netlist.specs.Services.{tables_long}
-use Rattle.netlist.specs.Table.{Tables, gates_of}
+use Rattle.netlist.specs.Outcome.{Outcome, refused, given, and_then}
+use Rattle.netlist.specs.Table.{Tables}
 use Rattle.netlist.proofs.Tests.{on_bool}
-use Rattle.read_text.specs.declared.cursor.Cursor.{Cursor}
 use Rattle.aiger.specs.File.{File}
-use Rattle.aiger.specs.Lines.{Head, file_lines, file}
+use Rattle.aiger.specs.Lines.{Head, file, file_lines}
 use Rattle.aiger.specs.Rules.{rules_kept}
-use Rattle.aiger.specs.Made.{netlist_made}
 use Rattle.aiger.specs.Call.{head_outcome, file_outcome, lines_read, lines_outcome, read_aiger}
-use Rattle.read_aiger.specs.HeadAnswers.{head_said, HeadAt, HeadIs}
-use Rattle.read_aiger.specs.WholeAnswers.{asked_aiger, LinesAt, LinesIs, NetlistAt, NetlistIs}
+use Rattle.aiger_lines.specs.declared.lines.Lines.{Lines}
+use Rattle.aiger_lines.specs.LineAnswers.{lines_left}
+use Rattle.read_aiger.specs.HeadAnswers.{head_said, HeadAt}
+use Rattle.read_aiger.specs.WholeAnswers.{NetlistIs}
 use Rattle.read_aiger.specs.declared.head.HeadNumbers.{HeadNumbers}
-use Rattle.read_aiger.specs.declared.head.HeadStep.{HeadStep}
-use Rattle.read_aiger.specs.declared.head.HeadStep.TheVariants as S
-use Rattle.read_aiger.specs.declared.body.Gates.{Gates}
-use Rattle.read_aiger.specs.declared.body.Gates.TheVariants as G
 use Rattle.read_aiger.specs.declared.read.NetlistNumbers.{NetlistNumbers}
-use Rattle.read_aiger.specs.declared.read.Reading.{Reading}
 
 module _ (L : Limits) (H : Head) (ls : List (List (List ℕ))) where
   -- no such file
@@ -40,51 +32,6 @@ module _ (L : Limits) (H : Head) (ls : List (List (List ℕ))) where
       go : (o : Option File) → ((F : File) → o ≡ some F → rules_kept F ≡ true → ⊥) → and_then (given 19 o) (file_outcome L) ≡ refused 19
       go none f = refl
       go (some F) f = on_bool (rules_kept F) (λ e. absurd (f F refl e)) (λ e. rw e)
-
-  module _ {tabs : Tables} {k : ℕ} (A : LinesAt H ls tabs k) where
-    abbrev N : Netlist
-    N = netlist_made A.is
-
-    asked : lines_read L H ls ≡ file_outcome L A.is
-    asked = rw A.lines
-
-    -- too many wires
-    pub lines-large : L.wires < H.inputs + k → lines_read L H ls ≡ refused 5
-    lines-large h = asked ∙ rw (A.rules, lt-leb N.wires L.wires (omega (arith, A.wires)))
-
-    within : H.inputs + k ≤ L.wires → 1 ≤ L.inputs → 1 ≤ L.outputs → within_limits L (header_of N) ≡ true
-    within h i o =
-        let m = A.many in
-        let a : sum (H.inputs ∷ []) ≤ N.wires = omega (arith, A.wires) in
-        let b : sum (H.outputs ∷ []) ≤ N.wires = omega (arith, A.wires) in
-        rw (
-          A.inputs,
-          A.outputs,
-          le-leb N.wires L.wires (omega (arith, A.wires)),
-          le-leb 1 L.inputs i,
-          le-leb 1 L.outputs o,
-          le-leb (sum (H.inputs ∷ [])) N.wires a,
-          le-leb (sum (H.outputs ∷ [])) N.wires b,
-        )
-
-    abbrev numbers_of : NetlistNumbers
-    numbers_of = record { gates = k; wires = H.inputs + k; inputs = H.inputs; outputs = H.outputs }
-
-    -- the tables have room
-    pub lines-taken : H.inputs + k ≤ L.wires → 1 ≤ L.inputs → 1 ≤ L.outputs → L.wires ≤ length tabs.operands → L.wires ≤ length tabs.results
-        → NetlistAt (lines_read L H ls) tabs numbers_of
-    lines-taken h i o p q =
-        let c = A.count in
-        let K = A.keeps (omega arith) (omega arith) in
-        record {
-          is = N;
-          outcome = asked ∙ rw (A.rules, within h i o);
-          wires = A.wires;
-          inputs = A.inputs;
-          outputs = A.outputs;
-          gates = sym (ap (gates_of tabs) (sym c) ∙ K.gates);
-          wired = rw c at K.wired;
-        }
 
 -- ---- the questions of a text
 
@@ -100,36 +47,14 @@ module _ (L : Limits) (t : List ℕ) where
     unfolding read_aiger
     read-no-head q e = rw (le-leb (length t) L.text h) (ap (λ (o : Outcome Head). and_then o (lines_outcome L t)) e)
 
-    behind : {n : HeadNumbers} {to : ℕ} → HeadAt L t n to → read_aiger L t ≡ lines_read L (head_said n) (file_lines (drop to t))
+    behind : {n : HeadNumbers} {m : Lines} → HeadAt L t n m → read_aiger L t ≡ lines_read L (head_said n) (lines_left m)
     unfolding read_aiger
-    behind {n} A =
+    behind {n} {m} A =
         rw (le-leb (length t) L.text h)
-        (ap (λ (o : Outcome Head). and_then o (lines_outcome L t)) A.outcome ∙ ap (λ (u : List ℕ). lines_read L (head_said n) (file_lines u)) (sym A.left))
+        (ap (λ (o : Outcome Head). and_then o (lines_outcome L t)) A.outcome
+        ∙ ap (λ (s : List ℕ). lines_read L (head_said n) (file_lines s)) (sym A.next ∙ ap (drop m.at) (sym A.text)))
 
-    pub read_behind : {n : HeadNumbers} {to : ℕ} (tabs : Tables) (r : Reading) → HeadAt L t n to → NetlistIs (lines_read L (head_said n) (file_lines (drop to t))) tabs r
+    pub read_behind : {n : HeadNumbers} {m : Lines} (tabs : Tables) (r : Result NetlistNumbers Question) → HeadAt L t n m
+        → NetlistIs (lines_read L (head_said n) (lines_left m)) tabs r
         → NetlistIs (read_aiger L t) tabs r
     read_behind tabs r A k = subst (λ (o : Outcome Netlist). NetlistIs o tabs r) (sym (behind A)) k
-
--- question 1 before them
-pub read-after : (L : Limits) (lengths t : List ℕ) (tabs : Tables) (r : Reading) → tables_long L lengths ≡ true → NetlistIs (read_aiger L t) tabs r
-    → NetlistIs (asked_aiger L lengths t) tabs r
-read-after L lengths t tabs r e h = subst (λ (o : Outcome Netlist). NetlistIs o tabs r) (sym (ask-yes 1 (tables_long L lengths) (read_aiger L t) e)) h
-  where
-    ask-yes : (q : ℕ) (b : Bool) (o : Outcome Netlist) → b ≡ true → ask q b o ≡ o
-    ask-yes q b o e = rw e
-
--- ---- the answers
-
-module _ (H : Head) (ls : List (List (List ℕ))) (tabs : Tables) (r : Gates) where
-  pub lines_are : (k : ℕ) → r ≡ G.Made k → LinesIs H ls tabs r → LinesAt H ls tabs k
-  lines_are k e h = subst (LinesIs H ls tabs) e h
-
-  pub lines-not : r ≡ G.Not → LinesIs H ls tabs r → (F : File) → file H ls ≡ some F → rules_kept F ≡ true → ⊥
-  lines-not e h = subst (LinesIs H ls tabs) e h
-
-module _ (L : Limits) (t : List ℕ) (r : HeadStep) where
-  pub head-is : (n : HeadNumbers) (c : Cursor) → r ≡ S.Is n c → HeadIs L t r → HeadAt L t n c.at
-  head-is n c e h = subst (HeadIs L t) e h
-
-  pub head-no : (q : ℕ) → r ≡ S.Refused q → HeadIs L t r → head_outcome L t ≡ refused q
-  head-no q e h = subst (HeadIs L t) e h

@@ -1,6 +1,6 @@
 -- From the lines of each kind to the file, and to the netlist made.
 use Prim.Native.Nat.{ℕ, suc, ◌+◌, ◌≤◌, ◌<◌}
-use mathlib.Core.Path.{◌≡◌, refl, sym, ap, ◌∙◌, subst}
+use mathlib.Core.Path.{◌≡◌, refl, sym, ap, ◌∙◌}
 use mathlib.Core.Bool.{true, false, not, ◌&&◌}
 use mathlib.Core.List.{List, [], ◌∷◌, ◌++◌, map}
 use mathlib.Core.Option.{some}
@@ -15,8 +15,8 @@ use Rattle.netlist.specs.Netlist.{Netlist}
 use Rattle.netlist.specs.Table.{Tables}
 use Rattle.netlist.proofs.Tests.{on_bool, both_true, true-T}
 use Rattle.netlist.proofs.Questions.{some_same}
-use Rattle.aiger.specs.File.{Literal, literal, AndLine, File}
-use Rattle.aiger.specs.Lines.{Head, input_line, output_line, and_form, formed, file_lines, file}
+use Rattle.aiger.specs.File.{Literal, AndLine, File}
+use Rattle.aiger.specs.Lines.{Head, input_line, output_line, and_form, formed, file}
 use Rattle.aiger.specs.Rules.{readable, fresh, giving, fresh_all, and_good, ands_good, inputs_given, all_given, rules_kept}
 use Rattle.aiger.specs.Outputs.{enter, blank}
 use Rattle.aiger.specs.Made.{wire_at, Built, build, out_gates, up_from, with_outputs, netlist_made}
@@ -24,15 +24,10 @@ use Rattle.aiger.proofs.Forms.{formed-length, Formed, file-formed, formed-file}
 use Rattle.aiger.proofs.Making.{good_and, length-enter, inputs-located}
 use Rattle.aiger_gates.specs.Places.{Keeps, Standing}
 use Rattle.aiger_gates.proofs.Placing.{not_so}
-use Rattle.aiger_ands.specs.StepAnswers.{InputsAt, InputsIs}
-use Rattle.aiger_ands.specs.AndAnswers.{AndsAt, AndsIs}
-use Rattle.aiger_outputs.specs.OutAnswers.{LiteralsAt, Low, KeptIs, UpTo, MarksAt, MarksIs}
+use Rattle.aiger_ands.specs.StepAnswers.{InputsAt}
+use Rattle.aiger_ands.specs.AndAnswers.{AndsAt}
+use Rattle.aiger_outputs.specs.OutAnswers.{LiteralsAt, UpTo}
 use Rattle.read_aiger.specs.WholeAnswers.{LinesAt}
-use Rattle.aiger_ands.specs.declared.inputs.Step.{Step}
-use Rattle.aiger_ands.specs.declared.inputs.Step.TheVariants as S
-use Rattle.aiger_ands.specs.declared.ands.AndStep.{AndStep}
-use Rattle.aiger_ands.specs.declared.ands.AndStep.TheVariants as A
-use Rattle.read_text.specs.declared.cursor.Cursor.{Cursor}
 
 -- the rules, one kind of line after another
 rules-apart : (F : File) → rules_kept F ≡ true
@@ -69,15 +64,8 @@ outs-length at c (x ∷ xs) = ap suc (outs-length at (c + 1) xs)
 abbrev pub input_wires : ℕ → ℕ → List ℕ → List ℕ
 input_wires M n vs = enter (replicate (M + 1) 0) vs (up_from 0 n)
 
-module _ (H : Head) (ls : List (List (List ℕ))) (t : List ℕ) where
-  -- no such inputs
-  pub lines-no-inputs : ((vs : List ℕ) → formed input_line H.inputs ls ≡ some vs → fresh_all H.most [] vs ≡ true → ⊥)
-      → (F : File) → file H ls ≡ some F → rules_kept F ≡ true → ⊥
-  lines-no-inputs bad F e r =
-      let f = file-formed H ls F e in
-      bad F.inputs f.inputs (ap (λ (m : ℕ). fresh_all m [] F.inputs) (sym f.most) ∙ (rules-apart F r).0)
-
-  module _ {table : List ℕ} {to : ℕ} (A : InputsAt ls t H.inputs H.most table to) where
+module _ (H : Head) (ls : List (List (List ℕ))) where
+  module _ {table : List ℕ} {left : List (List (List ℕ))} (A : InputsAt ls H.inputs H.most table left) where
     abbrev given : List ℕ
     given = giving [] A.are
 
@@ -103,33 +91,33 @@ module _ (H : Head) (ls : List (List (List ℕ))) (t : List ℕ) where
         }
 
     -- no such outputs
-    pub lines-no-outputs : ((xs : List Literal) → formed output_line H.outputs (file_lines (drop to t)) ≡ some xs → ⊥)
+    pub lines-no-outputs : ((xs : List Literal) → formed output_line H.outputs left ≡ some xs → ⊥)
         → (F : File) → file H ls ≡ some F → rules_kept F ≡ true → ⊥
     lines-no-outputs bad F e r =
         let f = file-formed H ls F e in
-        bad F.outputs (ap (formed output_line H.outputs) A.left ∙ f.outputs)
+        bad F.outputs (ap (formed output_line H.outputs) A.next ∙ f.outputs)
 
     -- an output above M, or no such outputs
-    pub lines-no-marks : ((xs : List Literal) → formed output_line H.outputs (file_lines (drop to t)) ≡ some xs
+    pub lines-no-marks : ((xs : List Literal) → formed output_line H.outputs left ≡ some xs
         → (vs : List ℕ) → UpTo H.most vs → every (readable vs) xs ≡ true → ⊥) → (F : File) → file H ls ≡ some F → rules_kept F ≡ true → ⊥
     lines-no-marks bad F e r =
         let f = file-formed H ls F e in
         let p = rules-apart F r in
-        bad F.outputs (ap (formed output_line H.outputs) A.left ∙ f.outputs) (all_given F)
+        bad F.outputs (ap (formed output_line H.outputs) A.next ∙ f.outputs) (all_given F)
         (rw f.most at (ands-up-to F.most F.ands (inputs_given F) (fresh-up-to F.most F.inputs [] (λ v m. not_so m) p.0) p.1)) p.2
 
     same_inputs : (F : File) → Formed H ls F → F.inputs ≡ A.are
     same_inputs F f = some_same F.inputs A.are (sym f.inputs ∙ A.lines)
 
-    module _ {outs : List Literal} {behind : ℕ} (B : LiteralsAt (file_lines (drop to t)) t H.outputs outs behind) where
-      and-lines : file_lines (drop behind t) ≡ drop (H.inputs + H.outputs) ls
-      and-lines = B.left ∙ ap (drop H.outputs) A.left ∙ drop-drop H.outputs H.inputs ls
+    module _ {outs : List Literal} {rest : List (List (List ℕ))} (B : LiteralsAt left H.outputs outs rest) where
+      and-lines : rest ≡ drop (H.inputs + H.outputs) ls
+      and-lines = B.next ∙ ap (drop H.outputs) A.next ∙ drop-drop H.outputs H.inputs ls
 
       outs-form : formed output_line H.outputs (drop H.inputs ls) ≡ some outs
-      outs-form = ap (formed output_line H.outputs) (sym A.left) ∙ B.form
+      outs-form = ap (formed output_line H.outputs) (sym A.next) ∙ B.form
 
       -- no such AND lines
-      pub lines-no-ands : ((xs : List AndLine) → formed and_form H.ands (file_lines (drop behind t)) ≡ some xs → ands_good H.most given xs ≡ true → ⊥)
+      pub lines-no-ands : ((xs : List AndLine) → formed and_form H.ands rest ≡ some xs → ands_good H.most given xs ≡ true → ⊥)
           → (F : File) → file H ls ≡ some F → rules_kept F ≡ true → ⊥
       lines-no-ands bad F e r =
           let f = file-formed H ls F e in
@@ -138,7 +126,7 @@ module _ (H : Head) (ls : List (List (List ℕ))) (t : List ℕ) where
           (sym (ap (λ (m : ℕ). ands_good m (giving [] F.inputs) F.ands) f.most ∙ ap (λ (vs : List ℕ). ands_good H.most (giving [] vs) F.ands) s)
           ∙ (rules-apart F r).1)
 
-      module _ {after : List ℕ} {tabs : Tables} {k end : ℕ} (D : AndsAt (file_lines (drop behind t)) t H.ands H.most H.inputs given wires after tabs k end) where
+      module _ {after : List ℕ} {tabs : Tables} {k : ℕ} {end : List (List (List ℕ))} (D : AndsAt rest H.ands H.most H.inputs given wires after tabs k end) where
         abbrev built₁ : Built
         built₁ = build wires H.inputs D.are
 
@@ -170,7 +158,7 @@ module _ (H : Head) (ls : List (List (List ℕ))) (t : List ℕ) where
         same-made = ap (λ (i : ℕ). with_outputs made (build (enter (blank 0 made) A.are (up_from 0 i)) i D.are)) many
 
         outs-many : length outs ≡ H.outputs
-        outs-many = formed-length output_line H.outputs (file_lines (drop to t)) outs B.form
+        outs-many = formed-length output_line H.outputs left outs B.form
 
         -- the gates of AND lines and of outputs
         abbrev gates : List Gate
@@ -196,34 +184,3 @@ module _ (H : Head) (ls : List (List (List ℕ))) (t : List ℕ) where
         -- gates that are more than a table has room for
         pub lines-large : {u : Tables} → true ≡ every (readable given₁) outs → length u.results < k + H.outputs → LinesAt H ls u (k + H.outputs)
         lines-large good h = lines-made good (λ a b. absurd (omega (arith, h, b, gates-many)))
-
--- ---- the answers
-
-module _ (ls : List (List (List ℕ))) (t : List ℕ) (count M : ℕ) (table : List ℕ) (r : Step) where
-  pub inputs-is : (c : Cursor) → r ≡ S.On c → InputsIs ls t count M table r → InputsAt ls t count M table c.at
-  inputs-is c e h = subst (InputsIs ls t count M table) e h
-
-  pub inputs-not : r ≡ S.Not → InputsIs ls t count M table r → (vs : List ℕ) → formed input_line count ls ≡ some vs → fresh_all M [] vs ≡ true → ⊥
-  inputs-not e h = subst (InputsIs ls t count M table) e h
-
-module _ (ls : List (List (List ℕ))) (t kept : List ℕ) (r : Step) where
-  pub kept-is : (c : Cursor) → r ≡ S.On c → KeptIs ls t kept r → LiteralsAt ls t (length kept) (map literal kept) c.at × Low kept
-  kept-is c e h = subst (KeptIs ls t kept) e h
-
-  pub kept-not : r ≡ S.Not → KeptIs ls t kept r → (xs : List Literal) → formed output_line (length kept) ls ≡ some xs → ⊥
-  kept-not e h = subst (KeptIs ls t kept) e h
-
-module _ (ls : List (List (List ℕ))) (t : List ℕ) (lines M : ℕ) (marks : List ℕ) (r : Step) where
-  pub marks-are : (c : Cursor) → r ≡ S.On c → MarksIs ls t lines M marks r → MarksAt ls t lines M marks c.at
-  marks-are c e h = subst (MarksIs ls t lines M marks) e h
-
-  pub marks-not : r ≡ S.Not → MarksIs ls t lines M marks r
-      → (xs : List Literal) → formed output_line lines ls ≡ some xs → (given : List ℕ) → UpTo M given → every (readable given) xs ≡ true → ⊥
-  marks-not e h = subst (MarksIs ls t lines M marks) e h
-
-module _ (ls : List (List (List ℕ))) (t : List ℕ) (lines M n : ℕ) (given wires table : List ℕ) (tabs : Tables) (r : AndStep) where
-  pub ands-is : (k : ℕ) (c : Cursor) → r ≡ A.On k c → AndsIs ls t lines M n given wires table tabs r → AndsAt ls t lines M n given wires table tabs k c.at
-  ands-is k c e h = subst (AndsIs ls t lines M n given wires table tabs) e h
-
-  pub ands_not : r ≡ A.Not → AndsIs ls t lines M n given wires table tabs r → (xs : List AndLine) → formed and_form lines ls ≡ some xs → ands_good M given xs ≡ true → ⊥
-  ands_not e h = subst (AndsIs ls t lines M n given wires table tabs) e h

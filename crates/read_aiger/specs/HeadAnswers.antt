@@ -1,23 +1,23 @@
 -- What the answer on the header means.
-use Rattle.std.specs.Prelude.{ℕ, ◌^◌, ◌<◌, ◌≤◌, ◌≡◌, cond, List, eqb, drop}
+use Rattle.std.specs.Prelude.{ℕ, Result, Ok, Err, ◌^◌, ◌<◌, ◌≡◌, List, drop, eqb}
 use Rattle.netlist.specs.declared.Limits.{Limits}
 use Rattle.netlist.specs.Number.{max_digits}
-use Rattle.netlist.specs.Outcome.{refused, done}
+use Rattle.netlist.specs.Outcome.{Outcome, refused, done, ask}
+use Rattle.netlist.specs.declared.Question.{Question}
+use Rattle.netlist.specs.Question.{number_of}
 use Rattle.read_text.specs.Line.{after_line}
+use Rattle.aiger_lines.specs.declared.lines.Lines.{Lines}
 use Rattle.aiger.specs.Lines.{Head, head_good}
 use Rattle.aiger.specs.Call.{head_outcome}
-use Rattle.aiger_lines.specs.Stray.{stray_at}
 use Rattle.read_aiger.specs.declared.head.HeadNumbers.{HeadNumbers}
-use Rattle.read_aiger.specs.declared.head.HeadStep.{HeadStep}
-use Rattle.read_aiger.specs.declared.head.HeadStep.TheVariants as S
 
 -- the header that the numbers stand for
 abbrev pub head_said : HeadNumbers → Head
 head_said h = record { most = h.most; inputs = h.inputs; latches = h.latches; outputs = h.outputs; ands = h.ands }
 
--- the question that a header gets a no to, 19 or 20, and otherwise 0
-abbrev pub head_asked : Limits → Head → ℕ
-head_asked L H = cond (head_good L H) (cond (eqb H.latches 0) 0 20) 19
+-- questions 19 and 20 of a header
+abbrev pub head_asked : Limits → Head → Outcome (Unit {0})
+head_asked L H = ask 19 (head_good L H) (ask 20 (eqb H.latches 0) (done tt))
 
 -- the numbers fit
 pub record LowHead (h : HeadNumbers) : Type 0 where
@@ -25,14 +25,14 @@ pub record LowHead (h : HeadNumbers) : Type 0 where
   pub outputs : h.outputs < 10 ^ max_digits
   pub ands : h.ands < 10 ^ max_digits
 
--- a header that is admitted, with the start of the line behind it
-pub record HeadAt (L : Limits) (t : List ℕ) (h : HeadNumbers) (to : ℕ) : Type 0 where
+-- a header that is admitted, with the lines behind it
+pub record HeadAt (L : Limits) (t : List ℕ) (h : HeadNumbers) (l : Lines) : Type 0 where
   pub outcome : head_outcome L t ≡ done (head_said h)
   pub most : h.most < L.wires
   pub low : LowHead h
-  pub left : drop to t ≡ after_line (drop 4 t)
-  pub within : to ≤ stray_at t
+  pub text : l.text.now ≡ t
+  pub next : drop l.at t ≡ after_line (drop 4 t)
 
-abbrev pub HeadIs : Limits → List ℕ → HeadStep → Type 0
-HeadIs L t (S.Is h c) = HeadAt L t h c.at
-HeadIs L t (S.Refused q) = head_outcome L t ≡ refused q
+abbrev pub HeadIs : Limits → List ℕ → Result (HeadNumbers × Lines) Question → Type 0
+HeadIs L t (Ok (h, l)) = HeadAt L t h l
+HeadIs L t (Err q) = head_outcome L t ≡ refused (number_of q)

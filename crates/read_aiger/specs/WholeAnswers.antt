@@ -1,7 +1,9 @@
 -- What the answers on a whole file mean.
-use Rattle.std.specs.Prelude.{ℕ, ◌+◌, ◌≤◌, ◌≡◌, true, List, [], ◌∷◌, length}
+use Rattle.std.specs.Prelude.{ℕ, Option, Some, None, Result, Ok, Err, ◌+◌, ◌≤◌, ◌≡◌, true, List, [], ◌∷◌, length}
 use Rattle.std.proofs.Math.Option.{some}
 use Rattle.netlist.specs.declared.Limits.{Limits}
+use Rattle.netlist.specs.declared.Question.{Question}
+use Rattle.netlist.specs.Question.{number_of}
 use Rattle.netlist.specs.Netlist.{Netlist}
 use Rattle.netlist.specs.Outcome.{Outcome, refused, done, ask}
 use Rattle.netlist.specs.Services.{tables_long}
@@ -12,11 +14,7 @@ use Rattle.aiger.specs.Rules.{rules_kept}
 use Rattle.aiger.specs.Made.{netlist_made}
 use Rattle.aiger.specs.Call.{read_aiger}
 use Rattle.aiger_gates.specs.Places.{Keeps}
-use Rattle.read_aiger.specs.declared.body.Gates.{Gates}
-use Rattle.read_aiger.specs.declared.body.Gates.TheVariants as G
 use Rattle.read_aiger.specs.declared.read.NetlistNumbers.{NetlistNumbers}
-use Rattle.read_aiger.specs.declared.read.Reading.{Reading}
-use Rattle.read_aiger.specs.declared.read.Reading.TheVariants as R
 
 -- the lines behind a header are those of a file that keeps the rules, and the tables keep the k gates of the netlist made
 pub record LinesAt (H : Head) (ls : List (List (List ℕ))) (tabs : Tables) (k : ℕ) : Type 0 where
@@ -30,14 +28,14 @@ pub record LinesAt (H : Head) (ls : List (List (List ℕ))) (tabs : Tables) (k :
   pub many : H.outputs ≤ k
   pub keeps : Keeps tabs (H.inputs + k) (netlist_made is).gates
 
-abbrev pub LinesIs : Head → List (List (List ℕ)) → Tables → Gates → Type 0
-LinesIs H ls tabs (G.Made k) = LinesAt H ls tabs k
-LinesIs H ls tabs G.Not = (F : File) → file H ls ≡ some F → rules_kept F ≡ true → ⊥
+abbrev pub LinesIs : Head → List (List (List ℕ)) → Tables → Option ℕ → Type 0
+LinesIs H ls tabs (Some k) = LinesAt H ls tabs k
+LinesIs H ls tabs None = (F : File) → file H ls ≡ some F → rules_kept F ≡ true → ⊥
 
 -- how many gates an answer tells
-abbrev pub gates_made : Gates → ℕ
-gates_made (G.Made k) = k
-gates_made G.Not = 0
+abbrev pub gates_made : Option ℕ → ℕ
+gates_made (Some k) = k
+gates_made None = 0
 
 -- the limits that the reader works with: they admit a value of each kind, and tables long enough for the wires
 pub record OneValue (L : Limits) : Type 0 where
@@ -59,6 +57,6 @@ pub record NetlistAt (o : Outcome Netlist) (tabs : Tables) (m : NetlistNumbers) 
   pub gates : is.gates ≡ gates_of tabs m.gates
   pub wired : Wired tabs m.wires m.gates
 
-abbrev pub NetlistIs : Outcome Netlist → Tables → Reading → Type 0
-NetlistIs o tabs (R.Done m) = NetlistAt o tabs m
-NetlistIs o tabs (R.Refused q) = o ≡ refused q
+abbrev pub NetlistIs : Outcome Netlist → Tables → Result NetlistNumbers Question → Type 0
+NetlistIs o tabs (Ok m) = NetlistAt o tabs m
+NetlistIs o tabs (Err q) = o ≡ refused (number_of q)

@@ -1,13 +1,11 @@
 // The opening and the header.
 ghost use Rattle.std.specs.Prelude.{◌≡◌};
+ghost use Rattle.netlist.specs.Services.{stands_for};
 ghost use Rattle.aiger.specs.Lines.{opens};
-ghost use Rattle.aiger_lines.specs.Stray.{stray_at};
 ghost use Rattle.read_aiger.specs.HeadAnswers.{head_said, head_asked, HeadIs};
 
-use aiger_lines::numbers::{Line, line_numbers};
-use netlist::Limits;
-use read_text::bytes::same;
-use read_text::cursor::Cursor;
+use aiger_lines::lines::Lines;
+use netlist::{Limits, Question};
 
 // M I L O A.
 #[derive(Clone, Copy)]
@@ -19,63 +17,44 @@ pub struct HeadNumbers {
     pub ands: u32,
 }
 
-// An admitted header with the start of the next line, or the question that it gets a no to.
-#[derive(Clone, Copy)]
-pub enum HeadStep {
-    Is(HeadNumbers, Cursor),
-    Refused(u8),
-}
-
 // Whether a text begins with the four bytes.
 fn is_opening(text: &[u8]) -> bool
     ensures { result ≡ opens text.now }
 {
-    if text.len() < 4 {
-        return false;
-    }
-    same(&text[..4], b"aag ")
+    text.starts_with(b"aag ")
 }
 
-// 19 for a header without inputs or outputs or with too many variables, then 20 for one with latches, otherwise 0.
-fn question(h: HeadNumbers, l: Limits) -> u8
-    ensures { result ≡ head_asked l (head_said h) }
+// 19 for a header without inputs or outputs or with too many variables, then 20 for one with latches.
+fn question(h: HeadNumbers, l: Limits) -> Result<(), Question>
+    ensures { stands_for (λ u. u) result ≡ head_asked l (head_said h) }
 {
-    if h.inputs < 1 {
-        return 19;
-    }
-    if h.outputs < 1 {
-        return 19;
-    }
-    if l.wires <= h.most {
-        return 19;
+    if h.inputs < 1 || h.outputs < 1 || l.wires <= h.most {
+        return Err(Question::Aiger);
     }
     if h.latches != 0 {
-        return 20;
+        return Err(Question::Latches);
     }
-    0
+    Ok(())
 }
 
-// 19 for the opening, then 19 and 20 for the header.
-pub fn head(text: &[u8], l: Limits) -> HeadStep
+// 19 for the opening, then 19 and 20 for the header; answers an admitted one with the lines behind it.
+pub fn head(text: &[u8], l: Limits) -> Result<(HeadNumbers, Lines<'_>), Question>
     ensures { HeadIs l text.now result }
 {
     if !is_opening(text) {
-        return HeadStep::Refused(19);
+        return Err(Question::Aiger);
     }
     let mut numbers = [0u32; 5];
-    let Line::Is(next) = line_numbers(text, Cursor { at: 4 }, &mut numbers) else {
-        return HeadStep::Refused(19);
-    };
+    let lines = Lines { text, at: 4 };
+    let next = lines.numbers(&mut numbers).ok_or(Question::Aiger)?;
+    let [most, inputs, latches, outputs, ands] = numbers;
     let h = HeadNumbers {
-        most: numbers[0],
-        inputs: numbers[1],
-        latches: numbers[2],
-        outputs: numbers[3],
-        ands: numbers[4],
+        most,
+        inputs,
+        latches,
+        outputs,
+        ands,
     };
-    let q = question(h, l);
-    if q != 0 {
-        return HeadStep::Refused(q);
-    }
-    HeadStep::Is(h, next)
+    question(h, l)?;
+    Ok((h, next))
 }

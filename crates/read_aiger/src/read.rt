@@ -1,16 +1,15 @@
 // A whole file into lent tables: questions 1, 2, 19, 20, 19 and 5.
-ghost use Rattle.std.specs.Prelude.{◌≡◌, [], ◌∷◌, ◌≤◌, ◌<◌, ◌^◌, length, drop, replicate};
+ghost use Rattle.std.specs.Prelude.{◌≡◌, [], ◌∷◌, ◌≤◌, ◌<◌, ◌^◌, length, replicate};
 ghost use Rattle.netlist.specs.Table.{tables};
-ghost use Rattle.aiger.specs.Lines.{file_lines};
 ghost use Rattle.aiger.specs.Call.{lines_read, read_aiger};
-ghost use Rattle.aiger_lines.specs.Stray.{stray_at};
+ghost use Rattle.aiger_lines.specs.LineAnswers.{lines_left};
 ghost use Rattle.read_aiger.specs.HeadAnswers.{head_said, LowHead};
 ghost use Rattle.read_aiger.specs.WholeAnswers.{OneValue, asked_aiger, NetlistIs};
 
-use crate::body::{Gates, body};
-use crate::head::{HeadNumbers, HeadStep, head};
-use netlist::Limits;
-use read_text::cursor::Cursor;
+use crate::body::body;
+use crate::head::{HeadNumbers, head};
+use aiger_lines::lines::Lines;
+use netlist::{Limits, Question};
 
 // The numbers of a netlist of one input value and one output value, whose gates the tables hold.
 #[derive(Clone, Copy)]
@@ -21,37 +20,27 @@ pub struct NetlistNumbers {
     pub outputs: u32,
 }
 
-// A netlist that the tables now hold, or the first question with a no.
-#[derive(Clone, Copy)]
-pub enum Reading {
-    Done(NetlistNumbers),
-    Refused(u8),
-}
-
 // Question 19 of the lines behind a header, then 5.
 fn behind_head(
-    text: &[u8],
-    at: Cursor,
+    lines: Lines<'_>,
     h: HeadNumbers,
     l: Limits,
     table: &mut [u32],
     operands: &mut [u64],
     results: &mut [u64],
-) -> Reading
-    requires at_bound { (at.at ≤ stray_at text.now) × (h.most < length table.old)
+) -> Result<NetlistNumbers, Question>
+    requires at_bound { (h.most < length table.old)
         × (table.old ≡ replicate (length table.old) 0) × LowHead h × (h.most < length operands.old) }
     requires wires_in_bounds { (l.wires ≤ length operands.old) × (l.wires ≤ length results.old) × (1 ≤ l.inputs) × (1 ≤ l.outputs) }
-    ensures { NetlistIs (lines_read l (head_said h) (file_lines (drop at.at text.now)))
+    ensures { NetlistIs (lines_read l (head_said h) (lines_left lines.entry))
         (tables operands.new results.new) result }
 {
-    let Gates::Made(gates) = body(text, at, h, table, operands, results) else {
-        return Reading::Refused(19);
-    };
+    let gates = body(lines, h, table, operands, results).ok_or(Question::Aiger)?;
     let wires = h.inputs as usize + gates;
     if (l.wires as usize) < wires {
-        return Reading::Refused(5);
+        return Err(Question::Limits);
     }
-    Reading::Done(NetlistNumbers {
+    Ok(NetlistNumbers {
         gates,
         wires,
         inputs: h.inputs,
@@ -66,18 +55,16 @@ fn read_file(
     table: &mut [u32],
     operands: &mut [u64],
     results: &mut [u64],
-) -> Reading
+) -> Result<NetlistNumbers, Question>
     requires { (l.wires ≤ length table.old) × (table.old ≡ replicate (length table.old) 0) × (l.wires ≤ length operands.old)
         × (l.wires ≤ length results.old) × (1 ≤ l.inputs) × (1 ≤ l.outputs) }
     ensures { NetlistIs (read_aiger l text.now) (tables operands.new results.new) result }
 {
     if l.text < text.len() {
-        return Reading::Refused(2);
+        return Err(Question::Length);
     }
-    match head(text, l) {
-        HeadStep::Refused(question) => Reading::Refused(question),
-        HeadStep::Is(h, at) => behind_head(text, at, h, l, table, operands, results),
-    }
+    let (h, lines) = head(text, l)?;
+    behind_head(lines, h, l, table, operands, results)
 }
 
 // Questions 1, 2, 19, 20, 19 and 5. The gates go into two tables, and a third gets the wires of variables; each is of any content.
@@ -87,21 +74,15 @@ pub fn read(
     results: &mut [u64],
     variables: &mut [u32],
     l: Limits,
-) -> Reading
+) -> Result<NetlistNumbers, Question>
     requires { OneValue l }
     ensures { NetlistIs (asked_aiger l (length operands.old ∷ length results.old ∷ length variables.old ∷ [])
         text.now) (tables operands.new results.new) result }
 {
     let least = l.table;
-    if operands.len() < least {
-        return Reading::Refused(1);
+    if operands.len() < least || results.len() < least || variables.len() < least {
+        return Err(Question::Tables);
     }
-    if results.len() < least {
-        return Reading::Refused(1);
-    }
-    if variables.len() < least {
-        return Reading::Refused(1);
-    }
-    clear::wires(variables);
+    variables.fill(0);
     read_file(text, l, variables, operands, results)
 }

@@ -1,5 +1,6 @@
 -- A gate line read word by word: each law takes one word off, or refuses the line.
 use Prim.Native.Nat.{ℕ, ◌-◌, ◌≤◌}
+use Rattle.std.specs.Prelude as std
 use mathlib.Core.Path.{◌≡◌, refl, sym, ap, ◌∙◌, subst}
 use mathlib.Core.Bool.{false}
 use mathlib.Core.List.{List, [], ◌∷◌}
@@ -11,45 +12,31 @@ use Rattle.netlist.specs.declared.Gate.TheVariants as G
 use Rattle.netlist.specs.Number.{number}
 use Rattle.netlist.proofs.Tests.{clash}
 use Rattle.read_text.specs.declared.cursor.Cursor.{Cursor}
-use Rattle.read_text.specs.Line.{LineTaken, EndAt, WordAt, line_words, next_word, after_line, is_empty}
+use Rattle.read_text.specs.Line.{EndAt, WordAt, line_words, next_word, after_line, is_empty}
 use Rattle.read_text.specs.Answers.{NumberAt}
 use Rattle.read_text.proofs.Splitting.{add_word}
 use Rattle.read_text.proofs.Answering.{number_word, number-line, no_number, word-words, word_none, word-stays}
 use Rattle.read_gate_line.specs.GateForm.{on_number, alone, named}
 use Rattle.read_gate_line.specs.GateAnswers.{gate_named, named_for, NamedExact, LineNext, LineIs}
-use Rattle.gate_table.specs.Numbers.{gate_said}
 use Rattle.gate_table.specs.declared.GateNumbers.{GateNumbers}
-use Rattle.read_gate_line.specs.declared.gate.NamedGate.{NamedGate}
-use Rattle.read_gate_line.specs.declared.gate.NamedGate.TheVariants as N
-use Rattle.read_gate_line.specs.declared.gate.GateLine.{GateLine}
-use Rattle.read_gate_line.specs.declared.gate.GateLine.TheVariants as L
-
--- ---- a line known by its answer
-
-module _ (t : List ℕ) (at : ℕ) (e : Option Gate) (r : GateLine) (l : LineIs t at e r) where
-  pub line-is : (g : GateNumbers) (c : Cursor) → r ≡ L.Is g c → (some (gate_said g) ≡ e) × LineTaken t at c.at
-  line-is g c p = let k : LineIs t at e (L.Is g c) = subst (LineIs t at e) p l in (k.gate, k.next)
-
-  pub line-is-not : r ≡ L.Not → none ≡ e
-  line-is-not p = let k : LineIs t at e L.Not = subst (LineIs t at e) p l in k.gate
 
 -- ---- the same line from a place further on
 
-pub line_same : (t : List ℕ) (at : ℕ) (e f : Option Gate) (r : GateLine) → e ≡ f → LineIs t at f r → LineIs t at e r
+pub line_same : (t : List ℕ) (at : ℕ) (e f : Option Gate) (r : std.Option (GateNumbers × Cursor)) → e ≡ f → LineIs t at f r → LineIs t at e r
 line_same t at e f r h l = record { gate = l.gate ∙ sym h; numbers = l.numbers; next = l.next }
 
-pub line-not : (t : List ℕ) (at : ℕ) (e : Option Gate) → e ≡ none → LineIs t at e L.Not
+pub line-not : (t : List ℕ) (at : ℕ) (e : Option Gate) → e ≡ none → LineIs t at e std.None
 line-not t at e h = record { gate = sym h; numbers = tt; next = tt }
 
-pub next-behind : (t : List ℕ) (at to : ℕ) → after_line (drop to t) ≡ after_line (drop at t) → at ≤ to → (r : GateLine) → LineNext t to r → LineNext t at r
-next-behind t at to e h (L.Is g c) n = record { left = n.left ∙ e; on = omega (arith, n.on); within = n.within }
-next-behind t at to e h L.Not n = tt
+pub next-behind : (t : List ℕ) (at to : ℕ) → after_line (drop to t) ≡ after_line (drop at t) → at ≤ to → (r : std.Option (GateNumbers × Cursor)) → LineNext t to r → LineNext t at r
+next-behind t at to e h (std.Some (g, c)) n = record { left = n.left ∙ e; on = omega (arith, n.on); within = n.within }
+next-behind t at to e h std.None n = tt
 
 -- ---- a number
 
 module _ (t : List ℕ) (at : ℕ) (f : ℕ → List (List ℕ) → Option Gate) where
   -- it was taken, and the rest of the line read
-  pub line-behind : (v to : ℕ) (r : GateLine) → NumberAt t at v to → LineIs t to (f v (line_words (drop to t))) r
+  pub line-behind : (v to : ℕ) (r : std.Option (GateNumbers × Cursor)) → NumberAt t at v to → LineIs t to (f v (line_words (drop to t))) r
       → LineIs t at (on_number (line_words (drop at t)) f) r
   unfolding on_number
   line-behind v to r n l = record {
@@ -59,7 +46,7 @@ module _ (t : List ℕ) (at : ℕ) (f : ℕ → List (List ℕ) → Option Gate)
   }
 
   -- there is none
-  pub line-no-number : number (next_word (drop at t)) ≡ none → LineIs t at (on_number (line_words (drop at t)) f) L.Not
+  pub line-no-number : number (next_word (drop at t)) ≡ none → LineIs t at (on_number (line_words (drop at t)) f) std.None
   unfolding on_number
   line-no-number h = line-not t at _ (no_number (λ ws. on_number ws f ≡ none) (drop at t) h refl (λ w ws e. rw e))
 
@@ -71,7 +58,7 @@ alone-none [] = refl
 alone-none (w ∷ ws) = refl
 
 -- the word at a place is the name, and the rest of the line was read
-pub line-named : (f : List ℕ → Option Gate) → f [] ≡ none → (t : List ℕ) (at from to : ℕ) (g : Option Gate) (r : GateLine) → WordAt t at from to
+pub line-named : (f : List ℕ → Option Gate) → f [] ≡ none → (t : List ℕ) (at from to : ℕ) (g : Option Gate) (r : std.Option (GateNumbers × Cursor)) → WordAt t at from to
     → g ≡ f (take (to - from) (drop from t))
     → LineIs t to (alone g (line_words (drop to t))) r → LineIs t at (named f (line_words (drop at t))) r
 unfolding named
@@ -88,7 +75,7 @@ line-named f empty t at from to g r w n l = record {
     go (x ∷ u) e = ap (named f) (word-words t at from to w ∙ ap (λ (v : List ℕ). add_word v (line_words (drop to t))) e)
 
 -- what a name stands for
-pub named-gate : (n : NamedGate) (o : Option Gate) → n ≡ named_for o → gate_named n ≡ o
+pub named-gate : (n : std.Option GateNumbers) (o : Option Gate) → n ≡ named_for o → gate_named n ≡ o
 unfolding named_for
 named-gate n o e = ap gate_named e ∙ go o
   where
@@ -100,7 +87,7 @@ named-gate n o e = ap gate_named e ∙ go o
     go (some (G.Eqw a c)) = refl
     go (some (G.Eq v c)) = refl
 
-pub named-exact : (n : NamedGate) (o : Option Gate) → n ≡ named_for o → NamedExact n
+pub named-exact : (n : std.Option GateNumbers) (o : Option Gate) → n ≡ named_for o → NamedExact n
 unfolding named_for
 named-exact n o e = subst NamedExact (sym e) (go o)
   where
@@ -114,11 +101,11 @@ named-exact n o e = subst NamedExact (sym e) (go o)
 
 module _ (t : List ℕ) (at : ℕ) where
   -- no gate has the name
-  pub last-unnamed : (n : NamedGate) → n ≡ N.Not → LineIs t at (alone (gate_named n) (line_words (drop at t))) L.Not
-  last-unnamed n e = line-not t at _ (ap (λ (g : NamedGate). alone (gate_named g) (line_words (drop at t))) e ∙ alone-none (line_words (drop at t)))
+  pub last-unnamed : (n : std.Option GateNumbers) → n ≡ std.None → LineIs t at (alone (gate_named n) (line_words (drop at t))) std.None
+  last-unnamed n e = line-not t at _ (ap (λ (g : std.Option GateNumbers). alone (gate_named g) (line_words (drop at t))) e ∙ alone-none (line_words (drop at t)))
 
   -- a word follows
-  pub last_more : (g : Option Gate) → is_empty (line_words (drop at t)) ≡ false → LineIs t at (alone g (line_words (drop at t))) L.Not
+  pub last_more : (g : Option Gate) → is_empty (line_words (drop at t)) ≡ false → LineIs t at (alone g (line_words (drop at t))) std.None
   unfolding is_empty alone
   last_more g h = line-not t at _ (go (line_words (drop at t)) h)
     where
@@ -127,8 +114,8 @@ module _ (t : List ℕ) (at : ℕ) where
       go (w ∷ ws) e = refl
 
   -- the line ends
-  pub last-gate : (n : NamedGate) (g : GateNumbers) (c : Cursor) → n ≡ N.Is g → NamedExact n → EndAt t at c.at
-      → LineIs t at (alone (gate_named n) (line_words (drop at t))) (L.Is g c)
+  pub last-gate : (n : std.Option GateNumbers) (g : GateNumbers) (c : Cursor) → n ≡ std.Some g → NamedExact n → EndAt t at c.at
+      → LineIs t at (alone (gate_named n) (line_words (drop at t))) (std.Some (g, c))
   unfolding alone
   last-gate n g c p x e = record {
     gate = sym (ap (alone (gate_named n)) e.none ∙ ap gate_named p);

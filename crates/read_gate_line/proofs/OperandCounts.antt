@@ -1,6 +1,7 @@
 -- The counts of a gate line: how they are read, and what is left of the line.
 use Prim.Native.Nat.{ℕ}
-use mathlib.Core.Path.{◌≡◌, refl, sym, ap, ◌∙◌, subst}
+use Rattle.std.specs.Prelude as std
+use mathlib.Core.Path.{◌≡◌, refl, sym, ap, ◌∙◌}
 use mathlib.Core.List.{List, ◌∷◌}
 use mathlib.Core.Option.{none}
 use native.Mathlib.Omega.{arith}
@@ -10,26 +11,12 @@ use Rattle.read_text.specs.declared.cursor.Cursor.{Cursor}
 use Rattle.read_text.specs.Line.{line_words, next_word}
 use Rattle.read_text.specs.Answers.{NumberAt}
 use Rattle.read_text.proofs.Answering.{number_word, number-line, no_number}
+use Rattle.gate_table.specs.declared.GateNumbers.{GateNumbers}
 use Rattle.read_gate_line.specs.GateForm.{on_number, counted, gate_form}
 use Rattle.read_gate_line.specs.GateAnswers.{LineIs}
-use Rattle.read_gate_line.specs.OperandAnswers.{OperandsAt, OperandsIs, UsualIs}
-use Rattle.read_gate_line.specs.declared.gate.GateLine.{GateLine}
-use Rattle.read_gate_line.specs.declared.operands.Operands.{Operands}
-use Rattle.read_gate_line.specs.declared.operands.Operands.TheVariants as O
+use Rattle.read_gate_line.specs.OperandAnswers.{OperandsAt}
 use Rattle.read_gate_line.proofs.GateForms.{counted-results}
 use Rattle.read_gate_line.proofs.GateWords.{next-behind}
-
--- ---- the variants
-
-module _ (t : List ℕ) (at : ℕ) where
-  pub operands-are : (r : Operands) (k : ℕ) (c : Cursor) → r ≡ O.Are k c → OperandsIs t at r → OperandsAt t at k c.at
-  operands-are r k c e h = subst (OperandsIs t at) e h
-
-  pub operands-not : (r : Operands) → r ≡ O.Not → OperandsIs t at r → gate_form (line_words (drop at t)) ≡ none
-  operands-not r e h = subst (OperandsIs t at) e h
-
-  pub usual-are : (r : Operands) (k : ℕ) (c : Cursor) → r ≡ O.Are k c → UsualIs t at r → OperandsAt t at k c.at
-  usual-are r k c e h = subst (UsualIs t at) e h
 
 -- ---- two numbers
 
@@ -73,7 +60,7 @@ module _ (t : List ℕ) (at : ℕ) where
 -- ---- the line behind the counts
 
 module _ (t : List ℕ) (at k to : ℕ) (o : OperandsAt t at k to) where
-  pub line-operands : (r : GateLine) → LineIs t to (counted k 1 (line_words (drop to t))) r → LineIs t at (gate_form (line_words (drop at t))) r
+  pub line-operands : (r : std.Option (GateNumbers × Cursor)) → LineIs t to (counted k 1 (line_words (drop to t))) r → LineIs t at (gate_form (line_words (drop at t))) r
   unfolding gate_form on_number
   line-operands r l = record {
     gate = l.gate ∙ sym (ap gate_form o.line ∙ rw o.count (rw o.one));

@@ -1,5 +1,6 @@
 -- The three header lines together.
 use Prim.Native.Nat.{ℕ}
+use Rattle.std.specs.Prelude as std
 use mathlib.Core.Path.{◌≡◌, refl, sym, ap, ◌∙◌, subst}
 use mathlib.Core.Bool.{false}
 use mathlib.Core.List.{List, [], ◌∷◌}
@@ -20,36 +21,17 @@ use Rattle.read_text.proofs.Splitting.{add_line, lines_step}
 use Rattle.read_text.proofs.Answering.{number-line, no_number}
 use Rattle.read_text.proofs.Lines.{AtWord, at-word, word_line, no_line, blanks-lines, line-passed, behind-lines}
 use Rattle.old_form.specs.declared.Dialect.{Dialect}
-use Rattle.old_form.specs.Dialects.{header_in, header_lines}
-use Rattle.read_header.specs.HeaderAnswers.{pair_only, CountsAt, CountsIs, WidthsAt, HeaderOf, HeaderAt, HeaderSays}
-use Rattle.read_header.specs.declared.Counts.{Counts}
-use Rattle.read_header.specs.declared.Counts.TheVariants as C
+use Rattle.old_form.specs.Dialects.{header_lines}
+use Rattle.read_header.specs.HeaderAnswers.{pair_only, CountsAt, WidthsAt, HeaderOf, HeaderAt, HeaderSays}
 use Rattle.read_header.specs.declared.HeaderNumbers.{HeaderNumbers}
-use Rattle.read_header.specs.declared.HeaderRead.{HeaderRead}
-use Rattle.read_header.specs.declared.HeaderRead.TheVariants as R
 use Rattle.read_header.proofs.WidthLines.{numbers_on}
-
--- ---- the answers
-
-pub counts-is : (t : List ℕ) (at : ℕ) (r : Counts) (g w : ℕ) (c : Cursor) → r ≡ C.Is g w c → CountsIs t at r → CountsAt t at g w c.at
-counts-is t at r g w c p h = subst (CountsIs t at) p h
-
-pub counts-not : (t : List ℕ) (at : ℕ) (r : Counts) → r ≡ C.Not → CountsIs t at r → pair_only (numbers (line_words (drop at t))) ≡ none
-counts-not t at r p h = subst (CountsIs t at) p h
-
-pub header_is : (d : Dialect) (t ins outs : List ℕ) (r : HeaderRead) (h : HeaderNumbers) (c : Cursor) → r ≡ R.Is h c → HeaderSays d t ins outs r
-    → HeaderOf d t ins outs h c.at
-header_is d t ins outs r h c p k = subst (HeaderSays d t ins outs) p k
-
-pub header-not : (d : Dialect) (t ins outs : List ℕ) (r : HeaderRead) → r ≡ R.Not → HeaderSays d t ins outs r → header_in d (word_lines t) ≡ none
-header-not d t ins outs r p k = subst (HeaderSays d t ins outs) p k
 
 -- the gate lines stand behind the place
 pub header-left : {d : Dialect} {t ins outs : List ℕ} {h : HeaderNumbers} {to : ℕ} → HeaderOf d t ins outs h to
     → word_lines (drop to t) ≡ drop (header_lines d) (word_lines t)
 header-left {d} {t} a = ap word_lines a.place ∙ behind-lines (header_lines d) t
 
-pub header-in : {d e : Dialect} (t ins outs : List ℕ) (r : HeaderRead) → e ≡ d → HeaderSays e t ins outs r → HeaderSays d t ins outs r
+pub header-in : {d e : Dialect} (t ins outs : List ℕ) (r : std.Option (HeaderNumbers × Cursor)) → e ≡ d → HeaderSays e t ins outs r → HeaderSays d t ins outs r
 header-in t ins outs r p k = subst (λ (d : Dialect). HeaderSays d t ins outs r) p k
 
 -- ---- line one

@@ -1,5 +1,6 @@
 -- Questions 2 to 6 in order, but for the number of gate lines.
 use Prim.Native.Nat.{ℕ, suc, ◌<◌, ◌≤◌}
+use Rattle.std.specs.Prelude.{Result, Ok, Err}
 use mathlib.Core.Path.{◌≡◌, refl, sym, ap, ◌∙◌, subst}
 use mathlib.Core.Bool.{true, false, ◌&&◌}
 use mathlib.Core.List.{List, [], ◌∷◌}
@@ -9,6 +10,8 @@ use lib.Dec.{T, eqb, leb, leb→le, eqb→eq}
 use lib.ListN.{length, take, drop}
 use borrow.Author.Tests.{lt-leb, le-leb}
 use Rattle.netlist.specs.declared.Limits.{Limits}
+use Rattle.netlist.specs.declared.Question.{Question}
+use Rattle.netlist.specs.Question.{number_of}
 use Rattle.netlist.specs.Outcome.{done, ask, given, and_then}
 use Rattle.netlist.specs.Text.{word_lines}
 use Rattle.netlist.specs.Header.{Header, within_limits}
@@ -22,8 +25,6 @@ use Rattle.old_form.specs.Dialects.{header_in, header_lines, opening_in}
 use Rattle.read_header.specs.HeaderAnswers.{Kept, HeaderOf}
 use Rattle.read_header.specs.HeadAnswers.{within_numbers, gates_counted, Inside, HeadOf, NoHead, HeadSays}
 use Rattle.read_header.specs.declared.HeaderNumbers.{HeaderNumbers}
-use Rattle.read_header.specs.declared.head.Head.{Head}
-use Rattle.read_header.specs.declared.head.Head.TheVariants as H
 use Rattle.read_header.proofs.Headers.{header-left}
 
 -- ---- a header's numbers
@@ -106,11 +107,11 @@ module _ (d : Dialect) (L : Limits) (t : List ℕ) where
 
 -- ---- a head known by its answer
 
-module _ (d : Dialect) (L : Limits) (t ins outs : List ℕ) {r : Head} (k : HeadSays d L t ins outs r) where
-  pub head-is : {h : HeaderNumbers} {c : Cursor} → r ≡ H.Is h c → HeadOf d L t ins outs h c.at
+module _ (d : Dialect) (L : Limits) (t ins outs : List ℕ) {r : Result (HeaderNumbers × Cursor) Question} (k : HeadSays d L t ins outs r) where
+  pub head-is : {h : HeaderNumbers} {c : Cursor} → r ≡ Ok (h, c) → HeadOf d L t ins outs h c.at
   head-is p = subst (HeadSays d L t ins outs) p k
 
-  pub head-refused : {q : ℕ} → r ≡ H.Refused q → NoHead d L t q
+  pub head-refused : {q : Question} → r ≡ Err q → NoHead d L t (number_of q)
   head-refused p = subst (HeadSays d L t ins outs) p k
 
 -- ---- the widths

@@ -1,6 +1,6 @@
 -- The two header lines of the older dialect.
 use Prim.Native.Nat.{ℕ, ◌+◌}
-use mathlib.Core.Path.{◌≡◌, refl, sym, ap, ◌∙◌, subst}
+use mathlib.Core.Path.{◌≡◌, refl, sym, ap, ◌∙◌}
 use mathlib.Core.Bool.{Bool, true, false, cond, ◌&&◌}
 use mathlib.Core.List.{List, [], ◌∷◌}
 use mathlib.Core.Option.{Option, none, some}
@@ -13,7 +13,6 @@ use Rattle.netlist.specs.Number.{number}
 use Rattle.netlist.specs.Text.{word_lines}
 use Rattle.netlist.specs.Header.{numbers, cons_option}
 use Rattle.netlist.proofs.Questions.{none-some}
-use Rattle.read_text.specs.declared.cursor.Cursor.{Cursor}
 use Rattle.read_text.specs.Line.{line_words, next_word, behind_line, is_blank, Scanned}
 use Rattle.read_text.specs.Answers.{NumberAt}
 use Rattle.read_text.proofs.Answering.{number-line, no_number}
@@ -21,20 +20,11 @@ use Rattle.read_text.proofs.Lines.{at-word, line-passed}
 use Rattle.old_form.specs.declared.Parties.{Parties}
 use Rattle.old_form.specs.declared.Dialect.TheVariants.{Old}
 use Rattle.old_form.specs.OldHeader.{parties, input_values, output_values, party_header, old_header}
-use Rattle.read_header.specs.HeaderAnswers.{pair_only, CountsAt, Kept, PartiesAt, PartiesIs, HeaderOf}
-use Rattle.read_header.specs.declared.old.PartiesLine.{PartiesLine}
-use Rattle.read_header.specs.declared.old.PartiesLine.TheVariants as P
+use Rattle.read_header.specs.HeaderAnswers.{pair_only, CountsAt, Kept, PartiesAt, HeaderOf}
 use Rattle.read_header.proofs.WidthLines.{numbers_on, kept_more}
 use Rattle.read_header.proofs.Headers.{read-line, Without, first-line, pair_of, pair_is, no-pair, start, one, pair}
 
 -- ---- line two
-
-module _ (t : List ℕ) (at : ℕ) (r : PartiesLine) where
-  pub parties-is : (p : Parties) (c : Cursor) → r ≡ P.Is p c → PartiesIs t at r → PartiesAt t at p c.at
-  parties-is p c e h = subst (PartiesIs t at) e h
-
-  pub parties-not : r ≡ P.Not → PartiesIs t at r → parties (numbers (line_words (drop at t))) ≡ none
-  parties-not e h = subst (PartiesIs t at) e h
 
 pub parties-first : (s : List ℕ) → number (next_word s) ≡ none → parties (numbers (line_words s)) ≡ none
 parties-first s h = no_number (λ ws. parties (numbers ws) ≡ none) s h refl (λ w ws e. rw e)

@@ -1,6 +1,6 @@
 -- A line of numbers, read one after another, and a line of values.
 use Prim.Native.Nat.{ℕ, ◌+◌, ◌*◌, ◌<◌, ◌≤◌}
-use mathlib.Core.Path.{◌≡◌, refl, sym, ap, ◌∙◌, subst}
+use mathlib.Core.Path.{◌≡◌, refl, sym, ap, ◌∙◌}
 use mathlib.Core.Bool.{Bool, true, false, cond, ◌&&◌, and-true, and-false, and_assoc}
 use mathlib.Core.List.{List, [], ◌∷◌, ◌++◌, append_assoc, append-nil}
 use mathlib.Core.Option.{Option, none, some}
@@ -14,22 +14,10 @@ use Rattle.netlist.specs.Number.{number}
 use Rattle.netlist.specs.Header.{numbers, cons_option, values}
 use Rattle.netlist.proofs.Tests.{clash, on_bool}
 use Rattle.netlist.proofs.Shape.{sum-snoc}
-use Rattle.read_text.specs.declared.cursor.Cursor.{Cursor}
 use Rattle.read_text.specs.Line.{line_words, next_word, after_line, is_empty, EndAt}
 use Rattle.read_text.specs.Answers.{NumberAt}
 use Rattle.read_text.proofs.Answering.{number_word, number-line, no_number}
-use Rattle.read_header.specs.HeaderAnswers.{Kept, positives, WidthsAt, WidthsIs}
-use Rattle.read_header.specs.declared.Widths.{Widths}
-use Rattle.read_header.specs.declared.Widths.TheVariants as W
-
--- ---- the answer
-
-module _ (t : List ℕ) (at : ℕ) (e : Option (List ℕ)) (table : List ℕ) (r : Widths) where
-  pub widths-is : (n s : ℕ) (c : Cursor) → r ≡ W.Is n s c → WidthsIs t at e table r → WidthsAt t at e table n s c.at
-  widths-is n s c p h = subst (WidthsIs t at e table) p h
-
-  pub widths-not : r ≡ W.Not → WidthsIs t at e table r → e ≡ none
-  widths-not p h = subst (WidthsIs t at e table) p h
+use Rattle.read_header.specs.HeaderAnswers.{Kept, positives, WidthsAt}
 
 -- ---- the numbers of a line
 

@@ -1,15 +1,16 @@
 -- What the answer on a text's head means: questions 2 to 6, but for the number of gate lines.
-use Rattle.std.specs.Prelude.{ℕ, ◌-◌, ◌≤◌, ◌≡◌, Bool, ◌&&◌, List, eqb, leb, length, drop}
+use Rattle.std.specs.Prelude.{ℕ, Result, Ok, Err, ◌-◌, ◌≤◌, ◌≡◌, Bool, ◌&&◌, List, eqb, leb, length, drop}
 use Rattle.netlist.specs.declared.Limits.{Limits}
+use Rattle.netlist.specs.declared.Question.{Question}
+use Rattle.netlist.specs.Question.{number_of}
 use Rattle.netlist.specs.Outcome.{refused, done, ask}
 use Rattle.netlist.specs.Text.{word_lines}
 use Rattle.old_form.specs.declared.Dialect.{Dialect}
 use Rattle.old_form.specs.declared.Dialect.TheVariants.{Fashion}
 use Rattle.old_form.specs.Dialects.{opening_in}
 use Rattle.read_header.specs.HeaderAnswers.{HeaderOf}
+use Rattle.read_text.specs.declared.cursor.Cursor.{Cursor}
 use Rattle.read_header.specs.declared.HeaderNumbers.{HeaderNumbers}
-use Rattle.read_header.specs.declared.head.Head.{Head}
-use Rattle.read_header.specs.declared.head.Head.TheVariants as H
 
 -- question 5 of a header's numbers
 unfoldable pub within_numbers : Limits → HeaderNumbers → Bool
@@ -40,9 +41,9 @@ pub record HeadOf (d : Dialect) (L : Limits) (t ins outs : List ℕ) (h : Header
 pub record NoHead (d : Dialect) (L : Limits) (t : List ℕ) (q : ℕ) : Type 0 where
   pub refuses : opening_in d L t ≡ refused q
 
-abbrev pub HeadSays : Dialect → Limits → List ℕ → List ℕ → List ℕ → Head → Type 0
-HeadSays d L t ins outs (H.Is h c) = HeadOf d L t ins outs h c.at
-HeadSays d L t ins outs (H.Refused q) = NoHead d L t q
+abbrev pub HeadSays : Dialect → Limits → List ℕ → List ℕ → List ℕ → Result (HeaderNumbers × Cursor) Question → Type 0
+HeadSays d L t ins outs (Ok (h, c)) = HeadOf d L t ins outs h c.at
+HeadSays d L t ins outs (Err q) = NoHead d L t (number_of q)
 
 -- with document 01's header
 abbrev pub HeadAt : Limits → List ℕ → List ℕ → List ℕ → HeaderNumbers → ℕ → Type 0
@@ -51,5 +52,5 @@ HeadAt L t ins outs h to = HeadOf Fashion L t ins outs h to
 abbrev pub HeadNot : Limits → List ℕ → ℕ → Type 0
 HeadNot L t q = NoHead Fashion L t q
 
-abbrev pub HeadIs : Limits → List ℕ → List ℕ → List ℕ → Head → Type 0
+abbrev pub HeadIs : Limits → List ℕ → List ℕ → List ℕ → Result (HeaderNumbers × Cursor) Question → Type 0
 HeadIs L t ins outs r = HeadSays Fashion L t ins outs r

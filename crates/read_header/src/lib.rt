@@ -9,22 +9,7 @@ ghost use Rattle.netlist.specs.Header.{numbers, values};
 ghost use Rattle.read_text.specs.Line.{line_words};
 ghost use Rattle.read_header.specs.HeaderAnswers.{positives, CountsIs, WidthsIs, HeaderIs};
 
-use read_text::cursor::{Cursor, LineEnd};
-use read_text::number::Number;
-
-// Two numbers, with the start of the next line.
-#[derive(Clone, Copy)]
-enum Counts {
-    Is(u32, u32, Cursor),
-    Not,
-}
-
-// How many widths a line has, their sum, and the start of the next line.
-#[derive(Clone, Copy)]
-enum Widths {
-    Is(usize, u64, Cursor),
-    Not,
-}
+use read_text::cursor::Cursor;
 
 // What the header says, besides the widths themselves.
 #[derive(Clone, Copy)]
@@ -41,28 +26,15 @@ pub struct HeaderNumbers {
     pub output_bits: u64,
 }
 
-// A header, with the place behind its last line.
-#[derive(Clone, Copy)]
-pub enum HeaderRead {
-    Is(HeaderNumbers, Cursor),
-    Not,
-}
-
-// Line one: gate count and wire count, two numbers alone.
-fn counts_line(text: &[u8], at: Cursor) -> Counts
+// Line one: gate count and wire count, two numbers alone, with the start of the next line.
+fn counts_line(text: &[u8], at: Cursor) -> Option<(u32, u32, Cursor)>
     requires { at.at ≤ length text.now }
     ensures { CountsIs text.now at.at result }
 {
-    let Number::Is(gates, at1) = at.next_number(text) else {
-        return Counts::Not;
-    };
-    let Number::Is(wires, at2) = at1.next_number(text) else {
-        return Counts::Not;
-    };
-    let LineEnd::At(next) = at2.line_end(text) else {
-        return Counts::Not;
-    };
-    Counts::Is(gates, wires, next)
+    let (gates, at1) = at.next_number(text)?;
+    let (wires, at2) = at1.next_number(text)?;
+    let next = at2.line_end(text)?;
+    Some((gates, wires, next))
 }
 
 // Puts a width into its place of a table, where the table has room.
@@ -74,80 +46,71 @@ pub fn keep(table: &mut [u32], n: usize, width: u32)
     }
 }
 
-// The numbers up to the line's end, each 1 or more. Those past the table's end are read too.
-fn read_widths(text: &[u8], at: Cursor, table: &mut [u32]) -> Widths
+// The numbers up to the line's end, each 1 or more: how many, their sum, and the start of the next line. Those past the table's end
+// are read too.
+fn read_widths(text: &[u8], at: Cursor, table: &mut [u32]) -> Option<(usize, u64, Cursor)>
     requires { (at.at ≤ length text.now) × (length text.now < 2 ^ 32) }
     ensures { WidthsIs text.now at.at (positives (numbers (line_words (drop at.at text.now))))
         table.new result }
 {
-    let mut i = at.at;
+    let mut here = at;
     let mut n: usize = 0;
     let mut sum: u64 = 0;
     loop {
-        if let LineEnd::At(next) = (Cursor { at: i }).line_end(text) {
-            return Widths::Is(n, sum, next);
+        if let Some(next) = here.line_end(text) {
+            return Some((n, sum, next));
         }
-        let Number::Is(width, on) = (Cursor { at: i }).next_number(text) else {
-            return Widths::Not;
-        };
+        let (width, on) = here.next_number(text)?;
         if width == 0 {
-            return Widths::Not;
+            return None;
         }
         keep(table, n, width);
         n += 1;
         sum += width as u64;
-        i = on.at;
+        here = on;
     }
 }
 
 // Lines two and three: how many values, then the width of each.
-fn values_line(text: &[u8], at: Cursor, table: &mut [u32]) -> Widths
+fn values_line(text: &[u8], at: Cursor, table: &mut [u32]) -> Option<(usize, u64, Cursor)>
     requires { (at.at ≤ length text.now) × (length text.now < 2 ^ 32) }
     ensures { WidthsIs text.now at.at (values (numbers (line_words (drop at.at text.now))))
         table.new result }
 {
-    let Number::Is(count, on) = at.next_number(text) else {
-        return Widths::Not;
-    };
-    let Widths::Is(n, sum, next) = read_widths(text, on, table) else {
-        return Widths::Not;
-    };
+    let (count, on) = at.next_number(text)?;
+    let (n, sum, next) = read_widths(text, on, table)?;
     if count == 0 {
-        return Widths::Not;
+        return None;
     }
     if count as usize != n {
-        return Widths::Not;
+        return None;
     }
-    Widths::Is(n, sum, next)
+    Some((n, sum, next))
 }
 
-// Question 4. The widths go into the tables, as many as they have room for. A text below 2^32 bytes
-// has so few widths that their sum fits.
-pub fn read_header(text: &[u8], inputs: &mut [u32], outputs: &mut [u32]) -> HeaderRead
+// Question 4: the header's numbers, with the place behind its last line. The widths go into the tables, as many as they have room for. A
+// text below 2^32 bytes has so few widths that their sum fits.
+pub fn read_header(
+    text: &[u8],
+    inputs: &mut [u32],
+    outputs: &mut [u32],
+) -> Option<(HeaderNumbers, Cursor)>
     requires { length text.now < 2 ^ 32 }
     ensures { HeaderIs text.now inputs.new outputs.new result }
 {
     let line1 = (Cursor { at: 0 }).skip_blanks(text);
-    let Counts::Is(gates, wires, at1) = counts_line(text, line1) else {
-        return HeaderRead::Not;
-    };
+    let (gates, wires, at1) = counts_line(text, line1)?;
     let line2 = at1.skip_blanks(text);
-    let Widths::Is(ni, ins, at2) = values_line(text, line2, inputs) else {
-        return HeaderRead::Not;
-    };
+    let (ni, ins, at2) = values_line(text, line2, inputs)?;
     let line3 = at2.skip_blanks(text);
-    let Widths::Is(no, outs, at3) = values_line(text, line3, outputs) else {
-        return HeaderRead::Not;
+    let (no, outs, at3) = values_line(text, line3, outputs)?;
+    let numbers = HeaderNumbers {
+        gates,
+        wires,
+        input_values: ni,
+        input_bits: ins,
+        output_values: no,
+        output_bits: outs,
     };
-    HeaderRead::Is(
-        HeaderNumbers {
-            gates: gates,
-            wires: wires,
-            input_values: ni,
-            input_bits: ins,
-            output_values: no,
-            output_bits: outs,
-        },
-        at3,
-    )
+    Some((numbers, at3))
 }

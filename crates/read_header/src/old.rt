@@ -4,36 +4,24 @@ ghost use Rattle.old_form.specs.OldHeader.{input_values};
 ghost use Rattle.old_form.specs.declared.Dialect.TheVariants.{Old};
 ghost use Rattle.read_header.specs.HeaderAnswers.{Kept, PartiesIs, HeaderSays};
 
-use crate::{Counts, HeaderNumbers, HeaderRead, counts_line, keep};
+use crate::{HeaderNumbers, counts_line, keep};
 use old_form::Parties;
 use read_text::cursor::Cursor;
-use read_text::number::Number;
 
-// The bits that line two holds, with the start of the next line.
-#[derive(Clone, Copy)]
-enum PartiesLine {
-    Is(Parties, Cursor),
-    Not,
-}
-
-// Line two: the bits of party one, of party two and of the output.
-fn parties_line(text: &[u8], at: Cursor) -> PartiesLine
+// Line two: the bits of party one, of party two and of the output, with the start of the next line.
+fn parties_line(text: &[u8], at: Cursor) -> Option<(Parties, Cursor)>
     requires { at.at ≤ length text.now }
     ensures { PartiesIs text.now at.at result }
 {
-    let Number::Is(one, behind) = at.next_number(text) else {
-        return PartiesLine::Not;
-    };
-    let Counts::Is(two, output, next) = counts_line(text, behind) else {
-        return PartiesLine::Not;
-    };
+    let (one, behind) = at.next_number(text)?;
+    let (two, output, next) = counts_line(text, behind)?;
     if one == 0 {
-        return PartiesLine::Not;
+        return None;
     }
     if output == 0 {
-        return PartiesLine::Not;
+        return None;
     }
-    PartiesLine::Is(Parties { one, two, output }, next)
+    Some((Parties { one, two, output }, next))
 }
 
 // The input values into a table, as many as it has room for; answers how many they are. Party two is left out when it is 0.
@@ -49,28 +37,26 @@ fn keep_inputs(table: &mut [u32], p: Parties) -> usize
 }
 
 // Question 4. The widths go into the tables, as many as they have room for.
-pub fn read_old_header(text: &[u8], inputs: &mut [u32], outputs: &mut [u32]) -> HeaderRead
+pub fn read_old_header(
+    text: &[u8],
+    inputs: &mut [u32],
+    outputs: &mut [u32],
+) -> Option<(HeaderNumbers, Cursor)>
     ensures { HeaderSays Old text.now inputs.new outputs.new result }
 {
     let line1 = (Cursor { at: 0 }).skip_blanks(text);
-    let Counts::Is(gates, wires, at1) = counts_line(text, line1) else {
-        return HeaderRead::Not;
-    };
+    let (gates, wires, at1) = counts_line(text, line1)?;
     let line2 = at1.skip_blanks(text);
-    let PartiesLine::Is(p, at2) = parties_line(text, line2) else {
-        return HeaderRead::Not;
-    };
+    let (p, at2) = parties_line(text, line2)?;
     let values = keep_inputs(inputs, p);
     keep(outputs, 0, p.output);
-    HeaderRead::Is(
-        HeaderNumbers {
-            gates: gates,
-            wires: wires,
-            input_values: values,
-            input_bits: p.one as u64 + p.two as u64,
-            output_values: 1,
-            output_bits: p.output as u64,
-        },
-        at2,
-    )
+    let numbers = HeaderNumbers {
+        gates,
+        wires,
+        input_values: values,
+        input_bits: p.one as u64 + p.two as u64,
+        output_values: 1,
+        output_bits: p.output as u64,
+    };
+    Some((numbers, at2))
 }

@@ -11,10 +11,13 @@ use borrow.Author.Tests.{eq-eqb, ne_eqb, eqb-true, eqb-false}
 use Rattle.netlist.specs.declared.Gate.{Gate}
 use Rattle.netlist.specs.Netlist.{result}
 use Rattle.netlist.specs.Text.{word_lines}
+use Rattle.netlist.specs.declared.Question.{Question}
+use Rattle.netlist.specs.declared.Question.TheVariants as Q
+use Rattle.netlist.specs.Question.{number_of}
 use Rattle.netlist.specs.Outcome.{Outcome, refused, done, and_then}
 use Rattle.netlist.specs.GateLine.{gate_line}
 use Rattle.netlist.specs.Read.{operands_given, result_good, gate_lines}
-use Rattle.netlist.specs.Table.{Tables, tables, gates_of, Wired}
+use Rattle.netlist.specs.Table.{Tables, gates_of, Wired}
 use Rattle.netlist.proofs.Tests.{on_bool}
 use Rattle.netlist.proofs.Puts.{wired-none}
 use Rattle.old_form.specs.declared.Dialect.{Dialect}
@@ -23,11 +26,8 @@ use Rattle.old_form.proofs.GateNames.{line-none, line_refused, line_same, lines-
 use Rattle.read_text.specs.Line.{line_words, after_line, LineTaken, is_blank, Scanned}
 use Rattle.read_text.proofs.Lines.{at-word, word_line, no_line, blanks-lines}
 use Rattle.read_netlist.specs.Marks.{marked, Marks}
-use Rattle.read_netlist.specs.Gates.{Admitted, RefusedAt, GateStepIs, GatesRead, GatesNot, GatesIs}
+use Rattle.read_netlist.specs.Gates.{Admitted, RefusedAt, GatesRead, GatesNot}
 use Rattle.gate_table.specs.Entry.{Stored}
-use Rattle.read_netlist.specs.declared.gates.GateStep.{GateStep}
-use Rattle.read_netlist.specs.declared.gates.Gates.{Gates}
-use Rattle.read_netlist.specs.declared.gates.Gates.TheVariants as G
 use Rattle.read_netlist.proofs.Marking.{marks-operands, marks-result, marks-names, marks-on, free-below}
 
 -- ---- questions 7 to 9 of one line
@@ -69,10 +69,6 @@ module _ (d : Dialect) (t : List ℕ) (at n W : ℕ) (given : List ℕ) where
 
 pub one-room : (n W c : ℕ) (given : List ℕ) → W ≤ length given → (leb n c && ltb c W && not (marked given c)) ≡ true → c < length given
 one-room n W c given h f = let q : c < W = free-below n c W _ f in omega arith
-
-pub gate-step-is : (d : Dialect) (t : List ℕ) (at n W : ℕ) (rs given : List ℕ) {r s : GateStep} → r ≡ s → GateStepIs d t at n W rs given r
-    → GateStepIs d t at n W rs given s
-gate-step-is d t at n W rs given p h = subst (GateStepIs d t at n W rs given) p h
 
 -- ---- all lines
 
@@ -190,20 +186,6 @@ module _ {d : Dialect} {t given : List ℕ} {from n W : ℕ} {tabs : Tables} {i 
         }
 
 -- question 6 comes before the one that a line is refused by
-pub refuse-line : {m k left q : ℕ} → k ≡ m → k ≡ left → G.Refused q ≡ G.Refused (cond (eqb m left) q 6)
-refuse-line {m} {k} {left} e p = rw (eq-eqb m left (sym e ∙ p))
-
-pub refuse-count : {m k left : ℕ} (q : ℕ) → k ≡ m → (k ≡ left → ⊥) → G.Refused 6 ≡ G.Refused (cond (eqb m left) q 6)
-refuse-count {m} {k} {left} q e p = rw (ne_eqb m left (λ r. p (e ∙ r)))
-
--- the loop over the lines: i of `count` are read, and the tables keep their lengths
-pub record Going (d : Dialect) (t : List ℕ) (from count n W : ℕ) (g₀ o₀ r₀ g o r : List ℕ) (at i : ℕ) : Type 0 where
-  pub passed : i ≤ count
-  pub marks : length g ≡ length g₀
-  pub operands : length o ≡ length o₀
-  pub results : length r ≡ length r₀
-  pub reading : Reading d t from n W g (tables o r) i at
-
-pub refused-is : {d : Dialect} {t : List ℕ} {from count n W : ℕ} {r : Gates} {q : ℕ} (tabs : Tables) → r ≡ G.Refused q → GatesNot d t from count n W q
-    → GatesIs d t from count n W tabs r
-refused-is {d} {t} {from} {count} {n} {W} tabs p h = subst (GatesIs d t from count n W tabs) (sym p) h
+pub first-number : (b : Bool) (q : Question) → number_of (cond b q Q.Count) ≡ cond b (number_of q) 6
+first-number true q = refl
+first-number false q = refl

@@ -1,5 +1,6 @@
 -- Questions 1 to 9 together: the tables, the head, and then the gate lines.
 use Prim.Native.Nat.{ℕ, ◌≤◌}
+use Rattle.std.specs.Prelude.{Result, Ok, Err}
 use mathlib.Core.Path.{◌≡◌, refl, ap, ◌∙◌, subst}
 use mathlib.Core.Bool.{Bool, true, false}
 use mathlib.Core.List.{List, []}
@@ -11,6 +12,7 @@ use Rattle.netlist.specs.declared.Gate.{Gate}
 use Rattle.netlist.specs.declared.Limits.{Limits}
 use Rattle.netlist.specs.declared.Sizes.{Sizes}
 use Rattle.netlist.specs.Netlist.{small, large}
+use Rattle.netlist.specs.declared.Question.{Question}
 use Rattle.netlist.specs.Outcome.{Outcome, done, ask, and_then}
 use Rattle.netlist.specs.Text.{word_lines}
 use Rattle.netlist.specs.Header.{Header}
@@ -28,11 +30,7 @@ use Rattle.read_header.specs.HeadAnswers.{Inside, HeadOf, NoHead}
 use Rattle.read_header.proofs.Headers.{header-left}
 use Rattle.read_header.proofs.Heads.{inputs-front, outputs-front}
 use Rattle.read_header.specs.declared.HeaderNumbers.{HeaderNumbers}
-use Rattle.read_netlist.specs.declared.gates.Gates.{Gates}
-use Rattle.read_netlist.specs.declared.gates.Gates.TheVariants as G
-use Rattle.read_netlist.specs.declared.read.Reading.{Reading}
-use Rattle.read_netlist.specs.declared.read.Reading.TheVariants as R
-use Rattle.read_netlist.specs.Gates.{ask_lines, GatesRead, GatesNot, GatesIs}
+use Rattle.read_netlist.specs.Gates.{ask_lines, GatesRead, GatesNot}
 use Rattle.read_netlist.specs.Whole.{ReadOf, ReadNot, TextIs, Readable, ReadSays, ReadIs}
 
 -- there are at most as many gates as wires
@@ -90,27 +88,19 @@ module _ {d : Dialect} {L : Limits} {t : List ℕ} where
           gates = i.gates;
         }
 
--- the gate lines known by their answer
-module _ (d : Dialect) (t : List ℕ) (at count n W : ℕ) (tabs : Tables) {r : Gates} (k : GatesIs d t at count n W tabs r) where
-  pub gates-done : r ≡ G.Done → GatesRead d t at count n W tabs
-  gates-done p = subst (GatesIs d t at count n W tabs) p k
-
-  pub gates-refused : {q : ℕ} → r ≡ G.Refused q → GatesNot d t at count n W q
-  gates-refused p = subst (GatesIs d t at count n W tabs) p k
-
 -- question 1 before the others
-pub read-after : (d : Dialect) (L : Limits) (lengths t ins outs : List ℕ) (tabs : Tables) (r : Reading) → tables_long L lengths ≡ true
+pub read-after : (d : Dialect) (L : Limits) (lengths t ins outs : List ℕ) (tabs : Tables) (r : Result HeaderNumbers Question) → tables_long L lengths ≡ true
     → TextIs d L t ins outs tabs r → ReadSays d L lengths t ins outs tabs r
-read-after d L lengths t ins outs tabs (R.Done h) p a = (p, a)
-read-after d L lengths t ins outs tabs (R.Refused q) p n = rw p n.refuses
+read-after d L lengths t ins outs tabs (Ok h) p a = (p, a)
+read-after d L lengths t ins outs tabs (Err q) p n = rw p n.refuses
 
 -- what an answer of the reader stands for
-pub read-in-is : (d : Dialect) {l L : Limits} (lengths t ins outs : List ℕ) (tabs : Tables) {r s : Reading} → l ≡ L → r ≡ s
+pub read-in-is : (d : Dialect) {l L : Limits} (lengths t ins outs : List ℕ) (tabs : Tables) {r s : Result HeaderNumbers Question} → l ≡ L → r ≡ s
     → ReadSays d l lengths t ins outs tabs r → ReadSays d L lengths t ins outs tabs s
 read-in-is d {L = L} lengths t ins outs tabs {r} e p h =
     subst (ReadSays d L lengths t ins outs tabs) p (subst (λ (l : Limits). ReadSays d l lengths t ins outs tabs r) e h)
 
-pub read_is : {l L : Limits} (lengths t ins outs : List ℕ) (tabs : Tables) {r s : Reading} → l ≡ L → r ≡ s → ReadIs l lengths t ins outs tabs r
+pub read_is : {l L : Limits} (lengths t ins outs : List ℕ) (tabs : Tables) {r s : Result HeaderNumbers Question} → l ≡ L → r ≡ s → ReadIs l lengths t ins outs tabs r
     → ReadIs L lengths t ins outs tabs s
 read_is lengths t ins outs tabs e p h = read-in-is Fashion lengths t ins outs tabs e p h
 

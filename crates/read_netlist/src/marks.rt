@@ -7,14 +7,12 @@ ghost use Rattle.read_netlist.specs.Marks.{marked, Marks};
 use gate_table::{GateNumbers, has_constant, second};
 
 // Whether a wire is marked. Past the table's end none is.
+#[tactic(auto, unfolding(crate::specs::Marks::marked))]
 fn is_marked(table: &[u8], x: u32) -> bool
     ensures { result ≡ marked table.now x }
 {
     let i = x as usize;
-    if i < table.len() {
-        return table[i] == 1;
-    }
-    false
+    i < table.len() && table[i] == 1
 }
 
 // Question 8: each operand is marked, or the constant is a bit.
@@ -31,13 +29,7 @@ pub fn operands_given(table: &[u8], g: GateNumbers) -> bool
 pub fn result_free(table: &[u8], c: u32, n: u32, w: u32) -> bool
     ensures { result ≡ (leb n c && ltb c w && not (marked table.now c)) }
 {
-    if c < n {
-        return false;
-    }
-    if w <= c {
-        return false;
-    }
-    !is_marked(table, c)
+    n <= c && c < w && !is_marked(table, c)
 }
 
 // Marks a wire.
@@ -54,9 +46,7 @@ pub fn mark_inputs(table: &mut [u8], n: u32, w: u32)
     requires { (n ≤ w) × (w ≤ length table.old) × (table.old ≡ replicate (length table.old) 0) }
     ensures { Marks table.new n w [] }
 {
-    let mut i = 0;
-    while i < n {
+    for i in 0..n {
         mark(table, i);
-        i += 1;
     }
 }

@@ -11,10 +11,7 @@ use old_form::Dialect;
 fn is_old_gate(g: GateNumbers) -> bool
     ensures { result ≡ is_old_gate (gate_said g) }
 {
-    if has_constant(g) {
-        return false;
-    }
-    g.kind < gate_table::EQW
+    !has_constant(g) && g.kind < gate_table::EQW
 }
 
 // Whether a dialect has a gate.

@@ -4,20 +4,13 @@ ghost use Rattle.netlist.specs.Table.{tables};
 ghost use Rattle.read_netlist.specs.Gates.{GatesIs};
 ghost use Rattle.read_netlist.specs.Whole.{Readable, TextIs, ReadSays, ReadIs};
 
-use crate::gates::{Gates, read_gates};
+use crate::gates::read_gates;
 use crate::marks::mark_inputs;
-use netlist::Limits;
+use netlist::{Limits, Question};
 use old_form::Dialect;
 use read_header::HeaderNumbers;
-use read_header::head::{Head, read_opening_in};
+use read_header::head::read_opening_in;
 use read_text::cursor::Cursor;
-
-// The numbers of the header of a netlist that the tables now hold, or the first question with a no.
-#[derive(Clone, Copy)]
-pub enum Reading {
-    Done(HeaderNumbers),
-    Refused(u8),
-}
 
 // Question 6 of the lines from a place on, and then 7 to 9, after a head that is admitted.
 fn read_body(
@@ -28,7 +21,7 @@ fn read_body(
     operands: &mut [u64],
     results: &mut [u64],
     d: Dialect,
-) -> Gates
+) -> Result<(), Question>
     requires at_in_bounds { (at.at ≤ length text.now) × (h.input_bits ≤ h.wires) × (h.gates ≤ h.wires) }
     requires wires_in_bounds { (h.wires ≤ length marks.old) × (h.wires ≤ length operands.old) × (h.wires ≤ length results.old)
         × (marks.old ≡ replicate (length marks.old) 0) }
@@ -52,24 +45,20 @@ fn read_text(
     operands: &mut [u64],
     results: &mut [u64],
     d: Dialect,
-) -> Reading
+) -> Result<HeaderNumbers, Question>
     requires text_bound { (l.text < 2 ^ 32) × (l.inputs ≤ length inputs.old) × (l.outputs ≤ length outputs.old) }
     requires wires_in_bounds { (l.wires ≤ length marks.old) × (l.wires ≤ length operands.old) × (l.wires ≤ length results.old)
         × (marks.old ≡ replicate (length marks.old) 0) }
     ensures { TextIs d l text.now inputs.new outputs.new
         (tables operands.new results.new) result }
 {
-    match read_opening_in(text, l, inputs, outputs, d) {
-        Head::Refused(question) => Reading::Refused(question),
-        Head::Is(h, at) => match read_body(text, at, h, marks, operands, results, d) {
-            Gates::Refused(question) => Reading::Refused(question),
-            Gates::Done => Reading::Done(h),
-        },
-    }
+    let (h, at) = read_opening_in(text, l, inputs, outputs, d)?;
+    read_body(text, at, h, marks, operands, results, d)?;
+    Ok(h)
 }
 
-// Questions 1 to 9 in a dialect. The widths of the values go to the front of two tables, the gates into two others, each of any content;
-// `shortest` is the length of the shortest lent table that is not among these.
+// Questions 1 to 9 in a dialect: the numbers of the header of a netlist that the tables then hold. The widths of the values go to the front of two tables, the gates into two others, each of any content;
+// `others` are the lengths of the lent tables that are not among these.
 pub fn read_in(
     text: &[u8],
     inputs: &mut [u32; 17],
@@ -77,29 +66,18 @@ pub fn read_in(
     operands: &mut [u64],
     results: &mut [u64],
     marks: &mut [u8],
-    shortest: usize,
+    others: &[usize],
     l: Limits,
     d: Dialect,
-) -> Reading
+) -> Result<HeaderNumbers, Question>
     requires { Readable l }
-    ensures { ReadSays d l (length operands.old ∷ length results.old ∷ length marks.old ∷ shortest ∷
-        []) text.now
+    ensures { ReadSays d l (length operands.old ∷ length results.old ∷ length marks.old ∷ others.now) text.now
         inputs.new outputs.new (tables operands.new results.new) result }
 {
-    let least = l.table;
-    if operands.len() < least {
-        return Reading::Refused(1);
+    if !l.admit(&[operands.len(), results.len(), marks.len()]) || !l.admit(others) {
+        return Err(Question::Tables);
     }
-    if results.len() < least {
-        return Reading::Refused(1);
-    }
-    if marks.len() < least {
-        return Reading::Refused(1);
-    }
-    if shortest < least {
-        return Reading::Refused(1);
-    }
-    clear::bytes(marks);
+    marks.fill(0);
     read_text(text, l, inputs, outputs, marks, operands, results, d)
 }
 
@@ -111,11 +89,11 @@ pub fn read(
     operands: &mut [u64],
     results: &mut [u64],
     marks: &mut [u8],
-    shortest: usize,
+    others: &[usize],
     l: Limits,
-) -> Reading
+) -> Result<HeaderNumbers, Question>
     requires { Readable l }
-    ensures { ReadIs l (length operands.old ∷ length results.old ∷ length marks.old ∷ shortest ∷ [])
+    ensures { ReadIs l (length operands.old ∷ length results.old ∷ length marks.old ∷ others.now)
         text.now
         inputs.new outputs.new (tables operands.new results.new) result }
 {
@@ -126,7 +104,7 @@ pub fn read(
         operands,
         results,
         marks,
-        shortest,
+        others,
         l,
         Dialect::Fashion,
     )

@@ -1,5 +1,6 @@
 -- What an answer says, once its variant is known, and what it tells of the words of a line.
 use Prim.Native.Nat.{ℕ, ◌-◌}
+use Rattle.std.specs.Prelude.{Option, Some, None}
 use mathlib.Core.Path.{◌≡◌, refl, sym, ap, ap₂, ◌∙◌, subst}
 use mathlib.Core.Bool.{false}
 use mathlib.Core.List.{List, [], ◌∷◌}
@@ -10,28 +11,24 @@ use Rattle.netlist.proofs.Tests.{clash}
 use Rattle.read_text.specs.Line.{next_word, past_word, line_words, after_line, is_empty, WordAt, EndAt}
 use Rattle.read_text.specs.Answers.{EndIs, NumberAt, NumberIs, DigitIs}
 use Rattle.read_text.specs.declared.cursor.Cursor.{Cursor}
-use Rattle.read_text.specs.declared.cursor.LineEnd.{LineEnd}
-use Rattle.read_text.specs.declared.cursor.LineEnd.TheVariants as E
-use Rattle.read_text.specs.declared.number.Number.{Number}
-use Rattle.read_text.specs.declared.number.Number.TheVariants as N
 use Rattle.read_text.proofs.Splitting.{add_word, past_space-words, past_space-after, words_step, after-step, no_word}
 
 -- ---- the variants
 
 module _ (t : List ℕ) (at : ℕ) where
-  pub number_is : (r : Number) (v : ℕ) (c : Cursor) → r ≡ N.Is v c → NumberIs t at r → NumberAt t at v c.at
+  pub number_is : (r : Option (ℕ × Cursor)) (v : ℕ) (c : Cursor) → r ≡ Some (v, c) → NumberIs t at r → NumberAt t at v c.at
   number_is r v c e h = subst (NumberIs t at) e h
 
-  pub number-not : (r : Number) → r ≡ N.Not → NumberIs t at r → number (next_word (drop at t)) ≡ none
+  pub number-not : (r : Option (ℕ × Cursor)) → r ≡ None → NumberIs t at r → number (next_word (drop at t)) ≡ none
   number-not r e h = subst (NumberIs t at) e h
 
-  pub digit-is : (r : Number) (v : ℕ) (c : Cursor) → r ≡ N.Is v c → DigitIs t at r → NumberAt t at v c.at
-  digit-is r v c e h = let d : DigitIs t at (N.Is v c) = subst (DigitIs t at) e h in d.1
+  pub digit-is : (r : Option (ℕ × Cursor)) (v : ℕ) (c : Cursor) → r ≡ Some (v, c) → DigitIs t at r → NumberAt t at v c.at
+  digit-is r v c e h = let d : DigitIs t at (Some (v, c)) = subst (DigitIs t at) e h in d.1
 
-  pub end_is : (r : LineEnd) (c : Cursor) → r ≡ E.At c → EndIs t at r → EndAt t at c.at
+  pub end_is : (r : Option Cursor) (c : Cursor) → r ≡ Some c → EndIs t at r → EndAt t at c.at
   end_is r c e h = subst (EndIs t at) e h
 
-  pub end_more : (r : LineEnd) → r ≡ E.More → EndIs t at r → is_empty (line_words (drop at t)) ≡ false
+  pub end_more : (r : Option Cursor) → r ≡ None → EndIs t at r → is_empty (line_words (drop at t)) ≡ false
   end_more r e h = subst (EndIs t at) e h
 
 -- ---- a number is the first word of its line

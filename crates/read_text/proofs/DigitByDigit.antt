@@ -1,5 +1,6 @@
 -- A number read digit by digit, its value made while its end is looked for.
 use Prim.Native.Nat.{ℕ, suc, ◌+◌, ◌-◌, ◌*◌, ◌^◌, ◌<◌, ◌≤◌}
+use Rattle.std.specs.Prelude.{Option, Some, None}
 use mathlib.Core.Path.{◌≡◌, sym, ap, ◌∙◌, subst}
 use mathlib.Core.Bool.{true, false, not, and-false}
 use mathlib.Core.List.{List, [], ◌∷◌}
@@ -19,8 +20,6 @@ use Rattle.read_text.specs.Answers.{word_from, behind_word, is_full, WholeAt, Wh
 use Rattle.read_text.proofs.Numbers.{no-digits, ill-led, too_long, a-number, led-filled, digit-word, above-space, digit-range, full-or, not_full}
 use Rattle.read_text.proofs.Scans.{Scanning, scan-start, scan-stop, scan-end, word-no-space}
 use Rattle.read_text.specs.declared.cursor.Cursor.{Cursor}
-use Rattle.read_text.specs.declared.number.Number.{Number}
-use Rattle.read_text.specs.declared.number.Number.TheVariants as N
 
 -- ---- a word byte by byte
 
@@ -169,31 +168,37 @@ module _ (t : List ℕ) (from : ℕ) where
         let b : past_space (behind_word t i) ≡ drop i t = ap past_space (behind-end t i h ∙ drop_of_length-le t h) ∙ sym (drop_of_length-le t h) in
         ended i (word_end t i h) (sym b) (omega arith) r.within
 
+    -- and the loop went to its end
+    pub reading_all : length t ≤ i → WholeAt t from v (length t)
+    reading_all h =
+        let e : i ≡ length t = (let w = r.within in omega arith) in
+        subst (WholeAt t from v) e (reading-end h)
+
 -- the word behind the spaces is the next word
-pub whole-next : (t : List ℕ) (at from : ℕ) (r : Number) → Scanned is_space t at from → WholeIs t from r → NumberIs t at r
+pub whole-next : (t : List ℕ) (at from : ℕ) (r : Option (ℕ × Cursor)) → Scanned is_space t at from → WholeIs t from r → NumberIs t at r
 unfolding next_word past_word
-whole-next t at from (N.Is v c) s w = record {
+whole-next t at from (Some (v, c)) s w = record {
   value = ap (λ (x : List ℕ). number (take_while in_word x)) (sym s.left) ∙ w.value;
   left = w.left ∙ ap (λ (x : List ℕ). past_space (drop_while in_word x)) s.left;
   on = omega (arith, s.on, w.on);
   within = w.within;
 }
-whole-next t at from N.Not s w = ap (λ (x : List ℕ). number (take_while in_word x)) (sym s.left) ∙ w
+whole-next t at from None s w = ap (λ (x : List ℕ). number (take_while in_word x)) (sym s.left) ∙ w
 
 -- ---- past the spaces
 
 module _ (t : List ℕ) (at i : ℕ) (s : Scanning is_space t at i) where
   -- a digit stands behind them
-  pub number-found : i < length t → is_digit (get_or t i 0) ≡ true → (r : Number) → WholeIs t i r → NumberIs t at r
+  pub number-found : i < length t → is_digit (get_or t i 0) ≡ true → (r : Option (ℕ × Cursor)) → WholeIs t i r → NumberIs t at r
   number-found h d r w = whole-next t at i r (scan-stop is_space t at i h (word-no-space (get_or t i 0) (digit-word (get_or t i 0) d)) s) w
 
   -- another byte
   pub number-other : i < length t → is_space (get_or t i 0) ≡ false → is_digit (get_or t i 0) ≡ false → number (next_word (drop at t)) ≡ none
-  number-other h n d = whole-next t at i N.Not (scan-stop is_space t at i h n s) (first-other t i h d)
+  number-other h n d = whole-next t at i None (scan-stop is_space t at i h n s) (first-other t i h d)
 
   -- nothing
   pub number-missing : length t ≤ i → number (next_word (drop at t)) ≡ none
-  number-missing h = whole-next t at i N.Not (scan-end is_space t at i h s) (first-none t i h)
+  number-missing h = whole-next t at i None (scan-end is_space t at i h s) (first-none t i h)
 
 -- ---- one digit and a space behind it
 
@@ -211,4 +216,4 @@ module _ (t : List ℕ) (at : ℕ) where
   digit-number x c h d e v p =
       let r : WholeAt t at x (at + 1 + 1) = reading-space t at x 0 (at + 1) (reading-start t at x (omega arith) d v) h e in
       let q : at + 1 + 1 ≡ c.at = omega arith in
-      (rw (d, e), number-found t at at (scan-start is_space t at (omega arith)) (omega arith) d (N.Is x c) (subst (WholeAt t at x) q r))
+      (rw (d, e), number-found t at at (scan-start is_space t at (omega arith)) (omega arith) d (Some (x, c)) (subst (WholeAt t at x) q r))

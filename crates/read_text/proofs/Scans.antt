@@ -31,10 +31,17 @@ module _ (p : ℕ → Bool) (t : List ℕ) where
       let k : drop_while p (drop i t) ≡ drop i t = rw (drop-cons t i 0) (rw e) in
       record { left = sym k ∙ s.same; on = s.on; within = s.within }
 
+  -- the text ends
   pub scan-end : (from i : ℕ) → length t ≤ i → Scanning p t from i → Scanned p t from i
   scan-end from i h s =
       let k : drop_while p (drop i t) ≡ drop i t = rw (drop_of_length-le t h) in
       record { left = sym k ∙ s.same; on = s.on; within = s.within }
+
+  -- the loop went to the text's end
+  pub scanned_all : (from i : ℕ) → length t ≤ i → Scanning p t from i → Scanned p t from (length t)
+  scanned_all from i h s =
+      let e : i ≡ length t = (let w = s.within in omega arith) in
+      subst (Scanned p t from) e (scan-end from i h s)
 
 module _ (p : ℕ → Bool) where
   pub front-back : (s : List ℕ) → take_while p s ++ drop_while p s ≡ s

@@ -11,27 +11,21 @@ use crate::number::is_digit;
 fn is_capital(b: u8) -> bool
     ensures { result ≡ is_capital b }
 {
-    b'A' <= b && b <= b'Z'
+    b.is_ascii_uppercase()
 }
 
 // Question 3 of one byte: a digit, a capital letter, a space or LF.
 fn byte_allowed(b: u8) -> bool
     ensures { result ≡ byte_allowed b }
 {
-    if is_digit(b) {
-        return true;
-    }
-    if is_capital(b) {
-        return true;
-    }
-    b == b' ' || is_line_end(b)
+    is_digit(b) || is_capital(b) || b == b' ' || is_line_end(b)
 }
 
 // 1 for a byte that is not allowed, and 0 for one that is.
 fn fault(b: u8) -> u8
     ensures { result ≡ fault_of (byte_allowed b) }
 {
-    if byte_allowed(b) { 0 } else { 1 }
+    u8::from(!byte_allowed(b))
 }
 
 // Whether a text has no byte but these, so no CR. The loop does not stop at the first fault, so that it can be compiled to
@@ -40,10 +34,8 @@ fn all_plain(text: &[u8]) -> bool
     ensures { result ≡ every byte_allowed text.now }
 {
     let mut faults: u8 = 0;
-    let mut i = 0;
-    while i < text.len() {
-        faults = faults | fault(text[i]);
-        i += 1;
+    for b in text {
+        faults = faults | fault(*b);
     }
     faults == 0
 }
@@ -52,7 +44,7 @@ fn all_plain(text: &[u8]) -> bool
 fn failed(holds: bool) -> u8
     ensures { result ≡ fault_of holds }
 {
-    if holds { 0 } else { 1 }
+    u8::from(!holds)
 }
 
 // Question 3 of a byte and the one behind it: it is allowed by itself, or they are CR LF. Every test is made, so that this
@@ -72,10 +64,8 @@ fn all_before(text: &[u8]) -> bool
     }
     let last = text.len() - 1;
     let mut faults: u8 = 0;
-    let mut i = 0;
-    while i < last {
+    for i in 0..last {
         faults = faults | fault_before(text[i], text[i + 1]);
-        i += 1;
     }
     faults | fault_before(text[last], 0) == 0
 }

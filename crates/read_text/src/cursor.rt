@@ -1,6 +1,6 @@
 // A cursor goes over spaces, words and lines of a text. The text is lent to each method, so a cursor
 // is no more than a place and is handed on by value.
-ghost use Rattle.std.specs.Prelude.{◌≡◌, true, ◌≤◌, length};
+ghost use Rattle.std.specs.Prelude.{◌≡◌, ℕ, Bool, true, ◌≤◌, length};
 ghost use Rattle.netlist.specs.Text.{is_space, is_line_end};
 ghost use Rattle.read_text.specs.Line.{is_blank, in_word, Scanned, ThreeBytes, WordAt, LineTaken};
 ghost use Rattle.read_text.specs.Answers.{EndIs};
@@ -20,18 +20,18 @@ pub struct Word {
     pub to: usize,
 }
 
-// Whether a line has no words left, with the start of the next line.
-#[derive(Clone, Copy)]
-pub enum LineEnd {
-    At(Cursor),
-    More,
-}
-
 // Whether a byte is part of no word.
 pub fn is_blank(b: u8) -> bool
     ensures { result ≡ is_blank b }
 {
     is_space(b) || is_line_end(b)
+}
+
+// Whether it is.
+fn in_word(b: u8) -> bool
+    ensures { result ≡ in_word b }
+{
+    !is_blank(b)
 }
 
 // Whether three bytes above the space start at a place and a blank stands behind them, as the name of a gate mostly does.
@@ -55,19 +55,26 @@ fn is_three_bytes(text: &[u8], at: usize) -> bool
 }
 
 impl Cursor {
+    // Past the bytes that pass a test.
+    pub fn pass<F: Fn(u8) -> bool>(self, text: &[u8], test: F) -> Self
+        requires in_bounds { self.at ≤ length text.now }
+        requires callable { F.IsAlwaysCallable test }
+        ensures { (p : ℕ → Bool) → ((b : ℕ) (r : Bool) → F.post test b r → r ≡ p b) → Scanned p text.now self.at result.at }
+    {
+        for i in self.at..text.len() {
+            if !test(text[i]) {
+                return Cursor { at: i };
+            }
+        }
+        Cursor { at: text.len() }
+    }
+
     // Past the spaces.
     pub fn skip_spaces(self, text: &[u8]) -> Self
         requires { self.at ≤ length text.now }
         ensures { Scanned is_space text.now self.at result.at }
     {
-        let mut i = self.at;
-        while i < text.len() {
-            if !is_space(text[i]) {
-                return Cursor { at: i };
-            }
-            i += 1;
-        }
-        Cursor { at: i }
+        self.pass(text, is_space)
     }
 
     // Past the bytes of a word.
@@ -75,14 +82,7 @@ impl Cursor {
         requires { self.at ≤ length text.now }
         ensures { Scanned in_word text.now self.at result.at }
     {
-        let mut i = self.at;
-        while i < text.len() {
-            if is_blank(text[i]) {
-                return Cursor { at: i };
-            }
-            i += 1;
-        }
-        Cursor { at: i }
+        self.pass(text, in_word)
     }
 
     // Past spaces and line ends, so past blank lines.
@@ -90,14 +90,7 @@ impl Cursor {
         requires { self.at ≤ length text.now }
         ensures { Scanned is_blank text.now self.at result.at }
     {
-        let mut i = self.at;
-        while i < text.len() {
-            if !is_blank(text[i]) {
-                return Cursor { at: i };
-            }
-            i += 1;
-        }
-        Cursor { at: i }
+        self.pass(text, is_blank)
     }
 
     // The next word of the line, empty where there is none.
@@ -121,25 +114,25 @@ impl Cursor {
     }
 
     // To the next line, if this one has no words left.
-    pub fn line_end(self, text: &[u8]) -> LineEnd
+    pub fn line_end(self, text: &[u8]) -> Option<Self>
         requires { self.at ≤ length text.now }
         ensures { EndIs text.now self.at result }
     {
         let here = self.at;
         if here < text.len() {
             if is_line_end(text[here]) {
-                return LineEnd::At(Cursor { at: here + 1 });
+                return Some(Cursor { at: here + 1 });
             }
         }
         let end = self.skip_spaces(text);
         let at = end.at;
         if text.len() <= at {
-            return LineEnd::At(end);
+            return Some(end);
         }
         if is_line_end(text[at]) {
-            return LineEnd::At(Cursor { at: at + 1 });
+            return Some(Cursor { at: at + 1 });
         }
-        LineEnd::More
+        None
     }
 
     // To the next line, whatever is left of this one.
@@ -147,13 +140,11 @@ impl Cursor {
         requires { self.at ≤ length text.now }
         ensures { LineTaken text.now self.at result.at }
     {
-        let mut i = self.at;
-        while i < text.len() {
+        for i in self.at..text.len() {
             if is_line_end(text[i]) {
                 return Cursor { at: i + 1 };
             }
-            i += 1;
         }
-        Cursor { at: i }
+        Cursor { at: text.len() }
     }
 }

@@ -6,13 +6,6 @@ ghost use Rattle.read_text.specs.Answers.{WholeIs, NumberIs, DigitIs, is_full};
 use crate::cursor::{Cursor, is_blank};
 use crate::ends::is_space;
 
-// A word as a number, with the place behind it.
-#[derive(Clone, Copy)]
-pub enum Number {
-    Is(u32, Cursor),
-    Not,
-}
-
 // How many digits may follow the first.
 const MOST_MORE: usize = 5;
 
@@ -20,7 +13,7 @@ const MOST_MORE: usize = 5;
 pub fn is_digit(b: u8) -> bool
     ensures { result ≡ is_digit b }
 {
-    b'0' <= b && b <= b'9'
+    b.is_ascii_digit()
 }
 
 // The value of a digit.
@@ -39,81 +32,77 @@ fn is_full(v: u32, more: usize) -> bool
 }
 
 impl Cursor {
-    // Takes the word at the cursor as a number, its value made while its end is looked for. The one space that mostly stands
-    // behind it is passed with it; below a space stand the other bytes that end a word. The digits are counted, so that the loop
-    // can be compiled without jumping back.
-    pub fn take_number(self, text: &[u8]) -> Number
+    // Takes the word at the cursor as a number, with the place behind it, its value made while its end is looked for. The one space
+    // that mostly stands behind it is passed with it; below a space stand the other bytes that end a word. The digits are counted, so
+    // that the loop can be compiled without jumping back.
+    pub fn take_number(self, text: &[u8]) -> Option<(u32, Self)>
         ensures { WholeIs text.now self.at result }
     {
         let start = self.at;
         if text.len() <= start {
-            return Number::Not;
+            return None;
         }
         let first = text[start];
         if !is_digit(first) {
-            return Number::Not;
+            return None;
         }
         let mut v = digit_value(first);
         let mut more: usize = 0;
-        let mut i = start + 1;
-        while i < text.len() {
+        for i in start + 1..text.len() {
             let b = text[i];
             if !is_digit(b) {
                 if b == b' ' {
-                    return Number::Is(v, Cursor { at: i + 1 });
+                    return Some((v, Cursor { at: i + 1 }));
                 }
                 if b < b' ' {
                     if is_blank(b) {
-                        return Number::Is(v, Cursor { at: i });
+                        return Some((v, Cursor { at: i }));
                     }
                 }
-                return Number::Not;
+                return None;
             }
             if is_full(v, more) {
-                return Number::Not;
+                return None;
             }
             v = v * 10 + digit_value(b);
             more += 1;
-            i += 1;
         }
-        Number::Is(v, Cursor { at: i })
+        Some((v, Cursor { at: text.len() }))
     }
 
     // The next word of the line as a number: past the spaces to its first digit, and the word.
-    pub fn next_number(self, text: &[u8]) -> Number
+    pub fn next_number(self, text: &[u8]) -> Option<(u32, Self)>
         requires { self.at ≤ length text.now }
         ensures { NumberIs text.now self.at result }
     {
-        let mut i = self.at;
-        while i < text.len() {
+        for i in self.at..text.len() {
             let b = text[i];
             if is_digit(b) {
                 return (Cursor { at: i }).take_number(text);
             }
             if !is_space(b) {
-                return Number::Not;
+                return None;
             }
-            i += 1;
         }
-        Number::Not
+        None
     }
 
     // The number of one digit with a space behind it, as the counts of a gate line are.
-    pub fn take_digit(self, text: &[u8]) -> Number
+    pub fn take_digit(self, text: &[u8]) -> Option<(u32, Self)>
         requires { self.at ≤ length text.now }
         ensures { DigitIs text.now self.at result }
     {
         let at = self.at;
         if text.len() - at < 2 {
-            return Number::Not;
+            return None;
         }
         let b = text[at];
         if !is_digit(b) {
-            return Number::Not;
+            return None;
         }
         if text[at + 1] != b' ' {
-            return Number::Not;
+            return None;
         }
-        Number::Is(digit_value(b), Cursor { at: at + 2 })
+        Some((digit_value(b), Cursor { at: at + 2 }))
     }
 }

@@ -39,8 +39,9 @@ use Rattle.verilog_form.specs.declared.Scan.{Scan}
 use Rattle.verilog_form.specs.Turns.{ScanIs}
 use Rattle.verilog_gates.specs.Puts.{put_gates}
 use Rattle.read_aiger.specs.WholeAnswers.{NetlistAt}
+use Rattle.std.specs.Prelude.{Some, None}
 use Rattle.read_verilog.specs.declared.rules.Kept.{Kept as Answer}
-use Rattle.read_verilog.specs.Kept.{KeptAt, RulesSay, RulesAre}
+use Rattle.read_verilog.specs.Kept.{KeptAt, RulesAre}
 use Rattle.read_verilog.specs.Gates.{GatesPut}
 use Rattle.read_verilog.proofs.Held.{Holding, held}
 
@@ -58,9 +59,9 @@ some-tree : (o : Option Module) → is_tree o ≡ true → (m : Module) × (o �
 some-tree none e = absurd (never (sym e))
 some-tree (some m) e = (m, refl)
 
-pub no-form : (L : Limits) (t : List ℕ) {r : Scan} → length t ≤ L.text → ScanIs t r → r.good ≡ false → read_equations L t ≡ refused 16
+pub no-form : (L : Limits) (t : List ℕ) → length t ≤ L.text → ScanIs t None → read_equations L t ≡ refused 16
 unfolding read_equations
-no-form L t h S g = let n = no-tree (parse t) (sym (recognised t) ∙ sym S.good ∙ g) in rw (le-leb (length t) L.text h, n)
+no-form L t h S = let n = no-tree (parse t) (sym (recognised t) ∙ S) in rw (le-leb (length t) L.text h, n)
 
 -- ---- a text that stands for a module
 
@@ -76,12 +77,12 @@ made_of : (L : Limits) (t : List ℕ) (m : Module) → length t ≤ L.text → p
 unfolding read_equations
 made_of L t m h e = rw (le-leb (length t) L.text h, e)
 
-pub tree : (L : Limits) (t : List ℕ) {r : Scan} → length t ≤ L.text → ScanIs t r → r.good ≡ true → Tree L t r
-tree L t {r} h S g =
-    let p = some-tree (parse t) (sym (recognised t) ∙ sym S.good ∙ g) in
+pub tree : (L : Limits) (t : List ℕ) {r : Scan} → length t ≤ L.text → ScanIs t (Some r) → Tree L t r
+tree L t {r} h S =
+    let p = some-tree (parse t) (sym (recognised t) ∙ S.0) in
     let m : Module = p.0 in
     let s = parse-sound t m p.1 in
-    let C = S.counts g in
+    let C = S.1 in
     let a : C.all ≡ module_tokens m = some_same C.all (module_tokens m) (sym C.read ∙ s.written) in
     let f = operators-few t C.all C.read in
     record {
@@ -96,20 +97,17 @@ tree L t {r} h S g =
 module _ {L : Limits} {t : List ℕ} {r : Scan} (R : Tree L t r) where
   -- ---- question 17
 
-  module _ {size : ℕ} {heads words links st ws : List ℕ} {k : Answer} (A : RulesAre t size heads words links st ws k) where
-    said : RulesSay R.is t size heads words links st ws k
-    said = A.gives R.is R.stands
+  module _ {size : ℕ} {heads words links st ws : List ℕ} where
+    pub rules-broken : RulesAre t size heads words links st ws None → read_equations L t ≡ refused 17
+    rules-broken A = R.outcome ∙ ap (λ (b : Bool). ask 17 b (ask 18 (shallow R.is)
+        (ask 5 (within_limits L (header_of (netlist_made R.is))) (done (netlist_made R.is))))) (A.gives R.is R.stands)
 
-    pub rules-broken : k.good ≡ false → read_equations L t ≡ refused 17
-    rules-broken g = R.outcome ∙ ap (λ (b : Bool). ask 17 b (ask 18 (shallow R.is)
-        (ask 5 (within_limits L (header_of (netlist_made R.is))) (done (netlist_made R.is))))) (sym said.said ∙ g)
-
-    module _ (g : k.good ≡ true) where
+    module _ {k : Answer} (A : RulesAre t size heads words links st ws (Some k)) where
       rules-true : rules_kept R.is ≡ true
-      rules-true = sym said.said ∙ g
+      rules-true = (A.gives R.is R.stands).0
 
       pub at : KeptAt R.is t size heads words links st ws k
-      at = said.kept g
+      at = (A.gives R.is R.stands).1
 
       -- ---- question 18
 

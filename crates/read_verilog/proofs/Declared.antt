@@ -315,6 +315,3 @@ module _ {t words st : List ℕ} {count place : ℕ} (m : Module) (L : Loaded t 
       (λ e. let z = eqb-true c 0 e in omega (arith, z))
       (λ e. let z = eqb-false c 0 e in
       kinds-low c w m.declarations (sym (value_in t words st c w (omega (arith, z)) count loaded-once ∙ ap (valued c w) entries-loaded) ∙ eq-eqb c c refl))
-
-  pub loaded-left : behind_declared (items_left m) ≡ assigns_left m.assigns []
-  loaded-left = items-behind m

@@ -226,12 +226,6 @@ module _ (m : Module) {t words st : List ℕ} {n place : ℕ} (L : Loaded t word
       pub ported-outputs : seats.outputs ≡ length (output_ports m)
       ported-outputs = let a = ap length outputs-are in omega (arith, a, S.outputs)
 
-      pub ported-wired : n ≤ length seats.wires
-      ported-wired = S.wired
-
-      pub ported-stated : n ≤ length seats.states
-      ported-stated = S.stated
-
       -- the wires of inputs, where none had one
       pub ported-wires : ((v : List ℕ) → wire_of t words ws n v ≡ 0) → (v : List ℕ) → wire_of t words seats.wires n v ≡ look 0 (numbered 0 (input_ports m)) v
       ported-wires z v =

@@ -21,15 +21,12 @@ use Rattle.verilog_tokens.specs.Next.{TokenAt}
 use Rattle.verilog_tokens.proofs.Firsts.{never}
 use Rattle.verilog_names.specs.Names.{newest, Chained}
 use Rattle.verilog_gates.specs.Wires.{wire_of}
-use Rattle.verilog_rules.specs.States.{all_from}
-use Rattle.verilog_rules.specs.Stages.{declared_from, keys, fresh, Loaded, AllDeclared, NotDeclared, DeclaredBy, DeclaredIs}
-use Rattle.verilog_rules.specs.declared.declarations.Declared.{Declared}
-use Rattle.verilog_rules.specs.Ports.{seat_all, unseated, ports_left, PortsSay, PortsIs}
-use Rattle.verilog_rules.specs.declared.ports.Ports.{Ports}
+use Rattle.verilog_rules.specs.Stages.{declared_from, keys, fresh, Loaded, AllDeclared, NotDeclared}
+use Rattle.verilog_rules.specs.Ports.{seat_all, unseated, ports_left, Ported, PortsSay}
 use Rattle.verilog_rules.proofs.Seating.{known}
 use Rattle.verilog_assigns.specs.Parts.{names_pass, behind_end, any, PastIs}
-use Rattle.verilog_assigns.specs.Settled.{settle_all, unsettled, assigns_left, AssignsSay, AssignsIs}
-use Rattle.read_verilog.specs.declared.rules.Kept.{Kept as Answer}
+use Rattle.verilog_assigns.specs.Settled.{settle_all, unsettled, assigns_left, AssignsSay}
+use Rattle.std.specs.Prelude.{Some, None}
 use Rattle.read_verilog.specs.Kept.{PlaceIs, ports_done, PortsKept, assigns_done, AssignsKept, RulesAre}
 use Rattle.read_verilog.proofs.Declared.{items_left, module-parts, items-declared, items-behind, fresh-once, count-declared}
 use Rattle.read_verilog.proofs.Ruling.{get_d-zeros, wire-zero, target_found, kept-ported, good-ported, ported-good, ported-inputs, ported-outputs, ported-wires, kept-settled, settled-kept, settled-outputs}
@@ -75,68 +72,6 @@ and-false : (x : Bool) → (x && false) ≡ false
 and-false true = refl
 and-false false = refl
 
-module _ {t words : List ℕ} {n at : ℕ} {st st' ws ws' : List ℕ} {p : Ports} (P : PortsIs t words n at st st' ws ws' p) where
-  ports-no : {r : Ports} {st'' ws'' : List ℕ} → r.good ≡ false → (p.good ≡ true → (all_from st' n 3 && leb 1 p.inputs && leb 1 p.outputs) ≡ false) →
-      PortsKept t words n at st st'' ws ws'' r
-  ports-no {r} g h = record {
-    gives = λ ps rest e.
-        let Q = P.gives ps rest e in
-        let X = seat_all t words n (unseated st ws) ps in
-        let no : (ports_done n X).good ≡ false = on_bool p.good
-        (λ q. ap (λ (b : Bool). b && all_from X.states n 3 && leb 1 X.inputs && leb 1 X.outputs) (sym Q.said ∙ q)
-        ∙ (λ i. all_from (sym (Q.states q) i) n 3 && leb 1 (sym (Q.inputs q) i) && leb 1 (sym (Q.outputs q) i)) ∙ h q)
-        (λ q. ap (λ (b : Bool). b && all_from X.states n 3 && leb 1 X.inputs && leb 1 X.outputs) (sym Q.said ∙ q)) in
-        record {
-          said = g ∙ sym no;
-          states = λ z. absurd (never (sym z ∙ g));
-          wires = λ z. absurd (never (sym z ∙ g));
-          inputs = λ z. absurd (never (sym z ∙ g));
-          outputs = λ z. absurd (never (sym z ∙ g));
-        };
-  }
-
-  pub ports-none : {r : Ports} {st'' ws'' : List ℕ} → r.good ≡ false → p.good ≡ false → PortsKept t words n at st st'' ws ws'' r
-  ports-none g h = ports-no g (λ q. absurd (never (sym q ∙ h)))
-
-  pub ports-missing : {r : Ports} {st'' ws'' : List ℕ} → r.good ≡ false → all_from st' n 3 ≡ false → PortsKept t words n at st st'' ws ws'' r
-  ports-missing g h = ports-no g (λ q. ap (λ (x : Bool). x && leb 1 p.inputs && leb 1 p.outputs) h)
-
-  pub ports-inputless : {r : Ports} {st'' ws'' : List ℕ} → r.good ≡ false → p.inputs ≡ 0 → PortsKept t words n at st st'' ws ws'' r
-  ports-inputless g h = ports-no g (λ q. ap (λ (x : Bool). all_from st' n 3 && x && leb 1 p.outputs) (ap (leb 1) h) ∙ ap
-      (λ (x : Bool). x && leb 1 p.outputs) (and-false (all_from st' n 3)))
-
-  pub ports-outputless : {r : Ports} {st'' ws'' : List ℕ} → r.good ≡ false → p.outputs ≡ 0 → PortsKept t words n at st st'' ws ws'' r
-  ports-outputless g h = ports-no g (λ q. ap (λ (x : Bool). all_from st' n 3 && leb 1 p.inputs && x) (ap (leb 1) h) ∙ and-false (all_from st' n 3 && leb 1 p.inputs))
-
-  pub ports-yes : p.good ≡ true → all_from st' n 3 ≡ true → 0 < p.inputs → 0 < p.outputs → PortsKept t words n at st st' ws ws' p
-  ports-yes g a i o = record {
-    gives = λ ps rest e.
-        let Q = P.gives ps rest e in
-        let X = seat_all t words n (unseated st ws) ps in
-        let yes : (ports_done n X).good ≡ true =
-        ap₂ ◌&&◌ (ap₂ ◌&&◌ (ap₂ ◌&&◌ (sym Q.said ∙ g) (ap (λ (xs : List ℕ). all_from xs n 3) (sym (Q.states g)) ∙ a))
-        (ap (leb 1) (sym (Q.inputs g)) ∙ le-leb 1 p.inputs (omega (arith, i))))
-        (ap (leb 1) (sym (Q.outputs g)) ∙ le-leb 1 p.outputs (omega (arith, o))) in
-        record { said = g ∙ sym yes; states = Q.states; wires = Q.wires; inputs = Q.inputs; outputs = Q.outputs };
-  }
-
-module _ {t words : List ℕ} {n at : ℕ} {st st' : List ℕ} {r : Bool} (A : AssignsIs t words n at st st' r) where
-  pub assigns-no : r ≡ false → AssignsKept t words n at st st' false
-  assigns-no e = record {
-    gives = λ xs rest q.
-        let Q = A.gives xs rest q in
-        let X = settle_all t words n (unsettled st) xs in
-        record { said = sym (ap (λ (b : Bool). b && all_from X.states n 5) (sym Q.said ∙ e)); states = λ z. absurd (never (sym z)) };
-  }
-
-  pub assigns_last : r ≡ true → {b : Bool} → b ≡ all_from st' n 5 → AssignsKept t words n at st st' b
-  assigns_last e {b} h = record {
-    gives = λ xs rest q.
-        let Q = A.gives xs rest q in
-        let X = settle_all t words n (unsettled st) xs in
-        record { said = h ∙ sym (ap₂ ◌&&◌ (sym Q.said ∙ e) (ap (λ (ys : List ℕ). all_from ys n 5) (sym (Q.states e)))); states = λ z. Q.states e };
-  }
-
 -- ---- the tables at the start
 
 pub chained-start : (t heads words links : List ℕ) (size : ℕ) → 0 < size → size ≤ length heads → heads ≡ replicate (length heads) 0 → length t < half → Chained
@@ -155,33 +90,25 @@ chained-start t heads words links size s l z h = record {
 
 -- ---- the answers
 
-module _ (d : Declared) (t : List ℕ) (at size most : ℕ) (heads words links st : List ℕ) where
-  pub declared-yes : d.good ≡ true → DeclaredIs t at size most heads words links st d → AllDeclared t at size most heads words links st d.count d.at
-  declared-yes e h = subst (λ (x : Bool). DeclaredBy x t at size most heads words links st d.count d.at) e h
-
-  pub declared-no : d.good ≡ false → DeclaredIs t at size most heads words links st d → NotDeclared t at most
-  declared-no e h = subst (λ (x : Bool). DeclaredBy x t at size most heads words links st d.count d.at) e h
-
 refused : (m : Module) → (Kept m → ⊥) → rules_kept m ≡ false
 refused m f = on_bool (rules_kept m) (λ e. absurd (f (kept m (true-T (rules_kept m) e)))) (λ e. e)
 
 module _ {t : List ℕ} {at items : ℕ} (A : PlaceIs t at) (B : PastIs t at items) where
-  pub rules-undeclared : {size most : ℕ} {heads words links st ws : List ℕ} {r : Answer} → NotDeclared t items most → length t ≤ 4 * most → r.good ≡ false →
-      RulesAre t size heads words links st ws r
-  rules-undeclared {most = most} N l g = record {
+  pub rules-undeclared : {size most : ℕ} {heads words links st ws : List ℕ} → NotDeclared t items most → length t ≤ 4 * most →
+      RulesAre t size heads words links st ws None
+  rules-undeclared {most = most} N l = record {
     gives = λ m S.
-        let no = refused m (λ K.
+        refused m (λ K.
         let F : fresh [] (keys (declared_from 0 (items_left m))) ≡ true = ap (λ (es : List (Entry ℕ)). fresh [] (keys es)) (items-declared m) ∙ fresh-once m ∙
         is_true (distinct (inputs m ++ outputs m ++ wires m)) K.declared_once in
         let c = ap length (items-declared m) in
         let d = count-declared m.declarations in
         let q = names-quarter K t S in
         let G : leb (length (declared_from 0 (items_left m))) most ≡ true = le-leb (length (declared_from 0 (items_left m))) most (omega (arith, c, d, q, l)) in
-        never (sym (ap₂ ◌&&◌ F G) ∙ N.gives (items_left m) (items_at A B m S))) in
-        record { said = g ∙ sym no; kept = λ z. absurd (never (sym z ∙ g)) };
+        never (sym (ap₂ ◌&&◌ F G) ∙ N.gives (items_left m) (items_at A B m S)));
   }
 
-  module _ {size most count place : ℕ} {heads words links st₁ ws₁ st₂ ws₂ : List ℕ} {p : Ports}
+  module _ {size most count place : ℕ} {heads words links st₁ ws₁ st₂ ws₂ : List ℕ} {p : Ported}
       (D : AllDeclared t items size most heads words links st₁ count place) (ls : count ≤ length st₁) (lw : count ≤ length ws₁)
       (P : PortsKept t words count at st₁ st₂ ws₁ ws₂ p) where
     loaded : (m : Module) → Stands m t → Loaded t words st₁ count place (items_left m)
@@ -190,12 +117,11 @@ module _ {t : List ℕ} {at items : ℕ} (A : PlaceIs t at) (B : PastIs t at ite
     said : (m : Module) → Stands m t → PortsSay (ports_done count (seat_all t words count (unseated st₁ ws₁) (all_names m.ports))) st₂ ws₂ p
     said m S = P.gives (all_names m.ports) (items_left m) (ports-at A B m S)
 
-    pub rules-unported : {st ws : List ℕ} {r : Answer} → p.good ≡ false → r.good ≡ false → RulesAre t size heads words links st ws r
-    rules-unported e g = record {
+    pub rules-unported : {st ws : List ℕ} → p.good ≡ false → RulesAre t size heads words links st ws None
+    rules-unported e = record {
       gives = λ m S.
           let L = loaded m S in
-          let no = refused m (λ K. never (sym (ported-good m L ls ws₁ lw (kept-ported m L ls ws₁ lw K)) ∙ sym (said m S).said ∙ e)) in
-          record { said = g ∙ sym no; kept = λ z. absurd (never (sym z ∙ g)) };
+          refused m (λ K. never (sym (ported-good m L ls ws₁ lw (kept-ported m L ls ws₁ lw K)) ∙ sym (said m S).said ∙ e));
     }
 
     module _ {st₃ : List ℕ} {b : Bool} (e : p.good ≡ true) (Q : AssignsKept t words count place st₂ st₃ b) (zero : ws₁ ≡ replicate (length ws₁) 0)
@@ -212,46 +138,47 @@ module _ {t : List ℕ} {at items : ℕ} (A : PlaceIs t at) (B : PastIs t at ite
       once m S = true-T (distinct (inputs m ++ outputs m ++ wires m)) (sym (fresh-once m) ∙ sym
           (ap (λ (es : List (Entry ℕ)). fresh [] (keys es)) (items-declared m)) ∙ (loaded m S).once)
 
-      pub rules-settled : RulesAre t size heads words links st₃ ws₂ (record {
-        good = b;
+      pub rules-unsettled : {st ws : List ℕ} → b ≡ false → RulesAre t size heads words links st ws None
+      rules-unsettled q = record {
+        gives = λ m S.
+            let L = loaded m S in
+            let Z = said m S in
+            let R = good-ported m L ls ws₁ lw (sym Z.said ∙ e) in
+            refused m (λ K. never (sym (kept-settled m L ls ws₁ lw R K) ∙ sym (settled_at m S).said ∙ q));
+      }
+
+      pub rules-settled : b ≡ true → RulesAre t size heads words links st₃ ws₂ (Some (record {
         count = count;
         inputs = p.inputs;
         outputs = p.outputs;
         ports = at;
         assigns = place;
-      })
-      rules-settled = record {
+      }))
+      rules-settled q = record {
         gives = λ m S.
             let L = loaded m S in
             let Z = said m S in
             let W = settled_at m S in
             let R = good-ported m L ls ws₁ lw (sym Z.said ∙ e) in
             let X = settle_all t words count (unsettled (seat_all t words count (unseated st₁ ws₁) (all_names m.ports)).states) m.assigns in
-            let good : b ≡ rules_kept m = on_bool b
-            (λ q. let g : (assigns_done count X).good ≡ true = sym W.said ∙ q in
-            let n : count ≤ length X.states = subst (λ (xs : List ℕ). count ≤ length xs) (W.states q) l₃ in
-            q ∙ sym (is_true (rules_kept m) (rules m (settled-kept m L ls ws₁ lw R g n (once m S)))))
-            (λ q. q ∙ sym (refused m (λ K. never (sym (kept-settled m L ls ws₁ lw R K) ∙ sym W.said ∙ q)))) in
-            record {
-              said = good;
-              kept = λ q.
-                  let g : (assigns_done count X).good ≡ true = sym W.said ∙ q in
-                  let n : count ≤ length X.states = subst (λ (xs : List ℕ). count ≤ length xs) (W.states q) l₃ in
-                  record {
-                    names = D.names;
-                    stated = l₃;
-                    wired = l₂;
-                    input_wires = λ v. ap (λ (xs : List ℕ). wire_of t words xs count v) (Z.wires e) ∙ ported-wires m L ls ws₁ lw R
-                        (wire-zero t words ws₁ count (length ws₁) zero) v;
-                    output_names = λ v. ap (λ (xs : List ℕ). eqb (wire_of t words xs count v) 6) (W.states q) ∙ settled-outputs m L ls ws₁ lw R g n v;
-                    targets = λ v h. target_found m L ls v (true-T (elem v (outputs m ++ wires m)) h);
-                    inputs = Z.inputs e ∙ ported-inputs m L ls ws₁ lw R;
-                    outputs = Z.outputs e ∙ ported-outputs m L ls ws₁ lw R;
-                    ports_within = A.within;
-                    assigns_within = D.within;
-                    items = items_left m;
-                    ports_at = ports-at A B m S;
-                    assigns_at = assigns-at m S;
-                  };
-            };
+            let g : (assigns_done count X).good ≡ true = sym W.said ∙ q in
+            let n : count ≤ length X.states = subst (λ (xs : List ℕ). count ≤ length xs) (W.states q) l₃ in (
+              is_true (rules_kept m) (rules m (settled-kept m L ls ws₁ lw R g n (once m S))),
+              record {
+                names = D.names;
+                stated = l₃;
+                wired = l₂;
+                input_wires = λ v. ap (λ (xs : List ℕ). wire_of t words xs count v) (Z.wires e) ∙ ported-wires m L ls ws₁ lw R
+                    (wire-zero t words ws₁ count (length ws₁) zero) v;
+                output_names = λ v. ap (λ (xs : List ℕ). eqb (wire_of t words xs count v) 6) (W.states q) ∙ settled-outputs m L ls ws₁ lw R g n v;
+                targets = λ v h. target_found m L ls v (true-T (elem v (outputs m ++ wires m)) h);
+                inputs = Z.inputs e ∙ ported-inputs m L ls ws₁ lw R;
+                outputs = Z.outputs e ∙ ported-outputs m L ls ws₁ lw R;
+                ports_within = A.within;
+                assigns_within = D.within;
+                items = items_left m;
+                ports_at = ports-at A B m S;
+                assigns_at = assigns-at m S;
+              },
+            );
       }

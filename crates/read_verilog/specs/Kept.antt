@@ -1,5 +1,5 @@
 -- The parts of question 17, and what the tables hold of a module that keeps the rules.
-use Rattle.std.specs.Prelude.{ℕ, ◌≤◌, ◌<◌, ◌≡◌, Bool, true, ◌&&◌, List, [], ◌∷◌, ◌++◌, eqb, leb, length, drop}
+use Rattle.std.specs.Prelude.{ℕ, ◌≤◌, ◌<◌, ◌≡◌, Option, Some, None, Bool, true, false, ◌&&◌, List, [], ◌∷◌, ◌++◌, eqb, leb, length, drop}
 use Rattle.std.proofs.Math.Option.{some}
 use Rattle.netlist.specs.Lists.{ascii}
 use Rattle.verilog.specs.Tokens.{Token, name, mark, elem, tokens}
@@ -10,8 +10,7 @@ use Rattle.verilog.specs.Made.{numbered}
 use Rattle.verilog_names.specs.Names.{found, Chained}
 use Rattle.verilog_gates.specs.Wires.{wire_of}
 use Rattle.verilog_rules.specs.States.{all_from}
-use Rattle.verilog_rules.specs.Ports.{Seated, seat_all, unseated, ports_left, PortsSay}
-use Rattle.verilog_rules.specs.declared.ports.Ports.{Ports}
+use Rattle.verilog_rules.specs.Ports.{Ported, Seated, seat_all, unseated, ports_left, PortsSay}
 use Rattle.verilog_assigns.specs.Settled.{Settled, settle_all, unsettled, assigns_left, AssignsSay}
 use Rattle.read_verilog.specs.declared.rules.Kept.{Kept}
 
@@ -30,7 +29,7 @@ ports_done n P = record {
   outputs = P.outputs;
 }
 
-pub record PortsKept (t words : List ℕ) (n at : ℕ) (st st' ws ws' : List ℕ) (r : Ports) : Type 0 where
+pub record PortsKept (t words : List ℕ) (n at : ℕ) (st st' ws ws' : List ℕ) (r : Ported) : Type 0 where
   pub gives : (ps : List (List ℕ)) (rest : List Token) → tokens (drop at t) ≡ some (ports_left ps rest) → PortsSay
       (ports_done n (seat_all t words n (unseated st ws) ps)) st' ws' r
 
@@ -59,9 +58,9 @@ pub record KeptAt (m : Module) (t : List ℕ) (size : ℕ) (heads words links st
   pub assigns_at : tokens (drop r.assigns t) ≡ some (assigns_left m.assigns [])
 
 -- the answer to question 17 of a module
-pub record RulesSay (m : Module) (t : List ℕ) (size : ℕ) (heads words links st ws : List ℕ) (r : Kept) : Type 0 where
-  pub said : r.good ≡ rules_kept m
-  pub kept : r.good ≡ true → KeptAt m t size heads words links st ws r
+abbrev pub RulesSay : Module → List ℕ → ℕ → List ℕ → List ℕ → List ℕ → List ℕ → List ℕ → Option Kept → Type 0
+RulesSay m t size heads words links st ws None = rules_kept m ≡ false
+RulesSay m t size heads words links st ws (Some r) = (rules_kept m ≡ true) × KeptAt m t size heads words links st ws r
 
-pub record RulesAre (t : List ℕ) (size : ℕ) (heads words links st ws : List ℕ) (r : Kept) : Type 0 where
+pub record RulesAre (t : List ℕ) (size : ℕ) (heads words links st ws : List ℕ) (r : Option Kept) : Type 0 where
   pub gives : (m : Module) → Stands m t → RulesSay m t size heads words links st ws r

@@ -1,20 +1,20 @@
 // Question 17 of a text that question 16 admits.
-ghost use Rattle.std.specs.Prelude.{◌≡◌, false, ◌+◌, ◌*◌, ◌≤◌, ◌<◌, length, replicate};
+ghost use Rattle.std.specs.Prelude.{◌≡◌, ◌+◌, ◌*◌, ◌≤◌, ◌<◌, length, replicate};
 ghost use Rattle.netlist.specs.Table.{half};
-ghost use Rattle.verilog_names.specs.Names.{Chained};
+ghost use Rattle.verilog_rules.specs.Ports.{ported};
 ghost use Rattle.read_verilog.specs.Kept.{PlaceIs, PortsKept, AssignsKept, RulesAre};
 
 use verilog_assigns::{assigns, past};
+use verilog_names::Names;
 use verilog_rules::declarations::declarations;
 use verilog_rules::ports::{Ports, port_list};
-use verilog_rules::states::all_from;
+use verilog_rules::states::{State, all_from};
 use verilog_tokens::next;
 
-// Whether a module keeps the rules, how many names it declares, how many of them are inputs and outputs, and the places of its
+// Of a module that keeps the rules how many names it declares, how many of them are inputs and outputs, and the places of its
 // ports and of its assignments.
 #[derive(Clone, Copy)]
 pub struct Kept {
-    pub good: bool,
     pub count: usize,
     pub inputs: u32,
     pub outputs: u32,
@@ -32,80 +32,26 @@ fn ports_place(text: &[u8]) -> usize
     open.to
 }
 
-fn no_ports() -> Ports
-    ensures { result.good ≡ false }
-{
-    Ports {
-        good: false,
-        inputs: 0,
-        outputs: 0,
-    }
-}
-
 // The port list: the declared inputs and outputs, each once, and some of both.
-fn ports_kept(
-    text: &[u8],
-    heads: &[u64],
-    words: &[u64],
-    links: &[u64],
-    states: &mut [u32],
-    wires: &mut [u32],
-    size: usize,
-    count: usize,
-    at: usize,
-) -> Ports
-    requires { Chained text.now heads.now words.now links.now size count × (count ≤ length states.old)
-        × (count ≤ length wires.old) × (at ≤ length text.now) × (length text.now + 1 < half) }
-    ensures { PortsKept text.now words.now count at states.old states.new
-        wires.old wires.new result }
+fn ports_kept(names: Names, states: &mut [u32], wires: &mut [u32], at: usize) -> Option<Ports>
+    requires { (names.count ≤ length states.old) × (names.count ≤ length wires.old) × (at ≤ length names.text.now)
+        × (length names.text.now + 1 < half) }
+    ensures { PortsKept names.entry.text.now names.entry.words.now names.entry.count at states.old states.new
+        wires.old wires.new (ported result) }
 {
-    let p = port_list(text, heads, words, links, states, wires, size, count, at);
-    if !p.good {
-        return no_ports();
+    let p = port_list(names, states, wires, at)?;
+    if !all_from(states, names.count, State::Wire) || p.inputs == 0 || p.outputs == 0 {
+        return None;
     }
-    if !all_from(states, count, 3) {
-        return no_ports();
-    }
-    if p.inputs == 0 {
-        return no_ports();
-    }
-    if p.outputs == 0 {
-        return no_ports();
-    }
-    p
+    Some(p)
 }
 
 // The assignments: each as it must be, and behind them every wire and output assigned.
-fn assigns_kept(
-    text: &[u8],
-    heads: &[u64],
-    words: &[u64],
-    links: &[u64],
-    states: &mut [u32],
-    size: usize,
-    count: usize,
-    at: usize,
-) -> bool
-    requires { Chained text.now heads.now words.now links.now size count × (count ≤ length states.old) × (at ≤ length text.now) }
-    ensures { AssignsKept text.now words.now count at states.old states.new result }
+fn assigns_kept(names: Names, states: &mut [u32], at: usize) -> bool
+    requires { (names.count ≤ length states.old) × (at ≤ length names.text.now) }
+    ensures { AssignsKept names.entry.text.now names.entry.words.now names.entry.count at states.old states.new result }
 {
-    if !assigns(text, heads, words, links, states, size, count, at) {
-        return false;
-    }
-    all_from(states, count, 5)
-}
-
-fn not_kept() -> Kept
-    ensures { result.good ≡ false }
-{
-    Kept {
-        good: false,
-        count: 0,
-        inputs: 0,
-        outputs: 0,
-        ports: 0,
-        assigns: 0,
-    }
+    assigns(names, states, at) && all_from(states, names.count, State::Readable)
 }
 
 // Question 17. Of the tables `heads` and `wires` must be zero; the others have room for `most` names, which are a quarter of the
@@ -119,7 +65,7 @@ pub fn rules(
     wires: &mut [u32],
     size: usize,
     most: usize,
-) -> Kept
+) -> Option<Kept>
     requires size_nonzero { (0 < size) × (size ≤ length heads.old) × (heads.old ≡ replicate (length heads.old) 0)
         × (wires.old ≡ replicate (length wires.old) 0) }
     requires most_in_bounds { (most ≤ length words.old) × (most ≤ length links.old) × (most ≤ length states.old) × (most ≤ length wires.old)
@@ -129,23 +75,24 @@ pub fn rules(
 {
     let ports = ports_place(text);
     let items = past(text, ports);
-    let d = declarations(text, heads, words, links, states, size, most, items);
-    if !d.good {
-        return not_kept();
+    let d = declarations(text, heads, words, links, states, size, most, items)?;
+    let names = Names {
+        text,
+        heads,
+        words,
+        links,
+        size,
+        count: d.count,
+    };
+    let p = ports_kept(names, states, wires, ports)?;
+    if !assigns_kept(names, states, d.at) {
+        return None;
     }
-    let count = d.count;
-    let at = d.at;
-    let p = ports_kept(text, heads, words, links, states, wires, size, count, ports);
-    if !p.good {
-        return not_kept();
-    }
-    let good = assigns_kept(text, heads, words, links, states, size, count, at);
-    Kept {
-        good,
-        count,
+    Some(Kept {
+        count: d.count,
         inputs: p.inputs,
         outputs: p.outputs,
         ports,
-        assigns: at,
-    }
+        assigns: d.at,
+    })
 }

@@ -1,9 +1,10 @@
 -- From a conversion to Rewrite's promise.
+use Rattle.std.specs.Prelude.{Result}
 use Prim.Native.Nat.{ℕ}
 use mathlib.Core.Path.{◌≡◌, refl, ap, ◌∙◌}
 use mathlib.Core.List.{List, [], ◌∷◌}
 use lib.ListN.{length}
-use Rattle.netlist.specs.declared.Answer.{Answer}
+use Rattle.netlist.specs.declared.Question.{Question}
 use Rattle.netlist.specs.declared.Sizes.{Sizes}
 use Rattle.netlist.specs.Netlist.{large}
 use Rattle.netlist.specs.Read.{read_netlist}
@@ -19,7 +20,7 @@ same-call : (s : Sizes) (tables text : List ℕ) (room : ℕ) → convert_call F
 unfolding rewrite_call
 same-call s tables text room = refl
 
-pub promised : {s : Sizes} {text out out' o o' r r' g g' : List ℕ} {a : Answer} → Converts Fashion Fashion s text out out' o o' r r' g g' a
+pub promised : {s : Sizes} {text out out' o o' r r' g g' : List ℕ} {a : Result ℕ Question} → Converts Fashion Fashion s text out out' o o' r r' g g' a
     → Promise s text out out' o o' r r' g g' a
 promised {s} {text} {out} {out'} {o} {o'} {r} {r'} {g} {g'} {a} c =
     let wrote = call-text Fashion Fashion s text out o r g c.answers in

@@ -1,4 +1,5 @@
 -- Questions 11 and 14 of a netlist that the tables hold, and from there to the promise.
+use Rattle.std.specs.Prelude.{Err, Ok, Result}
 use Prim.Native.Nat.{ℕ, ◌≤◌, ◌<◌}
 use mathlib.Core.Path.{◌≡◌, refl, sym, ap, ◌∙◌, subst}
 use mathlib.Core.Logic.{◌≢◌}
@@ -9,8 +10,9 @@ use lib.Dec.{eqb, leb}
 use borrow.Author.Tests.{eq-eqb, ne_eqb, eqb-true}
 use lib.ListN.{length, take, length-map, length-drop, length-append, length-replicate}
 use lib.Seq.{sets}
-use Rattle.netlist.specs.declared.Answer.{Answer}
-use Rattle.netlist.specs.declared.Answer.TheVariants.{Done, Refused}
+use Rattle.netlist.specs.declared.Question.{Question}
+use Rattle.netlist.specs.declared.Question.TheVariants as Q
+use Rattle.netlist.specs.Question.{number_of}
 use Rattle.netlist.specs.declared.Sizes.{Sizes}
 use Rattle.netlist.specs.Netlist.{Netlist, input_bits, output_bits, large}
 use Rattle.netlist.specs.Outcome.{Outcome, refused, done, ask, and_then}
@@ -44,35 +46,35 @@ length-outputs N ins F e =
     simp (length-drop, length-run_gates, length-append, length-replicate) (omega arith)
 
 module _ {t : Tables} {count W n o : ℕ} {N : Netlist} (h : Holds t count W n o N) (list : List ℕ) where
-  pub words-11 : (out : List ℕ) → length list ≢ n → Answers (run64_outcome list (length out) N) out out (Refused 11)
+  pub words-11 : (out : List ℕ) → length list ≢ n → Answers (run64_outcome list (length out) N) out out (Err Q.Inputs)
   words-11 out e = answers-refused out (rw (h.ins, ne_eqb (length list) n e))
 
   module _ (e : length list ≡ n) where
     asked : eqb (length list) (input_bits N) ≡ true
     asked = rw h.ins (eq-eqb (length list) n e)
 
-    pub words-14 : (out : List ℕ) → length out < o → Answers (run64_outcome list (length out) N) out out (Refused 14)
+    pub words-14 : (out : List ℕ) → length out < o → Answers (run64_outcome list (length out) N) out out (Err Q.Room)
     words-14 out l =
         let k : length (output_words N list) ≡ o = length-output_words N list ∙ h.outs in
         answers-as (sym (rw asked refl)) (delivers-short (output_words N list) out (omega arith)).answers
 
     pub words-done : {out out' : List ℕ} → o ≤ length out → out' ≡ sets out 0 (output_words N list)
-        → Answers (run64_outcome list (length out) N) out out' (Done o)
+        → Answers (run64_outcome list (length out) N) out out' (Ok o)
     words-done {out} {out'} l p =
         let k : length (output_words N list) ≡ o = length-output_words N list ∙ h.outs in
         let r = (delivers-done (output_words N list) out out' (omega arith) p).answers in
-        let s : Answers (run64_outcome list (length out) N) out out' (Done (length (output_words N list))) = answers-as (sym (rw asked refl)) r in
-        subst (λ (m : ℕ). Answers (run64_outcome list (length out) N) out out' (Done m)) k s
+        let s : Answers (run64_outcome list (length out) N) out out' (Ok (length (output_words N list))) = answers-as (sym (rw asked refl)) r in
+        subst (λ (m : ℕ). Answers (run64_outcome list (length out) N) out out' (Ok m)) k s
 
 module _ (s : Sizes) (text list out o r g w : List ℕ) where
   -- questions 1 to 9, and then 11 and 14
-  pub call-not : {q : ℕ} → ask 1 (tables_long (large s) (length o ∷ length r ∷ length g ∷ length w ∷ [])) (read_netlist (large s) text) ≡ refused q
-      → Answers (call s text list out o r g w) out out (Refused q)
+  pub call-not : {q : Question} → ask 1 (tables_long (large s) (length o ∷ length r ∷ length g ∷ length w ∷ [])) (read_netlist (large s) text) ≡ refused (number_of q)
+      → Answers (call s text list out o r g w) out out (Err q)
   unfolding run64_call
   call-not p = answers-refused out
       (call-refused (tables_long (large s) (length o ∷ length r ∷ length g ∷ length w ∷ [])) (read_netlist (large s) text) (run64_outcome list (length out)) p)
 
-  pub call-read : {ins outs x : List ℕ} {tabs : Tables} {h : HeaderNumbers} {a : Answer}
+  pub call-read : {ins outs x : List ℕ} {tabs : Tables} {h : HeaderNumbers} {a : Result ℕ Question}
       → (tables_long (large s) (length o ∷ length r ∷ length g ∷ length w ∷ []) ≡ true) × ReadAt (large s) text ins outs tabs h
       → ((N : Netlist) → Holds tabs h.gates h.wires h.input_bits h.output_bits N → Answers (run64_outcome list (length out) N) out x a)
       → Answers (call s text list out o r g w) out x a
@@ -83,8 +85,8 @@ module _ (s : Sizes) (text list out o r g w : List ℕ) where
       (d k.1.is k.1.holds)
 
   -- a result is the output words of a list with a word for each input bit
-  pub call-words : {x : List ℕ} {a : Answer} → Answers (call s text list out o r g w) out x a
-      → (n : ℕ) (N : Netlist) → a ≡ Done n → read_netlist (large s) text ≡ done N
+  pub call-words : {x : List ℕ} {a : Result ℕ Question} → Answers (call s text list out o r g w) out x a
+      → (n : ℕ) (N : Netlist) → a ≡ Ok n → read_netlist (large s) text ≡ done N
       → (length list ≡ input_bits N) × (take n x ≡ output_words N list)
   unfolding run64_call
   call-words {x} {a} h n N p e =
@@ -101,8 +103,8 @@ module _ (s : Sizes) (text list out o r g w : List ℕ) where
       asked false c d k s = clash (cc)
 
   -- so each lane is a run
-  pub call-lanes : {x : List ℕ} {a : Answer} → Answers (call s text list out o r g w) out x a
-      → (n : ℕ) (N : Netlist) → a ≡ Done n → read_netlist (large s) text ≡ done N → (j : ℕ) → j < 64
+  pub call-lanes : {x : List ℕ} {a : Result ℕ Question} → Answers (call s text list out o r g w) out x a
+      → (n : ℕ) (N : Netlist) → a ≡ Ok n → read_netlist (large s) text ≡ done N → (j : ℕ) → j < 64
       → bits_of j (take n x) ≡ output_list N (bits_of j list)
   call-lanes h n N p e j l =
       let k = call-words h n N p e in

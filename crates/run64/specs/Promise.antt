@@ -1,8 +1,7 @@
 -- What sixty-four runs promise of a call (document 02, No. 3).
-use Rattle.std.specs.Prelude.{ℕ, ◌<◌, ◌≡◌, List, [], ◌∷◌, map, eqb, length, take}
+use Rattle.std.specs.Prelude.{Ok, Result, ℕ, ◌<◌, ◌≡◌, List, [], ◌∷◌, map, eqb, length, take}
 use Rattle.netlist.specs.declared.Limits.{Limits}
-use Rattle.netlist.specs.declared.Answer.{Answer}
-use Rattle.netlist.specs.declared.Answer.TheVariants.{Done}
+use Rattle.netlist.specs.declared.Question.{Question}
 use Rattle.netlist.specs.declared.Sizes.{Sizes}
 use Rattle.netlist.specs.Netlist.{Netlist, input_bits, large}
 use Rattle.netlist.specs.Outcome.{Outcome, done, ask, and_then}
@@ -29,10 +28,10 @@ abbrev pub bits_of : ℕ → List ℕ → List ℕ
 bits_of j words = map bit (lanes j words)
 
 -- the sizes, the text and the list, then the result buffer and each table before and after the call
-pub record Promise (s : Sizes) (text list out out' o o' r r' g g' w w' : List ℕ) (a : Answer) : Type 0 where
+pub record Promise (s : Sizes) (text list out out' o o' r r' g g' w w' : List ℕ) (a : Result ℕ Question) : Type 0 where
   pub answers : Answers (call s text list out o r g w) out out' a
   -- bit j of the output words is what Run gives on bit j of the input words
-  pub lane : (n : ℕ) (N : Netlist) → a ≡ Done n → read_netlist (large s) text ≡ done N → (j : ℕ) → j < 64
+  pub lane : (n : ℕ) (N : Netlist) → a ≡ Ok n → read_netlist (large s) text ≡ done N → (j : ℕ) → j < 64
       → bits_of j (take n out') ≡ output_list N (bits_of j list)
   pub operands : Cleared o o'
   pub results : Cleared r r'

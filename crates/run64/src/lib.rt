@@ -8,37 +8,11 @@ ghost use Rattle.netlist.specs.Services.{Answers};
 ghost use Rattle.netlist.specs.Table.{tables, Wired, Holds};
 ghost use Rattle.run64.specs.Promise.{run64_outcome, call, Promise};
 
-use netlist::{Answer, Sizes};
+use netlist::{Answer, Question, Sizes};
 use read_header::HeaderNumbers;
-use read_netlist::read::Reading;
 
-// Questions 11 and 14, and then the words. The tables hold a netlist of `count` gates, with as many wires as there are words,
-// and `ins` input and `outs` output bits.
-fn deliver(
-    out: &mut [u64],
-    list: &[u64],
-    count: usize,
-    ins: usize,
-    outs: usize,
-    operands: &[u64],
-    results: &[u64],
-    words: &mut [u64],
-) -> Answer
-    requires { Wired (tables operands.now results.now) (length words.old) count × (ins ≤ length words.old) × (outs ≤ length words.old) }
-    ensures { (N : Netlist) → Holds (tables operands.now results.now) count (length words.old) ins outs N
-        → Answers (run64_outcome list.now (length out.old) N) out.old out.new result }
-{
-    if list.len() != ins {
-        return Answer::Refused(11);
-    }
-    if out.len() < outs {
-        return Answer::Refused(14);
-    }
-    evaluate::wide::outputs(operands, results, count, outs, list, words, out);
-    Answer::Done(outs)
-}
-
-// Questions 11 and 14 and the words, from a header's numbers and tables that hold its netlist.
+// Questions 11 and 14 and the words, from a header's numbers and tables that hold its netlist. `run_netlist::evaluate` differs in the
+// evaluation and in question 11: a trait for both, with its laws, would be longer.
 fn evaluate(
     out: &mut [u64],
     list: &[u64],
@@ -53,17 +27,17 @@ fn evaluate(
         h.output_bits N
         → Answers (run64_outcome list.now (length out.old) N) out.old out.new result }
 {
-    let wires = h.wires as usize;
-    deliver(
-        out,
-        list,
-        h.gates as usize,
-        h.input_bits as usize,
-        h.output_bits as usize,
-        operands,
-        results,
-        &mut words[..wires],
-    )
+    let ins = h.input_bits as usize;
+    let outs = h.output_bits as usize;
+    if list.len() != ins {
+        return Err(Question::Inputs);
+    }
+    if out.len() < outs {
+        return Err(Question::Room);
+    }
+    let words = &mut words[..h.wires as usize];
+    evaluate::wide::outputs(operands, results, h.gates as usize, outs, list, words, out);
+    Ok(outs)
 }
 
 // The answer, with tables that are still to be cleared.
@@ -80,23 +54,19 @@ fn answer(
     ensures { Answers (call sizes text.now list.now out.old operands.old
         results.old marks.old words.old) out.old out.new result }
 {
-    let l = netlist::large(sizes);
     let mut inputs = [0u32; 17];
     let mut outputs = [0u32; 16];
-    let shortest = words.len();
-    match read_netlist::read::read(
+    let h = read_netlist::read::read(
         text,
         &mut inputs,
         &mut outputs,
         operands,
         results,
         marks,
-        shortest,
-        l,
-    ) {
-        Reading::Refused(question) => Answer::Refused(question),
-        Reading::Done(h) => evaluate(out, list, h, operands, results, words),
-    }
+        &[words.len()],
+        sizes.large(),
+    )?;
+    evaluate(out, list, h, operands, results, words)
 }
 
 // The output words of the netlist in `text` on the words of `list`, at the front of `out`. The tables, of any content, are zero
@@ -116,9 +86,9 @@ pub fn run64(
         words.old words.new result }
 {
     let r = answer(text, list, out, operands, results, marks, words, sizes);
-    clear::words(operands);
-    clear::words(results);
-    clear::bytes(marks);
-    clear::words(words);
+    operands.fill(0);
+    results.fill(0);
+    marks.fill(0);
+    words.fill(0);
     r
 }

@@ -1,4 +1,5 @@
 -- Questions 11 and 14 of a netlist that the tables hold.
+use Rattle.std.specs.Prelude.{Err, Ok}
 use Prim.Native.Nat.{ℕ, ◌≤◌, ◌<◌}
 use mathlib.Core.Path.{◌≡◌, refl, sym, ap, ◌∙◌, subst}
 use mathlib.Core.Bool.{Bool, true, false}
@@ -7,7 +8,7 @@ use native.Mathlib.Omega.{arith}
 use lib.Dec.{eqb, eqb→eq}
 use lib.ListN.{length, length-append, length-replicate, length-drop, length-map}
 use lib.Seq.{sets}
-use Rattle.netlist.specs.declared.Answer.TheVariants.{Done, Refused}
+use Rattle.netlist.specs.declared.Question.TheVariants as Q
 use Rattle.netlist.specs.Lists.{every}
 use Rattle.netlist.specs.Netlist.{Netlist, input_bits}
 use Rattle.netlist.specs.Eval.{wire_bits, outputs_of}
@@ -37,22 +38,22 @@ module _ {t : Tables} {count W n o : ℕ} {N : Netlist} (h : Holds t count W n o
   good : (b : Bool) → list_good is_bit n list ≡ b → list_good is_bit (input_bits N) list ≡ b
   good b e = ap (λ (k : ℕ). list_good is_bit k list) h.ins ∙ e
 
-  pub run-11 : (out : List ℕ) → list_good is_bit n list ≡ false → Answers (run_outcome list (length out) N) out out (Refused 11)
+  pub run-11 : (out : List ℕ) → list_good is_bit n list ≡ false → Answers (run_outcome list (length out) N) out out (Err Q.Inputs)
   run-11 out e = answers-refused out (rw (good false e))
 
   module _ (e : list_good is_bit n list ≡ true) (i : n ≤ W) (u : o ≤ W) where
-    pub run-14 : (out : List ℕ) → length out < o → Answers (run_outcome list (length out) N) out out (Refused 14)
+    pub run-14 : (out : List ℕ) → length out < o → Answers (run_outcome list (length out) N) out out (Err Q.Room)
     run-14 out l =
         let k = length-outputs e i u in
         answers-as (sym (rw (good true e) refl)) (delivers-short (output_list N list) out (omega arith)).answers
 
     pub run-done : {out out' : List ℕ} → o ≤ length out → out' ≡ sets out 0 (output_list N list)
-        → Answers (run_outcome list (length out) N) out out' (Done o)
+        → Answers (run_outcome list (length out) N) out out' (Ok o)
     run-done {out} {out'} l p =
         let k = length-outputs e i u in
         let r = (delivers-done (output_list N list) out out' (omega arith) p).answers in
-        let s : Answers (run_outcome list (length out) N) out out' (Done (length (output_list N list))) = answers-as (sym (rw (good true e) refl)) r in
-        subst (λ (m : ℕ). Answers (run_outcome list (length out) N) out out' (Done m)) k s
+        let s : Answers (run_outcome list (length out) N) out out' (Ok (length (output_list N list))) = answers-as (sym (rw (good true e) refl)) r in
+        subst (λ (m : ℕ). Answers (run_outcome list (length out) N) out out' (Ok m)) k s
 
 pub holds-wires : {t : Tables} {count W W' n o : ℕ} {N : Netlist} → W' ≡ W → Holds t count W n o N → Holds t count W' n o N
 holds-wires e h = rw e h

@@ -5,19 +5,23 @@ use mathlib.Core.Bool.{Bool, true, false, ◌&&◌}
 use mathlib.Core.List.{List, [], ◌∷◌, ◌++◌, map}
 use mathlib.Core.Option.{Option, none, some}
 use native.Mathlib.Omega.{arith}
+use Rattle.std.specs.Prelude.{Err, Ok, count_by}
 use lib.Dec.{T, eqb, leb, ltb, eqb→eq, ltb→lt}
-use lib.ListN.{length, get_or, take, length-map, get_or-append, get_or-map}
+use lib.ListN.{length, get_or, take, get_or-append, get_or-map}
 use lib.Seq.{get_or-append-add}
-use borrow.Author.Tests.{ne_eqb, eq-eqb, ltb-false, lt-ltb, le-ltb, le-leb, lt-leb}
+use borrow.Author.Tests.{ne_eqb, eq-eqb, le-leb, lt-leb}
 use Rattle.netlist.specs.declared.Gate.{Gate}
 use Rattle.netlist.specs.declared.Gate.TheVariants.{Xor, And, Inv, Eqw, Eq}
+use Rattle.netlist.specs.declared.Question.{Question}
+use Rattle.netlist.specs.declared.Question.TheVariants as Q
 use Rattle.netlist.specs.declared.Sizes.{Sizes}
+use Rattle.netlist.specs.declared.Sizes.TheVariants.{Old, Whole}
 use Rattle.netlist.specs.declared.Twin.{Twin}
 use Rattle.netlist.specs.Netlist.{small, result}
-use Rattle.netlist.specs.Outcome.{Outcome, done, ask, given}
+use Rattle.netlist.specs.Outcome.{Outcome, refused, done, ask, and_then, given}
 use Rattle.netlist.specs.Read.{operands_given}
 use Rattle.netlist.specs.Table.{gate_of as table_gate}
-use Rattle.netlist.specs.Mask.{State, no_twin, twin, input_twin, input_twins, past_public, past_publics, emit, result_twin}
+use Rattle.netlist.specs.Mask.{State, no_twin, twin, is_public, input_twin, input_twins, past_public, past_publics, emit, result_twin}
 use Rattle.netlist.proofs.Tests.{on_bool, both, true-T, clash}
 use Rattle.netlist.proofs.Questions.{ask-done, and_then-done, given-done}
 use Rattle.netlist.proofs.GateCount.{next-emit, next-most}
@@ -27,12 +31,10 @@ use Rattle.gate_records.specs.declared.SourceRecord.{SourceRecord}
 use Rattle.gate_records.specs.Records.{record_of, gate_of, single, record4, source_record, blank_source, twin_in}
 use Rattle.mask_rule.specs.Rule.{operands, steps_of, twin_of, Many}
 use Rattle.session.specs.declared.Session.{Session}
-use Rattle.session.specs.Asked.{gate_good}
-use Rattle.session.specs.Lists.{Lists, lists_of, session_of, present, steps, room_for, most_masked}
-use Rattle.session_plan.specs.declared.batch.Batch.{Batch}
-use Rattle.session_plan.specs.declared.adding.Plan.{Plan}
-use Rattle.session_plan.specs.Batch.{PublicCount, batch_gates}
-use Rattle.session_plan.specs.Plan.{NoIs, table_kind, PlaceIs, AskedIs, operand_twin, RecordOf, PlanIs}
+use Rattle.session.specs.Asked.{gate_good, place_left}
+use Rattle.session.specs.Lists.{Lists, lists_of, session_of, present, steps, room_for, most_masked, asked}
+use Rattle.session_plan.specs.Plan.{NoIs, Yes, table_kind, first_asked, PlanIs}
+use Rattle.session_plan.proofs.Openings.{past-count}
 use Rattle.session_plan.proofs.Plans.{gate-one, gate-two, gate-three, gate-four, gate-five}
 
 -- the six cases of a record's kind
@@ -60,241 +62,196 @@ record_is r e f = rw (e, f)
 never : {P : Type 0} (g : Gate) → none ≡ some g → P
 never g e = clash (cc)
 
-pub kind-other : (r : GateRecord) → (r.kind ≡ 5 → ⊥) → r.kind ≡ table_kind r
-kind-other r n = sym (table_kind-other r n)
-
-pub kind-zero : (r : GateRecord) → r.kind ≡ 5 → r.first ≡ 0 → 5 ≡ table_kind r
-kind-zero r e f = rw (e, f)
-
-pub kind-one : (r : GateRecord) → r.kind ≡ 5 → (r.first ≡ 0 → ⊥) → 6 ≡ table_kind r
-kind-one r e f = rw (e, ne_eqb r.first 0 f)
-
--- questions 24 and 7 to 9
-module _ (z : Sizes) (n gates places : ℕ) (g : GateRecord) where
-  never_first : (P : Type 0) → ◌≡◌ {A = ℕ} 24 0 → P
-  never_first P e = absurd (omega (arith, e))
-
-  pub no_place : places ≤ gates → AskedIs z n gates places g (record { no = 24; first = 0; second = 0 })
-  no_place l = record {
-    no = rw (le-ltb gates places l) (refl, omega arith);
-    first = never_first (PlaceIs g.first n gates 0);
-    second = never_first
-        (PlaceIs g.second n gates 0);
-  }
-
-  pub no-wire : (small z).wires ≤ n + gates → AskedIs z n gates places g (record { no = 24; first = 0; second = 0 })
-  no-wire l = record {
-    no = on_bool (ltb gates places) (λ t. rw (t, le-ltb (n + gates) (small z).wires l) (refl, omega arith)) (λ t. rw t (refl, omega arith));
-    first = never_first (PlaceIs g.first n gates 0);
-    second = never_first (PlaceIs g.second n gates 0);
-  }
-
-  pub first-asked : gates < places → n + gates < (small z).wires → {q a b : ℕ} → NoIs (gate_good (n + gates) g) q
-      → PlaceIs g.first n gates a → PlaceIs g.second n gates b → AskedIs z n gates places g (record { no = q; first = a; second = b })
-  first-asked l k h a b = record { no = rw (lt-ltb gates places l, lt-ltb (n + gates) (small z).wires k) h; first = λ _. a; second = λ _. b }
-
 -- the twin of an input, by the codes in front of it
 input-at : (c k : ℕ) (es : List ℕ) (w : ℕ) → w < length es → get_or (input_twins c k es) w no_twin ≡ input_twin (past_publics c (take w es)) (k + w) (get_or es w 0)
 input-at c k [] w h = absurd (omega (arith, h))
 input-at c k (e ∷ es) zero h = let z : k + 0 ≡ k = omega arith in rw z refl
 input-at c k (e ∷ es) (suc w) h = let z : k + suc w ≡ k + 1 + w = omega arith in rw z (input-at (past_public c e) (k + 1) es w (omega (arith, h)))
 
-module _ (codes : List ℕ) (w : ℕ) (r : SourceRecord) where
+-- the twins of the source wires, as the lists have them
+module _ (codes : List ℕ) (source : List SourceRecord) (w : ℕ) where
   abbrev n : ℕ
   n = length codes
 
-  pub twin-record : n ≤ w → twin_in r ≡ operand_twin codes w r
-  twin-record l = rw (le-ltb w n l)
-
-  pub twin-secret : w < n → {e : ℕ} → e ≡ get_or codes w 0 → (e ≡ 0 → ⊥) → record { wire = w; code = e } ≡ operand_twin codes w r
-  twin-secret l {e} h d =
-      let k = input-at (n + 5) 0 codes w l in
-      let z : 0 + w ≡ w = omega arith in
-      rw (lt-ltb w n l, k, z, ← h, ne_eqb e 0 d) refl
-
-  pub twin-public : w < n → {e m : ℕ} → e ≡ get_or codes w 0 → e ≡ 0 → PublicCount codes w m → record { wire = n + 5 + m; code = 1 } ≡ operand_twin codes w r
-  twin-public l {e} {m} h d p =
-      let k = input-at (n + 5) 0 codes w l in
-      rw (lt-ltb w n l, k, ← h, eq-eqb e 0 d, p.past (n + 5)) refl
-
--- the operands' twins, as the lists have them
-module _ (codes : List ℕ) (L : Lists) where
   abbrev ins : List Twin
-  ins = input_twins (length codes + 5) 0 codes
+  ins = input_twins (n + 5) 0 codes
 
+  abbrev found : Twin
+  found = get_or (ins ++ map twin_in source) w no_twin
+
+  input-is : w < n → found ≡ input_twin (n + 5 + count_by is_public (take w codes)) w (get_or codes w 0)
+  input-is l =
+      get_or-append ins (map twin_in source) no_twin w (omega (arith, length-input_twins (n + 5) 0 codes, l))
+      ∙ input-at (n + 5) 0 codes w l
+      ∙ ap₂ (λ (c k : ℕ). input_twin c k (get_or codes w 0)) (past-count (n + 5) (take w codes)) (omega arith)
+
+  pub twin-secret : w < n → (get_or codes w 0 ≡ 0 → ⊥) → record { wire = w; code = get_or codes w 0 } ≡ found
+  twin-secret l d = sym (input-is l ∙ rw (ne_eqb (get_or codes w 0) 0 d))
+
+  pub twin-public : w < n → get_or codes w 0 ≡ 0 → record { wire = n + 5 + count_by is_public (take w codes); code = 1 } ≡ found
+  twin-public l d = sym (input-is l ∙ rw (eq-eqb (get_or codes w 0) 0 d))
+
+  record-is : n ≤ w → found ≡ get_or (map twin_in source) (w - n) no_twin
+  record-is l =
+      let z : length ins + (w - n) ≡ w = omega (arith, l, length-input_twins (n + 5) 0 codes) in
+      ap (λ (i : ℕ). get_or (ins ++ map twin_in source) i no_twin) (sym z) ∙ get_or-append-add ins (map twin_in source) (w - n) no_twin
+
+  pub twin-record : n ≤ w → twin_in (get_or source (w - n) blank_source) ≡ found
+  twin-record l = sym (record-is l ∙ get_or-map twin_in source (w - n) blank_source)
+
+-- what a record's gate is by the gate table's kind
+module _ (codes : List ℕ) (L : Lists) (r : GateRecord) (g : Gate) (is : gate_of r ≡ some g) where
   abbrev P : State
   P = present codes L
 
-  operand-is : (w : ℕ) (a : SourceRecord) → w < length codes + L.session.gates → RecordOf (length codes) L.session.gates L.source w a
-      → operand_twin codes w a ≡ twin P w
-  operand-is w a l r = on_bool (ltb w (length codes))
-      (λ t. let m = ltb→lt w (length codes) (true-T (ltb w (length codes)) t) in
-      rw t (sym (get_or-append ins (map twin_in L.source) no_twin w (omega (arith, length-input_twins (length codes + 5) 0 codes, m)))))
-      (λ t. let m = ltb-false w (length codes) t in
-      let z : length ins + (w - length codes) ≡ w = omega (arith, m, length-input_twins (length codes + 5) 0 codes) in
-      rw t (ap twin_in (r m l) ∙ sym (get_or-map twin_in L.source (w - length codes) blank_source)
-      ∙ sym (get_or-append-add ins (map twin_in L.source) (w - length codes) no_twin) ∙ ap (λ (i : ℕ). get_or (ins ++ map twin_in L.source) i no_twin) z))
+  abbrev A : Twin
+  A = twin P r.first
 
-  module _ (r : GateRecord) (g : Gate) (a b : SourceRecord) (good : gate_good (length codes + L.session.gates) r ≡ done g)
-      (ra : RecordOf (length codes) L.session.gates L.source r.first a) (rb : RecordOf (length codes) L.session.gates L.source r.second b) where
-    abbrev next : ℕ
-    next = length codes + L.session.gates
+  abbrev B : Twin
+  B = twin P r.second
 
-    abbrev A : Twin
-    A = operand_twin codes r.first a
+  pub record By : Type 0 where
+    pub same : record_of g ≡ r
+    pub kind : 1 ≤ table_kind r
+    pub steps : emit (length codes) P g ≡ steps_of (length codes) P.next (table_kind r) A B
+    pub twin : result_twin P g ≡ twin_of P.next (table_kind r) A B
 
-    abbrev B : Twin
-    B = operand_twin codes r.second b
-
-    -- what the gate is by the gate table's kind
-    pub record By : Type 0 where
-      pub same : record_of g ≡ r
-      pub kind : 1 ≤ table_kind r
-      pub steps : emit (length codes) P g ≡ steps_of (length codes) P.next (table_kind r) A B
-      pub twin : result_twin P g ≡ twin_of P.next (table_kind r) A B
-
-    abbrev asks9 : Gate → Outcome Gate
-    asks9 h = ask 9 (eqb (result h) next) (done h)
-
-    abbrev asks8 : Gate → Outcome Gate
-    asks8 h = ask 8 (operands_given (λ w. ltb w next) h) (asks9 h)
-
-    pub is-gate : (gate_of r ≡ some g) × T (operands_given (λ w. ltb w next) g) × (result g ≡ next)
-    is-gate =
-        let q7 = and_then-done (given 7 (gate_of r)) asks8 g good in
-        go q7.0 (given-done 7 (gate_of r) q7.0 q7.1) q7.2
-      where
-        go : (h : Gate) → gate_of r ≡ some h → asks8 h ≡ done g → (gate_of r ≡ some g) × T (operands_given (λ w. ltb w next) g) × (result g ≡ next)
-        go h i e =
-            let q8 = ask-done 8 (operands_given (λ w. ltb w next) h) (asks9 h) g e in
-            let q9 = ask-done 9 (eqb (result h) next) (done h) g q8.1 in
-            let d : ◌≡◌ {A = Outcome Gate} (done h) (done g) = q9.1 in
-            let s : h ≡ g = cc in
-            (rw s at i, rw s at q8.0, rw s at (eqb→eq (result h) next q9.0))
-
-    first-is : r.first < next → A ≡ twin P r.first
-    first-is l = operand-is r.first a l ra
-
-    second_is : r.second < next → B ≡ twin P r.second
-    second_is l = operand-is r.second b l rb
-
-    pub by : By
-    by = kinds r
-        (λ e. let s : ◌≡◌ {A = Option Gate} (some (Xor r.first r.second r.result)) (some g) = sym (gate-one r e) ∙ is-gate.0 in
-        let i : Xor r.first r.second r.result ≡ g = cc in
-        let u = both (ltb r.first next) (ltb r.second next) (rw (← i) at is-gate.1) in
-        let x = first-is (ltb→lt r.first next u.0) in
-        let y = second_is (ltb→lt r.second next u.1) in
-        let z = table_kind-other r (λ f. absurd (omega arith)) ∙ e in
-        record { same = rw (← i) (record_is r (sym e) refl); kind = omega (arith, z); steps = rw (← i, z, x, y) refl; twin = rw (← i, z, x, y) refl })
-        (λ e. let s : ◌≡◌ {A = Option Gate} (some (And r.first r.second r.result)) (some g) = sym (gate-two r e) ∙ is-gate.0 in
-        let i : And r.first r.second r.result ≡ g = cc in
-        let u = both (ltb r.first next) (ltb r.second next) (rw (← i) at is-gate.1) in
-        let x = first-is (ltb→lt r.first next u.0) in
-        let y = second_is (ltb→lt r.second next u.1) in
-        let z = table_kind-other r (λ f. absurd (omega arith)) ∙ e in
-        record { same = rw (← i) (record_is r (sym e) refl); kind = omega (arith, z); steps = rw (← i, z, x, y) refl; twin = rw (← i, z, x, y) refl })
-        (λ e. let q = single-named r.second (Inv r.first r.result) g (sym (gate-three r e) ∙ is-gate.0) in
-        let t : T (ltb r.first next) = rw (← q.0) at is-gate.1 in
-        let x = first-is (ltb→lt r.first next t) in
-        let z = table_kind-other r (λ f. absurd (omega arith)) ∙ e in
-        record { same = rw (← q.0) (record_is r (sym e) (sym q.1)); kind = omega (arith, z); steps = rw (← q.0, z, x) refl; twin = rw (← q.0, z, x) refl })
-        (λ e. let q = single-named r.second (Eqw r.first r.result) g (sym (gate-four r e) ∙ is-gate.0) in
-        let t : T (ltb r.first next) = rw (← q.0) at is-gate.1 in
-        let x = first-is (ltb→lt r.first next t) in
-        let z = table_kind-other r (λ f. absurd (omega arith)) ∙ e in
-        record { same = rw (← q.0) (record_is r (sym e) (sym q.1)); kind = omega (arith, z); steps = rw (← q.0, z, x) refl; twin = rw (← q.0, z, x) refl })
-        (λ e. let q = single-named r.second (Eq r.first r.result) g (sym (gate-five r e) ∙ is-gate.0) in
-        constant e q)
-        (λ e. never g (sym e ∙ is-gate.0))
-      where
-        constant : r.kind ≡ 5 → (Eq r.first r.result ≡ g) × (r.second ≡ 0) → By
-        constant e q = on_bool (eqb r.first 0)
-            (λ y. let z : table_kind r ≡ 5 = rw (e, y) in
-            record { same = rw (← q.0) (record_is r (sym e) (sym q.1)); kind = omega (arith, z); steps = rw (← q.0, z, y) refl; twin = rw (← q.0, z) refl })
-            (λ y. let z : table_kind r ≡ 6 = rw (e, y) in
-            record { same = rw (← q.0) (record_is r (sym e) (sym q.1)); kind = omega (arith, z); steps = rw (← q.0, z, y) refl; twin = rw (← q.0, z) refl })
+  pub by : By
+  by = kinds r
+      (λ e. let s : ◌≡◌ {A = Option Gate} (some (Xor r.first r.second r.result)) (some g) = sym (gate-one r e) ∙ is in
+      let i : Xor r.first r.second r.result ≡ g = cc in
+      let z = table_kind-other r (λ f. absurd (omega arith)) ∙ e in
+      record { same = rw (← i) (record_is r (sym e) refl); kind = omega (arith, z); steps = rw (← i, z) refl; twin = rw (← i, z) refl })
+      (λ e. let s : ◌≡◌ {A = Option Gate} (some (And r.first r.second r.result)) (some g) = sym (gate-two r e) ∙ is in
+      let i : And r.first r.second r.result ≡ g = cc in
+      let z = table_kind-other r (λ f. absurd (omega arith)) ∙ e in
+      record { same = rw (← i) (record_is r (sym e) refl); kind = omega (arith, z); steps = rw (← i, z) refl; twin = rw (← i, z) refl })
+      (λ e. let q = single-named r.second (Inv r.first r.result) g (sym (gate-three r e) ∙ is) in
+      let z = table_kind-other r (λ f. absurd (omega arith)) ∙ e in
+      record { same = rw (← q.0) (record_is r (sym e) (sym q.1)); kind = omega (arith, z); steps = rw (← q.0, z) refl; twin = rw (← q.0, z) refl })
+      (λ e. let q = single-named r.second (Eqw r.first r.result) g (sym (gate-four r e) ∙ is) in
+      let z = table_kind-other r (λ f. absurd (omega arith)) ∙ e in
+      record { same = rw (← q.0) (record_is r (sym e) (sym q.1)); kind = omega (arith, z); steps = rw (← q.0, z) refl; twin = rw (← q.0, z) refl })
+      (λ e. let q = single-named r.second (Eq r.first r.result) g (sym (gate-five r e) ∙ is) in
+      constant e q)
+      (λ e. never g (sym e ∙ is))
+    where
+      constant : r.kind ≡ 5 → (Eq r.first r.result ≡ g) × (r.second ≡ 0) → By
+      constant e q = on_bool (eqb r.first 0)
+          (λ y. let z : table_kind r ≡ 5 = rw (e, y) in
+          record { same = rw (← q.0) (record_is r (sym e) (sym q.1)); kind = omega (arith, z); steps = rw (← q.0, z, y) refl; twin = rw (← q.0, z) refl })
+          (λ y. let z : table_kind r ≡ 6 = rw (e, y) in
+          record { same = rw (← q.0) (record_is r (sym e) (sym q.1)); kind = omega (arith, z); steps = rw (← q.0, z, y) refl; twin = rw (← q.0, z) refl })
 
 -- a source gate has at most eight masked gates
 pub many-most : (k : ℕ) (A B : Twin) {m : ℕ} → Many k A B m → m ≤ 8
 many-most k A B h = omega (arith, h 0 0, next-emit 0 (operands 0 A B) (table_gate k 0 1 2), next-most (operands 0 A B) (table_gate k 0 1 2 ∷ []))
 
 -- the plan, by the numbers that the code has
-module _ (s : Session) (codes : List ℕ) (a b : SourceRecord) (r : GateRecord) {k many : ℕ} {A B : Twin} (ek : k ≡ table_kind r)
-    (ea : A ≡ operand_twin codes r.first a) (eb : B ≡ operand_twin codes r.second b) (m : Many k A B many) where
-  module _ (source : List SourceRecord) (masked : List GateRecord) (g : Gate) (good : gate_good (length codes + s.gates) r ≡ done g)
-      (ra : RecordOf (length codes) s.gates source r.first a) (rb : RecordOf (length codes) s.gates source r.second b) where
-    abbrev L : Lists
-    L = lists_of s source masked
+module _ (z : Sizes) (codes : List ℕ) (s : Session) (source : List SourceRecord) (masked : List GateRecord) (r : GateRecord) where
+  abbrev L : Lists
+  L = lists_of s source masked
 
-    Y : By codes L r g a b good ra rb
-    Y = by codes L r g a b good ra rb
+  abbrev first : Outcome Gate
+  first = first_asked z (length codes) s.gates (length source) r
 
-    count-is : length (steps codes L g) ≡ many
-    count-is =
-        let e : steps codes L g ≡ steps_of (length codes) (present codes L).next k A B = Y.steps ∙ rw (← ek, ← ea, ← eb) refl in
-        ap length e ∙ sym (m (length codes) (present codes L).next)
+  abbrev ask14 : Gate → Outcome Gate
+  ask14 g = ask 14 (room_for codes L g) (done g)
 
-    room-is : room_for codes L g ≡ (leb (s.masked + many) (length masked) && leb (s.masked + many) most_masked)
-    room-is = ap (λ (x : ℕ). leb (s.masked + x) (length masked) && leb (s.masked + x) most_masked) count-is
+  then-14 : asked z codes L r ≡ and_then first ask14
+  unfolding asked
+  then-14 = ask-then (place_left z s.gates (length codes + s.gates) (length source)) (gate_good (length codes + s.gates) r)
+    where
+      ask-then : (b : Bool) (x : Outcome Gate) → ask 24 b (and_then x ask14) ≡ and_then (ask 24 b x) ask14
+      ask-then true x = refl
+      ask-then false x = refl
 
-    refuses : {p : Plan} → p.no ≡ 14 → room_for codes L g ≡ false → PlanIs codes L g p
-    refuses {p} e f = record {
-      no = rw (e, f) (refl, omega arith);
-      keep = λ n. absurd (omega (arith, e, n));
-      gates = λ n. absurd (omega (arith, e, n));
-      count = λ n. absurd (omega (arith, e, n));
-      places = λ n. absurd (omega (arith, e, n));
-      session = λ n. absurd (omega (arith, e, n));
-    }
+  pub first-refused : (q : Question) → NoIs first (Err q) → PlanIs z codes L r (Err q)
+  first-refused q e = then-14 ∙ ap (λ (o : Outcome Gate). and_then o ask14) e
 
-    pub list_full : {p : Plan} → p.no ≡ 14 → length masked < s.masked + many → PlanIs codes L g p
-    list_full e l = refuses e (room-is ∙ rw (lt-leb (s.masked + many) (length masked) l) refl)
+  module _ (y : Yes first) where
+    abbrev g : Gate
+    g = y.value
 
-    pub too_many : {p : Plan} → p.no ≡ 14 → most_masked < s.masked + many → PlanIs codes L g p
-    too_many e l = refuses e (room-is ∙ rw (lt-leb (s.masked + many) most_masked l) (go (leb (s.masked + many) (length masked))))
+    abbrev left24 : Bool
+    left24 = place_left z s.gates (length codes + s.gates) (length source)
+
+    abbrev q24 : T left24 × (gate_good (length codes + s.gates) r ≡ done g)
+    q24 = ask-done 24 left24 (gate_good (length codes + s.gates) r) g y.is
+
+    yes24 : T (ltb s.gates (length source)) × T (ltb (length codes + s.gates) (small z).wires)
+    yes24 = both (ltb s.gates (length source)) (ltb (length codes + s.gates) (small z).wires) q24.0
+
+    pub place-left : s.gates < length source
+    place-left = ltb→lt s.gates (length source) yes24.0
+
+    -- within the limits
+    pub few : length codes + s.gates < 100000
+    few = omega (arith, ltb→lt (length codes + s.gates) (small z).wires yes24.1, most z)
       where
-        go : (x : Bool) → (x && false) ≡ false
-        go true = refl
-        go false = refl
+        most : (z : Sizes) → (small z).wires ≤ 100000
+        most Old = omega arith
+        most Whole = omega arith
 
-    module _ {c : ℕ} {t : Twin} (ec : c ≡ length codes + 2 + s.masked) (et : t ≡ twin_of c k A B)
-        (room : s.masked + many ≤ length masked) (most : s.masked + many ≤ most_masked) (few : length codes + s.gates < 536870912) where
-      next-is : c ≡ (present codes L).next
-      next-is = omega (arith, ec)
+    is-gate : gate_of r ≡ some g
+    is-gate =
+        let q7 = and_then-done (given 7 (gate_of r)) (λ h. ask 8 (operands_given (λ w. ltb w (length codes + s.gates)) h) (ask 9 (eqb (result h) (length codes + s.gates)) (done h))) g q24.1 in
+        go q7.0 (given-done 7 (gate_of r) q7.0 q7.1) q7.2
+      where
+        go : (h : Gate) → gate_of r ≡ some h → ask 8 (operands_given (λ w. ltb w (length codes + s.gates)) h) (ask 9 (eqb (result h) (length codes + s.gates)) (done h)) ≡ done g → gate_of r ≡ some g
+        go h i e =
+            let q8 = ask-done 8 (operands_given (λ w. ltb w (length codes + s.gates)) h) (ask 9 (eqb (result h) (length codes + s.gates)) (done h)) g e in
+            let q9 = ask-done 9 (eqb (result h) (length codes + s.gates)) (done h) g q8.1 in
+            let d : ◌≡◌ {A = Outcome Gate} (done h) (done g) = q9.1 in
+            let s : h ≡ g = cc in
+            rw s at i
 
-      steps-is : steps codes L g ≡ steps_of (length codes) c k A B
-      steps-is = Y.steps ∙ rw (← ek, ← ea, ← eb, ← next-is) refl
+    asks14 : asked z codes L r ≡ ask14 g
+    asks14 = then-14 ∙ ap (λ (o : Outcome Gate). and_then o ask14) y.is
 
-      twin-is : result_twin (present codes L) g ≡ t
-      twin-is = Y.twin ∙ rw (← ek, ← ea, ← eb, ← next-is) (sym et)
+    module _ {k many : ℕ} {A B : Twin} (ek : k ≡ table_kind r) (ea : A ≡ twin (present codes L) r.first) (eb : B ≡ twin (present codes L) r.second)
+        (m : Many k A B many) where
+      Y : By codes L r g is-gate
+      Y = by codes L r g is-gate
 
-      some-kind : eqb k 0 ≡ false
-      some-kind = ne_eqb k 0 (λ e. absurd (omega (arith, e, ek, Y.kind)))
+      steps-at : steps codes L g ≡ steps_of (length codes) (present codes L).next k A B
+      steps-at = Y.steps ∙ rw (← ek, ← ea, ← eb) refl
 
-      abbrev X : Batch
-      X = record { kind = k; n = length codes; c = c; a = A; b = B }
+      count-is : length (steps codes L g) ≡ many
+      count-is = ap length steps-at ∙ sym (m (length codes) (present codes L).next)
 
-      gates-are : batch_gates codes X ≡ map record_of (steps codes L g)
-      gates-are = rw some-kind (ap (map record_of) (sym steps-is))
+      room-is : room_for codes L g ≡ (leb (s.masked + many) (length masked) && leb (s.masked + many) most_masked)
+      room-is = ap (λ (x : ℕ). leb (s.masked + x) (length masked) && leb (s.masked + x) most_masked) count-is
 
-      pub admits : PlanIs codes L g (record {
-        no = 0;
-        keep = source_record r t s.masked;
-        steps = X;
-        count = many;
-        session = session_of (s.gates + 1)
-            (s.masked + many);
-      })
-      admits = record {
-        no = rw (room-is, le-leb (s.masked + many) (length masked) room, le-leb (s.masked + many) most_masked most) refl;
-        keep = λ _. sym (ap₂ (λ (x : GateRecord) (u : Twin). source_record x u s.masked) Y.same twin-is);
-        gates = λ _. gates-are;
-        count = λ _. sym count-is;
-        places = λ _. record {
-          ready = record { inputs = omega (arith, few); next = omega (arith, ec, few, most); opening = λ e. absurd (omega (arith, e, ek, Y.kind)) };
-          gates = omega (arith, ap length gates-are, length-map (steps codes L g) record_of, count-is);
-          room = room;
-        };
-        session = λ _. ap (λ (x : ℕ). session_of (s.gates + 1) (s.masked + x)) (sym count-is);
-      }
+      pub list_full : length masked < s.masked + many → PlanIs z codes L r (Err Q.Room)
+      list_full l = asks14 ∙ rw (room-is, lt-leb (s.masked + many) (length masked) l)
+
+      pub too_many : most_masked < s.masked + many → PlanIs z codes L r (Err Q.Room)
+      too_many l = asks14 ∙ rw (room-is, lt-leb (s.masked + many) most_masked l) (go (leb (s.masked + many) (length masked)))
+        where
+          go : (x : Bool) → ask 14 (x && false) (done g) ≡ refused 14
+          go true = refl
+          go false = refl
+
+      module _ {c : ℕ} {t : Twin} (ec : c ≡ length codes + 2 + s.masked) (et : t ≡ twin_of c k A B)
+          (room : s.masked + many ≤ length masked) (most : s.masked + many ≤ most_masked) where
+        next-is : c ≡ (present codes L).next
+        next-is = omega (arith, ec)
+
+        twin-is : result_twin (present codes L) g ≡ t
+        twin-is = Y.twin ∙ rw (← ek, ← ea, ← eb, ← next-is) (sym et)
+
+        pub admits : PlanIs z codes L r (Ok (record {
+          keep = source_record r t s.masked;
+          steps = record { kind = k; a = A; b = B; c = c; count = many };
+          session = session_of (s.gates + 1) (s.masked + many);
+        }))
+        admits = record {
+          gate = g;
+          admitted = asks14 ∙ rw (room-is, le-leb (s.masked + many) (length masked) room, le-leb (s.masked + many) most_masked most) refl;
+          place = place-left;
+          keep = sym (ap₂ (λ (x : GateRecord) (u : Twin). source_record x u s.masked) Y.same twin-is);
+          made = sym (steps-at ∙ rw (← next-is) refl);
+          places = record { count = m (length codes) c; fits = room; inputs = omega (arith, few); next = omega (arith, ec, few, most) };
+          session = ap (λ (x : ℕ). session_of (s.gates + 1) (s.masked + x)) (sym count-is);
+        }

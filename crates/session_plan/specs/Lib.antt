@@ -1,3 +1,2 @@
 -- What the contracts of `session_plan` cite.
-pub mod Batch
 pub mod Plan

@@ -1,243 +1,162 @@
 // Adding a gate: questions 24, 7 to 9 and 14, and what is written.
-ghost use Rattle.std.specs.Prelude.{◌≡◌, ◌&&◌, ◌+◌, ◌<◌, ◌^◌, ltb, length};
+ghost use Rattle.std.specs.Prelude.{◌≡◌, List, ◌++◌, map, ◌+◌, ◌<◌, ◌^◌, length, get_or};
+ghost use Rattle.netlist.specs.Mask.{no_twin, input_twins};
+ghost use Rattle.gate_records.specs.declared.GateRecord.{GateRecord as Record};
+ghost use Rattle.gate_records.specs.Records.{twin_in};
 ghost use Rattle.session.specs.Asked.{gate_good};
-ghost use Rattle.session_plan.specs.Plan.{NoIs, OperandsAre, is_gate, table_kind, PlaceIs, AskedIs, operand_twin, PlanOf};
+ghost use Rattle.session.specs.Lists.{lists_of};
+ghost use Rattle.session_plan.specs.Plan.{NoIs, OperandsAre, is_gate, table_kind, first_asked, PlanIs};
 
-use crate::batch::Batch;
+use crate::{publics, record};
 use gate_records::{GateRecord, SourceRecord};
-use netlist::{Sizes, Twin};
+use netlist::{Question, Sizes, Twin};
 use session::Session;
 
-// The first question of 24 and 7 to 9 that gets a no, or 0, and the places of the operands' records.
+// The masked gates of a source gate of a gate table's kind, whose operands have the twins a and b: so many, at the wires from c on.
 #[derive(Clone, Copy)]
-pub struct Asked {
-    pub no: u8,
-    pub first: usize,
-    pub second: usize,
+pub struct Steps {
+    pub kind: u64,
+    pub a: Twin,
+    pub b: Twin,
+    pub c: u32,
+    pub count: usize,
 }
 
-// Question 14, or 0; then what is written: the source record, and how many masked gates; and the session behind.
+// What is written, the source record and the masked gates, and the session behind.
 #[derive(Clone, Copy)]
 pub struct Plan {
-    pub no: u8,
     pub keep: SourceRecord,
-    pub steps: Batch,
-    pub count: usize,
+    pub steps: Steps,
     pub session: Session,
 }
+
+// The most masked gates of a session.
+const MOST: usize = 1073741824;
 
 // Question 7: a gate with one operand has 0 as its second.
 fn known(g: GateRecord) -> bool
     ensures { result ≡ is_gate g }
 {
-    let kind = g.kind;
-    match kind {
-        1 => true,
-        2 => true,
-        3 => g.second == 0,
-        4 => g.second == 0,
-        5 => g.second == 0,
+    match g.kind {
+        1 | 2 => true,
+        3 | 4 | 5 => g.second == 0,
         _ => false,
     }
-}
-
-fn given(a: u32, next: usize) -> bool
-    ensures { result ≡ ltb a next }
-{
-    (a as usize) < next
-}
-
-fn both(a: u32, b: u32, next: usize) -> bool
-    ensures { result ≡ (ltb a next && ltb b next) }
-{
-    if !given(a, next) {
-        return false;
-    }
-    given(b, next)
 }
 
 // Question 8, of a record that is a gate's.
 fn operands(g: GateRecord, next: usize) -> bool
     ensures { OperandsAre next g result }
 {
-    let kind = g.kind;
-    match kind {
-        1 => both(g.first, g.second, next),
-        2 => both(g.first, g.second, next),
-        5 => given(g.first, 2),
-        _ => given(g.first, next),
+    let given = |w: u32| (w as usize) < next;
+    match g.kind {
+        1 | 2 => given(g.first) && given(g.second),
+        5 => g.first < 2,
+        _ => given(g.first),
     }
 }
 
 // Questions 7 to 9 of a record that is to give the next wire.
-pub fn gate_no(g: GateRecord, next: usize) -> u8
+pub fn gate_good(g: GateRecord, next: usize) -> Result<(), Question>
     ensures { NoIs (gate_good next g) result }
 {
     if !known(g) {
-        return 7;
+        return Err(Question::Line);
     }
     if !operands(g, next) {
-        return 8;
+        return Err(Question::Operands);
     }
     if g.result as usize != next {
-        return 9;
+        return Err(Question::Wire);
     }
-    0
-}
-
-// The place of the record that gives wire w, where there are n input bits and so many gates; 0 where none does.
-fn place(w: u32, n: usize, gates: usize) -> usize
-    ensures { PlaceIs w n gates result }
-{
-    let wire = w as usize;
-    if wire < n {
-        return 0;
-    }
-    if wire - n < gates {
-        return wire - n;
-    }
-    0
+    Ok(())
 }
 
 // Questions 24 and 7 to 9, with the number of input bits and the length of the list of records.
-pub fn questions(s: Session, inputs: usize, places: usize, g: GateRecord, sizes: Sizes) -> Asked
-    ensures { AskedIs sizes inputs s.gates places g result }
+fn questions(
+    s: Session,
+    g: GateRecord,
+    inputs: usize,
+    places: usize,
+    sizes: Sizes,
+) -> Result<(), Question>
+    ensures { NoIs (first_asked sizes inputs s.gates places g) result }
 {
-    let l = netlist::small(sizes);
-    let most = l.wires as usize;
+    let most = sizes.small().wires as usize;
     let gates = s.gates as usize;
-    if gates >= places {
-        return Asked {
-            no: 24,
-            first: 0,
-            second: 0,
-        };
+    if gates >= places || inputs >= most || inputs + gates >= most {
+        return Err(Question::Place);
     }
-    if inputs >= most {
-        return Asked {
-            no: 24,
-            first: 0,
-            second: 0,
-        };
-    }
-    let next = inputs + gates;
-    if next >= most {
-        return Asked {
-            no: 24,
-            first: 0,
-            second: 0,
-        };
-    }
-    Asked {
-        no: gate_no(g, next),
-        first: place(g.first, inputs, gates),
-        second: place(g.second, inputs, gates),
-    }
+    gate_good(g, inputs + gates)
 }
 
 // The twin of source wire w: an input's by the codes, and otherwise the one in its record.
-fn twin(codes: &[u8], w: u32, r: SourceRecord) -> Twin
+fn twin(codes: &[u8], source: &[SourceRecord], w: u32) -> Twin
     requires { length codes.now < 2 ^ 29 }
-    ensures { result ≡ operand_twin codes.now w r }
+    ensures { result ≡ get_or (input_twins (length codes.now + 5) 0 codes.now ++ map twin_in source.now) w no_twin }
 {
     let wire = w as usize;
-    if codes.len() <= wire {
+    let inputs = codes.len();
+    if wire < inputs {
+        let code = codes[wire];
+        if code != 0 {
+            return Twin { wire: w, code };
+        }
         return Twin {
-            wire: r.wire,
-            code: r.code,
+            wire: (inputs + 5 + publics(&codes[..wire])) as u32,
+            code: 1,
         };
     }
-    let e = codes[wire];
-    if e != 0 {
-        return Twin { wire: w, code: e };
-    }
-    Twin {
-        wire: codes.len() as u32 + 5 + crate::batch::publics(codes, wire),
-        code: 1,
-    }
+    record(source, wire - inputs).twin()
 }
 
 // A gate table's kind: EQ is 5 or 6, by its constant.
 fn table_kind(g: GateRecord) -> u64
     ensures { result ≡ table_kind g }
 {
-    if g.kind != 5 {
-        return g.kind as u64;
+    if g.kind == 5 && g.first != 0 {
+        6
+    } else {
+        g.kind as u64
     }
-    if g.first == 0 { 5 } else { 6 }
 }
 
-// The plan of adding a gate that questions 24 and 7 to 9 admit, with the length of the list of masked gates, and the records at its operands'
-// places.
+// The first question that gets a no, or the plan of adding a gate, with the length of the list of masked gates.
 pub fn planned(
     s: Session,
-    codes: &[u8],
-    room: usize,
-    first: SourceRecord,
-    second: SourceRecord,
     g: GateRecord,
-) -> Plan
-    requires { length codes.now + s.gates < 2 ^ 29 }
-    ensures { PlanOf s codes.now room first second g result }
+    codes: &[u8],
+    source: &[SourceRecord],
+    room: usize,
+    sizes: Sizes,
+) -> Result<Plan, Question>
+    ensures { (masked : List Record) → length masked ≡ room → PlanIs sizes codes.now (lists_of s source.now masked) g result }
 {
-    let a = twin(codes, g.first, first);
-    let b = twin(codes, g.second, second);
+    questions(s, g, codes.len(), source.len(), sizes)?;
     let kind = table_kind(g);
+    let a = twin(codes, source, g.first);
+    let b = twin(codes, source, g.second);
     let many = mask_rule::count(kind, a, b);
-    let n = codes.len() as u32;
     let at = s.masked as usize;
-    let keep = SourceRecord {
-        kind: g.kind,
-        first: g.first,
-        second: g.second,
-        result: g.result,
-        wire: 0,
-        from: s.masked,
-        code: 0,
-    };
-    let none = Batch {
-        kind,
-        n,
-        c: 0,
-        a,
-        b,
-    };
     if room < at + many {
-        return Plan {
-            no: 14,
-            keep,
-            steps: none,
-            count: 0,
-            session: s,
-        };
+        return Err(Question::Room);
     }
-    if 1073741824 < at + many {
-        return Plan {
-            no: 14,
-            keep,
-            steps: none,
-            count: 0,
-            session: s,
-        };
+    if MOST < at + many {
+        return Err(Question::Room);
     }
-    let c = n + 2 + s.masked;
-    let t = mask_rule::twin(c, kind, a, b);
-    Plan {
-        no: 0,
-        keep: SourceRecord {
-            kind: g.kind,
-            first: g.first,
-            second: g.second,
-            result: g.result,
-            wire: t.wire,
-            from: s.masked,
-            code: t.code,
+    let c = codes.len() as u32 + 2 + s.masked;
+    Ok(Plan {
+        keep: g.source(mask_rule::twin(c, kind, a, b), s.masked),
+        steps: Steps {
+            kind,
+            a,
+            b,
+            c,
+            count: many,
         },
-        steps: Batch { kind, n, c, a, b },
-        count: many,
         session: Session {
             gates: s.gates + 1,
             masked: s.masked + many as u32,
         },
-    }
+    })
 }

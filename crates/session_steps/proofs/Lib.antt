@@ -1,3 +1,2 @@
--- Laws of lists written record by record, and of the steps' answers.
+-- Laws of lists written record by record.
 pub mod Writes
-pub mod Answers

@@ -1,10 +1,19 @@
 -- What the steps of a session promise: the answer, and every entry of the lent lists, whatever session and lists are handed in.
-use Rattle.std.specs.Prelude.{ℕ, ◌≡◌, List, []}
+use Rattle.std.specs.Prelude.{ℕ, ◌≡◌, Result, Ok, Err, List, []}
+use Rattle.netlist.specs.declared.Question.{Question}
 use Rattle.netlist.specs.declared.Sizes.{Sizes}
+use Rattle.netlist.specs.Question.{number_of}
+use Rattle.netlist.specs.Outcome.{Outcome, refused, done}
 use Rattle.gate_records.specs.declared.GateRecord.{GateRecord}
 use Rattle.gate_records.specs.declared.SourceRecord.{SourceRecord}
+use Rattle.session.specs.declared.Session.{Session}
 use Rattle.session.specs.declared.Step.{Step}
 use Rattle.session.specs.Lists.{Lists, lists_of, session_of, said, left, session_in, open_outcome, add_outcome}
+
+-- the lists as they are left, and the answer, are those of an outcome: a refusal leaves all as it was
+abbrev pub StepsTo : Lists → Outcome Lists → List SourceRecord → List GateRecord → Result Session Question → Type 0
+StepsTo L o source masked (Err q) = (o ≡ refused (number_of q)) × (lists_of L.session source masked ≡ L)
+StepsTo L o source masked (Ok s) = o ≡ done (lists_of s source masked)
 
 -- opening, with the list of masked gates before and after: a refusal gives the session without gates, and leaves the list as it was
 pub record OpenIs (z : Sizes) (widths codes : List ℕ) (masked masked' : List GateRecord) (a : Step) : Type 0 where

@@ -1,42 +1,91 @@
 // The steps of a session over its lent lists: opening, adding a gate at the end, taking the last one off.
 #![tactic(auto)]
 
-ghost use Rattle.std.specs.Prelude.{◌≡◌, length, take};
+ghost use Rattle.std.specs.Prelude.{◌≡◌, ◌≤◌, [], map, length};
 ghost use Rattle.std.proofs.lemmas.List.Edits.{sets};
-ghost use Rattle.session.specs.Lists.{lists_of, said, off_asked};
-ghost use Rattle.session_plan.specs.Batch.{batch_gates, Places};
-ghost use Rattle.session_steps.specs.Promise.{OpenIs, AddIs};
+ghost use Rattle.gate_records.specs.Records.{record_of};
+ghost use Rattle.session.specs.Afresh.{open_gates};
+ghost use Rattle.session.specs.Lists.{lists_of, session_of, said, off_asked, open_outcome, add_outcome};
+ghost use Rattle.session_plan.specs.Plan.{steps_in, Places};
+ghost use Rattle.session_steps.specs.Promise.{StepsTo, OpenIs, AddIs};
 
 use gate_records::{GateRecord, SourceRecord};
-use netlist::Sizes;
+use netlist::{Gate, Question, Sizes};
 use session::{Session, Step};
-use session_plan::adding::{planned, questions};
-use session_plan::batch::{Batch, gate};
+use session_plan::adding::{Steps, planned};
 use session_plan::opening::plan;
-use session_plan::taking::{last, off, step};
+use session_plan::taking::off;
 
-// The first gates of a batch, from a place of the list on.
-fn write(list: &mut [GateRecord], codes: &[u8], at: usize, batch: Batch, count: usize)
-    requires { Places codes.now batch at count (length list.old) }
-    ensures { list.new ≡ sets list.old at (take count (batch_gates codes.now batch)) }
+// A source gate's masked gates, from a place of the list on, with n input bits.
+fn write(list: &mut [GateRecord], at: usize, n: u32, x: Steps)
+    requires { Places n x at (length list.old) }
+    ensures { list.new ≡ sets list.old at (map record_of (steps_in n x)) }
 {
-    let mut k = 0;
-    let mut w = 0;
-    while k < count {
-        let m = gate(codes, batch, k, w);
-        list[at + k] = m.gate;
-        w = m.next;
-        k += 1;
+    for k in 0..x.count {
+        list[at + k] = mask_rule::gate(n, x.c, x.kind, x.a, x.b, k);
     }
+}
+
+// An opening's masked gates, at the front of the list.
+fn write_opening(list: &mut [GateRecord], codes: &[u8])
+    requires { (length codes.now ≤ 100000) × (length (open_gates codes.now) ≤ length list.old) }
+    ensures { list.new ≡ sets list.old 0 (map record_of (open_gates codes.now)) }
+{
+    let n = codes.len() as u32;
+    list[0] = GateRecord::from(Gate::Xor(n, n + 1, n + 2));
+    list[1] = GateRecord::from(Gate::And(n, n + 1, n + 3));
+    list[2] = GateRecord::from(Gate::Xor(n + 2, n + 3, n + 4));
+    let mut next = 3;
+    for (w, e) in codes.iter().enumerate() {
+        if *e == 0 {
+            list[next] = GateRecord::from(Gate::Xor(w as u32, n, n + 2 + next as u32));
+            next += 1;
+        }
+    }
+}
+
+fn try_open(
+    widths: &[u32],
+    codes: &[u8],
+    masked: &mut [GateRecord],
+    sizes: Sizes,
+) -> Result<Session, Question>
+    ensures { StepsTo (lists_of (session_of 0 0) [] masked.old) (open_outcome sizes widths.now codes.now [] masked.old) [] masked.new result }
+{
+    let count = plan(widths, codes, masked.len(), sizes)?;
+    write_opening(masked, codes);
+    Ok(Session {
+        gates: 0,
+        masked: count as u32,
+    })
 }
 
 // Opens a session: the opening's masked gates go to the front of `masked`.
 pub fn open(widths: &[u32], codes: &[u8], masked: &mut [GateRecord], sizes: Sizes) -> Step
     ensures { OpenIs sizes widths.now codes.now masked.old masked.new result }
 {
-    let p = plan(widths, codes, masked.len(), sizes);
-    write(masked, codes, 0, p.steps, p.count);
-    step(p.session, p.no)
+    let none = Session {
+        gates: 0,
+        masked: 0,
+    };
+    Step::of(none, try_open(widths, codes, masked, sizes))
+}
+
+fn try_add(
+    s: Session,
+    g: GateRecord,
+    codes: &[u8],
+    source: &mut [SourceRecord],
+    masked: &mut [GateRecord],
+    sizes: Sizes,
+) -> Result<Session, Question>
+    ensures { StepsTo (lists_of s source.old masked.old) (add_outcome sizes codes.now (lists_of s source.old masked.old) g) source.new masked.new
+        result }
+{
+    let p = planned(s, g, codes, source, masked.len(), sizes)?;
+    source[s.gates as usize] = p.keep;
+    write(masked, s.masked as usize, codes.len() as u32, p.steps);
+    Ok(p.session)
 }
 
 // Adds a gate at the end.
@@ -51,31 +100,12 @@ pub fn add(
     ensures { AddIs sizes codes.now (lists_of s source.old masked.old) g source.new
         masked.new result }
 {
-    let q = questions(s, codes.len(), source.len(), g, sizes);
-    if q.no != 0 {
-        return step(s, q.no);
-    }
-    let i = q.first;
-    let j = q.second;
-    let first = source[i];
-    let second = source[j];
-    let p = planned(s, codes, masked.len(), first, second, g);
-    if p.no != 0 {
-        return step(s, p.no);
-    }
-    let at = s.gates as usize;
-    source[at] = p.keep;
-    write(masked, codes, s.masked as usize, p.steps, p.count);
-    step(p.session, 0)
+    Step::of(s, try_add(s, g, codes, source, masked, sizes))
 }
 
 // Takes the last gate off. Nothing is written: what stood behind the gates left is left there.
 pub fn take_off(s: Session, source: &[SourceRecord]) -> Step
     ensures { result ≡ said s (off_asked s source.now) }
 {
-    let at = last(s);
-    if at < source.len() {
-        return off(s, source[at].from);
-    }
-    off(s, 0)
+    Step::of(s, off(s, source))
 }

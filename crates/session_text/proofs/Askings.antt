@@ -7,9 +7,11 @@ use native.Mathlib.Omega.{arith}
 use lib.Dec.{leb, leb→le, lit<}
 use lib.ListN.{length}
 use borrow.Author.Tests.{le-leb, lt-leb}
+use Rattle.std.specs.Prelude.{Ok, Err}
+use Rattle.netlist.specs.declared.Question.TheVariants as Q
 use Rattle.netlist.specs.declared.Limits.{Limits}
 use Rattle.netlist.specs.declared.Sizes.{Sizes}
-use Rattle.netlist.specs.Lists.{every, sum}
+use Rattle.netlist.specs.Lists.{sum}
 use Rattle.netlist.specs.Netlist.{small}
 use Rattle.netlist.specs.Header.{Header, within_limits}
 use Rattle.netlist.specs.Outcome.{Outcome, done, ask}
@@ -22,31 +24,6 @@ use Rattle.session.specs.Asked.{widths_good}
 use Rattle.session_plan.specs.Plan.{NoIs}
 use Rattle.session_text.specs.Shown.{head_of, head_asked}
 use Rattle.session_text.specs.Parts.{AskedIs}
-use Rattle.session_text.proofs.Noes.{no_zero}
-
--- ---- question 1
-
-module _ (least a b c d : ℕ) where
-  abbrev asks : Bool
-  asks = every (leb least) (a ∷ b ∷ c ∷ d ∷ [])
-
-  pub short-first : a < least → false ≡ asks
-  short-first l = rw (lt-leb least a l)
-
-  module _ (p : least ≤ a) where
-    pub short-second : b < least → false ≡ asks
-    short-second l = rw (le-leb least a p, lt-leb least b l)
-
-    module _ (q : least ≤ b) where
-      pub short-third : c < least → false ≡ asks
-      short-third l = rw (le-leb least a p, le-leb least b q, lt-leb least c l)
-
-      pub all-long : least ≤ c → leb least d ≡ asks
-      all-long r = rw (le-leb least a p, le-leb least b q, le-leb least c r) (sym (alone (leb least d)))
-        where
-          alone : (t : Bool) → (t && true) ≡ t
-          alone true = refl
-          alone false = refl
 
 -- ---- question 5
 
@@ -106,27 +83,27 @@ module _ (L : Limits) (lengths widths outputs : List ℕ) (gates places : ℕ) w
   abbrev head : Outcome Header
   head = head_asked L lengths widths outputs gates places
 
-  pub no_one : tables_long L lengths ≡ false → NoIs head 1
-  no_one e = rw e (refl, omega arith)
+  pub no_one : tables_long L lengths ≡ false → NoIs head (Err Q.Tables)
+  no_one e = rw e
 
   module _ (one : tables_long L lengths ≡ true) where
-    pub no-four : widths_good widths ≡ false → NoIs head 4
-    no-four e = rw (one, e) (refl, omega arith)
+    pub no-four : widths_good widths ≡ false → NoIs head (Err Q.Header)
+    no-four e = rw (one, e)
 
     module _ (ins : widths_good widths ≡ true) where
-      pub no-four-out : widths_good outputs ≡ false → NoIs head 4
-      no-four-out e = rw (one, ins, e) (refl, omega arith)
+      pub no-four-out : widths_good outputs ≡ false → NoIs head (Err Q.Header)
+      no-four-out e = rw (one, ins, e)
 
       module _ (outs : widths_good outputs ≡ true) where
-        pub no-five : within_limits L (head_of widths outputs gates) ≡ false → NoIs head 5
-        no-five e = rw (one, ins, outs, e) (refl, omega arith)
+        pub no-five : within_limits L (head_of widths outputs gates) ≡ false → NoIs head (Err Q.Limits)
+        no-five e = rw (one, ins, outs, e)
 
         module _ (five : within_limits L (head_of widths outputs gates) ≡ true) where
-          pub no_six : places < gates → NoIs head 6
-          no_six l = rw (one, ins, outs, five, lt-leb gates places l) (refl, omega arith)
+          pub no_six : places < gates → NoIs head (Err Q.Count)
+          no_six l = rw (one, ins, outs, five, lt-leb gates places l)
 
-          pub no_none : gates ≤ places → NoIs head 0
-          no_none l = rw (one, ins, outs, five, le-leb gates places l) refl
+          pub no_none : gates ≤ places → NoIs head (Ok tt)
+          no_none l = record { value = head_of widths outputs gates; is = rw (one, ins, outs, five, le-leb gates places l) refl }
 
   -- every question got a yes
   pub record Yes : Type 0 where
@@ -137,15 +114,14 @@ module _ (L : Limits) (lengths widths outputs : List ℕ) (gates places : ℕ) w
     pub six : gates ≤ places
     pub is : head ≡ done (head_of widths outputs gates)
 
-  pub head-yes : {r : ℕ} → r ≡ 0 → NoIs head r → Yes
-  head-yes z h =
-      let k = no_zero head z h in
+  pub head-yes : {H : Header} → head ≡ done H → Yes
+  head-yes {H} h =
       let six : Outcome Header = ask 6 (leb gates places) (done (head_of widths outputs gates)) in
       let five : Outcome Header = ask 5 (within_limits L (head_of widths outputs gates)) six in
-      let q1 = ask-done 1 (tables_long L lengths) (ask 4 (widths_good widths && widths_good outputs) five) k.0 k.1 in
-      let q4 = ask-done 4 (widths_good widths && widths_good outputs) five k.0 q1.1 in
-      let q5 = ask-done 5 (within_limits L (head_of widths outputs gates)) six k.0 q4.1 in
-      let q6 = ask-done 6 (leb gates places) (done (head_of widths outputs gates)) k.0 q5.1 in
+      let q1 = ask-done 1 (tables_long L lengths) (ask 4 (widths_good widths && widths_good outputs) five) H h in
+      let q4 = ask-done 4 (widths_good widths && widths_good outputs) five H q1.1 in
+      let q5 = ask-done 5 (within_limits L (head_of widths outputs gates)) six H q4.1 in
+      let q6 = ask-done 6 (leb gates places) (done (head_of widths outputs gates)) H q5.1 in
       let w = both (widths_good widths) (widths_good outputs) q4.0 in
       record {
         long = is_true (tables_long L lengths) q1.0;
@@ -153,7 +129,7 @@ module _ (L : Limits) (lengths widths outputs : List ℕ) (gates places : ℕ) w
         outs = is_true (widths_good outputs) w.1;
         within = bounds L widths outputs gates (is_true (within_limits L (head_of widths outputs gates)) q5.0);
         six = leb→le gates places q6.0;
-        is = k.1 ∙ ap done (sym (done-same _ _ q6.1));
+        is = h ∙ ap done (sym (done-same _ _ q6.1));
       }
 
 -- the answer
@@ -161,29 +137,16 @@ module _ (z : Sizes) (a b c d : ℕ) (widths outputs : List ℕ) (gates places :
   abbrev lengths : List ℕ
   lengths = a ∷ b ∷ c ∷ d ∷ []
 
-  pub asked-no : {r : ℕ} → (r ≡ 0 → ⊥) → NoIs (head_asked (small z) lengths widths outputs gates places) r
-      → AskedIs z a b c d widths outputs gates places (record { no = r; inputs = 0; outputs = 0; count = 0 })
-  asked-no n h = record {
-    no = h;
-    inputs = λ e. absurd (n e);
-    outputs = λ e. absurd (n e);
-    count = λ e. absurd (n e);
-    places = omega arith;
-    first = omega arith;
-    second = omega arith;
-    few = omega arith;
-  }
-
-  pub asked-yes : {n o : ℕ} → n ≡ sum widths → o ≡ sum outputs → NoIs (head_asked (small z) lengths widths outputs gates places) 0
-      → AskedIs z a b c d widths outputs gates places (record { no = 0; inputs = n; outputs = o; count = gates })
+  pub asked-yes : {n o : ℕ} → n ≡ sum widths → o ≡ sum outputs → NoIs (head_asked (small z) lengths widths outputs gates places) (Ok tt)
+      → AskedIs z a b c d widths outputs gates places (Ok (record { inputs = n; outputs = o; count = gates }))
   asked-yes {n} {o} e f h =
-      let y = head-yes (small z) lengths widths outputs gates places refl h in
+      let y = head-yes (small z) lengths widths outputs gates places h.is in
       let l = y.within.wires in
       record {
-        no = h;
-        inputs = λ _. e;
-        outputs = λ _. f;
-        count = λ _. refl;
+        head = h;
+        inputs = e;
+        outputs = f;
+        count = refl;
         places = y.six;
         first = omega (arith, l, table_at (small z) lengths 0 y.long (lit< tt));
         second = omega (arith, l, table_at (small z) lengths 1 y.long (lit< tt));
@@ -191,5 +154,5 @@ module _ (z : Sizes) (a b c d : ℕ) (widths outputs : List ℕ) (gates places :
       }
 
   -- few values, so that they can be summed
-  pub head_few : {r : ℕ} → r ≡ 0 → NoIs (head_asked (small z) lengths widths outputs gates places) r → (length widths ≤ 16) × (length outputs ≤ 16)
-  head_few e h = let w = (head-yes (small z) lengths widths outputs gates places e h).within in (w.inputs, w.outputs)
+  pub head_few : NoIs (head_asked (small z) lengths widths outputs gates places) (Ok tt) → (length widths ≤ 16) × (length outputs ≤ 16)
+  head_few h = let w = (head-yes (small z) lengths widths outputs gates places h.is).within in (w.inputs, w.outputs)

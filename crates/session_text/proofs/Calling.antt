@@ -1,4 +1,5 @@
 -- From the results of the parts to what is promised.
+use Rattle.std.specs.Prelude.{Err, Result}
 use Prim.Native.Nat.{ℕ, ◌+◌, ◌≤◌}
 use mathlib.Core.Path.{◌≡◌, refl, sym, ap, ap₂, ◌∙◌, subst}
 use mathlib.Core.Bool.{Bool, true, false, ◌&&◌}
@@ -7,13 +8,13 @@ use native.Mathlib.Omega.{arith}
 use lib.Dec.{leb}
 use lib.ListN.{length, take, drop, replicate}
 use lib.Seq.{take_at}
-use Rattle.netlist.specs.declared.Answer.{Answer}
-use Rattle.netlist.specs.declared.Answer.TheVariants.{Refused}
+use Rattle.netlist.specs.declared.Question.{Question}
 use Rattle.netlist.specs.declared.Limits.{Limits}
 use Rattle.netlist.specs.declared.Sizes.{Sizes}
+use Rattle.netlist.specs.Question.{number_of}
 use Rattle.netlist.specs.Lists.{sum}
 use Rattle.netlist.specs.Netlist.{Netlist, small}
-use Rattle.netlist.specs.Outcome.{Outcome, done, and_then}
+use Rattle.netlist.specs.Outcome.{Outcome, refused, done, and_then}
 use Rattle.netlist.specs.Read.{read_netlist}
 use Rattle.netlist.specs.Write.{write_netlist, gate_text}
 use Rattle.netlist.specs.Services.{tables_long, holds, rewrite_outcome, mask_outcome, mask_call, outcome_of, Answers, Delivers}
@@ -31,16 +32,15 @@ use Rattle.mask.specs.Fronts.{Fronts, Read}
 use Rattle.mask_text.specs.Whole.{text_in, MaskAnswers}
 use Rattle.mask.proofs.Promised.{mask-as, mask-refused, call-masks}
 use Rattle.session.specs.declared.Session.{Session}
-use Rattle.session_text.specs.declared.asking.Asked.{Asked}
+use Rattle.session_text.specs.declared.asking.Shown.{Shown}
 use Rattle.session_text.specs.Shown.{netlist_shown, text_call, masked_call}
-use Rattle.session_text.specs.Parts.{NetlistAt, Stands, Fits, TextIs, MaskedIs}
+use Rattle.session_text.specs.Parts.{NetlistAt, Fits, TextIs, MaskedIs}
 use Rattle.session_text.specs.Promise.{Shows, TextPromise, MaskedPromise}
-use Rattle.session_text.proofs.Noes.{no-some}
 use Rattle.session_text.proofs.Showing.{shown-made, shown-formed, shown-within}
 
 -- ---- the text of tables that hold a netlist
 
-form-same : {o : Outcome Netlist} {widths outputs : List ℕ} {q : Asked} {t : Tables} (a : NetlistAt o widths outputs q t)
+form-same : {o : Outcome Netlist} {widths outputs : List ℕ} {q : Shown} {t : Tables} (a : NetlistAt o widths outputs t q)
     → form_text q.count (q.inputs + q.count) widths outputs t ≡ write_netlist a.is
 form-same {o} {widths} {outputs} {q} {t} a =
     let N = a.is in
@@ -49,21 +49,19 @@ form-same {o} {widths} {outputs} {q} {t} a =
     = λ i. header_text (sym g i) (sym a.wires i) (sym a.inputs i) (sym a.outputs i) in
     ap₂ ◌++◌ p (ap gate_text (sym a.gates)) ∙ header-gates N
 
-pub text-written : {o : Outcome Netlist} {widths outputs : List ℕ} {q : Asked} {t : Tables} {no : ℕ} {e x : List ℕ} {r : Answer} → no ≡ 0 → Stands o widths outputs q t no
+pub text-written : {o : Outcome Netlist} {widths outputs : List ℕ} {q : Shown} {t : Tables} {e x : List ℕ} {r : Result ℕ Question} → NetlistAt o widths outputs t q
     → Delivers (form_text q.count (q.inputs + q.count) widths outputs t) e x r → Answers (and_then o (rewrite_outcome (length e))) e x r
-text-written {o} {e = e} {x = x} {r = r} z s d =
-    let a = s.netlist z in
+text-written {o} {e = e} {x = x} {r = r} a d =
     let k : Delivers (write_netlist a.is) e x r = subst (λ (bs : List ℕ). Delivers bs e x r) (form-same a) d in
     answers-as (sym (ap (λ (o : Outcome Netlist). and_then o (rewrite_outcome (length e))) a.outcome)) k.answers
 
-pub text-refused : {o : Outcome Netlist} {widths outputs : List ℕ} {q : Asked} {t : Tables} {no : ℕ} (e : List ℕ) → (no ≡ 0 → ⊥) → Stands o widths outputs q t no
-    → Answers (and_then o (rewrite_outcome (length e))) e e (Refused no)
-text-refused {o} e d s = answers-refused e (ap (λ (o : Outcome Netlist). and_then o (rewrite_outcome (length e))) (no-some o d s.asked).0)
+pub text-refused : {o : Outcome Netlist} (e : List ℕ) {q : Question} → o ≡ refused (number_of q) → Answers (and_then o (rewrite_outcome (length e))) e e (Err q)
+text-refused {o} e p = answers-refused e (ap (λ (o : Outcome Netlist). and_then o (rewrite_outcome (length e))) p)
 
 -- ---- the masked text of such tables
 
 -- the numbers of its header
-abbrev pub header_of : List ℕ → List ℕ → Asked → HeaderNumbers
+abbrev pub header_of : List ℕ → List ℕ → Shown → HeaderNumbers
 header_of widths outputs q = record {
   gates = q.count;
   wires = q.inputs + q.count;
@@ -73,7 +71,7 @@ header_of widths outputs q = record {
   output_bits = q.outputs;
 }
 
-pub masked-fronts : {widths outputs : List ℕ} {q : Asked} {t : Tables} (ws ms : List ℕ) → Fits widths outputs q t → q.inputs + q.count ≤ length ws → q.inputs
+pub masked-fronts : {widths outputs : List ℕ} {q : Shown} {t : Tables} (ws ms : List ℕ) → Fits widths outputs t q → q.inputs + q.count ≤ length ws → q.inputs
     + q.count ≤ length ms
     → Fronts (header_of widths outputs q) t ws ms
 masked-fronts ws ms f w m = record {
@@ -88,7 +86,7 @@ masked-fronts ws ms f w m = record {
   marks = m;
 }
 
-masked-read : {o : Outcome Netlist} {widths outputs : List ℕ} {q : Asked} {t : Tables} {is os : List ℕ} (a : NetlistAt o widths outputs q t)
+masked-read : {o : Outcome Netlist} {widths outputs : List ℕ} {q : Shown} {t : Tables} {is os : List ℕ} (a : NetlistAt o widths outputs t q)
     → is ≡ widths ++ drop (length widths) (replicate 17 0) → os ≡ outputs ++ drop (length outputs) (replicate 16 0) → Read (header_of widths outputs q) t is os a.is
 masked-read {o} {widths} {outputs} {q} {t} a e f = record {
   holds = record { gates = a.gates; wires = a.wires; ins = ap sum a.inputs ∙ a.input_bits; outs = ap sum a.outputs ∙ a.output_bits };
@@ -97,20 +95,18 @@ masked-read {o} {widths} {outputs} {q} {t} a e f = record {
   formed = a.formed;
 }
 
-pub masked-written : {o : Outcome Netlist} {widths outputs : List ℕ} {q : Asked} {t : Tables} {no : ℕ} {is os : List ℕ} (codes wanted : List ℕ)
-    {e x f y : List ℕ} {r : Answer} → no ≡ 0 → Stands o widths outputs q t no
+pub masked-written : {o : Outcome Netlist} {widths outputs : List ℕ} {q : Shown} {t : Tables} {is os : List ℕ} (codes wanted : List ℕ)
+    {e x f y : List ℕ} {r : Result ℕ Question} → NetlistAt o widths outputs t q
     → is ≡ widths ++ drop (length widths) (replicate 17 0) → os ≡ outputs ++ drop (length outputs) (replicate 16 0)
     → ((N : Netlist) → Read (header_of widths outputs q) t is os N → MaskAnswers (mask_outcome codes wanted (length e) (length f) N) e x f y r)
     → MaskAnswers (and_then o (mask_outcome codes wanted (length e) (length f))) e x f y r
-masked-written codes wanted {e = e} {f = f} z s i j d =
-    let a = s.netlist z in
+masked-written codes wanted {e = e} {f = f} a i j d =
     mask-as (sym (ap (λ (o : Outcome Netlist). and_then o (mask_outcome codes wanted (length e) (length f))) a.outcome)) (d a.is (masked-read a i j))
 
-pub masked-refused : {o : Outcome Netlist} {widths outputs : List ℕ} {q : Asked} {t : Tables} {no : ℕ} (codes wanted e f : List ℕ) → (no ≡ 0 → ⊥) → Stands o
-    widths outputs q t no
-    → MaskAnswers (and_then o (mask_outcome codes wanted (length e) (length f))) e e f f (Refused no)
-masked-refused {o} codes wanted e f d s =
-    mask-refused e f (ap (λ (o : Outcome Netlist). and_then o (mask_outcome codes wanted (length e) (length f))) (no-some o d s.asked).0)
+pub masked-refused : {o : Outcome Netlist} (codes wanted e f : List ℕ) {q : Question} → o ≡ refused (number_of q)
+    → MaskAnswers (and_then o (mask_outcome codes wanted (length e) (length f))) e e f f (Err q)
+masked-refused {o} codes wanted e f p =
+    mask-refused e f (ap (λ (o : Outcome Netlist). and_then o (mask_outcome codes wanted (length e) (length f))) p)
 
 -- ---- the text's call
 
@@ -146,7 +142,7 @@ module _ (z : Sizes) (widths outputs : List ℕ) (s : Session) (source : List So
   twice : (a b : ℕ) → shown (a ∷ b ∷ a ∷ b ∷ []) ≡ shown (a ∷ b ∷ [])
   twice a b = rw (asked_twice (small z) a b) refl
 
-  pub text-promised : {out out' o o' r r' : List ℕ} {a : Answer} → TextIs (shown (length o ∷ length r ∷ length o ∷ length r ∷ [])) out out' o o' r r' a
+  pub text-promised : {out out' o o' r r' : List ℕ} {a : Result ℕ Question} → TextIs (shown (length o ∷ length r ∷ length o ∷ length r ∷ [])) out out' o o' r r' a
       → TextPromise z widths outputs s source out out' o o' r r' a
   unfolding text_call
   text-promised {out} {out'} {o} {o'} {r} {r'} {a} h =
@@ -170,7 +166,7 @@ module _ (z : Sizes) (widths outputs : List ℕ) (s : Session) (source : List So
       ∙ sym (call-goes-on (tables_long (small z) lengths) (read_netlist (small z) (write_netlist N)) (mask_outcome codes wanted text_room code_room)
       (shown-made (small z) lengths widths outputs s.gates source N e).yes.long (shown-back lengths N e))
 
-  pub masked-promised : {codes wanted out out' oc oc' o o' r r' w w' m m' : List ℕ} {a : Answer}
+  pub masked-promised : {codes wanted out out' oc oc' o o' r r' w w' m m' : List ℕ} {a : Result ℕ Question}
       → MaskedIs (shown (length o ∷ length r ∷ length m ∷ length w ∷ [])) codes wanted out out' oc oc' o o' r r' w w' m m' a
       → MaskedPromise z widths outputs s source codes wanted out out' oc oc' o o' r r' w w' m m' a
   unfolding masked_call

@@ -1,6 +1,7 @@
 -- A record's gate, and its entries.
+use Rattle.std.specs.Prelude.{Ok}
 use Prim.Native.Nat.{ℕ, ◌<◌}
-use mathlib.Core.Path.{◌≡◌, refl, subst}
+use mathlib.Core.Path.{◌≡◌, subst}
 use mathlib.Core.Bool.{Bool, true, false, cond}
 use mathlib.Core.Option.{none, some}
 use native.Mathlib.Omega.{arith}
@@ -23,7 +24,7 @@ use Rattle.gate_table.specs.Entry.{entry_of, Entered}
 use Rattle.gate_table.proofs.Entries.{gate-entered}
 use Rattle.session.specs.Asked.{gate_good}
 use Rattle.session_plan.specs.Plan.{NoIs}
-use Rattle.session_text.specs.Parts.{RecordIs}
+use Rattle.session_text.specs.Parts.{GateIs}
 
 -- what questions 7 to 9 say of a gate that they admit
 pub record Admitted (next : ℕ) (r : GateRecord) (g : Gate) : Type 0 where
@@ -81,21 +82,17 @@ names W next (Eq v c) t e l = (ltb→lt v 2 t, omega (arith, e))
 
 -- ---- what `entry` answers
 
-module _ (r : SourceRecord) (next : ℕ) where
-  pub record-kept : {no : ℕ} → (no ≡ 0 → ⊥) → RecordIs no r next (record { no = no; operands = 0; results = 0 })
-  record-kept d = record { kept = λ _. refl; asked = λ e. absurd (d e); entered = λ e. absurd (d e) }
-
-  pub record-no : {no q : ℕ} → no ≡ 0 → (q ≡ 0 → ⊥) → NoIs (gate_good next (gate_in r)) q → RecordIs no r next (record { no = q; operands = 0; results = 0 })
-  record-no z d h = record { kept = λ n. absurd (n z); asked = λ _. h; entered = λ e. absurd (d e) }
-
-  pub record-yes : {no q : ℕ} {e : Entry} → no ≡ 0 → q ≡ 0 → NoIs (gate_good next (gate_in r)) q → e ≡ entry_of (numbers_of r) → r.first < half → r.result < half
-      → RecordIs no r next (record { no = 0; operands = e.operands; results = e.results })
-  record-yes {e = e} z y h p fa fc = record {
-    kept = λ n. absurd (n z);
-    asked = λ _. subst (NoIs (gate_good next (gate_in r))) y h;
-    entered = λ _ g k W l.
-        let a = admitted next (gate_in r) g k in
-        let s = said-record r g a.gate in
-        let n : Names W (gate_said (numbers_of r)) = rw s (names W next g a.operands a.result l) in
-        subst (λ (g : Gate). Entered W g e.operands e.results) s (gate-entered (numbers_of r) fa fc W p n);
-  }
+-- a record's gate is the one that its numbers say
+pub record-yes : (r : SourceRecord) (next : ℕ) {e : Entry} → NoIs (gate_good next (gate_in r)) (Ok tt) → e ≡ entry_of (numbers_of r) → r.first < half
+    → r.result < half → GateIs r next e
+record-yes r next {e} h p fa fc =
+    let g = h.value in
+    let a = admitted next (gate_in r) g h.is in
+    let s = said-record r g a.gate in
+    record {
+      gate = g;
+      admitted = h.is;
+      entered = λ W l.
+          let n : Names W (gate_said (numbers_of r)) = rw s (names W next g a.operands a.result l) in
+          subst (λ (g : Gate). Entered W g e.operands e.results) s (gate-entered (numbers_of r) fa fc W p n);
+    }

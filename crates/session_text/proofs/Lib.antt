@@ -1,5 +1,4 @@
--- Laws that belong to no one function: first noes, the questions of widths, a record's gate, tables filled, and what they show.
-pub mod Noes
+-- Laws that belong to no one function: the questions of widths, a record's gate, tables filled, and what they show.
 pub mod Askings
 pub mod Gates
 pub mod Filling

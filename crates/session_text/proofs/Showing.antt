@@ -3,9 +3,10 @@ use Prim.Native.Nat.{ℕ, zero, suc, ◌+◌, ◌≤◌}
 use mathlib.Core.Path.{◌≡◌, refl, sym, ap, ◌∙◌, subst}
 use mathlib.Core.List.{List, [], ◌∷◌, ◌++◌}
 use native.Mathlib.Omega.{arith}
-use lib.Dec.{eqb, leb, leb→le, lit<}
+use lib.Dec.{leb, leb→le, lit<}
 use lib.ListN.{length, get_or}
-use borrow.Author.Tests.{eqb-true, eqb-false}
+use Rattle.std.specs.Prelude.{Result, Ok, Err}
+use Rattle.netlist.specs.declared.Question.{Question}
 use Rattle.netlist.specs.declared.Gate.{Gate}
 use Rattle.netlist.specs.declared.Limits.{Limits}
 use Rattle.netlist.specs.declared.Sizes.{Sizes}
@@ -15,18 +16,16 @@ use Rattle.netlist.specs.Header.{Header}
 use Rattle.netlist.specs.Outcome.{Outcome, done, and_then}
 use Rattle.netlist.specs.Read.{netlist_of, WellFormed, Within}
 use Rattle.netlist.specs.Table.{Tables, gates_of}
-use Rattle.netlist.proofs.Tests.{on_bool, true-T, both}
+use Rattle.netlist.proofs.Tests.{true-T, both}
 use Rattle.netlist.proofs.Questions.{done-same, and_then-done}
 use Rattle.netlist.proofs.Answering.{table_at}
 use Rattle.netlist.proofs.Order.{Ordered, end, step, ordered-append, ordered-length, ordered-good}
 use Rattle.gate_records.specs.declared.SourceRecord.{SourceRecord}
 use Rattle.gate_records.specs.Records.{blank_source, gate_in}
 use Rattle.session.specs.Asked.{widths_good, gate_good}
-use Rattle.session_plan.specs.Plan.{NoIs}
-use Rattle.session_text.specs.declared.asking.Asked.{Asked}
+use Rattle.session_text.specs.declared.asking.Shown.{Shown}
 use Rattle.session_text.specs.Shown.{head_of, head_asked, record_gates, netlist_shown}
-use Rattle.session_text.specs.Parts.{AskedIs, FilledIs, Stands, Fits}
-use Rattle.session_text.proofs.Noes.{no-some, no-made, no-kept, no-done}
+use Rattle.session_text.specs.Parts.{ShownIs, AskedIs, GatesAt, FilledIs, NetlistAt, Stands, Fits, Fit, Long}
 use Rattle.session_text.proofs.Askings.{Yes, head-yes}
 use Rattle.session_text.proofs.Gates.{admitted}
 
@@ -81,7 +80,7 @@ module _ (L : Limits) (lengths widths outputs : List ℕ) (gates : ℕ) (source 
   pub shown-made : (N : Netlist) → shown ≡ done N → Made N
   shown-made N e =
       let p = and_then-done (head_asked L lengths widths outputs gates (length source)) _ N e in
-      let y = head-yes L lengths widths outputs gates (length source) refl (no-done p.1 refl) in
+      let y = head-yes L lengths widths outputs gates (length source) p.1 in
       let q = and_then-done (record_gates (sum widths) source gates) _ N (sym (goes_on y) ∙ e) in
       record { yes = y; gs = q.0; records = q.1; netlist = done-same _ N q.2 }
 
@@ -96,69 +95,71 @@ module _ (L : Limits) (lengths widths outputs : List ℕ) (gates : ℕ) (source 
 
 -- ---- from the answers of the parts
 
-module _ {z : Sizes} {a b c d : ℕ} {widths outputs : List ℕ} {gates : ℕ} {source : List SourceRecord} {q : Asked} {t : Tables} {no : ℕ}
-    (A : AskedIs z a b c d widths outputs gates (length source) q) (F : FilledIs source q t no) where
+module _ (z : Sizes) (a b c d : ℕ) (widths outputs : List ℕ) (gates : ℕ) (source : List SourceRecord) where
   abbrev lengths : List ℕ
   lengths = a ∷ b ∷ c ∷ d ∷ []
 
   abbrev o : Outcome Netlist
   o = netlist_shown (small z) lengths widths outputs gates source
 
-  zero-before : no ≡ 0 → q.no ≡ 0
-  zero-before y = on_bool (eqb q.no 0) (eqb-true q.no 0) (λ h. let n = eqb-false q.no 0 h in absurd (n (sym (F.kept n) ∙ y)))
+  module _ (s : Shown) (t : Tables) (A : ShownIs z a b c d widths outputs gates (length source) s) where
+    yes : Yes (small z) lengths widths outputs gates (length source)
+    yes = head-yes (small z) lengths widths outputs gates (length source) A.head.is
 
-  yes : q.no ≡ 0 → Yes (small z) lengths widths outputs gates (length source)
-  yes e = head-yes (small z) lengths widths outputs gates (length source) e A.no
+    same-records : record_gates (sum widths) source gates ≡ record_gates s.inputs source s.count
+    same-records = ap (λ (n : ℕ). record_gates n source gates) (sym A.inputs) ∙ ap (record_gates s.inputs source) (sym A.count)
 
-  records : q.no ≡ 0 → NoIs (record_gates (sum widths) source gates) no
-  records e = rw (A.inputs e, A.count e) at (F.asked e)
+    -- what follows the records
+    records : {r : Outcome (List Gate)} → record_gates s.inputs source s.count ≡ r → o ≡ (and_then r λ gs. done (netlist_of (head_of widths outputs gates) gs))
+    records e = goes_on (small z) lengths widths outputs gates source yes
+        ∙ ap (λ (o : Outcome (List Gate)). and_then o λ gs. done (netlist_of (head_of widths outputs gates) gs)) (same-records ∙ e)
 
-  held : q.no ≡ 0 → no ≡ 0 → record_gates (sum widths) source gates ≡ done (gates_of t q.count)
-  held e y = ap (λ (n : ℕ). record_gates n source gates) (sym (A.inputs e)) ∙ ap (record_gates q.inputs source) (sym (A.count e)) ∙ F.gates e y
-
-  pub stands : Stands o widths outputs q t no
-  stands = record {
-    asked = on_bool (eqb q.no 0)
-        (λ h. let e = eqb-true q.no 0 h in
-        rw (goes_on (small z) lengths widths outputs gates source (yes e)) (no-made (record_gates (sum widths) source gates)
-        (netlist_of (head_of widths outputs gates)) no (records e)))
-        (λ h. let n = eqb-false q.no 0 h in
-        let s = no-some (head_asked (small z) lengths widths outputs gates (length source)) n A.no in
-        rw (F.kept n) (no-kept (ap (λ (o : Outcome Header). and_then o λ H. and_then (record_gates (sum widths) source gates) λ gs. done (netlist_of H gs)) s.0) s.1));
-    netlist = λ y.
-        let e = zero-before y in
-        let gs = gates_of t q.count in
+    stands-at : GatesAt source s t → NetlistAt o widths outputs t s
+    stands-at G =
+        let gs = gates_of t s.count in
         record {
           is = netlist_of (head_of widths outputs gates) gs;
-          outcome = goes_on (small z) lengths widths outputs gates source (yes e)
-              ∙ ap (λ (o : Outcome (List Gate)). and_then o λ gs. done (netlist_of (head_of widths outputs gates) gs)) (held e y);
-          wires = omega (arith, A.inputs e, A.count e);
+          outcome = records G.gates;
+          wires = omega (arith, A.inputs, A.count);
           inputs = refl;
           outputs = refl;
           gates = refl;
-          input_bits = sym (A.inputs e);
-          output_bits = sym (A.outputs e);
-          formed = made-formed (small z) lengths widths outputs gates source gs (yes e) (held e y);
-        };
-  }
+          input_bits = sym A.inputs;
+          output_bits = sym A.outputs;
+          formed = made-formed (small z) lengths widths outputs gates source gs yes (same-records ∙ G.gates);
+        }
 
-  pub fits : no ≡ 0 → Fits widths outputs q t
-  fits y =
-      let e = zero-before y in
-      let w = (yes e).within in
-      record {
-        wired = F.wired e y;
-        few = A.few;
-        inputs = w.inputs;
-        outputs = w.outputs;
-        bits = omega (arith, w.bits, A.inputs e, A.outputs e, A.count e);
-      }
+    fits-at : GatesAt source s t → Fits widths outputs t s
+    fits-at G =
+        let w = yes.within in
+        record {
+          wired = G.wired;
+          few = A.few;
+          inputs = w.inputs;
+          outputs = w.outputs;
+          bits = omega (arith, w.bits, A.inputs, A.outputs, A.count);
+        }
 
-  -- the other two tables are long enough
-  pub third-long : no ≡ 0 → q.inputs + q.count ≤ c
-  third-long y = let e = zero-before y in
-      omega (arith, (yes e).within.wires, A.inputs e, A.count e, table_at (small z) lengths 2 (yes e).long (lit< tt))
+    -- the other two tables are long enough
+    long-at : (s.inputs + s.count ≤ d) × (s.inputs + s.count ≤ c)
+    long-at = (
+      omega (arith, yes.within.wires, A.inputs, A.count, table_at (small z) lengths 3 yes.long (lit< tt)),
+      omega (arith, yes.within.wires, A.inputs, A.count, table_at (small z) lengths 2 yes.long (lit< tt)),
+    )
 
-  pub fourth-long : no ≡ 0 → q.inputs + q.count ≤ d
-  fourth-long y = let e = zero-before y in
-      omega (arith, (yes e).within.wires, A.inputs e, A.count e, table_at (small z) lengths 3 (yes e).long (lit< tt))
+  pub stands : (t : Tables) (q r : Result Shown Question) → AskedIs z a b c d widths outputs gates (length source) q → FilledIs source q t r
+      → Stands o widths outputs t r
+  stands t (Err e) r A F = rw F (ap (λ (o : Outcome Header). and_then o λ H. and_then (record_gates (sum widths) source gates) λ gs. done (netlist_of H gs)) A)
+  stands t (Ok s) (Err e) A F = records s t A F
+  stands t (Ok s) (Ok s') A F = rw F.0 (stands-at s t A F.1)
+
+  pub fits : (t : Tables) (q r : Result Shown Question) → AskedIs z a b c d widths outputs gates (length source) q → FilledIs source q t r → Fit widths outputs t r
+  fits t (Err e) r A F = rw F tt
+  fits t (Ok s) (Err e) A F = tt
+  fits t (Ok s) (Ok s') A F = rw F.0 (fits-at s t A F.1)
+
+  pub long : (t : Tables) (q r : Result Shown Question) → AskedIs z a b c d widths outputs gates (length source) q → FilledIs source q t r
+      → (ws ms : List ℕ) → length ws ≡ d → length ms ≡ c → Long ws ms r
+  long t (Err e) r A F ws ms i j = rw F tt
+  long t (Ok s) (Err e) A F ws ms i j = tt
+  long t (Ok s) (Ok s') A F ws ms i j = rw (i, j, F.0) (long-at s t A)

@@ -1,7 +1,6 @@
 -- What showing a session promises, whatever session and lists are handed in.
-use Rattle.std.specs.Prelude.{ℕ, ◌≡◌, cond, List, [], ◌∷◌, ltb, length, get_or, take}
-use Rattle.netlist.specs.declared.Answer.{Answer}
-use Rattle.netlist.specs.declared.Answer.TheVariants.{Done}
+use Rattle.std.specs.Prelude.{Ok, Result, ℕ, ◌≡◌, cond, List, [], ◌∷◌, ltb, length, get_or, take}
+use Rattle.netlist.specs.declared.Question.{Question}
 use Rattle.netlist.specs.declared.Sizes.{Sizes}
 use Rattle.netlist.specs.Netlist.{Netlist, small}
 use Rattle.netlist.specs.Outcome.{Outcome, done}
@@ -32,9 +31,9 @@ pub record Shows (z : Sizes) (tables widths outputs : List ℕ) (s : Session) (s
   pub back : read_netlist (small z) result ≡ done netlist
 
 -- the result buffer and each table before and after the call
-pub record TextPromise (z : Sizes) (widths outputs : List ℕ) (s : Session) (source : List SourceRecord) (out out' o o' r r' : List ℕ) (a : Answer) : Type 0 where
+pub record TextPromise (z : Sizes) (widths outputs : List ℕ) (s : Session) (source : List SourceRecord) (out out' o o' r r' : List ℕ) (a : Result ℕ Question) : Type 0 where
   pub answers : Answers (text z widths outputs s source out o r) out out' a
-  pub shows : (n : ℕ) → a ≡ Done n → Shows z (length o ∷ length r ∷ []) widths outputs s source (take n out')
+  pub shows : (n : ℕ) → a ≡ Ok n → Shows z (length o ∷ length r ∷ []) widths outputs s source (take n out')
   pub operands : Cleared o o'
   pub results : Cleared r r'
 
@@ -45,10 +44,10 @@ masked z widths outputs s source codes wanted out out_codes o r w m =
     masked_call (small z) (length o ∷ length r ∷ length m ∷ length w ∷ []) widths outputs s.gates source codes wanted (length out) (length out_codes)
 
 pub record MaskedPromise (z : Sizes) (widths outputs : List ℕ) (s : Session) (source : List SourceRecord)
-    (codes wanted out out' out_codes out_codes' o o' r r' w w' m m' : List ℕ) (a : Answer) : Type 0 where
+    (codes wanted out out' out_codes out_codes' o o' r r' w w' m m' : List ℕ) (a : Result ℕ Question) : Type 0 where
   pub answers : MaskAnswers (masked z widths outputs s source codes wanted out out_codes o r w m) out out' out_codes out_codes' a
   -- it is what Mask writes for the session's text
-  pub masks : (n : ℕ) → a ≡ Done n → (t : List ℕ) × Shows z (length o ∷ length r ∷ length m ∷ length w ∷ []) widths outputs s source t
+  pub masks : (n : ℕ) → a ≡ Ok n → (t : List ℕ) × Shows z (length o ∷ length r ∷ length m ∷ length w ∷ []) widths outputs s source t
       × Masks z t codes wanted (take n out') out_codes'
   pub operands : Cleared o o'
   pub results : Cleared r r'

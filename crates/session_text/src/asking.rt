@@ -1,38 +1,20 @@
 // Questions 1 and 4 to 6 of a session that is to be shown, over numbers and widths.
-ghost use Rattle.std.specs.Prelude.{◌≡◌, [], ◌∷◌, ◌≤◌, leb};
-ghost use Rattle.netlist.specs.Lists.{every};
+ghost use Rattle.std.specs.Prelude.{◌≡◌, ◌≤◌};
 ghost use Rattle.netlist.specs.Netlist.{small};
 ghost use Rattle.netlist.specs.Header.{within_limits};
 ghost use Rattle.session_plan.specs.Plan.{NoIs};
 ghost use Rattle.session_text.specs.Shown.{head_of, head_asked};
 ghost use Rattle.session_text.specs.Parts.{AskedIs};
 
-use netlist::{Limits, Sizes};
+use netlist::{Limits, Question, Sizes};
 use session_plan::opening::{positive, total};
 
-// The first question that gets a no, or 0; then how many input bits, output bits and gates there are, 0 of each where one gets a no.
+// How many input bits, output bits and gates an admitted session has.
 #[derive(Clone, Copy)]
-pub struct Asked {
-    pub no: u8,
+pub struct Shown {
     pub inputs: usize,
     pub outputs: usize,
     pub count: usize,
-}
-
-// Question 1 of four tables.
-fn long(least: usize, a: usize, b: usize, c: usize, d: usize) -> bool
-    ensures { result ≡ every (leb least) (a ∷ b ∷ c ∷ d ∷ []) }
-{
-    if a < least {
-        return false;
-    }
-    if b < least {
-        return false;
-    }
-    if c < least {
-        return false;
-    }
-    least <= d
 }
 
 // Question 5.
@@ -57,38 +39,34 @@ fn within(l: Limits, widths: &[u32], outputs: &[u32], gates: u32) -> bool
     total(outputs) <= n + gates as u64
 }
 
-// The first no of questions 1 and 4 to 6, or 0.
+// The first no of questions 1 and 4 to 6.
 fn question(
     widths: &[u32],
     outputs: &[u32],
     gates: u32,
     places: usize,
-    a: usize,
-    b: usize,
-    c: usize,
-    d: usize,
+    lengths: &[usize],
     sizes: Sizes,
-) -> u8
-    ensures { NoIs (head_asked (small sizes) (a ∷ b ∷ c ∷ d ∷ []) widths.now outputs.now gates places) result }
+) -> Result<(), Question>
+    ensures { NoIs (head_asked (small sizes) lengths.now widths.now outputs.now gates places) result }
 {
-    let l = netlist::small(sizes);
-    let least = l.table;
-    if !long(least, a, b, c, d) {
-        return 1;
+    let l = sizes.small();
+    if !l.admit(lengths) {
+        return Err(Question::Tables);
     }
     if !positive(widths) {
-        return 4;
+        return Err(Question::Header);
     }
     if !positive(outputs) {
-        return 4;
+        return Err(Question::Header);
     }
     if !within(l, widths, outputs, gates) {
-        return 5;
+        return Err(Question::Limits);
     }
     if places < gates as usize {
-        return 6;
+        return Err(Question::Count);
     }
-    0
+    Ok(())
 }
 
 // Questions 1 and 4 to 6 of a session with so many gates, whose list has so many places, and of tables of the lengths a to d.
@@ -102,22 +80,13 @@ pub fn ask(
     c: usize,
     d: usize,
     sizes: Sizes,
-) -> Asked
+) -> Result<Shown, Question>
     ensures { AskedIs sizes a b c d widths.now outputs.now gates places result }
 {
-    let no = question(widths, outputs, gates, places, a, b, c, d, sizes);
-    if no != 0 {
-        return Asked {
-            no,
-            inputs: 0,
-            outputs: 0,
-            count: 0,
-        };
-    }
-    Asked {
-        no: 0,
+    question(widths, outputs, gates, places, &[a, b, c, d], sizes)?;
+    Ok(Shown {
         inputs: total(widths) as usize,
         outputs: total(outputs) as usize,
         count: gates as usize,
-    }
+    })
 }

@@ -13,5 +13,5 @@ pub fn line(out: &mut [u8], name: &[u8], agreed: usize, cases: usize) -> usize
     let c = write_buffer::number(out, b, agreed);
     let d = write_buffer::bytes(out, c, b" of ");
     let e = write_buffer::number(out, d, cases);
-    write_buffer::put(out, e, 10)
+    write_buffer::put(out, e, b'\n')
 }

@@ -1,7 +1,6 @@
 -- What the call to the older dialect promises.
-use Rattle.std.specs.Prelude.{ℕ, ◌≡◌, List, [], ◌∷◌, length, take}
-use Rattle.netlist.specs.declared.Answer.{Answer}
-use Rattle.netlist.specs.declared.Answer.TheVariants.{Done}
+use Rattle.std.specs.Prelude.{Ok, Result, ℕ, ◌≡◌, List, [], ◌∷◌, length, take}
+use Rattle.netlist.specs.declared.Question.{Question}
 use Rattle.netlist.specs.declared.Sizes.{Sizes}
 use Rattle.netlist.specs.Netlist.{Netlist, large}
 use Rattle.netlist.specs.Outcome.{Outcome, done, ask}
@@ -22,12 +21,12 @@ pub record Back (s : Sizes) (old : List ℕ) (N : Netlist) : Type 0 where
   pub same : read_netlist (large s) (write_netlist N) ≡ done N
 
 -- the sizes and the text, then the result buffer and each table before and after the call
-pub record Promise (s : Sizes) (text out out' o o' r r' g g' : List ℕ) (a : Answer) : Type 0 where
+pub record Promise (s : Sizes) (text out out' o o' r r' g g' : List ℕ) (a : Result ℕ Question) : Type 0 where
   pub answers : Answers (call s text out o r g) out out' a
   -- the text written reads as the netlist that was read, gates unchanged
-  pub same : (n : ℕ) (N : Netlist) → a ≡ Done n → read_netlist (large s) text ≡ done N → read_old (large s) (take n out') ≡ done N
+  pub same : (n : ℕ) (N : Netlist) → a ≡ Ok n → read_netlist (large s) text ≡ done N → read_old (large s) (take n out') ≡ done N
   -- and back
-  pub back : (n : ℕ) (N : Netlist) → a ≡ Done n → read_netlist (large s) text ≡ done N → Back s (take n out') N
+  pub back : (n : ℕ) (N : Netlist) → a ≡ Ok n → read_netlist (large s) text ≡ done N → Back s (take n out') N
   pub operands : Cleared o o'
   pub results : Cleared r r'
   pub marks : Cleared g g'

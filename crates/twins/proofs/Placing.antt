@@ -1,4 +1,5 @@
 -- Questions 11 and 14 of a netlist that the gate tables hold, and its twins in the two buffers.
+use Rattle.std.specs.Prelude.{Err, Ok, Result}
 use Prim.Native.Nat.{ℕ, ◌+◌, ◌≤◌, ◌<◌}
 use mathlib.Core.Path.{◌≡◌, refl, sym, ap, ap₂, ◌∙◌}
 use mathlib.Core.Bool.{Bool, true, false}
@@ -9,8 +10,9 @@ use lib.Dec.{leb}
 use lib.ListN.{length, take, drop, length-map}
 use lib.Seq.{sets, sets-eq}
 use borrow.Author.Tests.{le-leb, lt-leb}
-use Rattle.netlist.specs.declared.Answer.{Answer}
-use Rattle.netlist.specs.declared.Answer.TheVariants.{Done, Refused}
+use Rattle.netlist.specs.declared.Question.{Question}
+use Rattle.netlist.specs.Question.{number_of}
+use Rattle.netlist.specs.declared.Question.TheVariants as Q
 use Rattle.netlist.specs.Netlist.{Netlist, input_bits}
 use Rattle.netlist.specs.Outcome.{Outcome, refused, done}
 use Rattle.netlist.specs.Mask.{State, is_input_code, finish}
@@ -26,11 +28,11 @@ use Rattle.twins.specs.Promise.{TwinLists, wire_of, code_of, twin_lists, lists_o
 
 -- ---- answers
 
-pub twins-as : {c d : Outcome TwinLists} {e x f y : List ℕ} {a : Answer} → c ≡ d → TwinsAnswers c e x f y a → TwinsAnswers d e x f y a
+pub twins-as : {c d : Outcome TwinLists} {e x f y : List ℕ} {a : Result ℕ Question} → c ≡ d → TwinsAnswers c e x f y a → TwinsAnswers d e x f y a
 twins-as p h = rw p at h
 
 -- a refusal leaves both buffers as they were
-pub twins-refused : {c : Outcome TwinLists} (e f : List ℕ) {q : ℕ} → c ≡ refused q → TwinsAnswers c e e f f (Refused q)
+pub twins-refused : {c : Outcome TwinLists} (e f : List ℕ) {q : Question} → c ≡ refused (number_of q) → TwinsAnswers c e e f f (Err q)
 twins-refused e f p = record { wires = answers-refused e (rw p); codes = answers-refused f (rw p) }
 
 -- ---- two tables of twins
@@ -67,17 +69,17 @@ module _ {t : Tables} {count W m : ℕ} {N : Netlist} (codes : List ℕ) (h : Ho
   long-codes : length (twin_lists N codes).codes ≡ W
   long-codes = length-map (finish N codes).twins code_of ∙ long
 
-  pub short-wires : (e f : List ℕ) → length e < W → TwinsAnswers (lists_outcome (length e) (length f) (twin_lists N codes)) e e f f (Refused 14)
+  pub short-wires : (e f : List ℕ) → length e < W → TwinsAnswers (lists_outcome (length e) (length f) (twin_lists N codes)) e e f f (Err Q.Room)
   short-wires e f l = twins-refused e f (rw (lt-leb (length (twin_lists N codes).wires) (length e) (omega (arith, long-wires))))
 
-  pub short-codes : (e f : List ℕ) → length f < W → TwinsAnswers (lists_outcome (length e) (length f) (twin_lists N codes)) e e f f (Refused 14)
+  pub short-codes : (e f : List ℕ) → length f < W → TwinsAnswers (lists_outcome (length e) (length f) (twin_lists N codes)) e e f f (Err Q.Room)
   short-codes e f l =
       let u = lt-leb (length (twin_lists N codes).codes) (length f) (omega (arith, long-codes)) in
       on_bool (leb (length (twin_lists N codes).wires) (length e)) (λ b. twins-refused e f (rw (b, u))) (λ b. twins-refused e f (rw b))
 
   -- the tables of the twins are the fronts of the buffers
   pub placed : {e f ws es : List ℕ} {r : ℕ} → W ≤ length e → W ≤ length f → length ws ≡ W → length es ≡ W → Finished t count codes W r ws es
-      → TwinsAnswers (lists_outcome (length e) (length f) (twin_lists N codes)) e (ws ++ drop W e) f (es ++ drop W f) (Done W)
+      → TwinsAnswers (lists_outcome (length e) (length f) (twin_lists N codes)) e (ws ++ drop W e) f (es ++ drop W f) (Ok W)
   placed {e} {f} {ws} {es} a b kw ke d =
       let L = twin_lists N codes in
       let same : twins_of ws es ≡ (finish N codes).twins = ap (λ (S : State). S.twins) (d.state N h) in
@@ -89,12 +91,12 @@ module _ {t : Tables} {count W m : ℕ} {N : Netlist} (codes : List ℕ) (h : Ho
       let v = le-leb (length L.codes) (length f) (omega (arith, long-codes)) in
       record {
         wires = rw (u, v) (record {
-          answer = ap (λ (k : ℕ). Done k) (sym long-wires);
+          answer = ap (λ (k : ℕ). done k) (sym long-wires);
           outcome = ap done (ap₂ take (sym long-wires) x ∙ take-sets L.wires e (omega (arith, long-wires)));
           buffer = x;
         });
         codes = rw (u, v) (record {
-          answer = ap (λ (k : ℕ). Done k) (sym long-codes);
+          answer = ap (λ (k : ℕ). done k) (sym long-codes);
           outcome = ap done (ap₂ take (sym long-codes) y ∙ take-sets L.codes f (omega (arith, long-codes)));
           buffer = y;
         });
@@ -106,13 +108,13 @@ module _ {t : Tables} {count W n m : ℕ} {N : Netlist} (h : Holds t count W n m
   good : (b : Bool) → list_good is_input_code n codes ≡ b → list_good is_input_code (input_bits N) codes ≡ b
   good b e = ap (λ (k : ℕ). list_good is_input_code k codes) h.ins ∙ e
 
-  pub twins-11 : (e f : List ℕ) → list_good is_input_code n codes ≡ false → TwinsAnswers (twins_outcome codes (length e) (length f) N) e e f f (Refused 11)
+  pub twins-11 : (e f : List ℕ) → list_good is_input_code n codes ≡ false → TwinsAnswers (twins_outcome codes (length e) (length f) N) e e f f (Err Q.Inputs)
   twins-11 e f p = twins-refused e f (rw (good false p))
 
   pub holds-codes : list_good is_input_code n codes ≡ true → Holds t count W (length codes) m N
   holds-codes p = record { gates = h.gates; wires = h.wires; ins = h.ins ∙ sym (codes-length is_input_code n codes p); outs = h.outs }
 
-  pub twins-14 : {e x f y : List ℕ} {r : Answer} → list_good is_input_code n codes ≡ true
+  pub twins-14 : {e x f y : List ℕ} {r : Result ℕ Question} → list_good is_input_code n codes ≡ true
       → TwinsAnswers (lists_outcome (length e) (length f) (twin_lists N codes)) e x f y r
       → TwinsAnswers (twins_outcome codes (length e) (length f) N) e x f y r
   twins-14 p a = twins-as (sym (rw (good true p) refl)) a

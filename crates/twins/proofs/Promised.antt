@@ -1,12 +1,13 @@
 -- From a source that was read to the promise of the twins.
+use Rattle.std.specs.Prelude.{Err, Ok, Result}
 use Prim.Native.Nat.{ℕ}
 use mathlib.Core.Path.{◌≡◌, refl, sym, ap, ap₂, ◌∙◌}
 use mathlib.Core.Bool.{true, ◌&&◌}
 use mathlib.Core.List.{List, [], ◌∷◌, map}
 use lib.ListN.{length, take}
 use Rattle.netlist.specs.declared.Sizes.{Sizes}
-use Rattle.netlist.specs.declared.Answer.{Answer}
-use Rattle.netlist.specs.declared.Answer.TheVariants.{Done, Refused}
+use Rattle.netlist.specs.declared.Question.{Question}
+use Rattle.netlist.specs.Question.{number_of}
 use Rattle.netlist.specs.declared.Twin.{Twin}
 use Rattle.netlist.specs.Netlist.{Netlist, input_bits, small}
 use Rattle.netlist.specs.Outcome.{refused, done, ask}
@@ -15,7 +16,7 @@ use Rattle.netlist.specs.Mask.{is_input_code, finish, mask_netlist}
 use Rattle.netlist.specs.Services.{tables_long, list_good, holds, outcome_of}
 use Rattle.netlist.specs.Table.{Tables, Holds}
 use Rattle.netlist.proofs.Questions.{done-same, ask-done, and_then-done}
-use Rattle.netlist.proofs.Answering.{asked-again, call-refused, call-goes-on}
+use Rattle.netlist.proofs.Answering.{call-refused, call-goes-on}
 use Rattle.read_header.specs.declared.HeaderNumbers.{HeaderNumbers}
 use Rattle.read_netlist.specs.Whole.{ReadAt}
 use Rattle.mask_twins.specs.State.{twins_of}
@@ -34,25 +35,23 @@ module _ (s : Sizes) (text codes wires out_codes o r g : List ℕ) where
   lengths = length o ∷ length r ∷ length g ∷ []
 
   -- questions 1 to 9, and then 11 and 14
-  pub call-not : {q : ℕ} → ask 1 (tables_long (small s) (length o ∷ length r ∷ length g ∷ length g ∷ [])) (read_netlist (small s) text) ≡ refused q
-      → TwinsAnswers (call s text codes wires out_codes o r g) wires wires out_codes out_codes (Refused q)
+  pub call-not : {q : Question} → ask 1 (tables_long (small s) lengths) (read_netlist (small s) text) ≡ refused (number_of q)
+      → TwinsAnswers (call s text codes wires out_codes o r g) wires wires out_codes out_codes (Err q)
   unfolding twins_call
   call-not p =
-      let e = asked-again (small s) (length o) (length r) (length g) in
       twins-refused wires out_codes
-      (call-refused (tables_long (small s) lengths) (read_netlist (small s) text) (twins_outcome codes (length wires) (length out_codes)) (rw e at p))
+      (call-refused (tables_long (small s) lengths) (read_netlist (small s) text) (twins_outcome codes (length wires) (length out_codes)) p)
 
-  pub call-read : {x y is os : List ℕ} {t : Tables} {h : HeaderNumbers} {a : Answer}
-      → (tables_long (small s) (length o ∷ length r ∷ length g ∷ length g ∷ []) ≡ true) × ReadAt (small s) text is os t h
+  pub call-read : {x y is os : List ℕ} {t : Tables} {h : HeaderNumbers} {a : Result ℕ Question}
+      → (tables_long (small s) lengths ≡ true) × ReadAt (small s) text is os t h
       → ((N : Netlist) → Holds t h.gates h.wires h.input_bits h.output_bits N
       → TwinsAnswers (twins_outcome codes (length wires) (length out_codes) N) wires x out_codes y a)
       → TwinsAnswers (call s text codes wires out_codes o r g) wires x out_codes y a
   unfolding twins_call
   call-read k d =
-      let e = asked-again (small s) (length o) (length r) (length g) in
       twins-as
       (sym (call-goes-on (tables_long (small s) lengths) (read_netlist (small s) text) (twins_outcome codes (length wires) (length out_codes))
-      (sym e ∙ k.0) k.1.read))
+      k.0 k.1.read))
       (d k.1.is k.1.holds)
 
   -- a result is the two lists of the source's twins
@@ -75,8 +74,8 @@ module _ (s : Sizes) (text codes wires out_codes o r g : List ℕ) where
   same_source : {N N' : Netlist} → read_netlist (small s) text ≡ done N → read_netlist (small s) text ≡ done N' → N ≡ N'
   same_source p q = done-same _ _ (sym p ∙ q)
 
-  pub call-twins : {x y : List ℕ} {a : Answer} → TwinsAnswers (call s text codes wires out_codes o r g) wires x out_codes y a
-      → (n : ℕ) → a ≡ Done n → Given s text codes (take n x) (take n y)
+  pub call-twins : {x y : List ℕ} {a : Result ℕ Question} → TwinsAnswers (call s text codes wires out_codes o r g) wires x out_codes y a
+      → (n : ℕ) → a ≡ Ok n → Given s text codes (take n x) (take n y)
   call-twins {x} {y} {a} h n p =
       let c = call s text codes wires out_codes o r g in
       let w : wires_in c ≡ done (take n x) = sym (ap (outcome_of x) (sym p) ∙ h.wires.outcome) in

@@ -1,8 +1,7 @@
 -- What the service of the twins promises of a call (document 02, No. 8).
-use Rattle.std.specs.Prelude.{ℕ, ◌≡◌, ◌&&◌, List, [], ◌∷◌, map, length, take}
+use Rattle.std.specs.Prelude.{Ok, Result, ℕ, ◌≡◌, ◌&&◌, List, [], ◌∷◌, map, length, take}
 use Rattle.netlist.specs.declared.Limits.{Limits}
-use Rattle.netlist.specs.declared.Answer.{Answer}
-use Rattle.netlist.specs.declared.Answer.TheVariants.{Done}
+use Rattle.netlist.specs.declared.Question.{Question}
 use Rattle.netlist.specs.declared.Sizes.{Sizes}
 use Rattle.netlist.specs.declared.Twin.{Twin}
 use Rattle.netlist.specs.Netlist.{Netlist, input_bits, small, large}
@@ -55,7 +54,7 @@ abbrev pub codes_in : Outcome TwinLists → Outcome (List ℕ)
 codes_in call = and_then call λ L. done L.codes
 
 -- the answer, the wire buffer e that became x, and the code buffer f that became y, are those of a call's outcome
-pub record TwinsAnswers (call : Outcome TwinLists) (e x f y : List ℕ) (a : Answer) : Type 0 where
+pub record TwinsAnswers (call : Outcome TwinLists) (e x f y : List ℕ) (a : Result ℕ Question) : Type 0 where
   pub wires : Answers (wires_in call) e x a
   pub codes : Answers (codes_in call) f y a
 
@@ -77,9 +76,9 @@ pub record Given (s : Sizes) (text codes wires out_codes : List ℕ) : Type 0 wh
       → mask_call (small s) tables text codes wanted text_room code_room ≡ done R → TwinsIn s source codes wires out_codes R.text
 
 -- the sizes, the text and the list, then each result buffer and each table before and after the call
-pub record Promise (s : Sizes) (text codes wires wires' out_codes out_codes' o o' r r' g g' : List ℕ) (a : Answer) : Type 0 where
+pub record Promise (s : Sizes) (text codes wires wires' out_codes out_codes' o o' r r' g g' : List ℕ) (a : Result ℕ Question) : Type 0 where
   pub answers : TwinsAnswers (call s text codes wires out_codes o r g) wires wires' out_codes out_codes' a
-  pub twins : (n : ℕ) → a ≡ Done n → Given s text codes (take n wires') (take n out_codes')
+  pub twins : (n : ℕ) → a ≡ Ok n → Given s text codes (take n wires') (take n out_codes')
   pub operands : Cleared o o'
   pub results : Cleared r r'
   pub marks : Cleared g g'

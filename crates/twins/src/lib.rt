@@ -8,9 +8,9 @@ ghost use Rattle.netlist.specs.Netlist.{Netlist, small};
 ghost use Rattle.netlist.specs.Table.{tables, Wired, Holds};
 ghost use Rattle.twins.specs.Promise.{twin_lists, lists_outcome, twins_outcome, TwinsAnswers, call, Promise};
 
-use netlist::{Answer, Sizes};
+use netlist::{Answer, Question, Sizes};
 use read_header::HeaderNumbers;
-use read_netlist::read::Reading;
+use read_netlist::read::read;
 
 // Question 14, and the twins at the fronts of the buffers: the pass over the source works in them, and needs no table of its own.
 fn place(
@@ -30,10 +30,10 @@ fn place(
 {
     let all = h.wires as usize;
     if wires.len() < all {
-        return Answer::Refused(14);
+        return Err(Question::Room);
     }
     if out_codes.len() < all {
-        return Answer::Refused(14);
+        return Err(Question::Room);
     }
     mask_twins::place::place_twins(
         operands,
@@ -43,7 +43,7 @@ fn place(
         &mut wires[..all],
         &mut out_codes[..all],
     );
-    Answer::Done(all)
+    Ok(all)
 }
 
 // Questions 11 and 14 and the twins, from a header's numbers and tables that hold its netlist.
@@ -63,7 +63,7 @@ fn deliver(
         wires.old wires.new out_codes.old out_codes.new result }
 {
     if !lists::valid_codes(codes, h.input_bits as usize) {
-        return Answer::Refused(11);
+        return Err(Question::Inputs);
     }
     place(wires, out_codes, h, codes, operands, results)
 }
@@ -83,23 +83,20 @@ fn answer(
         operands.old results.old marks.old) wires.old wires.new out_codes.old
         out_codes.new result }
 {
-    let l = netlist::small(sizes);
+    let l = sizes.small();
     let mut inputs = [0u32; 17];
     let mut outputs = [0u32; 16];
-    let shortest = marks.len();
-    match read_netlist::read::read(
+    let h = read(
         text,
         &mut inputs,
         &mut outputs,
         operands,
         results,
         marks,
-        shortest,
+        &[],
         l,
-    ) {
-        Reading::Refused(question) => Answer::Refused(question),
-        Reading::Done(h) => deliver(wires, out_codes, h, codes, operands, results),
-    }
+    )?;
+    deliver(wires, out_codes, h, codes, operands, results)
 }
 
 // The masked wire of each source wire at the front of `wires`, and its code at the front of `out_codes`. The tables, of any content,
@@ -121,8 +118,8 @@ pub fn twins(
     let r = answer(
         text, codes, wires, out_codes, operands, results, marks, sizes,
     );
-    clear::words(operands);
-    clear::words(results);
-    clear::bytes(marks);
+    operands.fill(0);
+    results.fill(0);
+    marks.fill(0);
     r
 }

@@ -13,19 +13,15 @@ fn mask(code: u8, m: u8) -> u8 {
 // A list of the codes from `low` to `high` in turn.
 pub(crate) fn cycle(list: &mut [u8], low: u8, high: u8) {
     let mut code = low;
-    for i in 0..list.len() {
-        words::put(list, i, code);
-        if code < high {
-            code += 1;
-        } else {
-            code = low;
-        }
+    for entry in list {
+        *entry = code;
+        code = if code < high { code + 1 } else { low };
     }
 }
 
-// The i-th bit under the mask of its code. A bit is the lowest of its byte, so that a digit serves; without codes no mask is put on.
-fn under(bits: &[u8], codes: &[u8], m: u8, i: usize) -> u8 {
-    (words::byte(bits, i) & 1) ^ mask(words::byte(codes, i), m)
+// A bit under the mask of its code. A bit is the lowest of its byte, so that a digit serves; without codes no mask is put on.
+fn under(bit: u8, code: u8, m: u8) -> u8 {
+    (bit & 1) ^ mask(code, m)
 }
 
 // The mask pair, behind n input bits.
@@ -37,8 +33,8 @@ fn pair(wires: &mut [u8], n: usize, m: u8) {
 // The input wires: each bit under the mask of its code, and the mask pair behind them, which the first gates of an unmasked
 // netlist write over.
 pub(crate) fn settle(wires: &mut [u8], bits: &[u8], codes: &[u8], m: u8) {
-    for i in 0..bits.len() {
-        words::put(wires, i, under(bits, codes, m, i));
+    for (i, bit) in bits.iter().enumerate() {
+        words::put(wires, i, under(*bit, words::byte(codes, i), m));
     }
     pair(wires, bits.len(), m);
 }
@@ -48,8 +44,8 @@ pub(crate) fn agrees(bits: &[u8], codes: &[u8], m: u8, word: &[u8]) -> bool {
     if bits.len() != word.len() {
         return false;
     }
-    for i in 0..word.len() {
-        if under(bits, codes, m, i) != words::byte(word, i) & 1 {
+    for (i, (bit, wanted)) in bits.iter().zip(word).enumerate() {
+        if under(*bit, words::byte(codes, i), m) != *wanted & 1 {
             return false;
         }
     }
@@ -58,16 +54,16 @@ pub(crate) fn agrees(bits: &[u8], codes: &[u8], m: u8, word: &[u8]) -> bool {
 
 // Whether an output code is the wanted one; any is where 0 is wanted.
 fn suits(wanted: u8, code: u8) -> bool {
-    if wanted == 0 {
-        return 1 <= code && code <= 3;
+    match wanted {
+        0 => matches!(code, 1..=3),
+        _ => code == wanted,
     }
-    code == wanted
 }
 
 // Whether all output codes are as wanted.
 pub(crate) fn suit(wanted: &[u8], codes: &[u8]) -> bool {
-    for i in 0..wanted.len() {
-        if !suits(words::byte(wanted, i), words::byte(codes, i)) {
+    for (i, entry) in wanted.iter().enumerate() {
+        if !suits(*entry, words::byte(codes, i)) {
             return false;
         }
     }

@@ -1,14 +1,13 @@
 // Rewrite: a text in the written form comes back as it is, and so does one that has more spaces and blank lines.
 use crate::score::Score;
-use crate::{buffers, score, services, words};
-use netlist::Answer;
+use crate::{buffers, services, words};
 
 // Whether a text is rewritten as this form of it.
 fn becomes(text: &[u8], form: &[u8]) -> bool {
     let mut out = buffers::text();
     match services::rewrite(text, &mut out) {
-        Answer::Done(n) => words::part(&out, 0, n) == form,
-        Answer::Refused(_) => false,
+        Ok(n) => words::part(&out, 0, n) == form,
+        Err(_) => false,
     }
 }
 
@@ -26,8 +25,8 @@ fn twice(out: &mut [u8], at: usize, b: u8) -> usize {
 // The same netlist with each space and each line's end twice; answers its length.
 fn loosen(text: &[u8], out: &mut [u8]) -> usize {
     let mut at = 0;
-    for i in 0..text.len() {
-        at = twice(out, at, words::byte(text, i));
+    for b in text {
+        at = twice(out, at, *b);
     }
     at
 }
@@ -36,9 +35,9 @@ fn loosen(text: &[u8], out: &mut [u8]) -> usize {
 pub(crate) fn score(text: &[u8]) -> Score {
     let mut loose = buffers::text();
     let n = loosen(text, &mut loose);
-    let s = score::case(score::none(), becomes(text, text));
+    let s = Score::of(becomes(text, text));
     if loose.len() < n {
         return s;
     }
-    score::case(s, becomes(words::part(&loose, 0, n), text))
+    s.case(becomes(words::part(&loose, 0, n), text))
 }

@@ -39,16 +39,11 @@ fn circuit(rt: &impl Print, name: &[u8], text: &[u8], file: &[u8]) -> io::Result
     let b = masked::scored(text, file, step, 1, 3, 1, 3);
     let c = masked::scored(text, file, step, 3, 3, 0, 3);
     print(rt, name, b"run", run)?;
-    report(
-        rt,
-        name,
-        forms::score(text),
-        masked::join(a, masked::join(b, c)),
-    )
+    report(rt, name, forms::score(text), a.join(b.join(c)))
 }
 
 fn report(rt: &impl Print, name: &[u8], forms: Score, m: Masked) -> io::Result<()> {
-    print(rt, name, b"rewrite", score::join(forms, m.rewrite))?;
+    print(rt, name, b"rewrite", forms.join(m.rewrite))?;
     if m.check.cases == 0 {
         return print(rt, name, b"refused by Mask", m.mask);
     }

@@ -1,8 +1,8 @@
 // A source through Mask, and its masked netlist through Run, Rewrite and Check.
 use crate::score::Score;
 use crate::second::Shape;
-use crate::{buffers, codes, forms, score, second, services, vectors, verdicts, words};
-use netlist::Answer;
+use crate::{buffers, codes, forms, second, services, vectors, verdicts, words};
+use netlist::Question;
 
 // The scores of a masked netlist.
 #[derive(Clone, Copy)]
@@ -13,13 +13,15 @@ pub(crate) struct Masked {
     pub(crate) leaks: Score,
 }
 
-// Two masked netlists' scores as one.
-pub(crate) fn join(a: Masked, b: Masked) -> Masked {
-    Masked {
-        mask: score::join(a.mask, b.mask),
-        rewrite: score::join(a.rewrite, b.rewrite),
-        check: score::join(a.check, b.check),
-        leaks: score::join(a.leaks, b.leaks),
+impl Masked {
+    // Two masked netlists' scores as one.
+    pub(crate) fn join(self, other: Masked) -> Self {
+        Masked {
+            mask: self.mask.join(other.mask),
+            rewrite: self.rewrite.join(other.rewrite),
+            check: self.check.join(other.check),
+            leaks: self.leaks.join(other.leaks),
+        }
     }
 }
 
@@ -27,12 +29,12 @@ pub(crate) fn join(a: Masked, b: Masked) -> Masked {
 // agree on it, and on it under other codes.
 fn judged(text: &[u8], ins: &[u8]) -> Score {
     if 12 < ins.len() {
-        return score::case(score::none(), verdicts::verdict(text, ins) == 12);
+        return Score::of(verdicts::refuses_settings(text, ins));
     }
     let others = b"\x02\x03\x02\x03\x02\x03\x02\x03\x02\x03\x02\x03";
-    let a = score::case(score::none(), verdicts::verdict(text, ins) == 0);
-    let b = score::case(a, verdicts::alike(text, ins));
-    score::case(b, verdicts::alike(text, words::part(others, 0, ins.len())))
+    Score::of(verdicts::is_clean(text, ins))
+        .case(verdicts::alike(text, ins))
+        .case(verdicts::alike(text, words::part(others, 0, ins.len())))
 }
 
 // The masked netlist in the first n bytes of a buffer, with its output codes, on each `step`-th vector.
@@ -47,9 +49,8 @@ fn scores(
 ) -> Masked {
     let mut m = unedited(words::part(text, 0, n), file, step, ins, wanted, out_codes);
     let e = verdicts::edits(text, n, ins);
-    m.check = score::join(m.check, e.alike);
-    let leaks = e.leaks;
-    m.leaks = leaks;
+    m.check = m.check.join(e.alike);
+    m.leaks = e.leaks;
     m
 }
 
@@ -64,32 +65,32 @@ fn unedited(
 ) -> Masked {
     let mask = vectors::score(text, file, step, ins, out_codes, 4);
     Masked {
-        mask: score::case(mask, codes::suit(wanted, out_codes)),
+        mask: mask.case(codes::suit(wanted, out_codes)),
         rewrite: forms::score(text),
         check: judged(text, ins),
-        leaks: score::none(),
+        leaks: Score::default(),
     }
 }
 
 // A source that Mask refuses, by the question that it should or by another.
 fn refused(right: bool) -> Masked {
     Masked {
-        mask: score::case(score::none(), right),
-        rewrite: score::none(),
-        check: score::none(),
-        leaks: score::none(),
+        mask: Score::of(right),
+        rewrite: Score::default(),
+        check: Score::default(),
+        leaks: Score::default(),
     }
 }
 
-// The question by which Mask refuses a source: 2 for its bytes, or else 5 for its wires. None, 0, refuses one within its limits.
-fn question(text: &[u8], shape: Shape) -> u8 {
+// The question by which Mask refuses a source: that of its bytes, or else of its wires. None refuses one within its limits.
+fn question(text: &[u8], shape: Shape) -> Option<Question> {
     if 60000 < text.len() {
-        return 2;
+        return Some(Question::Length);
     }
     if 2048 < shape.wires {
-        return 5;
+        return Some(Question::Limits);
     }
-    0
+    None
 }
 
 // A source, with input codes from `low` to `high` in turn and wanted codes from `least` to `most` in turn.
@@ -126,14 +127,14 @@ fn delivered(
     text: &[u8],
     file: &[u8],
     step: usize,
-    question: u8,
+    question: Option<Question>,
     ins: &[u8],
     wanted: &[u8],
     out: &mut [u8],
     out_codes: &mut [u8],
 ) -> Masked {
     match services::mask(text, ins, wanted, out, out_codes) {
-        Answer::Done(n) => scores(
+        Ok(n) => scores(
             out,
             n,
             file,
@@ -142,6 +143,6 @@ fn delivered(
             wanted,
             words::part(out_codes, 0, wanted.len()),
         ),
-        Answer::Refused(q) => refused(q == question),
+        Err(q) => refused(question == Some(q)),
     }
 }

@@ -1,37 +1,31 @@
 // How many cases of a group agreed, and how many it has.
+use std::num::wrapping_add_usize;
 
-#[derive(Clone, Copy)]
+#[derive(Clone, Copy, Default)]
 pub(crate) struct Score {
     pub(crate) agreed: usize,
     pub(crate) cases: usize,
 }
 
-pub(crate) fn none() -> Score {
-    Score {
-        agreed: 0,
-        cases: 0,
+impl Score {
+    // A group of one case.
+    pub(crate) fn of(agrees: bool) -> Self {
+        Score {
+            agreed: usize::from(agrees),
+            cases: 1,
+        }
     }
-}
 
-// One case more.
-pub(crate) fn case(s: Score, agrees: bool) -> Score {
-    let cases = std::num::wrapping_add_usize(s.cases, 1);
-    if agrees {
-        return Score {
-            agreed: std::num::wrapping_add_usize(s.agreed, 1),
-            cases,
-        };
+    // Two groups as one.
+    pub(crate) fn join(self, other: Score) -> Self {
+        Score {
+            agreed: wrapping_add_usize(self.agreed, other.agreed),
+            cases: wrapping_add_usize(self.cases, other.cases),
+        }
     }
-    Score {
-        agreed: s.agreed,
-        cases,
-    }
-}
 
-// Two groups as one.
-pub(crate) fn join(s: Score, t: Score) -> Score {
-    Score {
-        agreed: std::num::wrapping_add_usize(s.agreed, t.agreed),
-        cases: std::num::wrapping_add_usize(s.cases, t.cases),
+    // One case more.
+    pub(crate) fn case(self, agrees: bool) -> Self {
+        self.join(Score::of(agrees))
     }
 }

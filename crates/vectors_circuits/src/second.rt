@@ -19,36 +19,46 @@ struct Step {
     at: usize,
 }
 
-fn wide(x: u32) -> usize {
-    x as usize
+#[derive(Clone, Copy)]
+enum Kind {
+    Xor,
+    And,
+    Inv,
+    Eqw,
+    Eq,
 }
 
-// A gate takes four entries of a table: its kind, its left and its right operand, and its result.
-fn entry(gates: &[u32], i: usize, k: usize) -> usize {
-    let at = place(i, k);
-    if at < gates.len() {
-        return wide(gates[at]);
-    }
-    0
-}
-
-fn enter(gates: &mut [u32], i: usize, k: usize, v: usize) {
-    let at = place(i, k);
-    if at < gates.len() {
-        if v < 100000 {
-            gates[at] = v as u32;
+impl Kind {
+    // A gate's kind, by the first letter of its name and, for EQ, by its length.
+    fn of(name: &[u8]) -> Kind {
+        if name.len() == 2 {
+            return Kind::Eq;
+        }
+        match words::byte(name, 0) {
+            b'X' => Kind::Xor,
+            b'A' => Kind::And,
+            b'I' => Kind::Inv,
+            _ => Kind::Eqw,
         }
     }
 }
 
-fn place(i: usize, k: usize) -> usize {
-    if i < 100000 {
-        if k < 4 {
-            return 4 * i + k;
-        }
-    }
-    0
+// A gate, with the wires of its operands, one operand on both sides, and of its result. EQ has its constant as operand.
+#[derive(Clone, Copy)]
+pub(crate) struct Gate {
+    kind: Kind,
+    left: usize,
+    right: usize,
+    result: usize,
 }
+
+// A table's entry before its gate is read.
+pub(crate) const NO_GATE: Gate = Gate {
+    kind: Kind::Eq,
+    left: 0,
+    right: 0,
+    result: 0,
+};
 
 // A digit behind a number of at most six digits.
 fn digit(n: usize, b: u8) -> usize {
@@ -62,8 +72,8 @@ fn digit(n: usize, b: u8) -> usize {
 
 fn number(word: &[u8]) -> usize {
     let mut n = 0;
-    for i in 0..word.len() {
-        n = digit(n, words::byte(word, i));
+    for b in word {
+        n = digit(n, *b);
     }
     n
 }
@@ -107,78 +117,53 @@ pub(crate) fn header(text: &[u8]) -> Shape {
     }
 }
 
-// A gate's kind, by the first letter of its name and, for EQ, by its length.
-fn kind(name: &[u8]) -> usize {
-    if name.len() == 2 {
-        return 5;
-    }
-    match words::byte(name, 0) {
-        b'X' => 1,
-        b'A' => 2,
-        b'I' => 3,
-        _ => 4,
-    }
-}
-
-// The i-th gate line, which begins with how many operands there are; a gate of one operand has it on both sides. Answers the place
-// behind the line.
-fn gate(text: &[u8], at: usize, i: usize, gates: &mut [u32]) -> usize {
+// The gate of a line, which begins with how many operands there are, and the place behind the line.
+fn line(text: &[u8], at: usize) -> (Gate, usize) {
     let operands = next(text, at);
     let one = next(text, operands.at);
     let left = next(text, one.at);
-    let mut right = left;
-    if operands.value == 2 {
-        right = next(text, left.at);
-    }
+    let right = if operands.value == 2 {
+        next(text, left.at)
+    } else {
+        left
+    };
     let result = next(text, right.at);
-    enter(gates, i, 0, kind(words::word(text, result.at)));
-    enter(gates, i, 1, left.value);
-    enter(gates, i, 2, right.value);
-    enter(gates, i, 3, result.value);
-    words::behind(text, result.at)
+    let gate = Gate {
+        kind: Kind::of(words::word(text, result.at)),
+        left: left.value,
+        right: right.value,
+        result: result.value,
+    };
+    (gate, words::behind(text, result.at))
 }
 
 // The gates of a text.
-pub(crate) fn gates(text: &[u8], gates: &mut [u32]) {
+pub(crate) fn gates(text: &[u8], gates: &mut [Gate]) {
     let s = header(text);
-    let count = s.gates;
     let mut at = s.at;
-    for i in 0..count {
-        at = gate(text, at, i, gates);
+    for entry in gates.iter_mut().take(s.gates) {
+        (*entry, at) = line(text, at);
     }
 }
 
-// What a gate makes of its operands' bits. EQ has its constant in place of the left operand.
-fn made(kind: usize, a: u8, b: u8, left: usize) -> u8 {
-    match kind {
-        1 => a ^ b,
-        2 => a & b,
-        3 => 1 ^ a,
-        4 => a,
-        _ => {
-            if left == 1 {
-                return 1;
-            }
-            0
+impl Gate {
+    // The bit of the result.
+    fn bit(self, wires: &[u8]) -> u8 {
+        let a = words::byte(wires, self.left);
+        let b = words::byte(wires, self.right);
+        match self.kind {
+            Kind::Xor => a ^ b,
+            Kind::And => a & b,
+            Kind::Inv => 1 ^ a,
+            Kind::Eqw => a,
+            Kind::Eq => u8::from(self.left == 1),
         }
     }
 }
 
-// The bit of the i-th gate's result.
-fn bit(gates: &[u32], i: usize, wires: &[u8]) -> u8 {
-    let left = entry(gates, i, 1);
-    let right = entry(gates, i, 2);
-    made(
-        entry(gates, i, 0),
-        words::byte(wires, left),
-        words::byte(wires, right),
-        left,
-    )
-}
-
 // Every wire, from the input bits at the front.
-pub(crate) fn run(count: usize, gates: &[u32], wires: &mut [u8]) {
-    for i in 0..count {
-        words::put(wires, entry(gates, i, 3), bit(gates, i, wires));
+pub(crate) fn run(count: usize, gates: &[Gate], wires: &mut [u8]) {
+    for gate in gates.iter().take(count) {
+        words::put(wires, gate.result, gate.bit(wires));
     }
 }

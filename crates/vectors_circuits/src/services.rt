@@ -43,7 +43,7 @@ pub(crate) fn mask(
 ) -> Answer {
     let mut operands = buffers::words();
     let mut results = buffers::words();
-    let mut wires = buffers::gates();
+    let mut wires = buffers::wires();
     let mut marks = buffers::bytes();
     mask::mask(
         text,

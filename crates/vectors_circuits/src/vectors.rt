@@ -1,15 +1,14 @@
 // A netlist on its vectors: the service Run and the second evaluator, each against the vector's outputs.
 use crate::score::Score;
-use crate::second::Shape;
-use crate::{buffers, codes, score, second, services, words};
-use netlist::Answer;
+use crate::second::{Gate, Shape};
+use crate::{buffers, codes, second, services, words};
 
 // Whether Run gives the output bits of a vector from the input wires.
 fn service(text: &[u8], list: &[u8], out_codes: &[u8], m: u8, outputs: &[u8]) -> bool {
     let mut bits = buffers::list();
     match services::run(text, list, &mut bits) {
-        Answer::Done(n) => codes::agrees(words::part(&bits, 0, n), out_codes, m, outputs),
-        Answer::Refused(_) => false,
+        Ok(n) => codes::agrees(words::part(&bits, 0, n), out_codes, m, outputs),
+        Err(_) => false,
     }
 }
 
@@ -28,7 +27,7 @@ fn case(
     ins: &[u8],
     out_codes: &[u8],
     m: u8,
-    gates: &[u32],
+    gates: &[Gate],
     wires: &mut [u8],
 ) -> bool {
     codes::settle(wires, inputs, ins, m);
@@ -52,30 +51,21 @@ fn vector(
     ins: &[u8],
     out_codes: &[u8],
     settings: u8,
-    gates: &[u32],
+    gates: &[Gate],
     wires: &mut [u8],
 ) -> Score {
-    let mut s = score::none();
+    let mut s = Score::default();
     for m in 0..settings {
-        s = score::case(
-            s,
-            case(
-                text, shape, inputs, outputs, ins, out_codes, m, gates, wires,
-            ),
-        );
+        s = s.case(case(
+            text, shape, inputs, outputs, ins, out_codes, m, gates, wires,
+        ));
     }
     s
 }
 
 // Under how many mask settings the i-th vector is tried: none unless it is there and one of each `step`.
 fn tried(inputs: &[u8], i: usize, step: usize, settings: u8) -> u8 {
-    if inputs.len() == 0 {
-        return 0;
-    }
-    if step == 0 {
-        return 0;
-    }
-    if i % step != 0 {
+    if inputs.is_empty() || step == 0 || i % step != 0 {
         return 0;
     }
     settings
@@ -89,11 +79,11 @@ fn lines(
     ins: &[u8],
     out_codes: &[u8],
     settings: u8,
-    gates: &[u32],
+    gates: &[Gate],
     wires: &mut [u8],
 ) -> Score {
     let shape = second::header(text);
-    let mut s = score::none();
+    let mut s = Score::default();
     let mut at = 0;
     for i in 0..4096usize {
         let inputs = words::word(file, at);
@@ -110,7 +100,7 @@ fn lines(
             gates,
             wires,
         );
-        s = score::join(s, tries);
+        s = s.join(tries);
         at = words::behind(file, label);
     }
     s

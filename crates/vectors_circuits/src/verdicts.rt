@@ -1,8 +1,7 @@
 // Check, against the counts of the second evaluator.
-use crate::counts::Leak;
 use crate::score::Score;
-use crate::{counts, score, second, services, words};
-use check_netlist::Checked;
+use crate::{counts, services, words};
+use netlist::Question;
 
 // The edited netlists: how many of them both judge alike, and how many leak.
 #[derive(Clone, Copy)]
@@ -11,37 +10,24 @@ pub(crate) struct Edited {
     pub(crate) leaks: Score,
 }
 
-// Whether a verdict on a netlist of so many wires is what the counts say.
-fn same(verdict: Checked, leak: Leak, wires: usize) -> bool {
-    match verdict {
-        Checked::Clean => leak.wire == wires,
-        Checked::Leak(wire, setting, base, count) => {
-            wire == leak.wire
-                && setting == leak.setting as u64
-                && base == leak.base
-                && count == leak.count
-        }
-        Checked::Refused(_) => false,
-    }
-}
-
 // Whether both judge a netlist alike.
 pub(crate) fn alike(text: &[u8], codes: &[u8]) -> bool {
-    let shape = second::header(text);
-    same(
-        services::check(text, codes),
-        counts::lowest(text, codes),
-        shape.wires,
-    )
+    services::check(text, codes) == Ok(counts::lowest(text, codes))
 }
 
-// Check's verdict as a number: 0 for clean, 100 for a leak, and the question that refuses.
-pub(crate) fn verdict(text: &[u8], codes: &[u8]) -> u8 {
-    match services::check(text, codes) {
-        Checked::Clean => 0,
-        Checked::Leak(_, _, _, _) => 100,
-        Checked::Refused(question) => question,
-    }
+// Whether Check finds a netlist clean.
+pub(crate) fn is_clean(text: &[u8], codes: &[u8]) -> bool {
+    matches!(services::check(text, codes), Ok(None))
+}
+
+// Whether Check finds a leak.
+fn leaks(text: &[u8], codes: &[u8]) -> bool {
+    matches!(services::check(text, codes), Ok(Some(_)))
+}
+
+// Whether Check refuses a netlist for its input bits.
+pub(crate) fn refuses_settings(text: &[u8], codes: &[u8]) -> bool {
+    services::check(text, codes) == Err(Question::Settings)
 }
 
 fn name(text: &mut [u8], at: usize, a: u8, b: u8, c: u8) {
@@ -53,8 +39,8 @@ fn name(text: &mut [u8], at: usize, a: u8, b: u8, c: u8) {
 // One edited netlist more.
 fn tried(text: &[u8], codes: &[u8], e: Edited) -> Edited {
     Edited {
-        alike: score::case(e.alike, alike(text, codes)),
-        leaks: score::case(e.leaks, verdict(text, codes) == 100),
+        alike: e.alike.case(alike(text, codes)),
+        leaks: e.leaks.case(leaks(text, codes)),
     }
 }
 
@@ -69,8 +55,8 @@ fn turns(bits: usize) -> usize {
 // Edits of a masked netlist, whose text is the first n bytes of a buffer: each makes one XOR an AND, and is taken back.
 pub(crate) fn edits(text: &mut [u8], n: usize, codes: &[u8]) -> Edited {
     let mut e = Edited {
-        alike: score::none(),
-        leaks: score::none(),
+        alike: Score::default(),
+        leaks: Score::default(),
     };
     let mut place = 0;
     for _ in 0..turns(codes.len()) {

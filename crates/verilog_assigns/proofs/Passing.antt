@@ -1,5 +1,5 @@
 -- Tokens passed one after another, up to a semicolon.
-use Prim.Native.Nat.{ℕ, ◌≤◌, ◌<◌}
+use Prim.Native.Nat.{ℕ, ◌≤◌}
 use mathlib.Core.Path.{◌≡◌, refl, sym, ap, ◌∙◌}
 use mathlib.Core.Bool.{Bool, true, false, cond, ◌&&◌}
 use mathlib.Core.List.{List, [], ◌∷◌, ◌++◌, append_assoc}
@@ -17,9 +17,8 @@ use Rattle.verilog.specs.Rules.{expr_reads, term_reads, factor_reads}
 use Rattle.verilog_tokens.specs.Next.{code_of, token_of, between, TokenAt}
 use Rattle.verilog_tokens.proofs.Firsts.{never, token-code, first, none_left}
 use Rattle.verilog_gates.specs.Wires.{wire_of}
-use Rattle.verilog_gates.proofs.Joins.{left}
 use Rattle.verilog_rules.proofs.Seating.{name-marked}
-use Rattle.verilog_assigns.specs.Parts.{readable, token_passes, names_pass, behind_end, PartIs, any, PastIs}
+use Rattle.verilog_assigns.specs.Parts.{readable, token_passes, names_pass, behind_end, PartGives, any, PastIs}
 
 -- ---- one token
 
@@ -143,9 +142,6 @@ pub record Passing (t : List ℕ) (p : List ℕ → Bool) (at code from to : ℕ
   pub gives : (ts : List Token) → tokens (drop at t) ≡ some ts → Ahead t p place ts
 
 module _ {t : List ℕ} {p : List ℕ → Bool} {at : ℕ} where
-  pub pass-start : {code from to : ℕ} → TokenAt t at code from to → Passing t p at code from to
-  pass-start A = record { place = at; token = A; on = omega arith; gives = λ ts e. record { rest = ts; left = e; pass = refl; behind = refl } }
-
   module _ {code from to : ℕ} (P : Passing t p at code from to) where
     pub pass_on : (code ≡ 9 → ⊥) → token_passes p code (between t from to) ≡ true → {code' from' to' : ℕ} → TokenAt t to code' from' to' → Passing t p at code' from' to'
     pass_on n e A = record {
@@ -177,7 +173,7 @@ module _ {t : List ℕ} {p : List ℕ → Bool} {at : ℕ} where
             ap (λ (y : Token). names_pass p (y ∷ us)) (sym nm) ∙ pass-name p w us ∙ ap (λ (b : Bool). b && names_pass p us) k)
             (λ h. pass-mark p x us (λ y. eqb-false code 15 h (c ∙ y)) (λ y. n (c ∙ y)))
 
-    pub pass-bad : (code ≡ 9 → ⊥) → token_passes p code (between t from to) ≡ false → PartIs t p at (record { good = false; at = to })
+    pub pass-bad : (code ≡ 9 → ⊥) → token_passes p code (between t from to) ≡ false → PartGives t p at false to
     pass-bad n e = record {
       on = omega (arith, P.on, P.token.start, P.token.onward);
       within = P.token.within;
@@ -203,7 +199,7 @@ module _ {t : List ℕ} {p : List ℕ → Bool} {at : ℕ} where
         let c : code_of F.token ≡ 9 = sym (token-code code (between t from to) F.token F.is) ∙ n in
         (ap (names_pass p) F.split ∙ pass-sign p F.token F.more c, F.left ∙ ap some (sym (ap behind_end F.split ∙ behind-sign F.token F.more c)))
 
-    pub pass-end : code ≡ 9 → PartIs t p at (record { good = true; at = to })
+    pub pass-end : code ≡ 9 → PartGives t p at true to
     pass-end n = record {
       on = omega (arith, P.on, P.token.start, P.token.onward);
       within = P.token.within;
@@ -229,25 +225,7 @@ module _ {t : List ℕ} {at code from to : ℕ} (P : Passing t any at code from 
       always true = refl
       always false = refl
 
--- fewer tokens are left
-pub pass-less : (t : List ℕ) (code to : ℕ) {code' from' to' : ℕ} → (code ≡ 0 → ⊥) → TokenAt t to code' from' to' → left t code' to' < left t code to
-pass-less t code to {code'} n A =
-    let z = ne_eqb code 0 n in
-    on_bool (eqb code' 0)
-    (λ h. rw (h, z) (omega (arith, A.start, A.onward)))
-    (λ h. rw (h, z) (omega (arith, A.start, A.on h, A.within)))
-
-pub passes-some : (p : List ℕ → Bool) (c : ℕ) (w : List ℕ) → token_passes p c w ≡ true → c ≡ 0 → ⊥
-passes-some p c w e z = never (sym (sym (ap (λ (c : ℕ). token_passes p c w) z) ∙ e))
-
 -- ---- whether a token passes
-
-module _ (p : List ℕ → Bool) (c : ℕ) (w : List ℕ) where
-  pub passes_none : c ≡ 0 → false ≡ token_passes p c w
-  passes_none e = sym (rw (eq-eqb c 0 e))
-
-  pub passes-mark : (c ≡ 0 → ⊥) → (c ≡ 15 → ⊥) → true ≡ token_passes p c w
-  passes-mark f g = sym (rw (ne_eqb c 0 f, ne_eqb c 15 g))
 
 pub passes-name : (t words states : List ℕ) (n c : ℕ) (w : List ℕ) (x : ℕ) → c ≡ 15 → x ≡ wire_of t words states n w → leb 5 x ≡ token_passes
     (readable t words states n) c w

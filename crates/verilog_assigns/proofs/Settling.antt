@@ -1,14 +1,12 @@
 -- Assignments settled one after another.
-use Prim.Native.Nat.{ℕ, ◌<◌}
+use Prim.Native.Nat.{ℕ}
 use mathlib.Core.Path.{◌≡◌, refl, sym, ap, ◌∙◌}
 use mathlib.Core.Bool.{Bool, true, false, ◌&&◌}
 use mathlib.Core.List.{List, [], ◌∷◌, ◌++◌, append_assoc}
 use mathlib.Core.Option.{some}
 use native.Mathlib.Omega.{arith}
-use lib.Dec.{eqb}
 use lib.ListN.{length, drop}
 use Rattle.netlist.specs.Lists.{every, ascii}
-use Rattle.netlist.proofs.Tests.{on_bool}
 use Rattle.netlist.proofs.Questions.{some_same}
 use Rattle.verilog.specs.Tokens.{Token, name, mark, tokens}
 use Rattle.verilog.specs.Syntax.{Assign, expr_tokens, assign_tokens, each_tokens}
@@ -16,30 +14,10 @@ use Rattle.verilog.specs.Rules.{expr_reads}
 use Rattle.verilog_tokens.specs.Next.{token_of, between, TokenAt}
 use Rattle.verilog_tokens.proofs.Firsts.{never, token-code}
 use Rattle.verilog_gates.specs.Wires.{wire_of}
-use Rattle.verilog_gates.proofs.Joins.{left}
-use Rattle.verilog_rules.specs.States.{becomes}
-use Rattle.verilog_rules.proofs.Moves.{stays}
 use Rattle.verilog_rules.proofs.Seating.{known, name-marked, same_name}
-use Rattle.verilog_assigns.specs.declared.Part.{Part}
-use Rattle.verilog_assigns.specs.Parts.{readable, names_pass, behind_end, PartIs}
+use Rattle.verilog_assigns.specs.Parts.{readable, names_pass, behind_end, PartGives}
 use Rattle.verilog_assigns.specs.Settled.{is_open, settled, TargetIs, Settled, settle, settle_all, unsettled, assigns_left, AssignsIs}
 use Rattle.verilog_assigns.proofs.Passing.{expr-pass, expr-behind}
-
--- ---- one target
-
-module _ {t words : List ℕ} {n : ℕ} {w : List ℕ} {st : List ℕ} where
-  pub target-wire : {b : Bool} {st' : List ℕ} → b ≡ eqb (wire_of t words st n w) 3 → b ≡ true → st' ≡ becomes t words st n w 3 5 → TargetIs t words n w st st' true
-  target-wire e q s = let k : eqb (wire_of t words st n w) 3 ≡ true = sym e ∙ q in record { said = sym (rw k); states = s ∙ sym (rw k) }
-
-  pub target-other : {b r : Bool} {st₁ st' : List ℕ} → b ≡ eqb (wire_of t words st n w) 3 → b ≡ false → st₁ ≡ becomes t words st n w 3 5
-      → r ≡ eqb (wire_of t words st₁ n w) 4 → st' ≡ becomes t words st₁ n w 4 6 → TargetIs t words n w st st' r
-  target-other {b} {r} {st₁} {st'} e q s f g =
-      let k : eqb (wire_of t words st n w) 3 ≡ false = sym e ∙ q in
-      let u : st₁ ≡ st = s ∙ sym (stays t words st n w 3 5 k) in
-      record {
-        said = f ∙ ap (λ (x : List ℕ). eqb (wire_of t words x n w) 4) u ∙ sym (rw k);
-        states = g ∙ ap (λ (x : List ℕ). becomes t words x n w 4 6) u ∙ sym (rw k);
-      }
 
 -- ---- all of them
 
@@ -84,9 +62,6 @@ right-false true b e = e
 right-false false b e = refl
 
 module _ {t words : List ℕ} {n at : ℕ} {st₀ : List ℕ} where
-  pub settle-start : {code start to : ℕ} → TokenAt t at code start to → Settling t words n at st₀ st₀ code to
-  settle-start {start = start} A = record { place = at; start = start; token = A; stated = refl; gives = λ xs rest e. record { more = xs; left = e; same = refl } }
-
   module _ {st : List ℕ} {code to : ℕ} (S : Settling t words n at st₀ st code to) where
     pub settle-end : (code ≡ 5 → ⊥) → AssignsIs t words n at st₀ st true
     settle-end h = record {
@@ -100,16 +75,16 @@ module _ {t words : List ℕ} {n at : ℕ} {st₀ : List ℕ} where
         none [] rest e = refl
         none (a ∷ xs) rest e = absurd (h (token-code code (between t S.start to) (mark (ascii "assign")) (known S.token (mark (ascii "assign")) _ e).0))
 
-    module _ (five : code ≡ 5) {cx fx tx cy fy ty : ℕ} (X : TokenAt t to cx fx tx) (Y : TokenAt t tx cy fy ty) {r : Part}
-        (P : PartIs t (readable t words st n) ty r) where
+    module _ (five : code ≡ 5) {cx fx tx cy fy ty : ℕ} (X : TokenAt t to cx fx tx) (Y : TokenAt t tx cy fy ty) {ok : Bool} {behind : ℕ}
+        (P : PartGives t (readable t words st n) ty ok behind) where
       -- the assignment at this place
       record This (xs : List Assign) (rest : List Token) : Type 0 where
         is : Assign
         more : List Assign
         split : xs ≡ is ∷ more
         target : is.target ≡ between t fx tx
-        reads : r.good ≡ every (readable t words st n) (expr_reads is.value)
-        left : r.good ≡ true → tokens (drop r.at t) ≡ some (assigns_left more rest)
+        reads : ok ≡ every (readable t words st n) (expr_reads is.value)
+        left : ok ≡ true → tokens (drop behind t) ≡ some (assigns_left more rest)
 
       this : (xs : List Assign) (rest : List Token) → tokens (drop S.place t) ≡ some (assigns_left xs rest) → This xs rest
       this [] rest e = let k = known S.token (mark (ascii "endmodule")) rest e in
@@ -135,7 +110,7 @@ module _ {t words : List ℕ} {n at : ℕ} {st₀ : List ℕ} where
             left = λ g. G.left g ∙ ap some (expr-behind p a.value us ∙ end-behind (assigns_left more rest));
           }
 
-      pub settle-unread : {st' : List ℕ} → r.good ≡ false → AssignsIs t words n at st₀ st' false
+      pub settle-unread : {st' : List ℕ} → ok ≡ false → AssignsIs t words n at st₀ st' false
       settle-unread g = record {
         gives = λ xs rest e.
             let A = S.gives xs rest e in
@@ -166,10 +141,10 @@ module _ {t words : List ℕ} {n at : ℕ} {st₀ : List ℕ} where
               };
         }
 
-        pub settle-on : r.good ≡ true → good ≡ true → length st' ≡ length st → {code' start' to' : ℕ} → TokenAt t r.at code' start' to' → Settling t words n
+        pub settle-on : ok ≡ true → good ≡ true → length st' ≡ length st → {code' start' to' : ℕ} → TokenAt t behind code' start' to' → Settling t words n
             at st₀ st' code' to'
         settle-on g h l {code'} {start'} {to'} A' = record {
-          place = r.at;
+          place = behind;
           start = start';
           token = A';
           stated = l ∙ S.stated;
@@ -187,11 +162,3 @@ module _ {t words : List ℕ} {n at : ℕ} {st₀ : List ℕ} where
                 same = A.same ∙ ap (settle_all t words n (unsettled st)) T.split ∙ ap (λ (X : Settled). settle_all t words n X T.more) k;
               };
         }
-
-      -- fewer tokens are left
-      pub settle-less : {code' start' to' : ℕ} → TokenAt t r.at code' start' to' → left t code' to' < left t code to
-      settle-less {code'} A =
-          let z : eqb code 0 ≡ false = ap (λ (c : ℕ). eqb c 0) five in
-          on_bool (eqb code' 0)
-          (λ h. rw (h, z) (omega (arith, X.start, X.onward, Y.start, Y.onward, P.on, A.start, A.onward)))
-          (λ h. rw (h, z) (omega (arith, X.start, X.onward, Y.start, Y.onward, P.on, A.start, A.on h, A.within)))

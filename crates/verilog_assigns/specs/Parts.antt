@@ -1,10 +1,9 @@
 -- Tokens up to a semicolon.
-use Rattle.std.specs.Prelude.{ℕ, ◌≤◌, ◌≡◌, Bool, true, false, cond, ◌&&◌, List, [], ◌∷◌, eqb, leb, length, drop}
+use Rattle.std.specs.Prelude.{ℕ, ◌≤◌, ◌≡◌, Option, Some, None, Bool, true, false, cond, ◌&&◌, List, [], ◌∷◌, eqb, leb, length, drop}
 use Rattle.std.proofs.Math.Option.{some}
 use Rattle.verilog.specs.Tokens.{Token, name, mark, tokens}
 use Rattle.verilog_tokens.specs.Next.{code_of}
 use Rattle.verilog_gates.specs.Wires.{wire_of}
-use Rattle.verilog_assigns.specs.declared.Part.{Part}
 
 -- a name may be read: its state is 5 or more
 unfoldable pub readable : List ℕ → List ℕ → List ℕ → ℕ → List ℕ → Bool
@@ -26,14 +25,18 @@ behind_end [] = []
 behind_end (x ∷ ts) = cond (eqb (code_of x) 9) ts (behind_end ts)
 
 -- what an answer says of the tokens from a place on
-pub record PartSays (t : List ℕ) (p : List ℕ → Bool) (ts : List Token) (r : Part) : Type 0 where
-  pub said : r.good ≡ names_pass p ts
-  pub left : r.good ≡ true → tokens (drop r.at t) ≡ some (behind_end ts)
+pub record PartSays (t : List ℕ) (p : List ℕ → Bool) (ts : List Token) (good : Bool) (behind : ℕ) : Type 0 where
+  pub said : good ≡ names_pass p ts
+  pub left : good ≡ true → tokens (drop behind t) ≡ some (behind_end ts)
 
-pub record PartIs (t : List ℕ) (p : List ℕ → Bool) (at : ℕ) (r : Part) : Type 0 where
-  pub on : at ≤ r.at
-  pub within : r.at ≤ length t
-  pub gives : (ts : List Token) → tokens (drop at t) ≡ some ts → PartSays t p ts r
+pub record PartGives (t : List ℕ) (p : List ℕ → Bool) (at : ℕ) (good : Bool) (behind : ℕ) : Type 0 where
+  pub on : at ≤ behind
+  pub within : behind ≤ length t
+  pub gives : (ts : List Token) → tokens (drop at t) ≡ some ts → PartSays t p ts good behind
+
+abbrev pub PartIs : List ℕ → (List ℕ → Bool) → ℕ → Option ℕ → Type 0
+PartIs t p at None = (place : ℕ) × PartGives t p at false place
+PartIs t p at (Some r) = PartGives t p at true r
 
 abbrev pub any : List ℕ → Bool
 any w = true

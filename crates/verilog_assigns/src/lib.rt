@@ -1,83 +1,46 @@
 // The assignments, for question 17: each reads names that may be read, and its target becomes one.
 #![tactic(auto)]
 
-ghost use Rattle.std.specs.Prelude.{◌≡◌, ◌≤◌, ◌<◌, length};
+ghost use Rattle.std.specs.Prelude.{◌≡◌, ◌≤◌, length};
+ghost use Rattle.verilog_tokens.specs.Kind.{number_of};
 ghost use Rattle.verilog_tokens.specs.Next.{between};
-ghost use Rattle.verilog_names.specs.Names.{Chained};
 ghost use Rattle.verilog_assigns.specs.Parts.{token_passes, readable, PartIs, PastIs};
 ghost use Rattle.verilog_assigns.specs.Settled.{TargetIs, AssignsIs};
 
 use verilog_gates::wires::wire_of;
-use verilog_rules::states::advance;
-use verilog_tokens::next;
-
-// Whether the names up to a semicolon are as they must be, and the place behind it.
-#[derive(Clone, Copy)]
-pub struct Part {
-    pub good: bool,
-    pub at: usize,
-}
+use verilog_names::Names;
+use verilog_rules::states::{State, advance};
+use verilog_tokens::{Kind, Token, next};
 
 // Whether a token may stand in an expression: the end of the text may not, and a name only if it may be read.
-fn passes(
-    text: &[u8],
-    heads: &[u64],
-    words: &[u64],
-    links: &[u64],
-    states: &[u32],
-    size: usize,
-    count: usize,
-    code: u8,
-    from: usize,
-    to: usize,
-) -> bool
-    requires { Chained text.now heads.now words.now links.now size count × (count ≤ length states.now) × (from ≤ to)
-        × (to ≤ length text.now) }
-    ensures { result ≡ token_passes (readable text.now words.now states.now count) code
-        (between text.now from to) }
+fn passes(names: Names, states: &[u32], token: Token) -> bool
+    requires { (names.count ≤ length states.now) × (token.from ≤ token.to) × (token.to ≤ length names.text.now) }
+    ensures { result ≡ token_passes (readable names.entry.text.now names.entry.words.now states.now names.entry.count)
+        (number_of token.kind) (between names.entry.text.now token.from token.to) }
 {
-    if code == 0 {
-        return false;
+    match token.kind {
+        Kind::End => false,
+        Kind::Name => {
+            let state = wire_of(names, states, &names.text[token.from..token.to]);
+            State::Readable.number() <= state
+        }
+        _ => true,
     }
-    if code != 15 {
-        return true;
-    }
-    5 <= wire_of(text, heads, words, links, states, size, count, from, to)
 }
 
-// The names from a place on, up to a semicolon: whether each may be read.
-fn reads(
-    text: &[u8],
-    heads: &[u64],
-    words: &[u64],
-    links: &[u64],
-    states: &[u32],
-    size: usize,
-    count: usize,
-    at: usize,
-) -> Part
-    requires { Chained text.now heads.now words.now links.now size count × (count ≤ length states.now) × (at ≤ length text.now) }
-    ensures { PartIs text.now (readable text.now words.now states.now count) at result }
+// The place behind the next semicolon, if each name before it may be read.
+fn reads(names: Names, states: &[u32], at: usize) -> Option<usize>
+    requires { (names.count ≤ length states.now) × (at ≤ length names.text.now) }
+    ensures { PartIs names.entry.text.now (readable names.entry.text.now names.entry.words.now states.now names.entry.count) at result }
 {
-    let first = next(text, at);
-    let mut code = first.code;
-    let mut from = first.from;
-    let mut to = first.to;
-    while code != 9 {
-        if !passes(
-            text, heads, words, links, states, size, count, code, from, to,
-        ) {
-            return Part {
-                good: false,
-                at: to,
-            };
+    let mut token = next(names.text, at);
+    while token.kind != Kind::Semicolon {
+        if !passes(names, states, token) {
+            return None;
         }
-        let t = next(text, to);
-        code = t.code;
-        from = t.from;
-        to = t.to;
+        token = next(names.text, token.to);
     }
-    Part { good: true, at: to }
+    Some(token.to)
 }
 
 // The place behind the next semicolon.
@@ -85,80 +48,43 @@ pub fn past(text: &[u8], at: usize) -> usize
     requires { at ≤ length text.now }
     ensures { PastIs text.now at result }
 {
-    let first = next(text, at);
-    let mut code = first.code;
-    let mut to = first.to;
-    while code != 9 {
-        if code == 0 {
-            return to;
+    let mut token = next(text, at);
+    while token.kind != Kind::Semicolon {
+        if token.kind == Kind::End {
+            return token.to;
         }
-        let t = next(text, to);
-        code = t.code;
-        to = t.to;
+        token = next(text, token.to);
     }
-    to
+    token.to
 }
 
-// Makes the name between two places one that may be read; says whether it was a wire or an output not yet assigned.
-fn target(
-    text: &[u8],
-    heads: &[u64],
-    words: &[u64],
-    links: &[u64],
-    states: &mut [u32],
-    size: usize,
-    count: usize,
-    from: usize,
-    to: usize,
-) -> bool
-    requires { Chained text.now heads.now words.now links.now size count × (count ≤ length states.old) × (from ≤ to)
-        × (to ≤ length text.now) }
-    ensures { TargetIs text.now words.now count (between text.now from to) states.old
-        states.new result }
+// Makes a name one that may be read; says whether it was a wire or an output not yet assigned.
+fn target(names: Names, states: &mut [u32], w: &[u8]) -> bool
+    requires { names.count ≤ length states.old }
+    ensures { TargetIs names.entry.text.now names.entry.words.now names.entry.count w.now states.old states.new result }
 {
-    if advance(
-        text, heads, words, links, states, size, count, from, to, 3, 5,
-    ) {
-        return true;
-    }
-    advance(
-        text, heads, words, links, states, size, count, from, to, 4, 6,
-    )
+    advance(names, states, w, State::Wire, State::Readable)
+        || advance(names, states, w, State::Port, State::ReadableOutput)
 }
 
 // The assignments from a place on: whether each reads only names that may be read, and assigns a wire or an output that is not
 // yet assigned.
-pub fn assigns(
-    text: &[u8],
-    heads: &[u64],
-    words: &[u64],
-    links: &[u64],
-    states: &mut [u32],
-    size: usize,
-    count: usize,
-    at: usize,
-) -> bool
-    requires { Chained text.now heads.now words.now links.now size count × (count ≤ length states.old) × (at ≤ length text.now) }
-    ensures { AssignsIs text.now words.now count at states.old states.new result }
+pub fn assigns(names: Names, states: &mut [u32], at: usize) -> bool
+    requires { (names.count ≤ length states.old) × (at ≤ length names.text.now) }
+    ensures { AssignsIs names.entry.text.now names.entry.words.now names.entry.count at states.old states.new result }
 {
-    let first = next(text, at);
-    let mut code = first.code;
-    let mut to = first.to;
-    while code == 5 {
-        let name = next(text, to);
+    let text = names.text;
+    let mut token = next(text, at);
+    while token.kind == Kind::Assign {
+        let name = next(text, token.to);
         let equals = next(text, name.to);
-        let r = reads(text, heads, words, links, states, size, count, equals.to);
-        if !r.good {
+        let Some(behind) = reads(names, states, equals.to) else {
+            return false;
+        };
+        if !target(names, states, &text[name.from..name.to]) {
             return false;
         }
-        let from = name.from;
-        let end = name.to;
-        if !target(text, heads, words, links, states, size, count, from, end) {
-            return false;
-        }
-        let t = next(text, r.at);
-        code = t.code;
-        to = t.to;
+        token = next(text, behind);
     }
     true
 }

@@ -1,5 +1,5 @@
 -- Outputs copied one after another.
-use Prim.Native.Nat.{ℕ, ◌+◌, ◌≤◌, ◌<◌}
+use Prim.Native.Nat.{ℕ, ◌+◌, ◌≤◌}
 use mathlib.Core.Path.{◌≡◌, refl, sym, ap, ◌∙◌}
 use mathlib.Core.Bool.{Bool, false, cond}
 use mathlib.Core.List.{List, [], ◌∷◌, map}
@@ -10,27 +10,17 @@ use lib.ListN.{length, drop}
 use borrow.Author.Tests.{eqb-true, eqb-false}
 use Rattle.netlist.specs.declared.Gate.{Gate}
 use Rattle.netlist.specs.declared.Gate.TheVariants.{Eqw}
-use Rattle.netlist.specs.Table.{Tables, tables, half}
+use Rattle.netlist.specs.Table.{Tables, tables}
 use Rattle.netlist.proofs.Tests.{on_bool}
 use Rattle.verilog.specs.Tokens.{Token, tokens}
 use Rattle.verilog.specs.Equations.{chosen}
 use Rattle.verilog.specs.Made.{copies}
 use Rattle.verilog_tokens.specs.Next.{between, TokenAt}
-use Rattle.verilog_gates.specs.Puts.{packed, put_gate, put_gates}
+use Rattle.verilog_gates.specs.Puts.{put_gate, put_gates}
 use Rattle.verilog_gates.specs.Wires.{wire_of}
 use Rattle.verilog_rules.specs.Ports.{ports_left}
 use Rattle.verilog_rules.proofs.Seating.{port-here, port-next, port-none}
 use Rattle.verilog_copies.specs.Copies.{CopyIs, output_copies, CopiesIs}
-
--- ---- one port
-
-module _ {t words st ws : List ℕ} {count n : ℕ} {w : List ℕ} {c : ℕ} {before : Tables} where
-  pub copy-other : {x : ℕ} → x ≡ wire_of t words st count w → (x ≡ 6 → ⊥) → CopyIs t words st ws count n w c before before c
-  copy-other e h = record { is_output = λ z. absurd (h (e ∙ z)); is_other = λ z. (refl, refl) }
-
-  pub copy-output : {after : Tables} {x y : ℕ} → x ≡ wire_of t words st count w → x ≡ 6 → y ≡ wire_of t words ws count w → after ≡ packed n before 4 y y c →
-      CopyIs t words st ws count n w c before after (c + 1)
-  copy-output e h q p = record { is_output = λ z. (refl, p ∙ ap (λ (k : ℕ). packed n before 4 k k c) q); is_other = λ z. absurd (z (sym e ∙ h)) }
 
 -- ---- all of them
 
@@ -58,26 +48,12 @@ pub record Copying (t words st ws : List ℕ) (count n at c : ℕ) (o₀ r₀ o 
       (tables o r) free place ps rest
 
 module _ {t words st ws : List ℕ} {count n at c : ℕ} {o₀ r₀ : List ℕ} where
-  pub copies-start : {code from to : ℕ} → n ≤ c → TokenAt t at code from to → Copying t words st ws count n at c o₀ r₀ o₀ r₀ code from to c
-  copies-start h A = record {
-    place = at;
-    token = A;
-    operands = refl;
-    results = refl;
-    first = h;
-    few = omega arith;
-    gives = λ ps rest e. record { more = ps; left = e; same = refl };
-  }
-
   module _ {o r : List ℕ} {code from to free : ℕ} (C : Copying t words st ws count n at c o₀ r₀ o r code from to free) where
     pub copies-end : (code ≡ 15 → ⊥) → CopiesIs t words st ws count n at c (tables o₀ r₀) (tables o r)
     copies-end h = record {
       gives = λ ps rest e. let A = C.gives ps rest e in sym (A.same ∙ ap (λ (us : List (List ℕ)). put_gates n (tables o r)
           (output_copies t words st ws count free us)) (port-none C.token h A.more rest A.left) ∙ puts_none n (tables o r));
     }
-
-    pub copies-room : c + length t + 1 < half → free + 1 < half
-    copies-room h = omega (arith, C.few, C.token.start, C.token.onward, C.token.within, h)
 
     pub copies-on : code ≡ 15 → {o' r' : List ℕ} {free' : ℕ} → CopyIs t words st ws count n (between t from to) free (tables o r) (tables o' r') free' → length
         o' ≡ length o → length r' ≡ length r

@@ -1,4 +1,3 @@
 -- Laws of the recogniser in numbers.
 pub mod Machine
 pub mod Walks
-pub mod Rows

@@ -1,39 +1,23 @@
--- The recogniser in numbers is the recogniser.
-use Prim.Native.Nat.{ℕ, zero, suc, ◌+◌, ◌*◌, ◌-◌, ◌≤◌}
-use mathlib.Core.Path.{◌≡◌, refl, ap, subst}
+-- The recogniser over the numbers of kinds is the recogniser.
+use Prim.Native.Nat.{ℕ, zero, suc, ◌+◌, ◌≤◌}
+use mathlib.Core.Path.{◌≡◌, refl, sym, ap, subst, ◌∙◌}
+use mathlib.Core.Bool.{false}
 use mathlib.Core.List.{List, [], ◌∷◌}
 use mathlib.Core.Option.{none, some}
 use native.Mathlib.Omega.{arith}
-use lib.Dec.{T, eqb, leb, leb→le}
-use lib.ListN.{get_or}
-use borrow.Author.Tests.{eq-eqb, ne_eqb}
-use Rattle.netlist.specs.Lists.{every, same_bytes}
-use Rattle.netlist.proofs.Tests.{on_bool, both}
+use lib.Dec.{leb}
+use borrow.Author.Tests.{leb-true, leb-false}
+use Rattle.netlist.specs.Lists.{same_bytes}
+use Rattle.netlist.proofs.Tests.{on_bool}
 use Rattle.netlist.proofs.Questions.{none-some, some_same}
 use Rattle.verilog.specs.Tokens.{Token, name, mark, marks}
 use Rattle.verilog.specs.Parse.{Move, follow}
 use Rattle.verilog.specs.Walk.{Phase, Shape, at, flat, turns, behind_word, turn, is_end, operators_in, on_module, on_title, on_ports, on_port, behind_port, on_head_end, on_item, on_assign, on_name, behind_name, on_target, on_equals, on_operand, on_negated, behind_operand, on_nothing}
 use Rattle.verilog_tokens.specs.Next.{token_of}
 use Rattle.verilog_tokens.proofs.Firsts.{EachMark, by_code}
-use Rattle.verilog_form.specs.Turns.{turns_table, entry_of, phase_of, kept, lower, level, after_close, after_end, after_open, stepped, operator_code}
-
-abbrev pub number : Phase → ℕ
-number on_module = 0
-number on_title = 1
-number on_ports = 2
-number on_port = 3
-number behind_port = 4
-number on_head_end = 5
-number on_item = 6
-number on_assign = 7
-number on_name = 8
-number behind_name = 9
-number on_target = 10
-number on_equals = 11
-number on_operand = 12
-number on_negated = 13
-number behind_operand = 14
-number on_nothing = 15
+use Rattle.verilog_form.specs.declared.Phase as P
+use Rattle.verilog_form.specs.declared.Phase.TheVariants.{OnModule, OnTitle, OnPorts, OnPort, BehindPort, OnHeadEnd, OnItem, OnAssign, OnName, BehindName, OnTarget, OnEquals, OnOperand, OnNegated, BehindOperand, OnNothing}
+use Rattle.verilog_form.specs.Turns.{phase_of, stepped, operator_code}
 
 -- outside expressions no parenthesis is open
 abbrev pub depth_of : Phase → ℕ → ℕ
@@ -56,10 +40,10 @@ depth_of on_nothing k = 0
 
 -- what the numbers say of a token
 Turned : Phase → ℕ → ℕ → Token → Type 0
-Turned p k c x = turn (at p k) x ≡ stepped (number p) c k
+Turned p k c x = turn (at p k) x ≡ stepped p c k
 
 all-turned : (p : Phase) (k : ℕ) → EachMark (Turned p (depth_of p k)) 0 marks
-unfolding Turned stepped
+unfolding Turned
 all-turned on_module k = (refl, (refl, (refl, (refl, (refl, (refl, (refl, (refl, (refl, (refl, (refl, (refl, (refl, (refl, tt))))))))))))))
 all-turned on_title k = (refl, (refl, (refl, (refl, (refl, (refl, (refl, (refl, (refl, (refl, (refl, (refl, (refl, (refl, tt))))))))))))))
 all-turned on_ports k = (refl, (refl, (refl, (refl, (refl, (refl, (refl, (refl, (refl, (refl, (refl, (refl, (refl, (refl, tt))))))))))))))
@@ -79,7 +63,7 @@ all-turned behind_operand (suc k) = (refl, (refl, (refl, (refl, (refl, (refl, (r
 all-turned on_nothing k = (refl, (refl, (refl, (refl, (refl, (refl, (refl, (refl, (refl, (refl, (refl, (refl, (refl, (refl, tt))))))))))))))
 
 name-turned : (p : Phase) (k : ℕ) (w : List ℕ) → Turned p (depth_of p k) 15 (name w)
-unfolding Turned stepped
+unfolding Turned
 name-turned on_module k w = refl
 name-turned on_title k w = refl
 name-turned on_ports k w = refl
@@ -97,7 +81,7 @@ name-turned on_negated k w = refl
 name-turned behind_operand k w = refl
 name-turned on_nothing k w = refl
 
-pub turned : (p : Phase) (k c : ℕ) (w : List ℕ) (x : Token) → depth_of p k ≡ k → token_of c w ≡ some x → turn (at p k) x ≡ stepped (number p) c k
+pub turned : (p : Phase) (k c : ℕ) (w : List ℕ) (x : Token) → depth_of p k ≡ k → token_of c w ≡ some x → turn (at p k) x ≡ stepped p c k
 unfolding Turned
 turned p k c w x d e = subst (λ (j : ℕ). Turned p j c x) d (by_code (Turned p (depth_of p k)) w (name-turned p k w) (all-turned p k) c x e)
 
@@ -158,62 +142,25 @@ pub turn-steady : (p : Phase) (k : ℕ) (x : Token) (s : Shape) → turn (at p k
 turn-steady p k (name w) s e = word-steady p k s e
 turn-steady p k (mark m) s e = follow-steady m (turns p k) s (moves-steady p k) e
 
--- ---- numbers of phases
+-- ---- the last phase
 
-pub number-phase : (n : ℕ) → n ≤ 15 → number (phase_of n) ≡ n
-number-phase zero h = refl
-number-phase (suc zero) h = refl
-number-phase (suc (suc zero)) h = refl
-number-phase (suc (suc (suc zero))) h = refl
-number-phase (suc (suc (suc (suc zero)))) h = refl
-number-phase (suc (suc (suc (suc (suc zero))))) h = refl
-number-phase (suc (suc (suc (suc (suc (suc zero)))))) h = refl
-number-phase (suc (suc (suc (suc (suc (suc (suc zero))))))) h = refl
-number-phase (suc (suc (suc (suc (suc (suc (suc (suc zero)))))))) h = refl
-number-phase (suc (suc (suc (suc (suc (suc (suc (suc (suc zero))))))))) h = refl
-number-phase (suc (suc (suc (suc (suc (suc (suc (suc (suc (suc zero)))))))))) h = refl
-number-phase (suc (suc (suc (suc (suc (suc (suc (suc (suc (suc (suc zero))))))))))) h = refl
-number-phase (suc (suc (suc (suc (suc (suc (suc (suc (suc (suc (suc (suc zero)))))))))))) h = refl
-number-phase (suc (suc (suc (suc (suc (suc (suc (suc (suc (suc (suc (suc (suc zero))))))))))))) h = refl
-number-phase (suc (suc (suc (suc (suc (suc (suc (suc (suc (suc (suc (suc (suc (suc zero)))))))))))))) h = refl
-number-phase (suc (suc (suc (suc (suc (suc (suc (suc (suc (suc (suc (suc (suc (suc (suc zero))))))))))))))) h = refl
-number-phase (suc (suc (suc (suc (suc (suc (suc (suc (suc (suc (suc (suc (suc (suc (suc (suc n)))))))))))))))) h = absurd (omega arith)
-
-pub number-low : (p : Phase) → number p ≤ 15
-number-low on_module = omega arith
-number-low on_title = omega arith
-number-low on_ports = omega arith
-number-low on_port = omega arith
-number-low behind_port = omega arith
-number-low on_head_end = omega arith
-number-low on_item = omega arith
-number-low on_assign = omega arith
-number-low on_name = omega arith
-number-low behind_name = omega arith
-number-low on_target = omega arith
-number-low on_equals = omega arith
-number-low on_operand = omega arith
-number-low on_negated = omega arith
-number-low behind_operand = omega arith
-number-low on_nothing = omega arith
-
-pub end-phase : (p : Phase) → eqb (number p) 15 ≡ is_end p
-end-phase on_module = refl
-end-phase on_title = refl
-end-phase on_ports = refl
-end-phase on_port = refl
-end-phase behind_port = refl
-end-phase on_head_end = refl
-end-phase on_item = refl
-end-phase on_assign = refl
-end-phase on_name = refl
-end-phase behind_name = refl
-end-phase on_target = refl
-end-phase on_equals = refl
-end-phase on_operand = refl
-end-phase on_negated = refl
-end-phase behind_operand = refl
-end-phase on_nothing = refl
+pub end-other : (p : P.Phase) → (p ≡ OnNothing → ⊥) → is_end (phase_of p) ≡ false
+end-other OnModule h = refl
+end-other OnTitle h = refl
+end-other OnPorts h = refl
+end-other OnPort h = refl
+end-other BehindPort h = refl
+end-other OnHeadEnd h = refl
+end-other OnItem h = refl
+end-other OnAssign h = refl
+end-other OnName h = refl
+end-other BehindName h = refl
+end-other OnTarget h = refl
+end-other OnEquals h = refl
+end-other OnOperand h = refl
+end-other OnNegated h = refl
+end-other BehindOperand h = refl
+end-other OnNothing h = absurd (h refl)
 
 -- ---- operators
 
@@ -238,47 +185,30 @@ operator-coded ts c w x e = by_code (λ c x. operators_in (x ∷ ts) ≡ operato
   ),
 ) c x e
 
--- ---- the table
+-- ---- no token
 
-low : (xs : List ℕ) (i : ℕ) → T (every (λ x. leb x 16) xs) → get_or xs i 0 ≤ 16
-low [] i t = omega arith
-low (x ∷ xs) zero t = leb→le x 16 (both (leb x 16) (every (λ x. leb x 16) xs) t).0
-low (x ∷ xs) (suc i) t = low xs i (both (leb x 16) (every (λ x. leb x 16) xs) t).1
+other-stepped : (p : Phase) (k : ℕ) → stepped p 16 k ≡ none
+other-stepped on_module k = refl
+other-stepped on_title k = refl
+other-stepped on_ports k = refl
+other-stepped on_port k = refl
+other-stepped behind_port k = refl
+other-stepped on_head_end k = refl
+other-stepped on_item k = refl
+other-stepped on_assign k = refl
+other-stepped on_name k = refl
+other-stepped behind_name k = refl
+other-stepped on_target k = refl
+other-stepped on_equals k = refl
+other-stepped on_operand k = refl
+other-stepped on_negated k = refl
+other-stepped behind_operand k = refl
+other-stepped on_nothing k = refl
 
-pub entry-low : (n c : ℕ) → entry_of n c ≤ 16
-entry-low n c = low turns_table (n * 16 + c) tt
-
--- ---- what each kind of token does
-
-module _ (q k : ℕ) where
-  pub close_other : (q ≡ 14 → ⊥) → kept q k ≡ after_close q k
-  close_other h = rw (ne_eqb q 14 h)
-
-  pub end-other : (q ≡ 7 → ⊥) → kept q k ≡ after_end q k
-  end-other h = rw (ne_eqb q 7 h)
-
-  pub open-other : (q ≡ 12 → ⊥) → kept q k ≡ after_open q k
-  open-other h = rw (ne_eqb q 12 h)
-
-  pub close-none : q ≡ 14 → k ≡ 0 → none ≡ after_close q k
-  close-none h z = rw (eq-eqb q 14 h) (rw z)
-
-  pub close-one : q ≡ 14 → (k ≡ 0 → ⊥) → some (at behind_operand (k - 1)) ≡ after_close q k
-  close-one h z = rw (eq-eqb q 14 h) (go k z)
-    where
-      go : (k : ℕ) → (k ≡ 0 → ⊥) → some (at behind_operand (k - 1)) ≡ lower k
-      go zero z = absurd (z refl)
-      go (suc k) z = let e : suc k - 1 ≡ k = omega arith in ap (λ (j : ℕ). some (at behind_operand j)) e
-
-  pub end-level : q ≡ 7 → k ≡ 0 → some (at on_assign k) ≡ after_end q k
-  end-level h z = rw (eq-eqb q 7 h) (rw z)
-
-  pub end-deep : q ≡ 7 → (k ≡ 0 → ⊥) → none ≡ after_end q k
-  end-deep h z = rw (eq-eqb q 7 h) (go k z)
-    where
-      go : (k : ℕ) → (k ≡ 0 → ⊥) → none ≡ level k
-      go zero z = absurd (z refl)
-      go (suc k) z = refl
-
-  pub open-one : q ≡ 12 → some (at on_operand (k + 1)) ≡ after_open q k
-  open-one h = let e : k + 1 ≡ suc k = omega arith in rw (eq-eqb q 12 h) (ap (λ (j : ℕ). some (at on_operand j)) e)
+-- behind no token comes nothing
+pub stepped-token : (p : Phase) (c k : ℕ) (s : Shape) → c ≤ 16 → some s ≡ stepped p c k → c ≤ 15
+stepped-token p c k s l e =
+    on_bool (leb c 15) (leb-true c 15)
+    (λ h. let g = leb-false c 15 h in
+    let z : c ≡ 16 = omega (arith, g) in
+    absurd (none-some s (sym (e ∙ ap (λ (n : ℕ). stepped p n k) z ∙ other-stepped p k))))

@@ -1,23 +1,25 @@
 -- The loop over the tokens of a text.
 use Prim.Native.Nat.{ℕ, ◌+◌, ◌*◌, ◌-◌, ◌≤◌, ◌<◌, max}
-use mathlib.Core.Path.{◌≡◌, refl, sym, ap, ◌∙◌}
+use mathlib.Core.Path.{◌≡◌, sym, ap, ◌∙◌}
 use mathlib.Core.Bool.{Bool, true, false, cond}
 use mathlib.Core.List.{List, [], ◌∷◌}
 use mathlib.Core.Option.{Option, none, some}
 use native.Mathlib.Omega.{arith}
 use lib.Dec.{eqb, leb}
 use lib.ListN.{length, drop}
-use borrow.Author.Tests.{eq-eqb, ne_eqb}
+use borrow.Author.Tests.{ne_eqb, leb-true, leb-false}
 use Rattle.netlist.proofs.Tests.{on_bool}
 use Rattle.verilog.specs.Tokens.{Token, cons_token, tokens}
 use Rattle.verilog.specs.Parse.{if_some}
 use Rattle.verilog.specs.Walk.{Phase, Shape, at, flat, turn, walk, is_end, well_ended, accepted, unfollowed, deepest, operators_in, on_module}
 use Rattle.verilog.proofs.Scanning.{behind_turn, behind_token, behind-token}
 use Rattle.verilog_tokens.specs.Next.{token_of, between, TokenAt}
-use Rattle.verilog_tokens.proofs.Firsts.{never, some-token, no-token}
-use Rattle.verilog_form.specs.Turns.{phase_of, stepped, step_said, operator_code, ScanIs}
-use Rattle.verilog_form.specs.declared.Step.{Step}
-use Rattle.verilog_form.proofs.Machine.{number, depth_of, turned, turn-steady, number-phase, number-low, end-phase, operator-coded}
+use Rattle.verilog_tokens.proofs.Firsts.{some-token, no-token}
+use Rattle.std.specs.Prelude.{Some, None}
+use Rattle.verilog_form.specs.declared.Phase as P
+use Rattle.verilog_form.specs.declared.Phase.TheVariants.{OnNothing}
+use Rattle.verilog_form.specs.Turns.{phase_of, stepped, operator_code, ScanIs}
+use Rattle.verilog_form.proofs.Machine.{depth_of, turned, turn-steady, end-other, stepped-token, operator-coded}
 
 -- ---- one token
 
@@ -58,10 +60,6 @@ deepest-on x ts s r e = rw e
 pub one-operator : (c : ℕ) → operator_code c ≤ 1
 one-operator c = on_bool (leb 12 c) (λ e. on_bool (leb c 14) (λ f. rw (e, f) (omega arith)) (λ f. rw (e, f) (omega arith))) (λ e. rw e (omega arith))
 
--- a refused text has no counts
-pub refused-scan : (t : List ℕ) (most count : ℕ) → false ≡ accepted t (flat on_module) → ScanIs t (record { good = false; deepest = most; operators = count })
-refused-scan t most count e = record { good = e; counts = λ g. absurd (never (sym g)) }
-
 -- tokens are left, where the code is not that of the end
 abbrev pub left : List ℕ → ℕ → ℕ → ℕ
 left t code to = 2 * (length t - to) + cond (eqb code 0) 0 1
@@ -81,91 +79,66 @@ pub record Sofar (t : List ℕ) (p : Phase) (k most count : ℕ) (ts : List Toke
   pub operators : count + operators_in ts ≡ operators_in all
 
 -- the next token has a code, and ends at a place; the tokens before it lead to a phase with so many parentheses open
-pub record Walked (t : List ℕ) (code to phase depth most count : ℕ) : Type 0 where
-  pub p : Phase
+pub record Walked (t : List ℕ) (code to : ℕ) (phase : P.Phase) (depth most count : ℕ) : Type 0 where
   pub place : ℕ
   pub start : ℕ
   pub token : TokenAt t place code start to
-  pub is_phase : number p ≡ phase
-  pub steady : depth_of p depth ≡ depth
-  pub same : accepted t (flat on_module) ≡ accepted (drop place t) (at p depth)
+  pub steady : depth_of (phase_of phase) depth ≡ depth
+  pub same : accepted t (flat on_module) ≡ accepted (drop place t) (at (phase_of phase) depth)
   pub under : depth ≤ most
   pub few : (most ≤ place) × (count ≤ place)
-  pub counts : (ts : List Token) → tokens (drop place t) ≡ some ts → Sofar t p depth most count ts
+  pub counts : (ts : List Token) → tokens (drop place t) ≡ some ts → Sofar t (phase_of phase) depth most count ts
 
 module _ (t : List ℕ) where
-  pub walk_start : {code start to : ℕ} → TokenAt t 0 code start to → Walked t code to 0 0 0 0
-  walk_start {code} {start} {to} A = record {
-    p = on_module;
-    place = 0;
-    start = start;
-    token = A;
-    is_phase = refl;
-    steady = refl;
-    same = refl;
-    under = omega arith;
-    few = (omega arith, omega arith);
-    counts = λ ts e. record { all = ts; read = e; depth = omega arith; operators = omega arith };
-  }
-
-  module _ {code to phase depth most count : ℕ} (W : Walked t code to phase depth most count) where
-    pub walk-low : phase ≤ 15
-    walk-low = omega (arith, number-low W.p, W.is_phase)
+  module _ {code to : ℕ} {phase : P.Phase} {depth most count : ℕ} (W : Walked t code to phase depth most count) where
+    p : Phase
+    p = phase_of phase
 
     -- no token of the subset
-    pub walk-bad : 15 < code → false ≡ accepted t (flat on_module)
+    walk-bad : 15 < code → accepted t (flat on_module) ≡ false
+    unfolding p
     walk-bad h =
         let z : eqb code 0 ≡ false = ne_eqb code 0 (λ e. omega (arith, e)) in
         let w = between t W.start to in
-        sym (W.same ∙ accepted-next W.token (at W.p depth) z ∙ ap (λ (o : Option Token). behind_token o (at W.p depth) (drop to t)) (no-token code w h))
+        W.same ∙ accepted-next W.token (at p depth) z ∙ ap (λ (o : Option Token). behind_token o (at p depth) (drop to t)) (no-token code w h)
 
-    module _ (z : eqb code 0 ≡ false) (l : code ≤ 15) (s : Step) (e : step_said s ≡ stepped phase code depth) where
+    module _ (z : eqb code 0 ≡ false) (l : code ≤ 15) where
       w : List ℕ
       w = between t W.start to
 
       x : Token
       x = (some-token code w z l).0
 
-      turns-to : turn (at W.p depth) x ≡ step_said s
-      unfolding w x
-      turns-to = turned W.p depth code w x W.steady (some-token code w z l).1 ∙ ap (λ (n : ℕ). stepped n code depth) W.is_phase ∙ sym e
+      turns-to : turn (at p depth) x ≡ stepped p code depth
+      unfolding w x p
+      turns-to = turned p depth code w x W.steady (some-token code w z l).1
 
-      onward : accepted t (flat on_module) ≡ behind_turn (step_said s) (drop to t)
-      unfolding w x
-      onward = W.same ∙ accepted-next W.token (at W.p depth) z
-          ∙ ap (λ (o : Option Token). behind_token o (at W.p depth) (drop to t)) (some-token code w z l).1
+      onward : accepted t (flat on_module) ≡ behind_turn (stepped p code depth) (drop to t)
+      unfolding w x p
+      onward = W.same ∙ accepted-next W.token (at p depth) z
+          ∙ ap (λ (o : Option Token). behind_token o (at p depth) (drop to t)) (some-token code w z l).1
           ∙ ap (λ (o : Option Shape). behind_turn o (drop to t)) turns-to
 
-      -- a token that may not come
-      pub walk-stuck : s.phase ≡ 16 → false ≡ accepted t (flat on_module)
-      walk-stuck h = sym (onward ∙ ap (λ (o : Option Shape). behind_turn o (drop to t)) (stuck h))
-        where
-          stuck : s.phase ≡ 16 → step_said s ≡ none
-          stuck h = rw (eq-eqb s.phase 16 h)
-
-      pub walk-on : (s.phase ≡ 16 → ⊥) → s.phase ≤ 16 → s.depth ≤ depth + 1 → {code' start' to' : ℕ} → TokenAt t to code' start' to'
-          → Walked t code' to' s.phase s.depth (max most s.depth) (count + operator_code code)
-      unfolding w x
-      walk-on h k grows {code'} {start'} {to'} A =
-          let q = phase_of s.phase in
-          let r : Shape = at q s.depth in
-          let said : step_said s ≡ some r = rw (ne_eqb s.phase 16 h) in
-          let tr : turn (at W.p depth) x ≡ some r = turns-to ∙ said in
+      walk-next : (phase' : P.Phase) (depth' : ℕ) → some (at (phase_of phase') depth') ≡ stepped p code depth → depth' ≤ depth + 1
+          → {code' start' to' : ℕ} → TokenAt t to code' start' to'
+          → Walked t code' to' phase' depth' (max most depth') (count + operator_code code)
+      unfolding w x p
+      walk-next phase' depth' e grows {code'} {start'} {to'} A =
+          let r : Shape = at (phase_of phase') depth' in
+          let tr : turn (at p depth) x ≡ some r = turns-to ∙ sym e in
           let ops : operator_code code ≤ 1 = one-operator code in
           record {
-            p = q;
             place = to;
             start = start';
             token = A;
-            is_phase = number-phase s.phase (let f = h in omega arith);
-            steady = turn-steady W.p depth x r tr;
-            same = onward ∙ ap (λ (o : Option Shape). behind_turn o (drop to t)) said;
+            steady = turn-steady p depth x r tr;
+            same = onward ∙ ap (λ (o : Option Shape). behind_turn o (drop to t)) (sym e);
             under = omega arith;
             few = (omega (arith, W.few.0, W.under, grows, W.token.start, W.token.on z), omega (arith, W.few.1, ops, W.token.start, W.token.on z));
             counts = λ ts b.
                 let c : tokens (drop W.place t) ≡ some (x ∷ ts) = cons W.token z ∙ (λ i. cons_token ((some-token code w z l).1 i) (b i)) in
                 let S = W.counts (x ∷ ts) c in
-                let d = deepest-on x ts (at W.p depth) r tr in
+                let d = deepest-on x ts (at p depth) r tr in
                 let m = deepest-least ts r in
                 let o = operator-coded ts code w x (some-token code w z l).1 in
                 record {
@@ -176,11 +149,30 @@ module _ (t : List ℕ) where
                 };
           }
 
-    pub walk_end : eqb code 0 ≡ true → ScanIs t (record { good = eqb phase 15; deepest = most; operators = count })
+    -- a token that may not come
+    pub walk-stuck : eqb code 0 ≡ false → none ≡ stepped (phase_of phase) code depth → accepted t (flat on_module) ≡ false
+    unfolding p
+    walk-stuck z e =
+        on_bool (leb code 15)
+        (λ h. onward z (leb-true code 15 h) ∙ ap (λ (o : Option Shape). behind_turn o (drop to t)) (sym e))
+        (λ h. walk-bad (leb-false code 15 h))
+
+    pub walk-on : eqb code 0 ≡ false → code ≤ 16 → (phase' : P.Phase) (depth' : ℕ)
+        → some (at (phase_of phase') depth') ≡ stepped (phase_of phase) code depth → depth' ≤ depth + 1
+        → {code' start' to' : ℕ} → TokenAt t to code' start' to'
+        → Walked t code' to' phase' depth' (max most depth') (count + operator_code code)
+    unfolding p
+    walk-on z h phase' depth' e grows A =
+        walk-next z (stepped-token (phase_of phase) code depth (at (phase_of phase') depth') h e) phase' depth' e grows A
+
+    -- behind the last token
+    pub walk_end : eqb code 0 ≡ true → phase ≡ OnNothing → ScanIs t (Some (record { deepest = most; operators = count }))
     unfolding deepest
-    walk_end z =
-        let S = W.counts [] (tokens-end W.token z) in
-        record {
-          good = ap (λ (n : ℕ). eqb n 15) (sym W.is_phase) ∙ end-phase W.p ∙ sym (accepted-end W.token (at W.p depth) z) ∙ sym W.same;
-          counts = λ g. record { all = S.all; read = S.read; depth = omega (arith, S.depth, W.under); operators = omega (arith, S.operators) };
-        }
+    walk_end z e =
+        let S = W.counts [] (tokens-end W.token z) in (
+          W.same ∙ accepted-end W.token (at (phase_of phase) depth) z ∙ ap (λ (q : P.Phase). is_end (phase_of q)) e,
+          record { all = S.all; read = S.read; depth = omega (arith, S.depth, W.under); operators = omega (arith, S.operators) },
+        )
+
+    pub walk_unended : eqb code 0 ≡ true → (phase ≡ OnNothing → ⊥) → ScanIs t None
+    walk_unended z h = W.same ∙ accepted-end W.token (at (phase_of phase) depth) z ∙ end-other phase h

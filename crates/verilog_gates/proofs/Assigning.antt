@@ -18,6 +18,7 @@ use Rattle.verilog.specs.Walk.{at, flat, walk, on_assign, on_target, on_equals, 
 use Rattle.verilog.specs.Reading.{Accepts}
 use Rattle.verilog.proofs.Listing.{same-equal, each_snoc}
 use Rattle.verilog.proofs.Descent.{behind-cases}
+use Rattle.verilog_tokens.specs.Kind.{number_of}
 use Rattle.verilog_tokens.specs.Next.{code_of, token_of, between, TokenAt}
 use Rattle.verilog_tokens.proofs.Firsts.{never, token-code, First, first, none_left}
 use Rattle.verilog_names.specs.Names.{found}
@@ -91,7 +92,7 @@ record One (t : List ℕ) (w : List ℕ) (wire : List ℕ → ℕ) (n c : ℕ) (
   value : Expr
   more : List Token
   split : rest ≡ assign_tokens (record { target = w; value = value }) ++ more
-  left : tokens (drop v.behind t) ≡ some more
+  left : tokens (drop v.token.to t) ≡ some more
   onward : Accepts more (flat on_assign)
   wire_is : v.wire ≡ (expr_made value wire c).wire
   next_is : v.next ≡ (expr_made value wire c).next
@@ -113,7 +114,7 @@ module _ {t : List ℕ} {place code start to cx fx tx cy fy ty n c : ℕ} {wire 
       let h = equals-first H.token H.more (subst (λ (y : List Token). Accepts y (flat on_equals)) H.split g.1) in
       let K = E.gives 0 H.more H.left h.1 in
       let N = some_first E.token K.rest K.left (λ z. some-behind 0 (subst (λ (y : List Token). Accepts y (at behind_operand 0)) z K.read.onward)) in
-      let q = token-code v.code (between t E.start v.behind) N.token N.is in
+      let q = token-code (number_of v.token.kind) (between t E.start v.token.to) N.token N.is in
       let d = end-first N.token N.more (subst (λ (y : List Token). Accepts y (at behind_operand 0)) N.split K.read.onward)
       (ap no_operator (sym q) ∙ E.stop) in
       let m = K.read.made in
@@ -135,11 +136,11 @@ module _ {t : List ℕ} {place code start to cx fx tx cy fy ty n c : ℕ} {wire 
 
 -- ---- the loop
 
-pub record Going (t heads words links wires₀ o₀ r₀ : List ℕ) (size count n at c code to free : ℕ) (wires o r : List ℕ) : Type 0 where
+pub record Going (t words wires₀ o₀ r₀ : List ℕ) (count n at c code to free : ℕ) (wires o r : List ℕ) : Type 0 where
   pub place : ℕ
   pub start : ℕ
   pub token : TokenAt t place code start to
-  pub ready : Ready t heads words links wires size count n place free
+  pub ready : Ready t wires count n place free
   pub more : c ≤ free
   pub wide : length wires ≡ length wires₀
   pub operands : length o ≡ length o₀
@@ -155,9 +156,9 @@ given-length t words wires n w x = go (found t words w n)
     go zero = refl
     go (suc i) = length-set wires i x
 
-module _ {t heads words links wires₀ o₀ r₀ : List ℕ} {size count n at c : ℕ} where
-  pub go-start : {code start to : ℕ} → Ready t heads words links wires₀ size count n at c → TokenAt t at code start to
-      → Going t heads words links wires₀ o₀ r₀ size count n at c code to c wires₀ o₀ r₀
+module _ {t words wires₀ o₀ r₀ : List ℕ} {count n at c : ℕ} where
+  pub go-start : {code start to : ℕ} → Ready t wires₀ count n at c → TokenAt t at code start to
+      → Going t words wires₀ o₀ r₀ count n at c code to c wires₀ o₀ r₀
   unfolding put_gates
   go-start {code} {start} R A = record {
     place = at;
@@ -171,14 +172,13 @@ module _ {t heads words links wires₀ o₀ r₀ : List ℕ} {size count n at c 
     gives = λ ts e a. record { assigns = []; rest = ts; split = refl; left = e; onward = a; next = refl; wired = refl; stored = refl };
   }
 
-  module _ {code to free : ℕ} {wires o r : List ℕ} (G : Going t heads words links wires₀ o₀ r₀ size count n at c code to free wires o r) where
+  module _ {code to free : ℕ} {wires o r : List ℕ} (G : Going t words wires₀ o₀ r₀ count n at c code to free wires o r) where
     pub go-end : (code ≡ 5 → ⊥) → EquationsIs t words n count at wires₀ c (tables o₀ r₀) (tables o r) wires free
     go-end h = record { place = G.place; start = G.start; behind = to; code = code; token = G.token; other = h; more = G.more; gives = G.gives }
 
     module _ {cx fx tx cy fy ty : ℕ} (X : TokenAt t to cx fx tx) (Y : TokenAt t tx cy fy ty) where
-      pub go-ready : Ready t heads words links wires size count n ty free
+      pub go-ready : Ready t wires count n ty free
       go-ready = record {
-        names = G.ready.names;
         wired = G.ready.wired;
         within = Y.within;
         first = G.ready.first;
@@ -186,7 +186,7 @@ module _ {t heads words links wires₀ o₀ r₀ : List ℕ} {size count n at c 
       }
 
       module _ {o' r' : List ℕ} {v : Value} (E : ExprIs (wire_of t words wires count) t n ty free (tables o r) (tables o' r') v) where
-        pub go-less : {code' start' to' : ℕ} → code ≡ 5 → TokenAt t v.behind code' start' to' → left t code' to' < left t code to
+        pub go-less : {code' start' to' : ℕ} → code ≡ 5 → TokenAt t v.token.to code' start' to' → left t code' to' < left t code to
         go-less {code'} five A =
             let z = sign-some five refl in
             on_bool (eqb code' 0)
@@ -194,16 +194,15 @@ module _ {t heads words links wires₀ o₀ r₀ : List ℕ} {size count n at c 
             (λ h. rw (h, z) (omega (arith, X.start, X.onward, Y.start, Y.onward, E.on, E.token.start, E.token.onward, A.start, A.on h, A.within)))
 
         pub go_on : {code' start' to' : ℕ} {wires' : List ℕ} → code ≡ 5 → length o' ≡ length o → length r' ≡ length r
-            → wires' ≡ given t words wires count (between t fx tx) v.wire → TokenAt t v.behind code' start' to'
-            → Going t heads words links wires₀ o₀ r₀ size count n at c code' to' v.next wires' o' r'
+            → wires' ≡ given t words wires count (between t fx tx) v.wire → TokenAt t v.token.to code' start' to'
+            → Going t words wires₀ o₀ r₀ count n at c code' to' v.next wires' o' r'
         go_on {code'} {start'} {to'} {wires'} five lo lr w A =
             let wl : length wires' ≡ length wires = ap length w ∙ given-length t words wires count (between t fx tx) v.wire in
             record {
-              place = v.behind;
+              place = v.token.to;
               start = start';
               token = A;
               ready = record {
-                names = G.ready.names;
                 wired = omega (arith, G.ready.wired, wl);
                 within = E.token.within;
                 first = omega (arith, G.ready.first, E.more);
@@ -232,7 +231,7 @@ module _ {t heads words links wires₀ o₀ r₀ : List ℕ} {size count n at c 
           where
             grown : {wires' : List ℕ} {ts : List Token} → code ≡ 5 → wires' ≡ given t words wires count (between t fx tx) v.wire
                 → Laying t words n count wires₀ c G.place ts (tables o₀ r₀) (tables o r) wires free
-                → Laying t words n count wires₀ c v.behind ts (tables o₀ r₀) (tables o' r') wires' v.next
+                → Laying t words n count wires₀ c v.token.to ts (tables o₀ r₀) (tables o' r') wires' v.next
             grown {wires'} {ts} five w L =
                 let O = one G.token five X Y E L.rest L.left L.onward in
                 let a : Assign = record { target = between t fx tx; value = O.value } in

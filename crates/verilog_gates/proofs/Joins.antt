@@ -22,6 +22,11 @@ use Rattle.verilog.specs.Reading.{Accepts, Read}
 use Rattle.verilog.proofs.Walking.{operand_phase}
 use Rattle.verilog.proofs.Descent.{name-read, group-read, term-first, expr-first, term-more, expr-more, operand_cases, negated-cases, behind-cases}
 use Rattle.verilog_tokens.specs.declared.Token.{Token as Lexed}
+use denote.Enum.Bare.{sameb}
+use Rattle.verilog_tokens.specs.contracts.Kind.{the_type}
+use Rattle.verilog_tokens.specs.declared.Kind.TheVariants.{Not}
+use Rattle.verilog_tokens.proofs.KindTests.{same_number}
+use Rattle.verilog_tokens.specs.Kind.{number_of}
 use Rattle.verilog_tokens.specs.Next.{code_of, token_of, between, TokenAt}
 use Rattle.verilog_tokens.proofs.Firsts.{never, token-code, First, first, none_left}
 use Rattle.verilog_gates.specs.Puts.{put_gate, put_gates}
@@ -55,17 +60,16 @@ more-stored n gate L R x y z before now now' after p q a b c e =
 module _ {A : Type 0} {tokens_of : A → List Token} {made_of : A → (List ℕ → ℕ) → ℕ → Made} {stops : ℕ → Bool} {wire : List ℕ → ℕ} {t : List ℕ} {n from c : ℕ}
     {before after : Tables} {v : Value} (S : OperandIs tokens_of made_of stops wire t n from c before after v) where
   -- another test of the token behind it
-  pub retest : (stops' : ℕ → Bool) → stops' v.code ≡ true → OperandIs tokens_of made_of stops' wire t n from c before after v
+  pub retest : (stops' : ℕ → Bool) → stops' (number_of v.token.kind) ≡ true → OperandIs tokens_of made_of stops' wire t n from c before after v
   retest stops' h = record { to = S.to; start = S.start; token = S.token; stop = h; on = S.on; more = S.more; few = S.few; gives = S.gives }
 
-  module _ (z : eqb v.code 0 ≡ false) where
-    pub behind-on : from < v.behind
+  module _ (z : eqb (number_of v.token.kind) 0 ≡ false) where
+    pub behind-on : from < v.token.to
     behind-on = omega (arith, S.on, S.token.start, S.token.on z)
 
-    pub behind-ready : {heads words links wires : List ℕ} {size count : ℕ} → Ready t heads words links wires size count n from c
-        → Ready t heads words links wires size count n v.behind v.next
+    pub behind-ready : {wires : List ℕ} {count : ℕ} → Ready t wires count n from c
+        → Ready t wires count n v.token.to v.next
     behind-ready R = record {
-      names = R.names;
       wired = R.wired;
       within = S.token.within;
       first = omega (arith, R.first, S.more);
@@ -107,12 +111,12 @@ module _ {A B : Type 0} (tok_a : A → List Token) (made_a : A → (List ℕ →
   pub sum_more : MoreLaw → ((w : List ℕ) → token_of code w ≡ some (mark sign)) → eqb code 0 ≡ false
       → ((k : ℕ) (us : List Token) → Accepts (mark sign ∷ us) (at behind_operand k) → Accepts us (at on_operand k))
       → (stops stops' : ℕ → Bool) {before now now' after : Tables} {v u : Value}
-      → OperandIs tok_a made_a stops wire t n from c before now v → v.code ≡ code
-      → OperandIs tok_b made_b stops' wire t n v.behind v.next now now' u
+      → OperandIs tok_a made_a stops wire t n from c before now v → (number_of v.token.kind) ≡ code
+      → OperandIs tok_b made_b stops' wire t n v.token.to v.next now now' u
       → after ≡ put_gate n now' (gate v.wire u.wire u.next)
-      → OperandIs tok_a made_a stops' wire t n from c before after (record { wire = u.next; next = u.next + 1; code = u.code; behind = u.behind })
+      → OperandIs tok_a made_a stops' wire t n from c before after (record { wire = u.next; next = u.next + 1; token = u.token })
   sum_more law marked positive turned stops stops' {before} {now} {now'} {after} {v} {u} S e R p =
-      let z : eqb v.code 0 ≡ false = ap (λ (x : ℕ). eqb x 0) e ∙ positive in
+      let z : eqb (number_of v.token.kind) 0 ≡ false = ap (λ (x : ℕ). eqb x 0) e ∙ positive in
       record {
         to = R.to;
         start = R.start;
@@ -123,8 +127,8 @@ module _ {A B : Type 0} (tok_a : A → List Token) (made_a : A → (List ℕ →
         few = omega (arith, S.few, R.few, S.token.start, S.token.on z);
         gives = λ k ts q a.
             let G = S.gives k ts q a in
-            let F = first t S.to v.code S.start v.behind S.token G.rest G.left z in
-            let w = between t S.start v.behind in
+            let F = first t S.to (number_of v.token.kind) S.start v.token.to S.token G.rest G.left z in
+            let w = between t S.start v.token.to in
             let x : mark sign ≡ F.token = some_same (mark sign) F.token (sym (ap (λ (y : ℕ). token_of y w) e ∙ marked w) ∙ F.is) in
             let s : G.rest ≡ mark sign ∷ F.more = F.split ∙ ap (λ (y : Token). y ∷ F.more) (sym x) in
             let L = subst (λ (y : List Token). Read tok_a made_a wire k c ts y G.M) s G.read in
@@ -153,9 +157,9 @@ pub record Ahead (t : List ℕ) (place : ℕ) (negated : Bool) (k : ℕ) (ts : L
 -- the operand of a factor begins at a place, behind a ~ or not
 pub record OperandAt (t : List ℕ) (from : ℕ) (negated : Bool) (y : Lexed) : Type 0 where
   pub place : ℕ
-  pub token : TokenAt t place y.code y.from y.to
+  pub token : TokenAt t place (number_of y.kind) y.from y.to
   pub on : from + cond negated 1 0 ≤ place
-  pub once : negated ≡ false → eqb y.code 12 ≡ false
+  pub once : negated ≡ false → eqb (number_of y.kind) 12 ≡ false
   pub ahead : (k : ℕ) (ts : List Token) → tokens (drop from t) ≡ some ts → Accepts ts (at on_operand k) → Ahead t place negated k ts
 
 pub mark-first : (t : List ℕ) (code : ℕ) (sign : List ℕ) → ((w : List ℕ) → token_of code w ≡ some (mark sign)) → {w : List ℕ} {behind c : ℕ} {ts : List Token} →
@@ -186,34 +190,38 @@ unfolding walk
 name-turn true k w us a = a
 name-turn false k w us a = a
 
-pub operand_at : (t : List ℕ) (from : ℕ) (x y : Lexed) → TokenAt t from x.code x.from x.to → PastIs t x y → OperandAt t from (eqb x.code 12) y
-operand_at t from x y X P = on_bool (eqb x.code 12) yes no
+operand_at : (t : List ℕ) (from : ℕ) (x y : Lexed) → TokenAt t from (number_of x.kind) x.from x.to → PastIs t x y → OperandAt t from (eqb (number_of x.kind) 12) y
+operand_at t from x y X P = on_bool (eqb (number_of x.kind) 12) yes no
   where
-    yes : eqb x.code 12 ≡ true → OperandAt t from (eqb x.code 12) y
+    yes : eqb (number_of x.kind) 12 ≡ true → OperandAt t from (eqb (number_of x.kind) 12) y
     yes e =
-        let c = eqb-true x.code 12 e in
-        let z : eqb x.code 0 ≡ false = ap (λ (k : ℕ). eqb k 0) c in
+        let c = eqb-true (number_of x.kind) 12 e in
+        let z : eqb (number_of x.kind) 0 ≡ false = ap (λ (k : ℕ). eqb k 0) c in
         rw e (record {
           place = x.to;
           token = P.negated e;
           on = omega (arith, X.start, X.on z);
           once = λ h. absurd (never h);
           ahead = λ k ts q a.
-              let F = first t from x.code x.from x.to X ts q z in
+              let F = first t from (number_of x.kind) x.from x.to X ts q z in
               let s = mark-first t 12 (ascii "~") tilde-marked c F in
               record { more = F.more; split = s; left = F.left; onward = tilde-turn k F.more (subst (λ (u : List Token). Accepts u (at on_operand k)) s a) };
         })
 
-    no : eqb x.code 12 ≡ false → OperandAt t from (eqb x.code 12) y
+    no : eqb (number_of x.kind) 12 ≡ false → OperandAt t from (eqb (number_of x.kind) 12) y
     no e =
         let s = P.plain e in
         rw e (record {
           place = from;
-          token = subst (λ (u : Lexed). TokenAt t from u.code u.from u.to) (sym s) X;
+          token = subst (λ (u : Lexed). TokenAt t from (number_of u.kind) u.from u.to) (sym s) X;
           on = omega arith;
-          once = λ h. ap (λ (u : Lexed). eqb u.code 12) s ∙ e;
+          once = λ h. ap (λ (u : Lexed). eqb (number_of u.kind) 12) s ∙ e;
           ahead = λ k ts q a. record { more = ts; split = refl; left = q; onward = a };
         })
+
+pub operand_behind : (t : List ℕ) (from : ℕ) (x y : Lexed) {negated : Bool} → negated ≡ sameb the_type x.kind Not
+    → TokenAt t from (number_of x.kind) x.from x.to → PastIs t x y → OperandAt t from negated y
+operand_behind t from x y e X P = rw (e ∙ same_number x.kind Not) (operand_at t from x y X P)
 
 -- ---- the value of a factor
 
@@ -281,12 +289,12 @@ close-first k x us a h =
     (λ vs q e b. absurd (omega arith))
 
 module _ {wire : List ℕ → ℕ} {t : List ℕ} {n from : ℕ} {negated : Bool} {y : Lexed} (O : OperandAt t from negated y) where
-  pub factor-name : (c x : ℕ) {before after : Tables} {v : Value} → y.code ≡ 15 → x ≡ wire (between t y.from y.to) → Finished t n negated x c y.to
+  pub factor-name : (c x : ℕ) {before after : Tables} {v : Value} → (number_of y.kind) ≡ 15 → x ≡ wire (between t y.from y.to) → Finished t n negated x c y.to
       before after v
       → FactorIs wire t n from c before after v
   unfolding put_gates token_of
   factor-name c x {before} {after} {v} e p F =
-      let z : eqb y.code 0 ≡ false = ap (λ (k : ℕ). eqb k 0) e in
+      let z : eqb (number_of y.kind) 0 ≡ false = ap (λ (k : ℕ). eqb k 0) e in
       let w = between t y.from y.to in
       let M = plain (wire w) c in
       let I = inverts n negated M x c before before p refl refl F in
@@ -301,7 +309,7 @@ module _ {wire : List ℕ → ℕ} {t : List ℕ} {n from : ℕ} {negated : Bool
         few = omega (arith, F.free, s, O.on, O.token.start, O.token.onward);
         gives = λ k ts q a.
             let A = O.ahead k ts q a in
-            let G = first t O.place y.code y.from y.to O.token A.more A.left z in
+            let G = first t O.place (number_of y.kind) y.from y.to O.token A.more A.left z in
             let g : name w ≡ G.token = some_same (name w) G.token (sym (ap (λ (j : ℕ). token_of j w) e) ∙ G.is) in
             let u : A.more ≡ name w ∷ G.more = G.split ∙ ap (λ (j : Token). j ∷ G.more) (sym g) in
             let b = name-turn negated k w G.more (subst (λ (j : List Token). Accepts j (at (operand_phase negated) k)) u A.onward) in
@@ -317,13 +325,13 @@ module _ {wire : List ℕ → ℕ} {t : List ℕ} {n from : ℕ} {negated : Bool
             };
       }
 
-  pub factor-group : (c : ℕ) {before now after : Tables} {e v : Value} → y.code ≡ 7 → ExprIs wire t n y.to c before now e
-      → Finished t n negated e.wire e.next e.behind now after v → FactorIs wire t n from c before after v
+  pub factor-group : (c : ℕ) {before now after : Tables} {e v : Value} → (number_of y.kind) ≡ 7 → ExprIs wire t n y.to c before now e
+      → Finished t n negated e.wire e.next e.token.to now after v → FactorIs wire t n from c before after v
   factor-group c {before} {now} {after} {e} {v} h E F =
-      let z : eqb y.code 0 ≡ false = ap (λ (k : ℕ). eqb k 0) h in
+      let z : eqb (number_of y.kind) 0 ≡ false = ap (λ (k : ℕ). eqb k 0) h in
       let s = next-sum negated e.next in
       record {
-        to = e.behind;
+        to = e.token.to;
         start = F.start;
         token = F.token;
         stop = refl;
@@ -332,7 +340,7 @@ module _ {wire : List ℕ → ℕ} {t : List ℕ} {n from : ℕ} {negated : Bool
         few = omega (arith, F.free, s, O.on, O.token.start, O.token.onward, E.few, E.on, E.token.start, E.token.onward);
         gives = λ k ts q a.
             let A = O.ahead k ts q a in
-            let G = first t O.place y.code y.from y.to O.token A.more A.left z in
+            let G = first t O.place (number_of y.kind) y.from y.to O.token A.more A.left z in
             let u = mark-first t 7 (ascii "(") open-marked h G in
             let b = open_turn negated k G.more (subst (λ (j : List Token). Accepts j (at (operand_phase negated) k)) u A.onward) in
             let X = E.gives (suc k) G.more G.left b in
@@ -353,18 +361,18 @@ module _ {wire : List ℕ → ℕ} {t : List ℕ} {n from : ℕ} {negated : Bool
     where
       -- the parenthesis that ends it
       closing : (k : ℕ) {ts : List Token} → (X : Gives expr_tokens expr_made wire t n (suc k) c E.to ts before now e)
-          → (us : List Token) × (tokens (drop e.behind t) ≡ some us) × (X.rest ≡ mark (ascii ")") ∷ us)
-      closing k X = on_bool (eqb e.code 0)
+          → (us : List Token) × (tokens (drop e.token.to t) ≡ some us) × (X.rest ≡ mark (ascii ")") ∷ us)
+      closing k X = on_bool (eqb (number_of e.token.kind) 0)
           (λ d. absurd (some-behind (suc k) (subst (λ (j : List Token). Accepts j (at behind_operand (suc k)))
-          (none_left t E.to e.code E.start e.behind E.token X.rest X.left d) X.read.onward)))
-          (λ d. let G = first t E.to e.code E.start e.behind E.token X.rest X.left d in
-          let q = token-code e.code (between t E.start e.behind) G.token G.is in
+          (none_left t E.to (number_of e.token.kind) E.start e.token.to E.token X.rest X.left d) X.read.onward)))
+          (λ d. let G = first t E.to (number_of e.token.kind) E.start e.token.to E.token X.rest X.left d in
+          let q = token-code (number_of e.token.kind) (between t E.start e.token.to) G.token G.is in
           let C = close-first k G.token G.more (subst (λ (j : List Token). Accepts j (at behind_operand (suc k))) G.split X.read.onward)
           (ap no_operator (sym q) ∙ E.stop) in
           (G.more, G.left, G.split ∙ C.0))
 
   -- no operand
-  pub factor-none : (c : ℕ) {before after : Tables} {v : Value} → (y.code ≡ 15 → ⊥) → (y.code ≡ 7 → ⊥) → Finished t n false 0 c y.to before after v
+  pub factor-none : (c : ℕ) {before after : Tables} {v : Value} → ((number_of y.kind) ≡ 15 → ⊥) → ((number_of y.kind) ≡ 7 → ⊥) → Finished t n false 0 c y.to before after v
       → FactorIs wire t n from c before after v
   factor-none c {before} {after} {v} f g F = record {
     to = y.to;
@@ -380,18 +388,19 @@ module _ {wire : List ℕ → ℕ} {t : List ℕ} {n from : ℕ} {negated : Bool
       contradiction : (k : ℕ) (ts : List Token) → tokens (drop from t) ≡ some ts → Accepts ts (at on_operand k) → ⊥
       contradiction k ts q a =
           let A = O.ahead k ts q a in
-          on_bool (eqb y.code 0)
+          on_bool (eqb (number_of y.kind) 0)
           (λ d. some-operand negated k (subst (λ (j : List Token). Accepts j (at (operand_phase negated) k))
-          (none_left t O.place y.code y.from y.to O.token A.more A.left d) A.onward))
-          (λ d. let G = first t O.place y.code y.from y.to O.token A.more A.left d in
-          let q = token-code y.code (between t y.from y.to) G.token G.is in
+          (none_left t O.place (number_of y.kind) y.from y.to O.token A.more A.left d) A.onward))
+          (λ d. let G = first t O.place (number_of y.kind) y.from y.to O.token A.more A.left d in
+          let q = token-code (number_of y.kind) (between t y.from y.to) G.token G.is in
           start-code negated k G.token G.more (subst (λ (j : List Token). Accepts j (at (operand_phase negated) k)) G.split A.onward)
-          (λ h k. eqb-false y.code 12 (O.once h) (q ∙ k)) (λ k. f (q ∙ k)) (λ k. g (q ∙ k)))
+          (λ h k. eqb-false (number_of y.kind) 12 (O.once h) (q ∙ k)) (λ k. f (q ∙ k)) (λ k. g (q ∙ k)))
 
 -- ---- terms and expressions
 
-abbrev pub value : ℕ → ℕ → ℕ → ℕ → Value
-value w free code behind = record { wire = w; next = free; code = code; behind = behind }
+-- an operator's value: the wire of its gate, and the token behind its right operand
+abbrev pub joined : Value → Value
+joined u = record { wire = u.next; next = u.next + 1; token = u.token }
 
 and-marked : (w : List ℕ) → token_of 13 w ≡ some (mark (ascii "&"))
 unfolding token_of
@@ -420,26 +429,26 @@ module _ (wire : List ℕ → ℕ) (t : List ℕ) (n from c : ℕ) where
   pub factors-start : {before after : Tables} {v : Value} → FactorIs wire t n from c before after v → Factors before after v
   factors-start F = sum-start term_tokens term_made factor_tokens factor_made (ascii "&") 13 And wire t n from c (λ k ts rest M R. term-first R) any F
 
-  pub factors-more : {before now now' after : Tables} {v u : Value} → Factors before now v → v.code ≡ 13 → FactorIs wire t n v.behind v.next now now' u
-      → after ≡ put_gate n now' (And v.wire u.wire u.next) → Factors before after (value u.next (u.next + 1) u.code u.behind)
+  pub factors-more : {before now now' after : Tables} {v u : Value} → Factors before now v → (number_of v.token.kind) ≡ 13 → FactorIs wire t n v.token.to v.next now now' u
+      → after ≡ put_gate n now' (And v.wire u.wire u.next) → Factors before after (joined u)
   factors-more S e R p =
       sum_more term_tokens term_made factor_tokens factor_made (ascii "&") 13 And wire t n from c (λ k ts us rest L R l r. term-more l r) and-marked refl and-turn
       any any S e R p
 
-  pub factors-end : {before after : Tables} {v : Value} → Factors before after v → (v.code ≡ 13 → ⊥) → TermIs wire t n from c before after v
-  factors-end {v = v} S h = retest S no_and (let e = ne_eqb v.code 13 h in rw e)
+  pub factors-end : {before after : Tables} {v : Value} → Factors before after v → ((number_of v.token.kind) ≡ 13 → ⊥) → TermIs wire t n from c before after v
+  factors-end {v = v} S h = retest S no_and (let e = ne_eqb (number_of v.token.kind) 13 h in rw e)
 
   pub terms-start : {before after : Tables} {v : Value} → TermIs wire t n from c before after v → Terms before after v
   terms-start F = sum-start expr_tokens expr_made term_tokens term_made (ascii "^") 14 Xor wire t n from c (λ k ts rest M R. expr-first R) no_and F
 
-  pub terms-more : {before now now' after : Tables} {v u : Value} → Terms before now v → v.code ≡ 14 → TermIs wire t n v.behind v.next now now' u
-      → after ≡ put_gate n now' (Xor v.wire u.wire u.next) → Terms before after (value u.next (u.next + 1) u.code u.behind)
+  pub terms-more : {before now now' after : Tables} {v u : Value} → Terms before now v → (number_of v.token.kind) ≡ 14 → TermIs wire t n v.token.to v.next now now' u
+      → after ≡ put_gate n now' (Xor v.wire u.wire u.next) → Terms before after (joined u)
   terms-more S e R p =
       sum_more expr_tokens expr_made term_tokens term_made (ascii "^") 14 Xor wire t n from c (λ k ts us rest L R l r. expr-more l r) xor-marked refl xor-turn no_and
       no_and S e R p
 
-  pub terms-end : {before after : Tables} {v : Value} → Terms before after v → (v.code ≡ 14 → ⊥) → ExprIs wire t n from c before after v
-  terms-end {v = v} S h = retest S no_operator (let e = ne_eqb v.code 14 h in rw e S.stop)
+  pub terms-end : {before after : Tables} {v : Value} → Terms before after v → ((number_of v.token.kind) ≡ 14 → ⊥) → ExprIs wire t n from c before after v
+  terms-end {v = v} S h = retest S no_operator (let e = ne_eqb (number_of v.token.kind) 14 h in rw e S.stop)
 
 -- what a loop over operands keeps: whatever was read at its start, it is read on
 pub record Looping (Is : Tables → Tables → Value → Type 0) (o₀ r₀ o r : List ℕ) (v₀ v : Value) : Type 0 where
@@ -457,21 +466,9 @@ sign-some e z = ap (λ (x : ℕ). eqb x 0) e ∙ z
 
 pub left_less : {A : Type 0} {tokens_of : A → List Token} {made_of : A → (List ℕ → ℕ) → ℕ → Made} {stops : ℕ → Bool} {wire : List ℕ → ℕ} {n c : ℕ} {before after : Tables}
     (t : List ℕ) (code behind k : ℕ) (v : Value) → code ≡ k → eqb k 0 ≡ false → OperandIs tokens_of made_of stops wire t n behind c before after v → left t
-    v.code v.behind < left t code behind
+    (number_of v.token.kind) v.token.to < left t code behind
 left_less t code behind k v e p R =
     let z = sign-some e p in
-    on_bool (eqb v.code 0)
+    on_bool (eqb (number_of v.token.kind) 0)
     (λ h. rw (h, z) (omega (arith, R.on, R.token.start, R.token.onward)))
     (λ h. rw (h, z) (omega (arith, R.on, R.token.start, R.token.on h, R.token.within)))
-
--- what the reader of an expression in parentheses asks
-pub operand-ready : {t : List ℕ} {from : ℕ} {negated : Bool} {y : Lexed} (O : OperandAt t from negated y) → eqb y.code 0 ≡ false
-    → {heads words links wires : List ℕ} {size count n c : ℕ} → Ready t heads words links wires size count n from c → Ready t heads words links wires size count
-    n y.to c
-operand-ready O z R = record {
-  names = R.names;
-  wired = R.wired;
-  within = O.token.within;
-  first = R.first;
-  room = omega (arith, R.room, O.on, O.token.start, O.token.on z, O.token.within);
-}

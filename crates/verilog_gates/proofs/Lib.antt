@@ -1,4 +1,3 @@
 -- Laws of the readers of expressions.
-pub mod Lookups
 pub mod Joins
 pub mod Assigning

@@ -9,14 +9,13 @@ use Rattle.verilog.specs.Made.{Made, expr_made, term_made, factor_made}
 use Rattle.verilog.specs.Walk.{at, on_operand}
 use Rattle.verilog.specs.Reading.{Accepts, Read}
 use Rattle.verilog_tokens.specs.declared.Token.{Token as Lexed}
+use Rattle.verilog_tokens.specs.Kind.{number_of}
 use Rattle.verilog_tokens.specs.Next.{TokenAt}
-use Rattle.verilog_names.specs.Names.{Chained}
 use Rattle.verilog_gates.specs.Puts.{put_gate, put_gates}
 use Rattle.verilog_gates.specs.declared.expression.Value.{Value}
 
 -- the names have entries with wires, and there are as many free wires as bytes are left
-pub record Ready (t heads words links wires : List ℕ) (size count n from next : ℕ) : Type 0 where
-  pub names : Chained t heads words links size count
+pub record Ready (t wires : List ℕ) (count n from next : ℕ) : Type 0 where
   pub wired : count ≤ length wires
   pub within : from ≤ length t
   pub first : n ≤ next
@@ -39,8 +38,8 @@ pub record OperandIs {A : Type 0} (tokens_of : A → List Token) (made_of : A �
     (n from c : ℕ) (before after : Tables) (v : Value) : Type 0 where
   pub to : ℕ
   pub start : ℕ
-  pub token : TokenAt t to v.code start v.behind
-  pub stop : stops v.code ≡ true
+  pub token : TokenAt t to (number_of v.token.kind) start v.token.to
+  pub stop : stops (number_of v.token.kind) ≡ true
   pub on : from ≤ to
   pub more : c ≤ v.next
   pub few : v.next + from ≤ c + to
@@ -66,13 +65,13 @@ ExprIs = OperandIs expr_tokens expr_made no_operator
 
 -- the token behind a ~, or the token itself
 pub record PastIs (t : List ℕ) (x y : Lexed) : Type 0 where
-  pub negated : eqb x.code 12 ≡ true → TokenAt t x.to y.code y.from y.to
-  pub plain : eqb x.code 12 ≡ false → y ≡ x
+  pub negated : eqb (number_of x.kind) 12 ≡ true → TokenAt t x.to (number_of y.kind) y.from y.to
+  pub plain : eqb (number_of x.kind) 12 ≡ false → y ≡ x
 
 -- an operand that ends at a place is inverted or not, with its gate, and the token behind it
 pub record Finished (t : List ℕ) (n : ℕ) (negated : Bool) (wire next to : ℕ) (before after : Tables) (v : Value) : Type 0 where
   pub start : ℕ
-  pub token : TokenAt t to v.code start v.behind
+  pub token : TokenAt t to (number_of v.token.kind) start v.token.to
   pub value : v.wire ≡ cond negated next wire
   pub free : v.next ≡ cond negated (next + 1) next
   pub stored : after ≡ cond negated (put_gate n before (Inv wire next)) before

@@ -1,113 +1,81 @@
 // Expressions: three functions that call each other in a cycle. Each reads what stands at a place of the text and puts a gate
 // for each operator into the tables. They go as deep as the parentheses do.
+// The tables of gates are lent by C one by one, and a struct of `&mut` slices would have to promise at each call that it still
+// holds them.
 ghost use Rattle.std.specs.Prelude.{◌+◌, ◌≤◌, ◌<◌, length};
 ghost use Rattle.netlist.specs.Table.{half, tables};
-ghost use Rattle.verilog_tokens.specs.Next.{TokenAt};
 ghost use Rattle.verilog_gates.specs.Wires.{wire_of};
 ghost use Rattle.verilog_gates.specs.Operands.{Ready, ExprIs, TermIs, FactorIs, PastIs, Finished};
 
 use crate::gates::put;
 use crate::wires::wire_of;
-use verilog_tokens::{Token, next as token_at};
+use gate_table::{AND, INV, XOR};
+use verilog_names::Names;
+use verilog_tokens::{Kind, Token, next as token_at};
 
-// What was read: the wire that holds its value, the next free wire, and the token behind it: its code, and the place behind
-// that.
+// What was read: the wire that holds its value, the next free wire, and the token behind it.
 #[derive(Clone, Copy)]
 pub struct Value {
     pub wire: u32,
     pub next: u32,
-    pub code: u8,
-    pub behind: usize,
+    pub token: Token,
 }
 
 // An expression: terms with `^` between them.
+// No one function for it and a term: a closure for what stands between the signs would hide the measure of the cycle.
 #[cycle(expression_factor_term)]
 pub fn expression(
-    text: &[u8],
-    heads: &[u64],
-    words: &[u64],
-    links: &[u64],
+    names: Names,
     wires: &[u32],
     operands: &mut [u64],
     results: &mut [u64],
-    size: usize,
-    count: usize,
     n: u32,
     from: usize,
     next: u32,
 ) -> Value
-    requires { Ready text.now heads.now words.now links.now wires.now size count n from next }
-    ensures { ExprIs (wire_of text.now words.now wires.now count) text.now n from next
+    requires { Ready names.text.now wires.now names.count n from next }
+    ensures { ExprIs (wire_of names.entry.text.now names.entry.words.now wires.now names.entry.count) names.entry.text.now n from next
         (tables operands.old results.old) (tables operands.new results.new) result }
 {
-    let first = term(
-        text, heads, words, links, wires, operands, results, size, count, n, from, next,
-    );
-    let mut wire = first.wire;
-    let mut free = first.next;
-    let mut code = first.code;
-    let mut behind = first.behind;
-    while code == 14 {
-        let v = term(
-            text, heads, words, links, wires, operands, results, size, count, n, behind, free,
-        );
-        put(operands, results, n, gate_table::XOR, wire, v.wire, v.next);
-        wire = v.next;
-        free = v.next + 1;
-        code = v.code;
-        behind = v.behind;
+    let mut left = term(names, wires, operands, results, n, from, next);
+    while left.token.kind == Kind::Xor {
+        let v = term(names, wires, operands, results, n, left.token.to, left.next);
+        put(operands, results, n, XOR, left.wire, v.wire, v.next);
+        left = Value {
+            wire: v.next,
+            next: v.next + 1,
+            token: v.token,
+        };
     }
-    Value {
-        wire,
-        next: free,
-        code,
-        behind,
-    }
+    left
 }
 
 // A term: factors with `&` between them.
 #[cycle(expression_factor_term)]
 fn term(
-    text: &[u8],
-    heads: &[u64],
-    words: &[u64],
-    links: &[u64],
+    names: Names,
     wires: &[u32],
     operands: &mut [u64],
     results: &mut [u64],
-    size: usize,
-    count: usize,
     n: u32,
     from: usize,
     next: u32,
 ) -> Value
-    requires { Ready text.now heads.now words.now links.now wires.now size count n from next }
-    ensures { TermIs (wire_of text.now words.now wires.now count) text.now n from next
+    requires { Ready names.text.now wires.now names.count n from next }
+    ensures { TermIs (wire_of names.entry.text.now names.entry.words.now wires.now names.entry.count) names.entry.text.now n from next
         (tables operands.old results.old) (tables operands.new results.new) result }
 {
-    let first = factor(
-        text, heads, words, links, wires, operands, results, size, count, n, from, next,
-    );
-    let mut wire = first.wire;
-    let mut free = first.next;
-    let mut code = first.code;
-    let mut behind = first.behind;
-    while code == 13 {
-        let v = factor(
-            text, heads, words, links, wires, operands, results, size, count, n, behind, free,
-        );
-        put(operands, results, n, gate_table::AND, wire, v.wire, v.next);
-        wire = v.next;
-        free = v.next + 1;
-        code = v.code;
-        behind = v.behind;
+    let mut left = factor(names, wires, operands, results, n, from, next);
+    while left.token.kind == Kind::And {
+        let v = factor(names, wires, operands, results, n, left.token.to, left.next);
+        put(operands, results, n, AND, left.wire, v.wire, v.next);
+        left = Value {
+            wire: v.next,
+            next: v.next + 1,
+            token: v.token,
+        };
     }
-    Value {
-        wire,
-        next: free,
-        code,
-        behind,
-    }
+    left
 }
 
 // The token behind a `~`, or the token itself.
@@ -115,7 +83,7 @@ fn past(text: &[u8], t: Token) -> Token
     requires { t.to ≤ length text.now }
     ensures { PastIs text.now t result }
 {
-    if t.code == 12 {
+    if t.kind == Kind::Not {
         return token_at(text, t.to);
     }
     t
@@ -136,58 +104,48 @@ fn finish(
     ensures { Finished text.now n negated wire next to (tables operands.old results.old)
         (tables operands.new results.new) result }
 {
-    let t = token_at(text, to);
+    let token = token_at(text, to);
     if negated {
-        put(operands, results, n, gate_table::INV, wire, wire, next);
+        put(operands, results, n, INV, wire, wire, next);
         return Value {
             wire: next,
             next: next + 1,
-            code: t.code,
-            behind: t.to,
+            token,
         };
     }
-    Value {
-        wire,
-        next,
-        code: t.code,
-        behind: t.to,
-    }
+    Value { wire, next, token }
 }
 
 // A factor: a name or an expression in parentheses, or its inverse behind a `~`.
 #[cycle(expression_factor_term)]
 fn factor(
-    text: &[u8],
-    heads: &[u64],
-    words: &[u64],
-    links: &[u64],
+    names: Names,
     wires: &[u32],
     operands: &mut [u64],
     results: &mut [u64],
-    size: usize,
-    count: usize,
     n: u32,
     from: usize,
     next: u32,
 ) -> Value
-    requires { Ready text.now heads.now words.now links.now wires.now size count n from next }
-    ensures { FactorIs (wire_of text.now words.now wires.now count) text.now n from next
+    requires { Ready names.text.now wires.now names.count n from next }
+    ensures { FactorIs (wire_of names.entry.text.now names.entry.words.now wires.now names.entry.count) names.entry.text.now n from next
         (tables operands.old results.old) (tables operands.new results.new) result }
 {
+    let text = names.text;
     let first = token_at(text, from);
-    let negated = first.code == 12;
+    let negated = first.kind == Kind::Not;
     let t = past(text, first);
-    if t.code == 15 {
-        let wire = wire_of(text, heads, words, links, wires, size, count, t.from, t.to);
-        return finish(text, operands, results, n, negated, wire, next, t.to);
+    match t.kind {
+        Kind::Name => {
+            let wire = wire_of(names, wires, &text[t.from..t.to]);
+            finish(text, operands, results, n, negated, wire, next, t.to)
+        }
+        Kind::Open => {
+            let e = expression(names, wires, operands, results, n, t.to, next);
+            finish(
+                text, operands, results, n, negated, e.wire, e.next, e.token.to,
+            )
+        }
+        _ => finish(text, operands, results, n, false, 0, next, t.to),
     }
-    if t.code != 7 {
-        return finish(text, operands, results, n, false, 0, next, t.to);
-    }
-    let e = expression(
-        text, heads, words, links, wires, operands, results, size, count, n, t.to, next,
-    );
-    finish(
-        text, operands, results, n, negated, e.wire, e.next, e.behind,
-    )
 }

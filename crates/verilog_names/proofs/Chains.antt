@@ -1,19 +1,15 @@
 -- Names looked up in their chains.
-use Prim.Native.Nat.{ℕ, zero, suc, ◌+◌, ◌*◌, ◌-◌, ◌%◌, ◌≤◌, ◌<◌}
+use Prim.Native.Nat.{ℕ, zero, suc, ◌-◌, ◌%◌, ◌≤◌, ◌<◌}
 use mathlib.Core.Path.{◌≡◌, refl, sym, ap, ◌∙◌}
 use mathlib.Core.Bool.{true, false}
-use mathlib.Core.List.{List, [], ◌∷◌}
+use mathlib.Core.List.{List}
 use native.Mathlib.Omega.{arith}
 use lib.Dec.{eqb}
-use lib.ListN.{length, drop, get_or, drop_of_length-le}
-use lib.Seq.{drop-cons}
-use native.Mathlib.Numerals.{add-one}
 use borrow.Author.Tests.{eq-eqb, eqb-true}
 use Rattle.netlist.specs.Lists.{same_bytes}
-use Rattle.netlist.specs.Table.{half}
 use Rattle.netlist.proofs.Tests.{clash, on_bool}
 use Rattle.verilog.proofs.Listing.{same-equal}
-use Rattle.verilog_names.specs.Names.{number_from, number, name_at, chain_at, newest, found, chain_of}
+use Rattle.verilog_names.specs.Names.{number, name_at, chain_at, newest, found, chain_of}
 
 module _ (t words : List ℕ) (size : ℕ) where
   pub newest-within : (k n : ℕ) → newest t words size k n ≤ n
@@ -45,21 +41,6 @@ module _ (t words : List ℕ) (size : ℕ) where
       never : true ≡ false → ⊥
       never e = clash (cc)
 
--- ---- the number of a name
-
-pub number-start : (w : List ℕ) → number_from 0 (drop 0 w) ≡ number w
-unfolding number
-number-start w = refl
-
-pub number-on : (w : List ℕ) (h i x : ℕ) → i < length w → x ≡ get_or w i 0 → number_from h (drop i w) ≡ number w
-    → ((h * 37 + x) % half < half) × (number_from ((h * 37 + x) % half) (drop (i + 1) w) ≡ number w)
-number-on w h i x l e k =
-    let d : drop i w ≡ get_or w i 0 ∷ drop (i + 1) w = rw (add-one, drop-cons w i 0) in
-    (omega arith, ap (λ (y : ℕ). number_from ((h * 37 + y) % half) (drop (i + 1) w)) e ∙ sym (ap (number_from h) d) ∙ k)
-
-pub number-end : (w : List ℕ) (h i : ℕ) → length w ≤ i → number_from h (drop i w) ≡ number w → h ≡ number w
-number-end w h i l k = let d : drop i w ≡ [] = drop_of_length-le w l in sym (ap (number_from h) d) ∙ k
-
 -- ---- a name looked for
 
 -- it is among the first p entries if it is there at all, and the last of them is in its chain
@@ -87,16 +68,16 @@ module _ (t words w : List ℕ) (size : ℕ) where
       let other : found t words w (suc i) ≡ found t words w i = rw s refl in
       record { same = F.same ∙ ap (found t words w) z ∙ other ∙ G.same; within = omega (arith, G.within, F.within); chain = G.chain }
 
-  pub find-here : (n p i : ℕ) → 0 < p → i ≡ p - 1 → same_bytes (name_at t words i) w ≡ true → Finding t words w size n p → p ≡ found t words w n
+  pub find-here : (n p i : ℕ) → 0 < p → i ≡ p - 1 → same_bytes (name_at t words i) w ≡ true → Finding t words w size n p → suc i ≡ found t words w n
   unfolding found
   find-here n p i h e s F =
       let z : p ≡ suc i = omega arith in
       let this : found t words w (suc i) ≡ suc i = rw s refl in
-      z ∙ sym this ∙ ap (found t words w) (sym z) ∙ sym F.same
+      sym this ∙ ap (found t words w) (sym z) ∙ sym F.same
 
-  pub find_none : (n p : ℕ) → (0 < p → ⊥) → Finding t words w size n p → p ≡ found t words w n
+  pub find_none : (n p : ℕ) → (0 < p → ⊥) → Finding t words w size n p → 0 ≡ found t words w n
   unfolding found
-  find_none n p h F = let z : p ≡ 0 = omega arith in z ∙ sym (ap (found t words w) z) ∙ sym F.same
+  find_none n p h F = let z : p ≡ 0 = omega arith in sym (ap (found t words w) z) ∙ sym F.same
 
 pub found_within : (t words w : List ℕ) (n : ℕ) → found t words w n ≤ n
 unfolding found

@@ -1,7 +1,7 @@
 -- Names of a text in lent tables. Entry i of `words` is the place of a name in the text and, times 2^32, the place behind it.
 -- Names of one number form a chain: entry k of `heads` is one more than the newest entry of chain k, entry i of `links` one more
 -- than the next older one of its chain; 0 is none.
-use Rattle.std.specs.Prelude.{ℕ, zero, suc, ◌+◌, ◌*◌, ◌/◌, ◌%◌, ◌≤◌, ◌<◌, ◌≡◌, cond, List, [], ◌∷◌, ◌++◌, eqb, length, get_or, set}
+use Rattle.std.specs.Prelude.{ℕ, zero, suc, ◌+◌, ◌*◌, ◌/◌, ◌%◌, ◌≤◌, ◌<◌, ◌≡◌, cond, List, [], ◌∷◌, ◌++◌, eqb, length, get_or, set, Option, Some, None}
 use Rattle.netlist.specs.Lists.{same_bytes}
 use Rattle.netlist.specs.Table.{half}
 use Rattle.verilog_tokens.specs.Next.{between}
@@ -37,6 +37,11 @@ module _ (t words : List ℕ) (size : ℕ) where
 unfoldable pub found : List ℕ → List ℕ → List ℕ → ℕ → ℕ
 found t words w zero = 0
 found t words w (suc n) = cond (same_bytes (name_at t words n) w) (suc n) (found t words w n)
+
+-- one more than an entry, 0 for none
+abbrev pub entry_number : Option ℕ → ℕ
+entry_number None = 0
+entry_number (Some i) = suc i
 
 -- the tables hold n names of the text
 pub record Chained (t heads words links : List ℕ) (size n : ℕ) : Type 0 where

@@ -1,32 +1,37 @@
 // Names of a text, found by chains of equal numbers in lent tables.
 #![tactic(auto)]
 
-ghost use Rattle.std.specs.Prelude.{◌≡◌, ◌≤◌, ◌<◌, length, ◌%◌, ◌/◌};
+ghost use Rattle.std.specs.Prelude.{◌≡◌, ◌≤◌, ◌<◌, length, ◌%◌, ◌/◌, IfSome};
 ghost use Rattle.netlist.specs.Lists.{same_bytes};
 ghost use Rattle.netlist.specs.Table.{half};
 ghost use Rattle.verilog_tokens.specs.Next.{between};
-ghost use Rattle.verilog_names.specs.Names.{number, found, chain_of, Chained, Added};
+ghost use Rattle.verilog_names.specs.Names.{number, found, entry_number, chain_of, Chained, Added};
 
 use read_text::bytes::same;
 
-fn wide(b: u8) -> u64
-    ensures { result ≡ b }
-{
-    b as u64
+// Names found by chains of equal numbers in lent tables, which are read: so many chains, and so many names of a text.
+#[derive(Clone, Copy)]
+pub struct Names<'a> {
+    pub text: &'a [u8],
+    pub heads: &'a [u64],
+    pub words: &'a [u64],
+    pub links: &'a [u64],
+    pub size: usize,
+    pub count: usize,
+    ghost chained: { Chained text.now heads.now words.now links.now size count },
 }
 
 // 2^32: the numbers of names are below it, and a name's end stands in the upper half of its entry of words, above its start.
 const HALF: u64 = 4294967296;
 
 // The number of a name.
+#[tactic(auto, unfolding(crate::specs::Names::number))]
 fn hash(w: &[u8]) -> u64
     ensures { result ≡ number w.now }
 {
     let mut h: u64 = 0;
-    let mut i = 0;
-    while i < w.len() {
-        h = (h * 37 + wide(w[i])) % HALF;
-        i += 1;
+    for b in w {
+        h = (h * 37 + u64::from(*b)) % HALF;
     }
     h
 }
@@ -49,29 +54,22 @@ fn is_name(text: &[u8], entry: u64, w: &[u8]) -> bool
     same(&text[from..to], w)
 }
 
-// One more than the newest entry with the name w, or 0.
-pub fn find(
-    text: &[u8],
-    w: &[u8],
-    heads: &[u64],
-    words: &[u64],
-    links: &[u64],
-    size: usize,
-    count: usize,
-) -> u64
-    requires { Chained text.now heads.now words.now links.now size count }
-    ensures { result ≡ found text.now words.now w.now count }
-{
-    let k = chain_of(w, size);
-    let mut p = heads[k];
-    while 0 < p {
-        let i = (p - 1) as usize;
-        if is_name(text, words[i], w) {
-            return p;
+impl Names<'_> {
+    // The newest entry with the name w.
+    pub fn find(self, w: &[u8]) -> Option<usize>
+        ensures entry { entry_number result ≡ found self.entry.text.now self.entry.words.now w.now self.entry.count }
+        ensures within { IfSome result (λ i. i < self.entry.count) }
+    {
+        let mut p = self.heads[chain_of(w, self.size)];
+        while 0 < p {
+            let i = (p - 1) as usize;
+            if is_name(self.text, self.words[i], w) {
+                return Some(i);
+            }
+            p = self.links[i];
         }
-        p = links[i];
+        None
     }
-    p
 }
 
 // The name between two places as the next entry, newest of its chain.

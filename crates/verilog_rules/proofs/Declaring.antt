@@ -7,44 +7,19 @@ use mathlib.Core.Option.{some}
 use native.Mathlib.Omega.{arith}
 use lib.Dec.{eqb, leb}
 use lib.ListN.{length, take, drop, set, length-append}
-use borrow.Author.Tests.{eq-eqb, ne_eqb, eqb-true, eqb-false, le-leb, lt-leb, leb-true, leb-false}
+use borrow.Author.Tests.{ne_eqb, eqb-true, eqb-false, lt-leb, leb-true, leb-false}
 use Rattle.netlist.specs.Lists.{same_bytes}
 use Rattle.netlist.proofs.Tests.{on_bool}
 use Rattle.netlist.proofs.Questions.{some_same}
-use Rattle.verilog_rules.specs.declared.declarations.Names.{Names}
 use Rattle.verilog.specs.Tokens.{Token, name, mark, elem, tokens}
 use Rattle.verilog.specs.Equations.{Entry, entry}
 use Rattle.verilog.proofs.Listing.{same-equal, same_self}
 use Rattle.verilog_tokens.specs.Next.{code_of, token_of, between, TokenAt}
 use Rattle.verilog_tokens.proofs.Firsts.{never, token-code, first, none_left}
-use Rattle.verilog_names.specs.Names.{name_at, names_of, found, Chained, Added}
+use Rattle.verilog_names.specs.Names.{name_at, names_of, found, Chained}
 use Rattle.verilog_names.proofs.Adding.{chained_more, names-added}
-use Rattle.verilog_gates.proofs.Joins.{left}
 use Rattle.verilog_rules.specs.Stages.{declares, kind_behind, declared_from, behind_declared, keys, kinds, fresh, AllDeclared, NotDeclared}
-use Rattle.verilog_rules.specs.One.{NameIs, OneIs}
-
--- ---- one name
-
-module _ {t : List ℕ} {size most count kind from to : ℕ} {heads heads' words words' links links' st st' : List ℕ} where
-  pub name-full : most ≤ count → NameIs t size most count kind from to heads heads' words words' links links' st st' false
-  name-full h = record { said = sym (rw (lt-leb (count + 1) most (omega (arith, h)))); added = λ e. absurd (never (sym e)); state = λ e. absurd (never (sym e)) }
-
-  pub name-twice : count < most → {p : ℕ} → p ≡ found t words (between t from to) count → 0 < p → NameIs t size most count kind from to heads heads' words
-      words' links links' st st' false
-  name-twice h {p} e q = record {
-    said = sym (rw (le-leb (count + 1) most (omega (arith, h)), ne_eqb (found t words (between t from to) count) 0 (λ z. omega (arith, e, q, z))));
-    added = λ e. absurd (never (sym e));
-    state = λ e. absurd (never (sym e));
-  }
-
-  pub name_new : count < most → {p : ℕ} → p ≡ found t words (between t from to) count → p ≤ 0 → Added t heads heads' words words' links links' size count from
-      to → st' ≡ set st count kind
-      → NameIs t size most count kind from to heads heads' words words' links links' st st' true
-  name_new h {p} e q A s = record {
-    said = sym (rw (le-leb (count + 1) most (omega (arith, h)), eq-eqb (found t words (between t from to) count) 0 (omega (arith, e, q))));
-    added = λ e. A;
-    state = λ e. s;
-  }
+use Rattle.verilog_rules.specs.One.{OneSays}
 
 -- ---- names found and names in the list
 
@@ -248,8 +223,9 @@ module _ {t : List ℕ} {at size most : ℕ} {heads₀ words₀ links₀ st₀ :
                   sym F.split,
             ))
 
-    module _ {heads' words' links' st' : List ℕ} {r : Names} (O : OneIs t size most count kind code from to heads heads' words words' links links' st st' r) where
-      pub load-bad : r.good ≡ false → NotDeclared t at most
+    module _ {heads' words' links' st' : List ℕ} {good : Bool} {count' kind' : ℕ}
+        (O : OneSays t size most count kind code from to heads heads' words words' links links' st st' good count' kind') where
+      pub load-bad : good ≡ false → NotDeclared t at most
       load-bad g = on_bool (eqb code 15)
           (λ e. bad (eqb-true code 15 e))
           (λ e. absurd (never (sym (O.marked (eqb-false code 15 e)).0 ∙ g)))
@@ -277,13 +253,13 @@ module _ {t : List ℕ} {at size most : ℕ} {heads₀ words₀ links₀ st₀ :
                 rw (f ∙ fresh-off (keys L.done) w (keys more) m));
           }
 
-      pub load-on : declares code ≡ true → r.good ≡ true → length heads' ≡ length heads → length words' ≡ length words → length links' ≡ length links → length
+      pub load-on : declares code ≡ true → good ≡ true → length heads' ≡ length heads → length words' ≡ length words → length links' ≡ length links → length
           st' ≡ length st
           → most ≤ length words₀ → most ≤ length links₀ → most ≤ length st₀ → {code' from' to' : ℕ} → TokenAt t to code' from' to'
-          → Declaring t at size most heads₀ words₀ links₀ st₀ heads' words' links' st' code' from' to' to r.count r.kind
+          → Declaring t at size most heads₀ words₀ links₀ st₀ heads' words' links' st' code' from' to' to count' kind'
       load-on h g lh lw ll ls mw ml ms {code'} {from'} {to'} A = on_bool (eqb code 15) (λ e. named (eqb-true code 15 e)) (λ e. marked (eqb-false code 15 e))
         where
-          marked : (code ≡ 15 → ⊥) → Declaring t at size most heads₀ words₀ links₀ st₀ heads' words' links' st' code' from' to' to r.count r.kind
+          marked : (code ≡ 15 → ⊥) → Declaring t at size most heads₀ words₀ links₀ st₀ heads' words' links' st' code' from' to' to count' kind'
           marked n =
               let M = O.marked n in
               rw (M.1, M.2, M.3, M.4, M.5, M.6) (record {
@@ -314,7 +290,7 @@ module _ {t : List ℕ} {at size most : ℕ} {heads₀ words₀ links₀ st₀ :
                     };
               })
 
-          named : code ≡ 15 → Declaring t at size most heads₀ words₀ links₀ st₀ heads' words' links' st' code' from' to' to r.count r.kind
+          named : code ≡ 15 → Declaring t at size most heads₀ words₀ links₀ st₀ heads' words' links' st' code' from' to' to count' kind'
           named e =
               let N = O.named e in
               let B = both-sides (leb (count + 1) most) (eqb (found t words (between t from to) count) 0) (sym N.0.said ∙ g) in
@@ -353,14 +329,3 @@ module _ {t : List ℕ} {at size most : ℕ} {heads₀ words₀ links₀ st₀ :
                       many = length-snoc L.done (entry w kind) ∙ ap (λ (j : ℕ). j + 1) L.many;
                     };
               })
-
-pub code-some : (c : ℕ) → declares c ≡ true → 0 < c
-code-some c e = let h = eqb-false c 0 (declares-some c e) in omega arith
-
--- fewer tokens are left
-pub load-less : (t : List ℕ) (code to : ℕ) {code' from' to' : ℕ} → declares code ≡ true → TokenAt t to code' from' to' → left t code' to' < left t code to
-load-less t code to {code'} d A =
-    let z = declares-some code d in
-    on_bool (eqb code' 0)
-    (λ h. rw (h, z) (omega (arith, A.start, A.onward)))
-    (λ h. rw (h, z) (omega (arith, A.start, A.on h, A.within)))

@@ -1,19 +1,20 @@
 -- A name's state, and what a move changes.
-use Prim.Native.Nat.{ℕ, zero, suc, ◌+◌, ◌-◌, ◌≤◌, ◌<◌}
-use mathlib.Core.Path.{◌≡◌, refl, sym, ap, subst, ◌∙◌}
+use Prim.Native.Nat.{ℕ, zero, suc, ◌+◌, ◌-◌, ◌<◌}
+use mathlib.Core.Path.{◌≡◌, refl, sym, ap, ◌∙◌}
 use mathlib.Core.Bool.{Bool, true, false, ◌&&◌}
 use mathlib.Core.List.{List, [], ◌∷◌}
 use native.Mathlib.Omega.{arith}
-use lib.Dec.{eqb, leb}
+use lib.Dec.{eqb}
 use lib.ListN.{length, get_or, set, take}
-use borrow.Author.Tests.{eq-eqb, ne_eqb, eqb-true, eqb-false, lt-leb, le-leb}
+use borrow.Author.Tests.{eq-eqb, ne_eqb}
 use Rattle.netlist.specs.Lists.{every, same_bytes}
 use Rattle.netlist.proofs.Tests.{on_bool}
 use Rattle.verilog.proofs.Listing.{same-equal}
 use Rattle.verilog_names.specs.Names.{name_at, found}
-use Rattle.verilog_gates.specs.Wires.{before, wire_of, given}
-use Rattle.verilog_rules.specs.States.{becomes, all_from}
-use Rattle.verilog_rules.specs.Ports.{PortIs}
+use Rattle.verilog_gates.specs.Wires.{before, wire_of}
+use Rattle.verilog_rules.specs.declared.states.State.{State}
+use Rattle.verilog_rules.specs.declared.states.State.TheVariants as S
+use Rattle.verilog_rules.specs.States.{state_number, becomes}
 
 module _ (t words : List ℕ) where
   -- a name that is found is the name of its entry
@@ -42,24 +43,34 @@ module _ (t words states : List ℕ) (n : ℕ) (w : List ℕ) (old new : ℕ) wh
   pub stays : eqb (wire_of t words states n w) old ≡ false → states ≡ becomes t words states n w old new
   stays e = rw e
 
-  pub become-none : 0 < old → found t words w n ≡ 0 → (false ≡ eqb (wire_of t words states n w) old) × (states ≡ becomes t words states n w old new)
+  pub become-none : 0 < old → 0 ≡ found t words w n → (false ≡ eqb (wire_of t words states n w) old) × (states ≡ becomes t words states n w old new)
   become-none h e =
-      let k : eqb (wire_of t words states n w) old ≡ false = ap (λ (x : ℕ). eqb x old) (state-none t words states w n e) ∙ ne_eqb 0 old (λ z. omega (arith, z)) in
+      let k : eqb (wire_of t words states n w) old ≡ false = ap (λ (x : ℕ). eqb x old) (state-none t words states w n (sym e)) ∙ ne_eqb 0 old (λ z. omega (arith, z)) in
       (sym k, stays k)
 
-  pub become-other : (p : ℕ) → p ≡ found t words w n → 0 < p → (get_or states (p - 1) 0 ≡ old → ⊥) → (false ≡ eqb (wire_of t words states n w) old) ×
-      (states ≡ becomes t words states n w old new)
-  become-other p e h f =
-      let k : eqb (wire_of t words states n w) old ≡ false = ne_eqb (wire_of t words states n w) old
-      (λ z. f (ap (λ (x : ℕ). get_or states (x - 1) 0) e ∙ sym (state-some t words states w n (omega (arith, e, h))) ∙ z)) in
-      (sym k, stays k)
+  module _ (i : ℕ) (e : suc i ≡ found t words w n) where
+    state-here : wire_of t words states n w ≡ get_or states i 0
+    unfolding wire_of
+    state-here = ap (λ (p : ℕ). before p states) (sym e)
 
-  pub become-new : (p : ℕ) → p ≡ found t words w n → 0 < p → get_or states (p - 1) 0 ≡ old → (true ≡ eqb (wire_of t words states n w) old) ×
-      (set states (p - 1) new ≡ becomes t words states n w old new)
-  become-new p e h f =
-      let k : eqb (wire_of t words states n w) old ≡ true = eq-eqb (wire_of t words states n w) old
-      (state-some t words states w n (omega (arith, e, h)) ∙ sym (ap (λ (x : ℕ). get_or states (x - 1) 0) e) ∙ f) in
-      (sym k, ap (λ (x : ℕ). set states (x - 1) new) e ∙ rw k)
+    pub become-other : (get_or states i 0 ≡ old → ⊥) → (false ≡ eqb (wire_of t words states n w) old) × (states ≡ becomes t words states n w old new)
+    become-other f =
+        let k : eqb (wire_of t words states n w) old ≡ false = ne_eqb (wire_of t words states n w) old (λ z. f (sym state-here ∙ z)) in
+        (sym k, stays k)
+
+    pub become-new : get_or states i 0 ≡ old → (true ≡ eqb (wire_of t words states n w) old) × (set states i new ≡ becomes t words states n w old new)
+    become-new f =
+        let k : eqb (wire_of t words states n w) old ≡ true = eq-eqb (wire_of t words states n w) old (state-here ∙ f) in
+        let z : i ≡ found t words w n - 1 = omega (arith, e) in
+        (sym k, ap (λ (x : ℕ). set states x new) z ∙ rw k)
+
+pub some-state : (s : State) → 0 < state_number s
+some-state S.Input = omega arith
+some-state S.Output = omega arith
+some-state S.Wire = omega arith
+some-state S.Port = omega arith
+some-state S.Readable = omega arith
+some-state S.ReadableOutput = omega arith
 
 -- ---- all states
 
@@ -76,46 +87,3 @@ every_take p (x ∷ xs) (suc i) h = let z : suc i + 1 ≡ suc (i + 1) = omega ar
     assoc : (a b c : Bool) → (a && (b && c)) ≡ ((a && b) && c)
     assoc true b c = refl
     assoc false b c = refl
-
-module _ (states : List ℕ) (least : ℕ) where
-  pub all-on : (i : ℕ) → i < length states → least ≤ get_or states i 0 → all_from states i least ≡ true → all_from states (i + 1) least ≡ true
-  all-on i h k e = every_take (λ x. leb least x) states i h ∙ rw (e, le-leb least (get_or states i 0) k)
-
-  pub all-off : (i n : ℕ) → i < n → n ≤ length states → get_or states i 0 < least → false ≡ all_from states n least
-  all-off i zero h l k = absurd (omega arith)
-  all-off i (suc n) h l k =
-      let z : suc n ≡ n + 1 = omega arith in
-      let e = ap (λ (j : ℕ). all_from states j least) z ∙ every_take (λ x. leb least x) states n (omega arith) in
-      on_bool (eqb i n)
-      (λ q. sym (e ∙ last (all_from states n least) (leb least (get_or states n 0))
-      (lt-leb least (get_or states n 0) (subst (λ (j : ℕ). get_or states j 0 < least) (eqb-true i n q) k))))
-      (λ q. let d = eqb-false i n q in sym (e ∙ first (all_from states n least) (leb least (get_or states n 0)) (sym (all-off i n (omega (arith, d, h)) (omega arith) k))))
-    where
-      last : (a b : Bool) → b ≡ false → (a && b) ≡ false
-      last true b e = e
-      last false b e = refl
-
-      first : (a b : Bool) → a ≡ false → (a && b) ≡ false
-      first a b e = rw e
-
--- ---- one port
-
-module _ {t words : List ℕ} {n : ℕ} {w : List ℕ} {inputs outputs : ℕ} {st st' ws : List ℕ} where
-  pub port-input : {ws' : List ℕ} {b : Bool} → b ≡ eqb (wire_of t words st n w) 1 → b ≡ true → st' ≡ becomes t words st n w 1 5 → ws' ≡ given t words ws n w inputs
-      → PortIs t words n w inputs outputs st st' ws ws' (record { good = true; inputs = inputs + 1; outputs = outputs })
-  port-input e q s g = record { is_input = λ h. (refl, s, g); is_other = λ h. absurd (h (eqb-true (wire_of t words st n w) 1 (sym e ∙ q))) }
-
-  pub port-other : {b good : Bool} {st₁ : List ℕ} → b ≡ eqb (wire_of t words st n w) 1 → b ≡ false → st₁ ≡ becomes t words st n w 1 5
-      → good ≡ eqb (wire_of t words st₁ n w) 2 → st' ≡ becomes t words st₁ n w 2 4
-      → PortIs t words n w inputs outputs st st' ws ws (record { good = good; inputs = inputs; outputs = outputs + 1 })
-  port-other {b} {good} {st₁} e q s g k =
-      let f = sym e ∙ q in
-      let u : st₁ ≡ st = s ∙ sym (stays t words st n w 1 5 f) in
-      record {
-        is_input = λ h. absurd (eqb-false (wire_of t words st n w) 1 f h);
-        is_other = λ h. (
-          (λ i. record { good = (g ∙ ap (λ (x : List ℕ). eqb (wire_of t words x n w) 2) u) i; inputs = inputs; outputs = outputs + 1 }),
-          k ∙ ap (λ (x : List ℕ). becomes t words x n w 2 4) u,
-          refl,
-        );
-      }

@@ -1,5 +1,5 @@
 -- Ports seated one after another.
-use Prim.Native.Nat.{ℕ, ◌+◌, ◌≤◌, ◌<◌}
+use Prim.Native.Nat.{ℕ, ◌+◌, ◌≤◌}
 use mathlib.Core.Path.{◌≡◌, refl, sym, ap, ◌∙◌}
 use mathlib.Core.Bool.{Bool, true, false, cond}
 use mathlib.Core.List.{List, [], ◌∷◌}
@@ -15,10 +15,9 @@ use Rattle.verilog.specs.Tokens.{Token, name, mark, tokens}
 use Rattle.verilog_tokens.specs.Next.{token_of, between, TokenAt}
 use Rattle.verilog_tokens.proofs.Firsts.{never, token-code, first, none_left}
 use Rattle.verilog_gates.specs.Wires.{wire_of, given}
-use Rattle.verilog_gates.proofs.Joins.{left, head-same}
+use Rattle.verilog_gates.proofs.Joins.{head-same}
 use Rattle.verilog_rules.specs.States.{becomes}
-use Rattle.verilog_rules.specs.Ports.{PortIs, Seated, seat, seat_all, unseated, behind_port, ports_left, PortsIs}
-use Rattle.verilog_rules.specs.declared.ports.Ports.{Ports}
+use Rattle.verilog_rules.specs.Ports.{PortSays, Ported, Seated, seat, seat_all, unseated, behind_port, ports_left, PortsGive}
 
 abbrev pub seated : List ℕ → List ℕ → ℕ → ℕ → Seated
 seated st ws i o = record { good = true; states = st; wires = ws; inputs = i; outputs = o }
@@ -91,18 +90,8 @@ module _ {t : List ℕ} where
   port-none {code = code} {from} {to} A h (w ∷ ps) rest e = absurd (h (token-code code (between t from to) (name w) (known A (name w) (behind_port ps rest) e).0))
 
 module _ {t words : List ℕ} {n at : ℕ} {st₀ ws₀ : List ℕ} where
-  pub seat-start : {code from to : ℕ} → TokenAt t at code from to → Seating t words n at st₀ ws₀ st₀ ws₀ code from to 0 0
-  seat-start A = record {
-    place = at;
-    token = A;
-    stated = refl;
-    wired = refl;
-    few = (omega arith, omega arith);
-    gives = λ ps rest e. record { more = ps; tokens_are = e; same = refl };
-  }
-
   module _ {st ws : List ℕ} {code from to i o : ℕ} (S : Seating t words n at st₀ ws₀ st ws code from to i o) where
-    pub seat-end : (code ≡ 15 → ⊥) → PortsIs t words n at st₀ st ws₀ ws (record { good = true; inputs = i; outputs = o })
+    pub seat-end : (code ≡ 15 → ⊥) → PortsGive t words n at st₀ st ws₀ ws (record { good = true; inputs = i; outputs = o })
     seat-end h = record {
       gives = λ ps rest e. let A = S.gives ps rest e in
           let q : seat_all t words n (unseated st₀ ws₀) ps ≡ seated st ws i o = A.same ∙ ap (seat_all t words n (seated st ws i o))
@@ -116,7 +105,7 @@ module _ {t words : List ℕ} {n at : ℕ} {st₀ ws₀ : List ℕ} where
           };
     }
 
-    module _ {st' ws' : List ℕ} {r : Ports} (P : PortIs t words n (between t from to) i o st st' ws ws' r) (five : code ≡ 15) where
+    module _ {st' ws' : List ℕ} {r : Ported} (P : PortSays t words n (between t from to) i o st st' ws ws' r) (five : code ≡ 15) where
       seated-is : r.good ≡ true → seat t words n (seated st ws i o) (between t from to) ≡ seated st' ws' r.inputs r.outputs
       seated-is g =
           let w = between t from to in
@@ -125,24 +114,24 @@ module _ {t words : List ℕ} {n at : ℕ} {st₀ ws₀ : List ℕ} where
           let Y : Seated = record { good = eqb σ 2; states = becomes t words st n w 2 4; wires = ws; inputs = i; outputs = o + 1 } in
           on_bool (eqb σ 1)
           (λ q. let K = P.is_input (eqb-true σ 1 q) in
-          pick X Y q ∙ (λ j. seated (sym K.1 j) (sym K.2 j) (sym (ap (λ (x : Ports). x.inputs) K.0) j) (sym (ap (λ (x : Ports). x.outputs) K.0) j)))
+          pick X Y q ∙ (λ j. seated (sym K.1 j) (sym K.2 j) (sym (ap (λ (x : Ported). x.inputs) K.0) j) (sym (ap (λ (x : Ported). x.outputs) K.0) j)))
           (λ q. let K = P.is_other (eqb-false σ 1 q) in
-          let two : eqb σ 2 ≡ true = sym (ap (λ (x : Ports). x.good) K.0) ∙ g in
+          let two : eqb σ 2 ≡ true = sym (ap (λ (x : Ported). x.good) K.0) ∙ g in
           pass X Y q ∙ (λ j. record {
             good = two j;
             states = sym K.1 j;
             wires = sym K.2 j;
-            inputs = sym (ap (λ (x : Ports). x.inputs) K.0) j;
-            outputs = sym (ap (λ (x : Ports). x.outputs) K.0) j;
+            inputs = sym (ap (λ (x : Ported). x.inputs) K.0) j;
+            outputs = sym (ap (λ (x : Ported). x.outputs) K.0) j;
           }))
 
-      pub seat-bad : {i' o' : ℕ} {st'' ws'' : List ℕ} → r.good ≡ false → PortsIs t words n at st₀ st'' ws₀ ws'' (record { good = false; inputs = i'; outputs = o' })
+      pub seat-bad : {i' o' : ℕ} {st'' ws'' : List ℕ} → r.good ≡ false → PortsGive t words n at st₀ st'' ws₀ ws'' (record { good = false; inputs = i'; outputs = o' })
       seat-bad g = record {
         gives = λ ps rest e. let A = S.gives ps rest e in
             let T = port-here S.token five A.more rest A.tokens_are in
             let b : (seat t words n (seated st ws i o) (between t from to)).good ≡ false = on_bool (eqb (wire_of t words st n (between t from to)) 1)
-            (λ q. absurd (never (sym (ap (λ (x : Ports). x.good) (P.is_input (eqb-true (wire_of t words st n (between t from to)) 1 q)).0) ∙ g)))
-            (λ q. rw q (sym (ap (λ (x : Ports). x.good) (P.is_other (eqb-false (wire_of t words st n (between t from to)) 1 q)).0) ∙ g)) in
+            (λ q. absurd (never (sym (ap (λ (x : Ported). x.good) (P.is_input (eqb-true (wire_of t words st n (between t from to)) 1 q)).0) ∙ g)))
+            (λ q. rw q (sym (ap (λ (x : Ported). x.good) (P.is_other (eqb-false (wire_of t words st n (between t from to)) 1 q)).0) ∙ g)) in
             let q = ap (λ (x : Seated). x.good) (A.same ∙ ap (seat_all t words n (seated st ws i o)) T.1) ∙ spoilt t words n T.0
             (seat t words n (seated st ws i o) (between t from to)) b in
             record {
@@ -177,21 +166,12 @@ module _ {t words : List ℕ} {n at : ℕ} {st₀ ws₀ : List ℕ} where
               let z : eqb code 0 ≡ false = ap (λ (c : ℕ). eqb c 0) five in
               on_bool (eqb (wire_of t words st n (between t from to)) 1)
               (λ q. let K = (P.is_input (eqb-true (wire_of t words st n (between t from to)) 1 q)).0 in (
-                omega (arith, ap (λ (x : Ports). x.inputs) K, S.few.0, S.token.start, S.token.on z, C.start, C.onward),
+                omega (arith, ap (λ (x : Ported). x.inputs) K, S.few.0, S.token.start, S.token.on z, C.start, C.onward),
                 omega
-                    (arith, ap (λ (x : Ports). x.outputs) K, S.few.1, S.token.start, S.token.on z, C.start, C.onward),
+                    (arith, ap (λ (x : Ported). x.outputs) K, S.few.1, S.token.start, S.token.on z, C.start, C.onward),
               ))
               (λ q. let K = (P.is_other (eqb-false (wire_of t words st n (between t from to)) 1 q)).0 in (
-                omega (arith, ap (λ (x : Ports). x.inputs) K, S.few.0, S.token.start, S.token.on z, C.start, C.onward),
+                omega (arith, ap (λ (x : Ported). x.inputs) K, S.few.0, S.token.start, S.token.on z, C.start, C.onward),
                 omega
-                    (arith, ap (λ (x : Ports). x.outputs) K, S.few.1, S.token.start, S.token.on z, C.start, C.onward),
+                    (arith, ap (λ (x : Ported). x.outputs) K, S.few.1, S.token.start, S.token.on z, C.start, C.onward),
               ))
-
--- fewer tokens are left
-pub seat-less : (t : List ℕ) (code to : ℕ) {cc fc tc code' from' to' : ℕ} → code ≡ 15 → TokenAt t to cc fc tc → TokenAt t tc code' from' to' → left t code' to'
-    < left t code to
-seat-less t code to {code' = code'} five C A =
-    let z : eqb code 0 ≡ false = ap (λ (c : ℕ). eqb c 0) five in
-    on_bool (eqb code' 0)
-    (λ h. rw (h, z) (omega (arith, C.start, C.onward, A.start, A.onward)))
-    (λ h. rw (h, z) (omega (arith, C.start, C.onward, A.start, A.on h, A.within)))

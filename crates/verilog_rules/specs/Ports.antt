@@ -1,5 +1,5 @@
 -- One port: an input gets the next wire, an output is counted.
-use Rattle.std.specs.Prelude.{ℕ, ◌+◌, ◌≡◌, Bool, true, cond, ◌&&◌, List, [], ◌∷◌, ◌++◌, eqb, drop}
+use Rattle.std.specs.Prelude.{ℕ, ◌+◌, ◌≡◌, Bool, true, false, Option, Some, None, cond, ◌&&◌, List, [], ◌∷◌, ◌++◌, eqb, drop}
 use Rattle.std.proofs.Math.Option.{some}
 use Rattle.netlist.specs.Lists.{ascii}
 use Rattle.verilog.specs.Tokens.{Token, name, mark, tokens}
@@ -8,12 +8,24 @@ use Rattle.verilog_gates.specs.Wires.{wire_of, given}
 use Rattle.verilog_rules.specs.States.{becomes}
 use Rattle.verilog_rules.specs.declared.ports.Ports.{Ports}
 
+-- whether every port so far is one, and how many inputs and outputs there are
+pub record Ported : Type 0 where
+  pub good : Bool
+  pub inputs : ℕ
+  pub outputs : ℕ
+
 -- the state of the name decides: 1 is an input, 2 an output, any other no port
-pub record PortIs (t words : List ℕ) (n : ℕ) (w : List ℕ) (inputs outputs : ℕ) (st st' ws ws' : List ℕ) (r : Ports) : Type 0 where
+pub record PortSays (t words : List ℕ) (n : ℕ) (w : List ℕ) (inputs outputs : ℕ) (st st' ws ws' : List ℕ) (r : Ported) : Type 0 where
   pub is_input : wire_of t words st n w ≡ 1 → (r ≡ record { good = true; inputs = inputs + 1; outputs = outputs }) × (st' ≡ becomes t words st n w 1 5) ×
       (ws' ≡ given t words ws n w inputs)
   pub is_other : (wire_of t words st n w ≡ 1 → ⊥) → (r ≡ record { good = eqb (wire_of t words st n w) 2; inputs = inputs; outputs = outputs + 1 }) ×
       (st' ≡ becomes t words st n w 2 4) × (ws' ≡ ws)
+
+abbrev pub PortIs : List ℕ → List ℕ → ℕ → List ℕ → ℕ → ℕ → List ℕ → List ℕ → List ℕ → List ℕ → Option Ports → Type 0
+PortIs t words n w inputs outputs st st' ws ws' None =
+    PortSays t words n w inputs outputs st st' ws ws' (record { good = false; inputs = inputs; outputs = outputs + 1 })
+PortIs t words n w inputs outputs st st' ws ws' (Some r) =
+    PortSays t words n w inputs outputs st st' ws ws' (record { good = true; inputs = r.inputs; outputs = r.outputs })
 
 -- ---- all of them
 
@@ -47,7 +59,7 @@ abbrev pub unseated : List ℕ → List ℕ → Seated
 unseated st ws = record { good = true; states = st; wires = ws; inputs = 0; outputs = 0 }
 
 -- an answer is that of the ports, and what the tables hold then
-pub record PortsSay (P : Seated) (st ws : List ℕ) (r : Ports) : Type 0 where
+pub record PortsSay (P : Seated) (st ws : List ℕ) (r : Ported) : Type 0 where
   pub said : r.good ≡ P.good
   pub states : r.good ≡ true → st ≡ P.states
   pub wires : r.good ≡ true → ws ≡ P.wires
@@ -63,5 +75,12 @@ ports_left [] rest = mark (ascii ";") ∷ rest
 ports_left (w ∷ ws) rest = name w ∷ behind_port ws rest
 
 -- what a list of ports says
-pub record PortsIs (t words : List ℕ) (n at : ℕ) (st st' ws ws' : List ℕ) (r : Ports) : Type 0 where
+pub record PortsGive (t words : List ℕ) (n at : ℕ) (st st' ws ws' : List ℕ) (r : Ported) : Type 0 where
   pub gives : (ps : List (List ℕ)) (rest : List Token) → tokens (drop at t) ≡ some (ports_left ps rest) → PortsSay (seat_all t words n (unseated st ws) ps) st' ws' r
+
+abbrev pub ported : Option Ports → Ported
+ported None = record { good = false; inputs = 0; outputs = 0 }
+ported (Some r) = record { good = true; inputs = r.inputs; outputs = r.outputs }
+
+abbrev pub PortsIs : List ℕ → List ℕ → ℕ → ℕ → List ℕ → List ℕ → List ℕ → List ℕ → Option Ports → Type 0
+PortsIs t words n at st st' ws ws' r = PortsGive t words n at st st' ws ws' (ported r)

@@ -1,5 +1,5 @@
 -- The names that stand in the parts of a module, token by token.
-use Rattle.std.specs.Prelude.{ℕ, ◌-◌, ◌≤◌, ◌≡◌, Bool, true, false, cond, not, ◌&&◌, ◌||◌, List, [], ◌∷◌, ◌++◌, map, eqb, leb, length, take, drop}
+use Rattle.std.specs.Prelude.{ℕ, ◌-◌, ◌≤◌, ◌≡◌, Option, Some, None, Bool, true, false, cond, not, ◌&&◌, ◌||◌, List, [], ◌∷◌, ◌++◌, map, eqb, leb, length, take, drop}
 use Rattle.std.proofs.Math.Option.{some}
 use Rattle.verilog.specs.Tokens.{Token, name, mark, elem, tokens}
 use Rattle.verilog.specs.Equations.{Entry, entry}
@@ -56,9 +56,6 @@ pub record NotDeclared (t : List ℕ) (at most : ℕ) : Type 0 where
   pub gives : (ts : List Token) → tokens (drop at t) ≡ some ts → (fresh [] (keys (declared_from 0 ts)) && leb (length (declared_from 0 ts)) most) ≡ false
 
 -- every name was declared once; or one was declared twice, or there are more than `most`
-abbrev pub DeclaredBy : Bool → List ℕ → ℕ → ℕ → ℕ → List ℕ → List ℕ → List ℕ → List ℕ → ℕ → ℕ → Type 0
-DeclaredBy true t at size most heads words links st count place = AllDeclared t at size most heads words links st count place
-DeclaredBy false t at size most heads words links st count place = NotDeclared t at most
-
-abbrev pub DeclaredIs : List ℕ → ℕ → ℕ → ℕ → List ℕ → List ℕ → List ℕ → List ℕ → Declared → Type 0
-DeclaredIs t at size most heads words links st r = DeclaredBy r.good t at size most heads words links st r.count r.at
+abbrev pub DeclaredIs : List ℕ → ℕ → ℕ → ℕ → List ℕ → List ℕ → List ℕ → List ℕ → Option Declared → Type 0
+DeclaredIs t at size most heads words links st None = NotDeclared t at most
+DeclaredIs t at size most heads words links st (Some r) = AllDeclared t at size most heads words links st r.count r.at

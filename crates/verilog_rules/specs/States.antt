@@ -2,7 +2,17 @@
 use Rattle.std.specs.Prelude.{ℕ, ◌-◌, Bool, cond, List, eqb, leb, set, take}
 use Rattle.netlist.specs.Lists.{every}
 use Rattle.verilog_names.specs.Names.{found}
+use Rattle.verilog_rules.specs.declared.states.State.{State}
+use Rattle.verilog_rules.specs.declared.states.State.TheVariants as S
 use Rattle.verilog_gates.specs.Wires.{wire_of}
+
+abbrev pub state_number : State → ℕ
+state_number S.Input = 1
+state_number S.Output = 2
+state_number S.Wire = 3
+state_number S.Port = 4
+state_number S.Readable = 5
+state_number S.ReadableOutput = 6
 
 -- the states behind a move of a name from one state to another, where it is in the first
 abbrev pub becomes : List ℕ → List ℕ → List ℕ → ℕ → List ℕ → ℕ → ℕ → List ℕ

@@ -1,44 +1,38 @@
-// The declarations of a text, each name into the tables once.
-ghost use Rattle.std.specs.Prelude.{◌≡◌, ◌&&◌, ◌≤◌, ◌<◌, ◌+◌, eqb, leb, length};
+// The declarations of a text, each name into the tables once. The tables are lent by C one by one, and a struct of `&mut` slices
+// would have to promise at each call that it still holds them.
+ghost use Rattle.std.specs.Prelude.{◌≡◌, true, ◌≤◌, ◌<◌, length};
 ghost use Rattle.netlist.specs.Table.{half};
-ghost use Rattle.verilog_tokens.specs.Next.{between};
-ghost use Rattle.verilog_names.specs.Names.{found, Chained, Added};
+ghost use Rattle.verilog_tokens.specs.Kind.{number_of};
+ghost use Rattle.verilog_names.specs.Names.{Chained};
 ghost use Rattle.verilog_rules.specs.Stages.{declares as declaresIs, kind_behind, DeclaredIs};
 ghost use Rattle.verilog_rules.specs.One.{NameIs, OneIs};
 
-use verilog_tokens::next;
+use crate::states::State;
+use verilog_names::Names;
+use verilog_tokens::{Kind, Token, next};
 
-// Whether no name stands twice and the tables have room for all, how many names there are, and the place behind the
-// declarations.
+// How many names there are, and the place behind the declarations.
 #[derive(Clone, Copy)]
 pub struct Declared {
-    pub good: bool,
     pub count: usize,
     pub at: usize,
 }
 
-// How far the declarations are: whether all names are new, how many there are, and the kind of the next one.
+// How many names there are so far, and the number of the state of the next one.
 #[derive(Clone, Copy)]
-pub struct Names {
-    pub good: bool,
+pub struct Loaded {
     pub count: usize,
     pub kind: u32,
 }
 
-// Whether a token of a code may stand among declarations.
-fn declares(code: u8) -> bool
-    ensures { result ≡ declaresIs code }
+// Whether a token may stand among declarations.
+fn declares(kind: Kind) -> bool
+    ensures { result ≡ declaresIs (number_of kind) }
 {
-    if code == 15 {
-        return true;
-    }
-    if code == 9 {
-        return true;
-    }
-    if code == 10 {
-        return true;
-    }
-    2 <= code && code <= 4
+    matches!(
+        kind,
+        Kind::Name | Kind::Semicolon | Kind::Comma | Kind::Input | Kind::Output | Kind::Wire
+    )
 }
 
 // The name between two places as one more entry of a kind, if it has none yet and there is room.
@@ -63,7 +57,15 @@ fn name(
     if most <= count {
         return false;
     }
-    if 0 < verilog_names::find(text, &text[from..to], heads, words, links, size, count) {
+    let names = Names {
+        text,
+        heads,
+        words,
+        links,
+        size,
+        count,
+    };
+    if names.find(&text[from..to]).is_some() {
         return false;
     }
     verilog_names::add(text, from, to, heads, words, links, size, count);
@@ -71,15 +73,20 @@ fn name(
     true
 }
 
-// The kind behind a token that is no name.
-fn kind_behind(kind: u32, code: u8) -> u32
-    requires { 0 < code }
-    ensures { result ≡ kind_behind kind code }
+// The number of the state of the names behind a token that is no name.
+fn kind_behind(state: u32, kind: Kind) -> u32
+    requires { declaresIs (number_of kind) ≡ true }
+    ensures { result ≡ kind_behind state (number_of kind) }
 {
-    if 5 <= code { kind } else { (code - 1) as u32 }
+    match kind {
+        Kind::Input => State::Input.number(),
+        Kind::Output => State::Output.number(),
+        Kind::Wire => State::Wire.number(),
+        _ => state,
+    }
 }
 
-// One token among declarations.
+// One token among declarations; none for a name that is not new, or has no room.
 fn one(
     text: &[u8],
     heads: &mut [u64],
@@ -88,36 +95,34 @@ fn one(
     states: &mut [u32],
     size: usize,
     most: usize,
-    count: usize,
-    kind: u32,
-    code: u8,
-    from: usize,
-    to: usize,
-) -> Names
-    requires { Chained text.now heads.old words.old links.old size count × (most ≤ length words.old)
-        × (most ≤ length links.old) × (most ≤ length states.old) × (from ≤ to) × (to ≤ length text.now) × (0 < code)
-        × (count < half) }
-    ensures { OneIs text.now size most count kind code from to heads.old heads.new
+    so_far: Loaded,
+    token: Token,
+) -> Option<Loaded>
+    requires { Chained text.now heads.old words.old links.old size so_far.count × (most ≤ length words.old)
+        × (most ≤ length links.old) × (most ≤ length states.old) × (token.from ≤ token.to) × (token.to ≤ length text.now)
+        × (declaresIs (number_of token.kind) ≡ true) × (so_far.count < half) }
+    ensures { OneIs text.now size most so_far.count so_far.kind (number_of token.kind) token.from token.to heads.old heads.new
         words.old words.new links.old links.new states.old states.new result }
 {
-    if code == 15 {
-        let good = name(
-            text, heads, words, links, states, size, most, count, kind, from, to,
-        );
-        return Names {
-            good,
-            count: count + 1,
-            kind,
-        };
+    let Loaded { count, kind } = so_far;
+    if token.kind != Kind::Name {
+        return Some(Loaded {
+            count,
+            kind: kind_behind(kind, token.kind),
+        });
     }
-    Names {
-        good: true,
-        count,
-        kind: kind_behind(kind, code),
+    if !name(
+        text, heads, words, links, states, size, most, count, kind, token.from, token.to,
+    ) {
+        return None;
     }
+    Some(Loaded {
+        count: count + 1,
+        kind,
+    })
 }
 
-// The declarations from a place on.
+// The declarations from a place on; none if a name stands twice, or the tables have no room for all.
 pub fn declarations(
     text: &[u8],
     heads: &mut [u64],
@@ -127,41 +132,22 @@ pub fn declarations(
     size: usize,
     most: usize,
     at: usize,
-) -> Declared
+) -> Option<Declared>
     requires { Chained text.now heads.old words.old links.old size 0 × (most ≤ length words.old) × (most ≤ length links.old)
         × (most ≤ length states.old) × (most < half) × (at ≤ length text.now) }
     ensures { DeclaredIs text.now at size most heads.new words.new links.new
         states.new result }
 {
-    let first = next(text, at);
-    let mut code = first.code;
-    let mut from = first.from;
-    let mut to = first.to;
+    let mut token = next(text, at);
     let mut place = at;
-    let mut count: usize = 0;
-    let mut kind: u32 = 0;
-    while declares(code) {
-        let s = one(
-            text, heads, words, links, states, size, most, count, kind, code, from, to,
-        );
-        if !s.good {
-            return Declared {
-                good: false,
-                count,
-                at: place,
-            };
-        }
-        count = s.count;
-        kind = s.kind;
-        place = to;
-        let t = next(text, to);
-        code = t.code;
-        from = t.from;
-        to = t.to;
+    let mut so_far = Loaded { count: 0, kind: 0 };
+    while declares(token.kind) {
+        so_far = one(text, heads, words, links, states, size, most, so_far, token)?;
+        place = token.to;
+        token = next(text, token.to);
     }
-    Declared {
-        good: true,
-        count,
+    Some(Declared {
+        count: so_far.count,
         at: place,
-    }
+    })
 }

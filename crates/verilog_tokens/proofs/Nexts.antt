@@ -1,25 +1,24 @@
 -- White bytes skipped, and the token that follows.
 use Prim.Native.Nat.{ℕ, ◌+◌, ◌-◌, ◌≤◌, ◌<◌}
 use mathlib.Core.Path.{◌≡◌, refl, subst, sym, ap, ◌∙◌}
-use mathlib.Core.Bool.{Bool, true, false, cond, ◌&&◌, ◌||◌}
+use mathlib.Core.Bool.{Bool, true, false, cond, ◌&&◌}
 use mathlib.Core.List.{List, [], ◌∷◌}
 use mathlib.Core.Option.{Option}
 use native.Mathlib.Numerals.{add-one}
 use native.Mathlib.Omega.{arith}
 use lib.Dec.{T, eqb, leb}
-use borrow.Author.Tests.{leb-true, leb-false, eq-eqb, ne_eqb, eqb-true, eqb-false, le-leb, lt-leb}
+use borrow.Author.Tests.{leb-true, leb-false}
 use lib.ListN.{length, take, drop, get_or, drop_of_length-le}
 use lib.Seq.{drop-cons}
 use Rattle.netlist.specs.Lists.{every, same_bytes, ascii}
-use Rattle.netlist.specs.Text.{space, lf}
 use Rattle.netlist.proofs.Tests.{on_bool, pair, is_true, true-T}
 use Rattle.read_text.specs.Line.{take_while, drop_while, Scanned}
 use Rattle.read_text.proofs.Scans.{front-back, scan-front}
 use Rattle.verilog.specs.Tokens.{is_letter, in_word, is_sign, starts, is_white, Token, token, cons_token, tokens}
 use Rattle.verilog.proofs.Listing.{same-equal}
 use Rattle.verilog.proofs.Texts.{end-tokens, word-tokens, sign-tokens, white-tokens, other-tokens}
-use Rattle.verilog_tokens.specs.Next.{sign_code, class_of, word_code, token_of, between, White, tokens_from, TokenAt}
-use Rattle.verilog_tokens.proofs.Classes.{never, sign, Sign, class, white-only}
+use Rattle.verilog_tokens.specs.Next.{sign_code, word_code, token_of, between, White, tokens_from, TokenAt}
+use Rattle.verilog_tokens.proofs.Classes.{never, sign, Sign, white-only}
 
 -- ---- white bytes
 
@@ -48,8 +47,10 @@ module _ (t : List ℕ) where
   pub skip_stop : (at i : ℕ) → is_white (get_or t i 0) (drop (i + 1) t) ≡ false → Skipping t at i → White t at i
   skip_stop at i e s = record { same = s.same; solid = λ h. e; on = s.on; within = s.within }
 
-  pub skip-end : (at i : ℕ) → length t ≤ i → Skipping t at i → White t at i
-  skip-end at i h s = record { same = s.same; solid = λ k. absurd (omega (arith, h, k)); on = s.on; within = s.within }
+  pub skip-end : (at i : ℕ) → length t ≤ i → Skipping t at i → White t at (length t)
+  skip-end at i h s =
+      let e : i ≡ length t = omega (arith, s.within) in
+      record { same = s.same ∙ ap (λ (k : ℕ). tokens (drop k t)) e; solid = λ k. absurd (omega (arith, k)); on = omega (arith, s.on); within = omega arith }
 
 -- ---- the code of a word
 
@@ -120,10 +121,6 @@ some_bytes t from to b w f =
     absurd (omega (arith, l)))
     (leb-false to from)
 
-or_left : (x y : Bool) → (x || y) ≡ false → x ≡ false
-or_left true y e = e
-or_left false y e = refl
-
 coded-from : (c : ℕ) (w : List ℕ) (rest : Option (List Token)) → eqb c 0 ≡ false → tokens_from c w rest ≡ cons_token (token_of c w) rest
 coded-from c w rest e = rw e
 
@@ -162,51 +159,24 @@ module _ (t : List ℕ) (at from : ℕ) (W : White t at from) where
           within = S.within;
         }
 
-    pub at_sign : in_word (get_or t from 0) ≡ false → TokenAt t at (cond (leb 15 (class_of (get_or t from 0))) 16 (class_of (get_or t from 0))) from (from + 1)
+    pub at_sign : in_word (get_or t from 0) ≡ false → TokenAt t at (sign_code (get_or t from 0)) from (from + 1)
     unfolding b token_of
     at_sign e =
         let s = drop (from + 1) t in
         let k : tokens (drop at t) ≡ tokens (b ∷ s) = W.same ∙ ap tokens (here t from h) in
         let solid : is_white b s ≡ false = W.solid h in
-        let plain : (eqb b space || eqb b lf) ≡ false = or_left (eqb b space || eqb b lf) _ solid in
-        let code : cond (leb 15 (class_of b)) 16 (class_of b) ≡ sign_code b = (class b).sign e plain in
         let S : Sign b = sign b in
         let w = between t from (from + 1) in
         let read : tokens (b ∷ s) ≡ cons_token (token_of (sign_code b) w) (tokens s) = on_bool (is_sign b)
         (λ g. sign-tokens b s e g ∙ ap (λ (x : Option Token). cons_token x (tokens s)) (S.read w g))
         (λ g. other-tokens b s e g solid ∙ ap (λ (x : ℕ). cons_token (token_of x w) (tokens s)) (sym (S.other g))) in
         record {
-          read = k ∙ read ∙ sym (coded-from (sign_code b) w (tokens s) S.some) ∙ ap (λ (x : ℕ). tokens_from x w (tokens s)) (sym code);
+          read = k ∙ read ∙ sym (coded-from (sign_code b) w (tokens s) S.some);
           start = W.on;
           on = λ z. omega arith;
           onward = omega arith;
           within = omega (arith, h);
         }
-
-pub eqb-other : (x y : ℕ) → eqb x y ≡ eqb y x
-eqb-other x y = on_bool (eqb x y) (λ e. e ∙ sym (eq-eqb y x (sym (eqb-true x y e)))) (λ e. e ∙ sym (ne_eqb y x (λ h. eqb-false x y e (sym h))))
-
--- a word that is none of the reserved ones
-module _ (w : List ℕ) (a : same_bytes w (ascii "module") ≡ false) (b : same_bytes w (ascii "input") ≡ false) (c : same_bytes w (ascii "output") ≡ false)
-    (d : same_bytes w (ascii "wire") ≡ false) (e : same_bytes w (ascii "assign") ≡ false) (f : same_bytes w (ascii "endmodule") ≡ false) where
-  pub long-coded : 16 < length w → 16 ≡ word_code w
-  unfolding word_code
-  long-coded h = rw (a, b, c, d, e, f, lt-leb _ _ h)
-
-  first : 0 < length w → starts is_letter w ≡ is_letter (get_or w 0 0)
-  first h = go w h
-    where
-      go : (w : List ℕ) → 0 < length w → starts is_letter w ≡ is_letter (get_or w 0 0)
-      go [] h = absurd (omega arith)
-      go (x ∷ xs) h = refl
-
-  pub letter-coded : length w ≤ 16 → 0 < length w → class_of (get_or w 0 0) ≡ 15 → 15 ≡ word_code w
-  unfolding word_code
-  letter-coded h k l = rw (a, b, c, d, e, f, le-leb _ _ h, first k, sym (class (get_or w 0 0)).letter ∙ eq-eqb _ _ l)
-
-  pub other-coded : length w ≤ 16 → 0 < length w → (class_of (get_or w 0 0) ≡ 15 → ⊥) → 16 ≡ word_code w
-  unfolding word_code
-  other-coded h k l = rw (a, b, c, d, e, f, le-leb _ _ h, first k, sym (class (get_or w 0 0)).letter ∙ ne_eqb _ _ l)
 
 -- a word has bytes
 pub word_on : (t : List ℕ) (at from : ℕ) → White t at from → from < length t → in_word (get_or t from 0) ≡ true → (to : ℕ) → Scanned in_word t from to → from < to

@@ -1,20 +1,14 @@
 -- The next token of a text from a place.
-use Rattle.std.specs.Prelude.{ℕ, zero, suc, ◌+◌, ◌-◌, ◌≤◌, ◌<◌, ◌≡◌, false, cond, ◌&&◌, ◌||◌, List, [], ◌∷◌, eqb, leb, length, take, drop, get_or}
+use Rattle.std.specs.Prelude.{ℕ, zero, suc, ◌+◌, ◌-◌, ◌≤◌, ◌<◌, ◌≡◌, false, cond, ◌&&◌, List, [], ◌∷◌, eqb, leb, length, take, drop, get_or}
 use Rattle.std.proofs.Math.Option.{Option, none, some}
 use Rattle.netlist.specs.Lists.{same_bytes, ascii}
-use Rattle.netlist.specs.Number.{is_digit}
-use Rattle.netlist.specs.Text.{space, lf}
-use Rattle.verilog.specs.Tokens.{cr, is_letter, starts, is_white, Token, name, mark, marks, cons_token, tokens}
+use Rattle.verilog.specs.Tokens.{is_letter, starts, is_white, Token, name, mark, marks, cons_token, tokens}
 
 -- ---- codes
 
 abbrev pub sign_code : ℕ → ℕ
 sign_code b =
     cond (eqb b 40) 7 (cond (eqb b 41) 8 (cond (eqb b 59) 9 (cond (eqb b 44) 10 (cond (eqb b 61) 11 (cond (eqb b 126) 12 (cond (eqb b 38) 13 (cond (eqb b 94) 14 16)))))))
-
--- a byte that begins a token, that goes on with one, or that stands between them
-unfoldable pub class_of : ℕ → ℕ
-class_of b = cond (is_letter b) 15 (cond (is_digit b) 19 (cond (eqb b space || eqb b lf) 17 (cond (eqb b cr) 18 (sign_code b))))
 
 unfoldable pub word_code : List ℕ → ℕ
 word_code w =

@@ -1,106 +1,65 @@
 // The words and signs of a text of equations, one after another.
 #![tactic(auto)]
 
-ghost use Rattle.std.specs.Prelude.{◌≡◌, ◌≤◌, ◌<◌, ◌+◌, cond, leb, length, drop, get_or};
+ghost use Rattle.std.specs.Prelude.{◌≡◌, ◌≤◌, ◌<◌, ◌+◌, length, drop, get_or};
 ghost use Rattle.read_text.specs.Line.{Scanned};
 ghost use Rattle.netlist.specs.Number.{is_digit};
 ghost use Rattle.verilog.specs.Tokens.{is_letter, in_word, is_white};
-ghost use Rattle.verilog_tokens.specs.Next.{sign_code, class_of, word_code, White, TokenAt};
+ghost use Rattle.verilog_tokens.specs.Kind.{number_of};
+ghost use Rattle.verilog_tokens.specs.Next.{sign_code, word_code, White, TokenAt};
 
 use read_text::bytes::same;
 
-// A token: its code, and its bytes. Codes 1 to 14 are the marks in the order of their list, the reserved words first; 15 is a
-// name, 0 the end of the text, 16 no token.
+// What a token is: a reserved word, a sign, a name, the end of the text, or none of these.
+#[derive(Clone, Copy, PartialEq, Eq)]
+pub enum Kind {
+    End,
+    Module,
+    Input,
+    Output,
+    Wire,
+    Assign,
+    EndModule,
+    Open,
+    Close,
+    Semicolon,
+    Comma,
+    Equals,
+    Not,
+    And,
+    Xor,
+    Name,
+    Other,
+}
+
+// A token: what it is, its first byte, and the one behind its last.
 #[derive(Clone, Copy)]
 pub struct Token {
-    pub code: u8,
+    pub kind: Kind,
     pub from: usize,
     pub to: usize,
 }
 
+// A name has no more bytes.
+const LONGEST: usize = 16;
+
 fn is_letter(b: u8) -> bool
     ensures { result ≡ is_letter b }
 {
-    if b < 65 {
-        return false;
-    }
-    if b <= 90 {
-        return true;
-    }
-    if b < 97 {
-        return false;
-    }
-    b <= 122
+    matches!(b, b'A'..=b'Z' | b'a'..=b'z')
 }
 
 fn is_digit(b: u8) -> bool
     ensures { result ≡ is_digit b }
 {
-    if b < 48 {
-        return false;
-    }
-    b <= 57
-}
-
-// The code of a sign, 16 for any other byte.
-fn sign_class(b: u8) -> u8
-    ensures { result ≡ sign_code b }
-{
-    if b == b'(' {
-        return 7;
-    }
-    if b == b')' {
-        return 8;
-    }
-    if b == b';' {
-        return 9;
-    }
-    if b == b',' {
-        return 10;
-    }
-    if b == b'=' {
-        return 11;
-    }
-    if b == b'~' {
-        return 12;
-    }
-    if b == b'&' {
-        return 13;
-    }
-    if b == b'^' {
-        return 14;
-    }
-    16
-}
-
-// The code of a sign; 15 for a letter, 19 for a digit, 17 for space and LF, 18 for CR, and 16 for any other byte.
-fn class(b: u8) -> u8
-    ensures { result ≡ class_of b }
-{
-    if is_letter(b) {
-        return 15;
-    }
-    if is_digit(b) {
-        return 19;
-    }
-    if b == b' ' {
-        return 17;
-    }
-    if b == b'\n' {
-        return 17;
-    }
-    if b == b'\r' {
-        return 18;
-    }
-    sign_class(b)
+    matches!(b, b'0'..=b'9')
 }
 
 // Whether a byte is part of a word.
 fn in_word(b: u8) -> bool
     ensures { result ≡ in_word b }
 {
-    let c = class(b);
-    c == 15 || c == 19
+    is_letter(b) || is_digit(b)
 }
 
 // Whether the byte at a place is white: space, LF, or CR directly before LF.
@@ -108,17 +67,11 @@ fn is_white(text: &[u8], at: usize) -> bool
     requires { at < length text.now }
     ensures { result ≡ is_white (get_or text.now at 0) (drop (at + 1) text.now) }
 {
-    let c = class(text[at]);
-    if c == 17 {
-        return true;
+    match text[at] {
+        b' ' | b'\n' => true,
+        b'\r' => text.get(at + 1) == Some(&b'\n'),
+        _ => false,
     }
-    if c != 18 {
-        return false;
-    }
-    if text.len() - 1 <= at {
-        return false;
-    }
-    text[at + 1] == b'\n'
 }
 
 // Past what stands before the next token.
@@ -126,14 +79,12 @@ fn skip_white(text: &[u8], at: usize) -> usize
     requires { at ≤ length text.now }
     ensures { White text.now at result }
 {
-    let mut i = at;
-    while i < text.len() {
+    for i in at..text.len() {
         if !is_white(text, i) {
             return i;
         }
-        i += 1;
     }
-    i
+    text.len()
 }
 
 // Past the bytes of a word.
@@ -141,77 +92,86 @@ fn word_end(text: &[u8], from: usize) -> usize
     requires { from ≤ length text.now }
     ensures { Scanned in_word text.now from result }
 {
-    let mut i = from;
-    while i < text.len() {
+    for i in from..text.len() {
         if !in_word(text[i]) {
             return i;
         }
-        i += 1;
     }
-    i
+    text.len()
 }
 
-// The code of a word.
-fn word_code(w: &[u8]) -> u8
+// What a word is.
+#[tactic(auto, unfolding(crate::specs::Next::word_code))]
+fn word(w: &[u8]) -> Kind
     requires { 0 < length w.now }
-    ensures { result ≡ word_code w.now }
+    ensures { number_of result ≡ word_code w.now }
 {
     if same(w, b"module") {
-        return 1;
+        return Kind::Module;
     }
     if same(w, b"input") {
-        return 2;
+        return Kind::Input;
     }
     if same(w, b"output") {
-        return 3;
+        return Kind::Output;
     }
     if same(w, b"wire") {
-        return 4;
+        return Kind::Wire;
     }
     if same(w, b"assign") {
-        return 5;
+        return Kind::Assign;
     }
     if same(w, b"endmodule") {
-        return 6;
+        return Kind::EndModule;
     }
-    if 16 < w.len() {
-        return 16;
+    if w.len() <= LONGEST && is_letter(w[0]) {
+        return Kind::Name;
     }
-    if class(w[0]) == 15 { 15 } else { 16 }
+    Kind::Other
 }
 
-// The code of a byte that is part of no word, by its class.
-fn sign_code(c: u8) -> u8
-    ensures { result ≡ cond (leb 15 c) 16 c }
+// What a byte outside words is.
+fn sign(b: u8) -> Kind
+    ensures { number_of result ≡ sign_code b }
 {
-    if 15 <= c { 16 } else { c }
+    match b {
+        b'(' => Kind::Open,
+        b')' => Kind::Close,
+        b';' => Kind::Semicolon,
+        b',' => Kind::Comma,
+        b'=' => Kind::Equals,
+        b'~' => Kind::Not,
+        b'&' => Kind::And,
+        b'^' => Kind::Xor,
+        _ => Kind::Other,
+    }
 }
 
 // The next token from a place.
 pub fn next(text: &[u8], at: usize) -> Token
     requires { at ≤ length text.now }
-    ensures { TokenAt text.now at result.code result.from result.to }
+    ensures { TokenAt text.now at (number_of result.kind) result.from result.to }
 {
     let from = skip_white(text, at);
     if text.len() <= from {
         return Token {
-            code: 0,
+            kind: Kind::End,
             from,
             to: from,
         };
     }
     let b = text[from];
-    if in_word(b) {
-        let to = word_end(text, from);
+    if !in_word(b) {
         return Token {
-            code: word_code(&text[from..to]),
+            kind: sign(b),
             from,
-            to,
+            to: from + 1,
         };
     }
+    let to = word_end(text, from);
     Token {
-        code: sign_code(class(b)),
+        kind: word(&text[from..to]),
         from,
-        to: from + 1,
+        to,
     }
 }

@@ -3,6 +3,8 @@ use Prim.Native.Nat.{ℕ, zero, suc, ◌+◌, ◌*◌, ◌/◌, ◌%◌, ◌≤�
 use mathlib.Core.Path.{◌≡◌, refl, sym, ap, ◌∙◌, subst}
 use mathlib.Core.List.{List, [], ◌∷◌}
 use mathlib.Core.Logic.{◌≢◌}
+use mathlib.Core.Bool.{Bool, true, false}
+use Rattle.std.proofs.lemmas.Bool.{both_ways}
 use native.Mathlib.Omega.{arith}
 use lib.Dec.{eqb, ltb}
 use lib.ListN.{length, get_or, set, length-set}
@@ -111,14 +113,14 @@ seeded-different S I = record {
 
 -- ---- the test
 
-pub record Telling (is ps seen : List ℕ) (a : ℕ) : Type 0 where
+pub record Telling (is ps : List ℕ) (seen : List Bool) (a : ℕ) : Type 0 where
   pub passed : a ≤ length is
   pub long : length seen ≡ 13
   pub some : (b : ℕ) → b < a → 0 < colour_at is ps b
-  pub met : (b : ℕ) → b < a → get_or seen (colour_at is ps b) 0 ≡ 1
+  pub met : (b : ℕ) → b < a → get_or seen (colour_at is ps b) false ≡ true
   pub apart : (b d : ℕ) → b < a → d < a → colour_at is ps b ≡ colour_at is ps d → b ≡ d
 
-pub telling-none : (is ps : List ℕ) {seen : List ℕ} → length seen ≡ 13 → Telling is ps seen 0
+pub telling-none : (is ps : List ℕ) {seen : List Bool} → length seen ≡ 13 → Telling is ps seen 0
 telling-none is ps e = record {
   passed = omega arith;
   long = e;
@@ -127,15 +129,15 @@ telling-none is ps e = record {
   apart = λ b d l. absurd (omega arith);
 }
 
-pub telling-more : {is ps seen : List ℕ} {a : ℕ} (c : ℕ) → Telling is ps seen a → a < length is → c ≡ colour_at is ps a → c ≢ 0 → c ≤ 12
-    → get_or seen c 0 ≡ 0 → Telling is ps (set seen c 1) (a + 1)
+pub telling-more : {is ps : List ℕ} {seen : List Bool} {a : ℕ} (c : ℕ) → Telling is ps seen a → a < length is → c ≡ colour_at is ps a → c ≢ 0 → c ≤ 12
+    → get_or seen c false ≡ false → Telling is ps (set seen c true) (a + 1)
 telling-more {is} {ps} {seen} {a} c R l e n m z = record {
   passed = omega arith;
-  long = length-set seen c 1 ∙ R.long;
+  long = length-set seen c true ∙ R.long;
   some = below_more (λ b. 0 < colour_at is ps b) a R.some (omega arith);
-  met = below_more (λ b. get_or (set seen c 1) (colour_at is ps b) 0 ≡ 1) a
-      (λ b k. get_or-set_other seen c (colour_at is ps b) 1 0 (fresh b k) ∙ R.met b k)
-      (ap (λ (d : ℕ). get_or (set seen c 1) d 0) (sym e) ∙ get_or-set_same seen c 1 0 (omega (arith, R.long)));
+  met = below_more (λ b. get_or (set seen c true) (colour_at is ps b) false ≡ true) a
+      (λ b k. get_or-set_other seen c (colour_at is ps b) true false (fresh b k) ∙ R.met b k)
+      (ap (λ (d : ℕ). get_or (set seen c true) d false) (sym e) ∙ get_or-set_same seen c true false (omega (arith, R.long)));
   apart = λ b d k j q. on_bool (ltb b a)
       (λ t. let x = ltb-true b a t in
       on_bool (ltb d a) (λ u. R.apart b d x (ltb-true d a u) q)
@@ -147,7 +149,7 @@ telling-more {is} {ps} {seen} {a} c R l e n m z = record {
 }
   where
     fresh : (b : ℕ) → b < a → colour_at is ps b ≢ c
-    fresh b k q = let h = R.met b k in let g : get_or seen c 0 ≡ 1 = ap (λ (d : ℕ). get_or seen d 0) (sym q) ∙ h in omega arith
+    fresh b k q = both_ways _ z (ap (λ (d : ℕ). get_or seen d false) (sym q) ∙ R.met b k)
 
-pub telling-all : {is ps seen : List ℕ} {a : ℕ} → Telling is ps seen a → length is ≤ a → Different is ps
+pub telling-all : {is ps : List ℕ} {seen : List Bool} {a : ℕ} → Telling is ps seen a → length is ≤ a → Different is ps
 telling-all R l = record { some = λ b k. R.some b (omega arith); apart = λ b d k j. R.apart b d (omega arith) (omega arith) }

@@ -15,7 +15,7 @@ pub const MOST: usize = 12;
 fn at(paints: &[u8], i: usize) -> u8
     ensures { result ≡ get_or paints.now i 0 }
 {
-    if i < paints.len() { paints[i] } else { 0 }
+    paints.get(i).copied().unwrap_or(0)
 }
 
 // An input gets a colour, and keeps its code.
@@ -33,23 +33,13 @@ fn different(m: Members, paints: &[u8]) -> bool
     requires { (m.count ≤ 12) × Items m.items }
     ensures { result ≡ true → Different (take m.count m.items) paints.now }
 {
-    let items = m.items;
-    let count = m.count;
-    let mut seen = [0u8; 13];
-    let mut a = 0;
-    while a < count {
-        let c = (at(paints, items[a] as usize) / 4) as usize;
-        if c == 0 {
+    let mut seen = [false; 13];
+    for item in &m.items[..m.count] {
+        let c = (at(paints, *item as usize) / 4) as usize;
+        if c == 0 || MOST < c || seen[c] {
             return false;
         }
-        if MOST < c {
-            return false;
-        }
-        if seen[c] != 0 {
-            return false;
-        }
-        seen[c] = 1;
-        a += 1;
+        seen[c] = true;
     }
     true
 }
@@ -59,20 +49,9 @@ pub fn seed(m: Members, paints: &mut [u8])
     requires { (m.count ≤ 12) × Items m.items }
     ensures { Seeded (take m.count m.items) paints.old paints.new }
 {
-    let items = m.items;
-    let count = m.count;
-    let mut a = 0;
-    while a < count {
-        put(paints, items[a] as usize, a as u8 + 1);
-        a += 1;
+    for (a, item) in m.items[..m.count].iter().enumerate() {
+        put(paints, *item as usize, a as u8 + 1);
     }
-}
-
-// How often a colour was met, up to two.
-fn more(times: u8) -> u8
-    ensures { result ≤ 2 }
-{
-    if times == 0 { 1 } else { 2 }
 }
 
 // A paint's colour; 0 where it is none of the twelve.
@@ -83,63 +62,40 @@ fn colour(paint: u8) -> usize
     if MOST < c { 0 } else { c }
 }
 
-// How often the members of a set have each colour, up to two.
+// How often the members of a set have each colour.
 fn taken(m: Members, paints: &[u8]) -> [u8; 13]
     requires { m.count ≤ 12 }
 {
-    let items = m.items;
-    let count = m.count;
-    let mut seen = [0u8; 13];
-    let mut a = 0;
-    while a < count {
-        let c = colour(at(paints, items[a] as usize));
-        seen[c] = more(seen[c]);
-        a += 1;
+    let mut times = [0u8; 13];
+    for item in &m.items[..m.count] {
+        let c = colour(at(paints, *item as usize));
+        times[c] = times[c].saturating_add(1);
     }
-    seen
+    times
 }
 
-// Whether some colour was met twice.
-fn clash(seen: [u8; 13]) -> bool {
-    let mut c = 1;
-    while c < 13 {
-        if seen[c] == 2 {
-            return true;
-        }
-        c += 1;
-    }
-    false
-}
-
-// The first colour from c on that was not met, or 13.
-fn free(seen: [u8; 13], from: usize) -> usize
-    requires { from ≤ 13 }
-    ensures { result ≤ 13 }
+// The first colour from c on that was not met.
+fn free(times: [u8; 13], from: usize) -> Option<usize>
+    ensures { (c : ℕ) → result ≡ Some c → c ≤ 12 }
 {
-    let mut c = from;
-    while c < 13 {
-        if seen[c] == 0 {
-            return c;
-        }
-        c += 1;
-    }
-    c
+    (from..13).find(|c| times[*c] == 0)
 }
 
 // An input without a colour gets the first from c on that is free. Says where to look for the next.
-fn next(paints: &mut [u8], i: usize, seen: [u8; 13], from: usize) -> usize
+fn next(paints: &mut [u8], i: usize, times: [u8; 13], from: usize) -> usize
     requires { from ≤ 13 }
     ensures { (result ≤ 13) × Kept paints.old paints.new }
 {
     if 4 <= at(paints, i) {
         return from;
     }
-    let c = free(seen, from);
-    if MOST < c {
-        return c;
+    match free(times, from) {
+        Some(c) => {
+            put(paints, i, c as u8);
+            c + 1
+        }
+        None => 13,
     }
-    put(paints, i, c as u8);
-    c + 1
 }
 
 // The members of a set that have no colour get the lowest that the others have not, unless two members have the same. Whether the
@@ -148,17 +104,13 @@ fn give(m: Members, paints: &mut [u8])
     requires { m.count ≤ 12 }
     ensures { Kept paints.old paints.new }
 {
-    let items = m.items;
-    let count = m.count;
-    let seen = taken(m, paints);
-    if clash(seen) {
+    let times = taken(m, paints);
+    if times[1..].iter().any(|t| 1 < *t) {
         return;
     }
     let mut c = 1;
-    let mut a = 0;
-    while a < count {
-        c = next(paints, items[a] as usize, seen, c);
-        a += 1;
+    for item in &m.items[..m.count] {
+        c = next(paints, *item as usize, times, c);
     }
 }
 
@@ -180,11 +132,7 @@ pub fn lay(codes: &[u8], paints: &mut [u8])
     requires { length codes.now ≡ length paints.old }
     ensures { paints.new ≡ codes.now }
 {
-    let mut i = 0;
-    while i < codes.len() {
-        paints[i] = codes[i];
-        i += 1;
-    }
+    paints.copy_from_slice(codes);
 }
 
 // The highest colour.
@@ -193,17 +141,8 @@ pub fn most(paints: &[u8]) -> usize
     ensures { (result ≤ 12) × Upto result paints.now }
 {
     let mut most = 0;
-    let mut i = 0;
-    while i < paints.len() {
-        most = larger(most, (paints[i] / 4) as usize);
-        i += 1;
+    for paint in paints {
+        most = usize::max(most, (*paint / 4) as usize);
     }
     most
-}
-
-// The larger of two numbers.
-fn larger(a: usize, b: usize) -> usize
-    ensures { (a ≤ result) × (b ≤ result) × ((n : ℕ) → a ≤ n → b ≤ n → result ≤ n) }
-{
-    if a < b { b } else { a }
 }

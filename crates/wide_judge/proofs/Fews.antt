@@ -4,6 +4,8 @@ use mathlib.Core.Path.{◌≡◌, refl, sym, ap, ap₂, ◌∙◌, subst}
 use mathlib.Core.Bool.{Bool, true, false}
 use mathlib.Core.List.{List, [], ◌∷◌}
 use mathlib.Core.Option.{Option}
+use Rattle.std.specs.Prelude.{Option as Maybe, Some, None}
+use Rattle.std.specs.Option.{is_some}
 use native.Mathlib.Omega.{arith}
 use lib.Dec.{T, leb→le}
 use lib.ListN.{length, get_or, take}
@@ -135,16 +137,18 @@ module _ {t : Tables} {m W o : ℕ} {N : Netlist} (S : Sets) (codes ws : List �
 
 -- ---- one pair
 
-module _ {x y : List ℕ} {r : Members} (S : Sets) (ws : List ℕ) (j : ℕ) (p : x ≡ set_at S (get_or ws (2 * j) 0)) (q : y ≡ set_at S (get_or ws (2 * j + 1) 0))
-    (U : Together x y r) where
-  pub pair-few : r.count ≤ 12 → length (pair_at S ws j) ≤ 12
-  pair-few l =
-      let e = ap length (U.few l ∙ ap₂ merge p q) in
-      let k = length-take-upto r.count r.items in
-      omega arith
+module _ {x y : List ℕ} (S : Sets) (ws : List ℕ) (j : ℕ) (p : x ≡ set_at S (get_or ws (2 * j) 0)) (q : y ≡ set_at S (get_or ws (2 * j + 1) 0)) where
+  pub pair-few : (r : Maybe Members) → is_some r ≡ true → Together x y r → length (pair_at S ws j) ≤ 12
+  pair-few None e U = cc
+  pair-few (Some m) e U =
+      let z : take m.count m.items ≡ pair_at S ws j = U.0 ∙ ap₂ merge p q in
+      let h : length (take m.count m.items) ≡ length (pair_at S ws j) = ap length z in
+      let k = length-take-upto m.count m.items in
+      omega (arith, U.1)
 
-  pub pair-many : 12 < r.count → 12 < length (pair_at S ws j)
-  pair-many l = let e = ap length (ap₂ merge p q) in let k = U.many l in omega arith
+  pub pair-many : (r : Maybe Members) → is_some r ≡ false → Together x y r → 12 < length (pair_at S ws j)
+  pair-many None e U = let h : length (merge x y) ≡ length (pair_at S ws j) = ap length (ap₂ merge p q) in omega (arith, U)
+  pair-many (Some m) e U = cc
 
 pub told-both : {l k : Option WideLeak} {b d : Option ℕ} → l ≡ k → b ≡ d
     → ◌≡◌ {A = Outcome (BothAnswers WideLeak)} (done (record { leak = l; pairs = b })) (done (record { leak = k; pairs = d }))

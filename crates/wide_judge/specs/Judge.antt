@@ -1,18 +1,18 @@
 -- What an answer of the check of netlists with many inputs says.
-use Rattle.std.specs.Prelude.{ℕ, List}
-use Rattle.netlist.specs.Outcome.{Outcome, refused, done}
+use Rattle.std.specs.Prelude.{Result}
+use Rattle.netlist.specs.declared.Question.{Question}
+use Rattle.netlist.specs.Outcome.{Outcome}
+use Rattle.netlist.specs.Services.{stands_for}
 use Rattle.pairs.specs.Call.{BothAnswers}
 use Rattle.pairs_search.specs.Search.{bad_of}
 use Rattle.wide.specs.Wide.{WideLeak}
 use Rattle.wide_search.specs.Told.{told_of}
-use Rattle.wide_judge.specs.declared.CheckedWide.{CheckedWide}
-use Rattle.wide_judge.specs.declared.CheckedWide.TheVariants.{Done, Refused}
-use Rattle.wide_judge.specs.declared.WideAnswer.{WideAnswer}
+use Rattle.wide_search.specs.declared.search.WideFound.{WideFound}
 
--- the outcome that an answer stands for, with the list that holds the ones of a leak's setting
-abbrev pub outcome_in : CheckedWide → List ℕ → Outcome (BothAnswers WideLeak)
-outcome_in (Done v p) is = done (record { leak = told_of v is; pairs = bad_of p })
-outcome_in (Refused q) is = refused q
+-- both answers
+abbrev pub both_of : WideFound → BothAnswers WideLeak
+both_of f = record { leak = told_of f.leak; pairs = bad_of f.pair }
 
-abbrev pub outcome_of : WideAnswer → Outcome (BothAnswers WideLeak)
-outcome_of a = outcome_in a.checked a.ones
+-- the outcome that an answer stands for
+abbrev pub outcome_of : Result WideFound Question → Outcome (BothAnswers WideLeak)
+outcome_of a = stands_for both_of a

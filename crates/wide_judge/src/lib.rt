@@ -4,7 +4,7 @@
 ghost use Rattle.std.specs.Prelude.{◌≡◌, true, false, ℕ, ◌+◌, ◌<◌, ◌≤◌, length, take, get_or};
 ghost use Rattle.netlist.specs.Lists.{sum};
 ghost use Rattle.netlist.specs.Netlist.{Netlist};
-ghost use Rattle.netlist.specs.Outcome.{refused, done, ask};
+ghost use Rattle.netlist.specs.Outcome.{done, ask};
 ghost use Rattle.netlist.specs.Read.{WellFormed};
 ghost use Rattle.netlist.specs.Table.{tables, Wired, Holds};
 ghost use Rattle.wide.specs.Wide.{few_reach, wide_answers, wide_outcome};
@@ -12,35 +12,14 @@ ghost use Rattle.wide_sets.specs.Packed.{sets, Sized};
 ghost use Rattle.wide_search.specs.Items.{PairsFew};
 ghost use Rattle.wide_judge.specs.Judge.{outcome_of};
 
-use check_netlist::Asked;
-use pairs_search::search::PairsVerdict;
+use netlist::Question;
 use read_header::HeaderNumbers;
-use wide_search::search::WideVerdict;
-use wide_sets::{members, reach, unite};
+use wide_search::item;
+use wide_search::search::WideFound;
+use wide_sets::reach;
 
 // Both answers; or the first question that gets a no.
-#[derive(Clone, Copy)]
-pub enum CheckedWide {
-    Done(WideVerdict, PairsVerdict),
-    Refused(u8),
-}
-
-// An answer, and the input bits that are one in a leak's setting.
-#[derive(Clone, Copy)]
-pub struct WideAnswer {
-    pub checked: CheckedWide,
-    pub ones: [u32; 12],
-}
-
-// A question gets a no.
-pub fn refuse(question: u8) -> WideAnswer
-    ensures { outcome_of result ≡ refused question }
-{
-    WideAnswer {
-        checked: CheckedWide::Refused(question),
-        ones: [0u32; 12],
-    }
-}
+pub type CheckedWide = Result<WideFound, Question>;
 
 // Question 12 of the pairs: at most twelve inputs reach each.
 fn pairs_few(pairs: &[u32], set0: &[u64], set1: &[u64], set2: &[u64], set3: &[u64]) -> bool
@@ -49,18 +28,10 @@ fn pairs_few(pairs: &[u32], set0: &[u64], set1: &[u64], set2: &[u64], set3: &[u6
     ensures { let S = sets set0.now set1.now set2.now set3.now in
         (result ≡ true → PairsFew S pairs.now) × (result ≡ false → PairsFew S pairs.now → ⊥) }
 {
-    let count = pairs.len() / 2;
-    let mut j = 0;
-    while j < count {
-        let u = pairs[2 * j] as usize;
-        let v = pairs[2 * j + 1] as usize;
-        let x = members::get(set0, set1, set2, set3, u);
-        let y = members::get(set0, set1, set2, set3, v);
-        let both = unite::both(x, y);
-        if check_netlist::MOST_BITS < both.count {
+    for j in 0..pairs.len() / 2 {
+        if item::pair(pairs, set0, set1, set2, set3, j).is_none() {
             return false;
         }
-        j += 1;
     }
     true
 }
@@ -81,7 +52,7 @@ fn within(
     set2: &mut [u64],
     set3: &mut [u64],
     paints: &mut [u8],
-) -> WideAnswer
+) -> CheckedWide
     requires wired { Wired (tables operands.now results.now) (length words.old) count
         × ((i : ℕ) → i < length pairs.now → get_or pairs.now i 0 < length words.old) × (length codes.now ≤ 1048576) }
     requires paints_len { (length paints.old ≡ length codes.now) × (length codes.now + 2 ≤ length words.old)
@@ -104,22 +75,16 @@ fn within(
         set2,
         set3,
     ) {
-        return refuse(12);
+        return Err(Question::Settings);
     }
     if !pairs_few(pairs, set0, set1, set2, set3) {
-        return refuse(12);
+        return Err(Question::Settings);
     }
     let found = wide_search::search::search(
         operands, results, count, codes, pairs, set0, set1, set2, set3, paints, marks, words, base,
         bases,
     );
-    let wires = found.wires;
-    let pairs = found.pairs;
-    let ones = found.ones;
-    WideAnswer {
-        checked: CheckedWide::Done(wires, pairs),
-        ones: ones,
-    }
+    Ok(found)
 }
 
 // Questions 10, 11, 21 and 12 and both verdicts, from a header's numbers and tables that begin with its input widths and its gates.
@@ -139,7 +104,7 @@ pub fn judge(
     set2: &mut [u64],
     set3: &mut [u64],
     paints: &mut [u8],
-) -> WideAnswer
+) -> CheckedWide
     requires wired { Wired (tables operands.now results.now) h.wires h.gates }
     requires input_values_bound { (h.input_values ≤ 17) × (h.input_bits ≡ sum (take h.input_values widths)) × (h.input_bits ≤ h.wires)
         × (h.wires ≤ length words.old) × (h.wires ≤ length base.old) × (h.wires ≤ length bases.old)
@@ -149,30 +114,26 @@ pub fn judge(
         h.output_bits N → WellFormed N
         → take h.input_values widths ≡ N.inputs → outcome_of result ≡ wide_outcome codes.now pairs.now N }
 {
-    match check_netlist::ask_codes(h, widths, codes) {
-        Asked::Refused(question) => refuse(question),
-        Asked::Passed => {
-            let wires = h.wires as usize;
-            if !pairs_judge::pairs_good(pairs, wires) {
-                return refuse(21);
-            }
-            let n = codes.len();
-            within(
-                operands,
-                results,
-                h.gates as usize,
-                codes,
-                pairs,
-                marks,
-                &mut words[..wires],
-                &mut base[..wires],
-                &mut bases[..wires],
-                &mut set0[..wires],
-                &mut set1[..wires],
-                &mut set2[..wires],
-                &mut set3[..wires],
-                &mut paints[..n],
-            )
-        }
+    check_netlist::ask_codes(h, widths, codes)?;
+    let wires = h.wires as usize;
+    if !pairs_judge::pairs_good(pairs, wires) {
+        return Err(Question::Pairs);
     }
+    let n = codes.len();
+    within(
+        operands,
+        results,
+        h.gates as usize,
+        codes,
+        pairs,
+        marks,
+        &mut words[..wires],
+        &mut base[..wires],
+        &mut bases[..wires],
+        &mut set0[..wires],
+        &mut set1[..wires],
+        &mut set2[..wires],
+        &mut set3[..wires],
+        &mut paints[..n],
+    )
 }

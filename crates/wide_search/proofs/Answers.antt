@@ -17,20 +17,24 @@ use Rattle.netlist.proofs.Tests.{on_bool}
 use Rattle.evaluate.specs.Bare.{bare}
 use Rattle.check_counts.specs.Paint.{codes_of, paint}
 use Rattle.check_counts.specs.Base.{part, count_in}
-use Rattle.check_leak.specs.declared.difference.Difference.{Difference}
-use Rattle.check_leak.specs.Difference.{LowestDifference}
+use Rattle.std.specs.Prelude.{Option, Some}
+use Rattle.std.specs.Bool.{then_some}
+use Rattle.check_leak.specs.declared.difference.Leak.{Leak}
+use Rattle.check_leak.specs.Difference.{LowestDifference, wire_of}
 use Rattle.pairs.specs.Pairs.{clean_pair, first_bad}
 use Rattle.pairs.proofs.PairCheck.{first-is}
-use Rattle.pairs_search.specs.Search.{bad_at}
+use Rattle.pairs_search.specs.Search.{bad_of}
 use Rattle.pairs_search.proofs.Finds.{one-bare}
-use Rattle.wide.specs.Reach.{size, reach}
+use Rattle.wide.specs.Reach.{size, reach, reaches}
 use Rattle.wide.specs.Rule.{Level, colour_at}
 use Rattle.wide.specs.Sets.{reach_set, picked}
 use Rattle.wide.specs.Wide.{listed}
 use Rattle.wide.proofs.Painted.{level-painted}
 use Rattle.wide.proofs.Picked.{length-places}
 use Rattle.wide.proofs.Lowest.{level-clean, ranked-level, lowest-listed}
-use Rattle.wide_sets.specs.Packed.{Sets}
+use Rattle.wide_sets.specs.Packed.{Sets, set_at}
+use Rattle.wide_colours.specs.Colours.{Inputs, Seeded}
+use Rattle.wide_search.proofs.Passes.{marked-inputs}
 use Rattle.wide_search.specs.Items.{is_marked}
 use Rattle.wide_search.specs.Judging.{Given, CleanAt, Judged, Judging, Lowest}
 
@@ -79,7 +83,8 @@ all-judged {N} {codes} {ws} {W = W} {wire} {pair} J = record {
 
 -- ---- the pairs' answer
 
-pub pairs-told : {N : Netlist} {codes ws : List ℕ} {W wire pair : ℕ} → Lowest N codes ws W wire pair → bad_at pair (length ws / 2) ≡ first_bad (clean_pair N codes) ws
+pub pairs-told : {N : Netlist} {codes ws : List ℕ} {W wire pair : ℕ} → Lowest N codes ws W wire pair
+    → bad_of (then_some (ltb pair (length ws / 2)) pair) ≡ first_bad (clean_pair N codes) ws
 pairs-told {N} {codes} {ws} {pair = pair} L =
     on_bool (ltb pair (length ws / 2))
     (λ t. let l = ltb-true pair (length ws / 2) t in
@@ -96,12 +101,27 @@ clean-told {N = N} {codes} G L l =
     let e = G.holds.wires in
     ap (listed (length codes)) (level-clean N codes (λ w b. L.level w (omega arith)))
 
+-- a wire's inputs get the colours 1, 2, 3 and so on: they are those that reach it, and the blocks hold all their settings
+pub seeded-wire : {t : Tables} {m W o : ℕ} {S : Sets} {N : Netlist} (codes : List ℕ) → Given t m W (length codes) S o N → (wire : ℕ) → wire < W
+    → (is ps₀ ps : List ℕ) → is ≡ set_at S wire → length ps ≡ length codes → length ps ≡ length ps₀ → Seeded is ps₀ ps → (B k : ℕ) → length is ≡ k → 2 ^ k ≤ B * 16
+    → (is ≡ reach_set N (length ps) wire)
+    × ((a : ℕ) → a < length (reach_set N (length ps) wire) → colour_at (reach_set N (length ps) wire) ps a ≡ a + 1)
+    × (2 ^ length (reach_set N (length ps) wire) ≤ B * 16)
+seeded-wire {N = N} codes G wire inside is ps₀ ps known long same seeded B k count blocks =
+    let e : is ≡ reach_set N (length ps) wire = known ∙ G.each wire inside ∙ ap (λ (j : ℕ). reach_set N j wire) (sym long) in
+    let inputs : Inputs (reach_set N (length ps) wire) (length ps₀) = subst (Inputs (reach_set N (length ps) wire)) same
+    (marked-inputs (λ i. reaches N i wire) (length ps)) in (
+      e,
+      subst (λ (js : List ℕ). Inputs js (length ps₀) → (b : ℕ) → b < length js → colour_at js ps b ≡ b + 1) e seeded.each inputs,
+      subst (λ (j : ℕ). 2 ^ j ≤ B * 16) (sym count ∙ ap length e) blocks,
+    )
+
 -- the inputs that reach the lowest wire have the colours 1, 2, 3 and so on
 module _ {t : Tables} {m W o : ℕ} {S : Sets} {N : Netlist} {codes ws : List ℕ} {wire pair : ℕ} (G : Given t m W (length codes) S o N)
     (L : Lowest N codes ws W wire pair) (inside : wire < W) (room : length codes + 2 ≤ W) (ps : List ℕ) (plain : codes_of ps ≡ codes)
     (ranked : (a : ℕ) → a < length (reach_set N (length ps) wire) → colour_at (reach_set N (length ps) wire) ps a ≡ a + 1) (B : ℕ)
-    (blocks : 2 ^ length (reach_set N (length ps) wire) ≤ B * 16) (p : Difference)
-    (F : LowestDifference (count_in (bare t m W) false ps) (count_in (bare t m W) true ps) (wire + 1) (B * 16) p) where
+    (blocks : 2 ^ length (reach_set N (length ps) wire) ≤ B * 16) (r : Option Leak)
+    (F : LowestDifference (count_in (bare t m W) false ps) (count_in (bare t m W) true ps) (wire + 1) (B * 16) r) where
   cs : List ℕ
   cs = codes_of ps
 
@@ -114,14 +134,14 @@ module _ {t : Tables} {m W o : ℕ} {S : Sets} {N : Netlist} {codes ws : List �
   uncode : (w : ℕ) → Level N codes w → Level N (codes_of ps) w
   uncode w = subst (λ (es : List ℕ). Level N es w) (sym plain)
 
-  -- the search ends at that wire
-  not_lower : p.wire < wire → ⊥
-  not_lower l =
-      let d = F.differs (omega arith) in
+  -- the search passes no lower wire, and that one not
+  not_lower : (p : Leak) → r ≡ Some p → p.wire < wire → ⊥
+  not_lower p is l =
+      let d = F.differs p is in
       d.other (same-one false p.wire p.setting ∙ level-painted N ps p.wire (uncode p.wire (L.level p.wire l)) p.setting
       ∙ sym (same-one true p.wire p.setting))
 
-  not-higher : wire < p.wire → ⊥
+  pub not-higher : wire < wire_of (wire + 1) r → ⊥
   not-higher l =
       L.leaks inside (subst (λ (es : List ℕ). Level N es wire) plain (ranked-level N ps wire fits ranked (λ s k.
       let e = length-places 0 (reach N (length ps) wire) in
@@ -129,32 +149,31 @@ module _ {t : Tables} {m W o : ℕ} {S : Sets} {N : Netlist} {codes ws : List �
       let b : s < B * 16 = omega arith in
       sym (same-one false wire s) ∙ F.lower wire l s b ∙ same-one true wire s)))
 
-  ends : p.wire ≡ wire
-  ends =
-      on_bool (ltb p.wire wire) (λ a. absurd (not_lower (ltb-true p.wire wire a)))
-      (λ a. on_bool (ltb wire p.wire) (λ b. absurd (not-higher (ltb-true wire p.wire b)))
-      (λ b. let x = ltb-false p.wire wire a in let y = ltb-false wire p.wire b in omega arith))
+  -- it ends there
+  ends : (p : Leak) → r ≡ Some p → p.wire ≡ wire
+  ends p is =
+      on_bool (ltb p.wire wire) (λ a. absurd (not_lower p is (ltb-true p.wire wire a)))
+      (λ a. let x = ltb-false p.wire wire a in let y = F.inside p is in omega arith)
 
-  pub leak-told : listed (length codes) (leak N codes)
-      ≡ some (record { wire = wire; ones = picked (reach_set N (length ps) wire) p.setting; base = p.base; own = p.count })
-  leak-told =
-      let e = ends in
-      let d = F.differs (omega arith) in
+  pub leak-told : (p : Leak) → r ≡ Some p → listed (length codes) (leak N codes)
+      ≡ some (record { wire = wire; ones = picked (reach_set N (length ps) wire) p.setting; base = p.base; own = p.own })
+  leak-told p is =
+      let e = ends p is in
+      let d = F.differs p is in
       let at : (w : ℕ) → w ≡ wire → (s : ℕ) → count_in (bare t m W) false ps w s ≡ count_in (bare t m W) true ps w s → count_in N false ps wire s ≡ count_in N true ps wire s
       = λ w q s h. subst (λ (v : ℕ). count_in N false ps v s ≡ count_in N true ps v s) q (sym (same-one false w s) ∙ h ∙ same-one true w s) in
       subst (λ (es : List ℕ). listed (length es) (leak N es) ≡ some (record {
         wire = wire;
         ones = picked (reach_set N (length ps) wire) p.setting;
-        base =
-            p.base;
-        own = p.count;
+        base = p.base;
+        own = p.own;
       })) plain
-      (lowest-listed N ps wire fits ranked p.setting p.base p.count (let q = G.holds.wires in omega arith) (λ v l. uncode v (L.level v l))
+      (lowest-listed N ps wire fits ranked p.setting p.base p.own (let q = G.holds.wires in omega arith) (λ v l. uncode v (L.level v l))
       (λ u l. at p.wire e u (d.smaller u l))
       (λ h. d.other (same-one false p.wire p.setting ∙ subst (λ (v : ℕ). count_in N false ps v p.setting ≡ count_in N true ps v p.setting) (sym e) h
       ∙ sym (same-one true p.wire p.setting)))
       (d.base ∙ same-one false p.wire p.setting ∙ ap (λ (v : ℕ). count_in N false ps v p.setting) e)
-      (d.count ∙ same-one true p.wire p.setting ∙ ap (λ (v : ℕ). count_in N true ps v p.setting) e))
+      (d.own ∙ same-one true p.wire p.setting ∙ ap (λ (v : ℕ). count_in N true ps v p.setting) e))
 
 -- ---- the ones of a setting
 

@@ -1,13 +1,12 @@
 -- Items, and the sets of inputs that reach them.
 use Prim.Native.Nat.{ℕ, ◌+◌, ◌-◌, ◌*◌, ◌/◌, ◌≤◌, ◌<◌}
-use mathlib.Core.Path.{◌≡◌, sym, ap, ap₂, ◌∙◌}
+use Rattle.std.specs.Prelude.{Option, Some, None, IsSome}
+use mathlib.Core.Path.{◌≡◌, refl, sym, ap, ap₂, ◌∙◌}
 use mathlib.Core.Bool.{Bool, cond}
 use mathlib.Core.List.{List}
 use native.Mathlib.Omega.{arith}
-use lib.Dec.{ltb}
 use lib.ListN.{length, get_or, take}
-use borrow.Author.Tests.{lt-ltb, le-ltb, ltb-true, ltb-false}
-use Rattle.netlist.proofs.Tests.{on_bool}
+use borrow.Author.Tests.{lt-ltb, le-ltb}
 use Rattle.wide.specs.Sets.{merge}
 use Rattle.wide_sets.specs.declared.members.Members.{Members}
 use Rattle.wide_sets.specs.Packed.{Sets, set_at, Items}
@@ -21,13 +20,15 @@ module _ (S : Sets) (ws : List ℕ) (W k : ℕ) where
   pub item-pair : W ≤ k → item_set S ws W k ≡ pair_at S ws (k - W)
   item-pair l = ap (λ (b : Bool). cond b (set_at S k) (pair_at S ws (k - W))) (le-ltb k W l)
 
-  -- the set of a pair, put together
-  pub item-both : {x y : List ℕ} {r : Members} → W ≤ k → k < W + length ws / 2 → PairsFew S ws → x ≡ set_at S (get_or ws (2 * (k - W)) 0)
-      → y ≡ set_at S (get_or ws (2 * (k - W) + 1) 0) → Together x y r
-      → (take r.count r.items ≡ item_set S ws W k) × (r.count ≤ 12) × Items r.items
-  item-both {x} {y} {r} l m few p q U =
-      let e : merge x y ≡ pair_at S ws (k - W) = ap₂ merge p q in
-      let h = few (k - W) (omega arith) in
-      let c : r.count ≤ 12 = on_bool (ltb 12 r.count)
-      (λ t. let g = U.many (ltb-true 12 r.count t) in let z = ap length e in absurd (omega arith)) (ltb-false 12 r.count) in
-      (U.few c ∙ e ∙ sym (item-pair l), c, U.items)
+  -- the set of a pair, put together: it has at most twelve members
+  module _ {x y : List ℕ} (l : W ≤ k) (m : k < W + length ws / 2) (p : x ≡ set_at S (get_or ws (2 * (k - W)) 0))
+      (q : y ≡ set_at S (get_or ws (2 * (k - W) + 1) 0)) where
+    pub item-some : (r : Option Members) → PairsFew S ws → Together x y r → IsSome r
+    item-some None few U =
+        let z : length (merge x y) ≡ length (pair_at S ws (k - W)) = ap length (ap₂ merge p q) in
+        let h = few (k - W) (omega arith) in
+        absurd (omega arith)
+    item-some (Some r) few U = refl
+
+    pub item-both : (r : Members) → Together x y (Some r) → (take r.count r.items ≡ item_set S ws W k) × (r.count ≤ 12) × Items r.items
+    item-both r U = (U.0 ∙ ap₂ merge p q ∙ sym (item-pair l), U.1, U.2)

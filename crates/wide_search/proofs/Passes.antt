@@ -18,9 +18,15 @@ use Rattle.check_counts.specs.Base.{part, count_in}
 use Rattle.check_counts.proofs.Paints.{length-codes_of}
 use Rattle.pairs.specs.Pairs.{clean_pair}
 use Rattle.pairs.proofs.PairCheck.{ThreeAsBase}
-use Rattle.pairs_search.specs.declared.search.Best.{Best}
+use Rattle.pairs_search.specs.declared.search.PairsFound.{PairsFound}
 use Rattle.pairs_search.specs.Level.{counts_of, Level as PairLevel}
 use Rattle.pairs_search.specs.Search.{Found}
+use Rattle.pairs_search.proofs.Uneven.{pair-within}
+use Rattle.check_leak.specs.declared.difference.Leak.{Leak}
+use Rattle.check_leak.specs.Difference.{wire_of}
+use Rattle.check_leak.proofs.Differences.{wire-within}
+use Rattle.std.specs.Prelude.{Option, Some, None}
+use Rattle.std.specs.Option.{unwrap_or}
 use Rattle.pairs_search.proofs.Finds.{one-bare, both-bare}
 use Rattle.wide.specs.Reach.{reaches, marks, places}
 use Rattle.wide.specs.Rule.{Level, Different}
@@ -81,26 +87,30 @@ module _ {t : Tables} {m W : ℕ} {S : Sets} {o : ℕ} {N : Netlist} {n : ℕ} (
 -- a search of the settings that paints give
 module _ (t : Tables) (m W : ℕ) (S : Sets) (codes ws : List ℕ) (below : (i : ℕ) → i < length ws → get_or ws i 0 < W)
     (room : length codes + 2 ≤ W) (ps : List ℕ) (plain : codes_of ps ≡ codes) (K B wire pair : ℕ) (upto : Upto K ps) (blocks : 2 ^ K ≤ B * 16)
-    (even : 2 * pair ≤ length ws) (found : Best)
+    (even : 2 * pair ≤ length ws) (found : PairsFound)
     (F : Found (counts_of (bare t m W) false ps) (counts_of (bare t m W) true ps) (take (2 * pair) ws) wire (length (take (2 * pair) ws) / 2) (B * 16) found)
   where
     abbrev cs : List ℕ
     cs = codes_of ps
 
     abbrev wire' : ℕ
-    wire' = found.difference.wire
+    wire' = wire_of wire found.leak
 
     abbrev pair' : ℕ
-    pair' = found.pair
+    pair' = unwrap_or found.pair pair
 
     long : length ps ≡ length codes
     long = sym (length-codes_of ps) ∙ ap length plain
 
     pub lower-wire : wire' ≤ wire
-    lower-wire = F.lowest.within
+    lower-wire = wire-within found.leak F.lowest
+
+    -- as many pairs are looked at
+    half : length (take (2 * pair) ws) / 2 ≡ pair
+    half = let e = length-take-le (2 * pair) ws even in omega arith
 
     pub lower-pair : pair' ≤ pair
-    lower-pair = let e = length-take-le (2 * pair) ws even in omega (arith, F.uneven.within)
+    lower-pair = let l = pair-within found.pair F.uneven in rw half at l
 
     module _ {o : ℕ} {N : Netlist} (G : Given t m W (length codes) S o N) where
       same-one : (secrets : Bool) (w s : ℕ) → count_in (bare t m W) secrets ps w s ≡ count_in N secrets ps w s
@@ -131,23 +141,29 @@ module _ (t : Tables) (m W : ℕ) (S : Sets) (codes ws : List ℕ) (below : (i :
       }
 
       pub wire-leaks : wire' < wire → Level N codes wire' → ⊥
-      wire-leaks l h =
-          let d = F.lowest.differs l in
-          d.other (same-one false wire' found.difference.setting ∙ level-painted N ps wire' (uncode wire' h) found.difference.setting ∙ sym
-          (same-one true wire' found.difference.setting))
+      wire-leaks = go found.leak refl
+        where
+          go : (r : Option Leak) → found.leak ≡ r → wire_of wire r < wire → Level N codes (wire_of wire r) → ⊥
+          go None e l h = absurd (omega arith)
+          go (Some p) e l h =
+              let d = F.lowest.differs p e in
+              d.other (same-one false p.wire p.setting ∙ level-painted N ps p.wire (uncode p.wire h) p.setting ∙ sym (same-one true p.wire p.setting))
 
       entry : (j : ℕ) → j < 2 * pair → get_or (take (2 * pair) ws) j 0 ≡ get_or ws j 0
       entry j l = get_or-take (2 * pair) ws j 0 l
 
       pub pair-bad : pair' < pair → CleanAt N codes ws pair' → ⊥
-      pair-bad l h =
-          let u = get_or (take (2 * pair) ws) (2 * pair') 0 in
-          let v = get_or (take (2 * pair) ws) (2 * pair' + 1) 0 in
-          let e = length-take-le (2 * pair) ws even in
-          let h' : T (clean_pair N cs u v) = subst (λ (a : ℕ). T (clean_pair N cs a v)) (sym (entry (2 * pair') (omega arith)))
-          (subst (λ (b : ℕ). T (clean_pair N cs (get_or ws (2 * pair') 0) b)) (sym (entry (2 * pair' + 1) (omega arith)))
-          (subst (λ (es : List ℕ). T (clean_pair N es (get_or ws (2 * pair') 0) (get_or ws (2 * pair' + 1) 0))) (sym plain) h)) in
-          F.uneven.bad (omega arith) (λ s _. level u v s (clean-painted N ps u v h' s))
+      pair-bad = go found.pair refl
+        where
+          go : (r : Option ℕ) → found.pair ≡ r → unwrap_or r pair < pair → CleanAt N codes ws (unwrap_or r pair) → ⊥
+          go None e l h = absurd (omega arith)
+          go (Some k) e l h =
+              let u = get_or (take (2 * pair) ws) (2 * k) 0 in
+              let v = get_or (take (2 * pair) ws) (2 * k + 1) 0 in
+              let h' : T (clean_pair N cs u v) = subst (λ (a : ℕ). T (clean_pair N cs a v)) (sym (entry (2 * k) (omega arith)))
+              (subst (λ (b : ℕ). T (clean_pair N cs (get_or ws (2 * k) 0) b)) (sym (entry (2 * k + 1) (omega arith)))
+              (subst (λ (es : List ℕ). T (clean_pair N es (get_or ws (2 * k) 0) (get_or ws (2 * k + 1) 0))) (sym plain) h)) in
+              F.uneven.bad k e (λ s _. level u v s (clean-painted N ps u v h' s))
 
       -- an item with different colours is judged
       pub item-judged : (y : ℕ) → y < W + length ws / 2 → Different (item_set S ws W y) ps → Judged N codes ws W wire' pair' y
@@ -164,7 +180,7 @@ module _ (t : Tables) (m W : ℕ) (S : Sets) (codes ws : List ℕ) (below : (i :
             (subst (λ (is : List ℕ). Different is ps) (pair_set_lem G ws below y a k ∙ ap (λ (j : ℕ). pair_set N j u v) (sym long)) D)
             (λ s l. three u v s (subst (λ (a : ℕ). PairLevel (counts_of (bare t m W) false ps) (counts_of (bare t m W) true ps) a v s) (entry (2 * j) (omega arith))
             (subst (λ (b : ℕ). PairLevel (counts_of (bare t m W) false ps) (counts_of (bare t m W) true ps) (get_or (take (2 * pair) ws) (2 * j) 0) b s)
-            (entry (2 * j + 1) (omega arith)) (F.uneven.before j b s (omega arith))))));
+            (entry (2 * j + 1) (omega arith)) (F.uneven.before j (rw half b) s (omega arith))))));
       }
 
       -- so a pass that gave item start + x and others different colours judges them

@@ -1,11 +1,15 @@
 -- What the search answers.
-use Rattle.std.specs.Prelude.{ℕ, List, take}
-use Rattle.std.proofs.Math.Option.{Option, none, some}
-use Rattle.wide.specs.Wide.{WideLeak}
-use Rattle.wide_search.specs.declared.search.WideVerdict.{WideVerdict}
-use Rattle.wide_search.specs.declared.search.WideVerdict.TheVariants.{Clean, Leak}
+use Rattle.std.specs.Prelude.{Option, Some, None, take}
+use Rattle.std.proofs.Math.Option.{none, some}
+use Rattle.std.proofs.Math.Option as Math
+use Rattle.wide.specs.Wide as Wide
+use Rattle.wide_search.specs.declared.search.WideLeak.{WideLeak}
 
--- what a verdict stands for, with the list that holds the ones of a leak's setting: no leak, or its wire, the ones, and both counts
-abbrev pub told_of : WideVerdict → List ℕ → Option WideLeak
-told_of Clean is = none
-told_of (Leak w k b o) is = some (record { wire = w; ones = take k is; base = b; own = o })
+-- what a leak says
+abbrev pub told : WideLeak → Wide.WideLeak
+told p = record { wire = p.wire; ones = take p.ones.count p.ones.items; base = p.base; own = p.own }
+
+-- the answer that it stands for
+abbrev pub told_of : Option WideLeak → Math.Option Wide.WideLeak
+told_of None = none
+told_of (Some p) = some (told p)

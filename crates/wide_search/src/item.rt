@@ -1,10 +1,32 @@
 // What is to be served, as items: first the wires, then the listed pairs. An item's set are the inputs that reach it.
 ghost use Rattle.std.specs.Prelude.{◌≡◌, ℕ, ◌+◌, ◌*◌, ◌/◌, ◌≤◌, ◌<◌, length, get_or, take, set as put};
-ghost use Rattle.wide_sets.specs.Packed.{sets, Sized, Items};
+ghost use Rattle.wide_sets.specs.Packed.{sets, set_at, Sized, Items};
+ghost use Rattle.wide_sets.specs.Together.{Together};
 ghost use Rattle.wide_search.specs.Items.{item_set, PairsFew, is_marked};
 
 use wide_sets::members::Members;
 use wide_sets::{members, unite};
+
+// The inputs that reach one wire of pair j or the other; none where they are more than twelve.
+pub fn pair(
+    pairs: &[u32],
+    set0: &[u64],
+    set1: &[u64],
+    set2: &[u64],
+    set3: &[u64],
+    j: usize,
+) -> Option<Members>
+    requires { (j < length pairs.now / 2) × Sized (sets set0.now set1.now set2.now set3.now) (length set0.now)
+        × ((i : ℕ) → i < length pairs.now → get_or pairs.now i 0 < length set0.now) }
+    ensures { let S = sets set0.now set1.now set2.now set3.now in Together (set_at S (get_or pairs.now (2 * j) 0))
+        (set_at S (get_or pairs.now (2 * j + 1) 0)) result }
+{
+    let u = pairs[2 * j] as usize;
+    let v = pairs[2 * j + 1] as usize;
+    let x = members::get(set0, set1, set2, set3, u);
+    let y = members::get(set0, set1, set2, set3, v);
+    unite::both(x, y)
+}
 
 // The set of item k.
 pub fn set(
@@ -25,23 +47,14 @@ pub fn set(
     if k < wires {
         return members::get(set0, set1, set2, set3, k);
     }
-    let j = k - wires;
-    let u = pairs[2 * j] as usize;
-    let v = pairs[2 * j + 1] as usize;
-    let x = members::get(set0, set1, set2, set3, u);
-    let y = members::get(set0, set1, set2, set3, v);
-    unite::both(x, y)
+    pair(pairs, set0, set1, set2, set3, k - wires).unwrap()
 }
 
 // Whether an item is marked as served; one for which there is no mark is not.
 pub fn marked(marks: &[u8], x: usize) -> bool
     ensures { result ≡ is_marked marks.now x }
 {
-    if x < marks.len() {
-        marks[x] != 0
-    } else {
-        false
-    }
+    x < marks.len() && marks[x] != 0
 }
 
 // Marks an item, where there is a mark for it.

@@ -9,8 +9,10 @@ ghost use Rattle.wide_search.specs.Items.{PairsFew, Serving};
 ghost use Rattle.wide_search.specs.Judging.{Given, Judging};
 
 use crate::item;
+use check_leak::difference;
 
-// The lowest wire and the first pair that are known not to meet the rule, or the numbers of wires and pairs.
+// The lowest wire and the first pair that are known not to meet the rule, or the numbers of wires and pairs: numbers and not options, since
+// each pass looks below them.
 #[derive(Clone, Copy)]
 pub struct Worst {
     pub wire: usize,
@@ -64,9 +66,7 @@ fn serve_all(
     ensures { Serving (sets set0.now set1.now set2.now set3.now) pairs.now
         (length set0.now) start marks.old marks.new paints.old paints.new }
 {
-    let mut x = count;
-    while 0 < x {
-        x -= 1;
+    for x in (0..count).rev() {
         serve(pairs, set0, set1, set2, set3, start, x, paints, marks);
     }
 }
@@ -131,10 +131,9 @@ fn pass(
         bases,
         base,
     );
-    let difference = found.difference;
     Worst {
-        wire: difference.wire,
-        pair: found.pair,
+        wire: difference::limit(found.leak, worst.wire),
+        pair: found.pair.unwrap_or(limit),
     }
 }
 
@@ -176,9 +175,7 @@ pub fn passes(
         result.wire result.pair) }
 {
     let mut worst = worst;
-    let mut x = total;
-    while 0 < x {
-        x -= 1;
+    for x in (0..total).rev() {
         worst = pass(
             operands, results, count, codes, pairs, set0, set1, set2, set3, start, x, worst,
             paints, marks, words, base, bases,

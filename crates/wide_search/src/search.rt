@@ -11,35 +11,26 @@ ghost use Rattle.wide_sets.specs.Packed.{sets, Sized, Items};
 ghost use Rattle.wide_search.specs.Items.{PairsFew};
 ghost use Rattle.wide_search.specs.Judging.{Given, Lowest};
 ghost use Rattle.wide_search.specs.Told.{told_of};
-ghost use Rattle.wide_search.specs.declared.search.WideVerdict.TheVariants.{Leak};
 
 use crate::pass;
 use crate::pass::Worst;
-use pairs_search::search::PairsVerdict;
 use wide_sets::members;
 use wide_sets::members::Members;
 
-// Clean, or a leak: its wire, how many input bits are one in its setting, its base's count and the setting's.
+// A leak: its wire, the input bits that are one in its setting, its base's count and its own.
 #[derive(Clone, Copy)]
-pub enum WideVerdict {
-    Clean,
-    Leak(usize, usize, u8, u8),
-}
-
-// Both answers, and the input bits that are one in a leak's setting, rising.
-#[derive(Clone, Copy)]
-pub struct WideVerdicts {
-    pub wires: WideVerdict,
-    pub ones: [u32; 12],
-    pub pairs: PairsVerdict,
-}
-
-// The ones of a leak's setting, its base's count and the setting's.
-#[derive(Clone, Copy)]
-pub struct Told {
+pub struct WideLeak {
+    pub wire: usize,
     pub ones: Members,
     pub base: u8,
-    pub count: u8,
+    pub own: u8,
+}
+
+// The lowest leak, and how many pairs stand before the first bad one; none where all are clean.
+#[derive(Clone, Copy)]
+pub struct WideFound {
+    pub leak: Option<WideLeak>,
+    pub pair: Option<usize>,
 }
 
 // Of the members of a set, those whose bit of a number is one. Each is written, and the next written over it where its bit is zero.
@@ -47,22 +38,15 @@ fn pick(m: Members, number: u64) -> Members
     requires { (m.count ≤ 12) × Items m.items }
     ensures { (take result.count result.items ≡ picked (take m.count m.items) number) × (result.count ≤ 12) }
 {
-    let items = m.items;
-    let count = m.count;
-    let mut out = [0u32; 12];
-    let mut k = 0;
+    let mut items = [0u32; 12];
+    let mut count = 0;
     let mut rest = number;
-    let mut a = 0;
-    while a < count {
-        out[k] = items[a];
-        k += (rest % 2) as usize;
-        rest = rest / 2;
-        a += 1;
+    for item in &m.items[..m.count] {
+        items[count] = *item;
+        count += (rest % 2) as usize;
+        rest /= 2;
     }
-    Members {
-        items: out,
-        count: k,
-    }
+    Members { items, count }
 }
 
 // The lowest wire and the first pair that do not meet the rule.
@@ -96,7 +80,7 @@ fn lowest(
 {
     let wires = words.len();
     let listed = pairs.len() / 2;
-    clear::bytes(marks);
+    marks.fill(0);
     let worst = pass::passes(
         operands,
         results,
@@ -119,7 +103,7 @@ fn lowest(
         base,
         bases,
     );
-    clear::bytes(marks);
+    marks.fill(0);
     pass::passes(
         operands, results, count, codes, pairs, set0, set1, set2, set3, wires, listed, worst,
         paints, marks, words, base, bases,
@@ -142,7 +126,7 @@ fn tell(
     words: &mut [u64],
     base: &mut [u64],
     bases: &mut [u64],
-) -> Told
+) -> Option<WideLeak>
     requires wired { Wired (tables operands.now results.now) (length words.old) count
         × Sized (sets set0.now set1.now set2.now set3.now) (length set0.now) × (wire < length words.old) }
     requires paints_len { (length paints.old ≡ length codes.now) × (length set0.now ≡ length words.old) × (length codes.now + 2 ≤ length words.old)
@@ -152,7 +136,7 @@ fn tell(
         (length words.old) (length codes.now)
         (sets set0.now set1.now set2.now set3.now) o N
         → Lowest N codes.now ws (length words.old) wire pair
-        → told_of (Leak wire result.ones.count result.base result.count) result.ones.items ≡ listed (length codes.now) (leakOf N codes.now) }
+        → told_of result ≡ listed (length codes.now) (leakOf N codes.now) }
 {
     wide_colours::lay(codes, paints);
     let m = members::get(set0, set1, set2, set3, wire);
@@ -171,12 +155,13 @@ fn tell(
         bases,
         base,
     );
-    let difference = found.difference;
-    Told {
-        ones: pick(m, difference.setting),
-        base: difference.base,
-        count: difference.count,
-    }
+    let leak = found.leak?;
+    Some(WideLeak {
+        wire,
+        ones: pick(m, leak.setting),
+        base: leak.base,
+        own: leak.own,
+    })
 }
 
 // Whether the tables' netlist is clean under the input codes, and each listed pair of its wires. The sets are those of its wires.
@@ -195,7 +180,7 @@ pub fn search(
     words: &mut [u64],
     base: &mut [u64],
     bases: &mut [u64],
-) -> WideVerdicts
+) -> WideFound
     requires wired { Wired (tables operands.now results.now) (length words.old) count
         × Sized (sets set0.now set1.now set2.now set3.now) (length set0.now)
         × ((i : ℕ) → i < length pairs.now → get_or pairs.now i 0 < length set0.now)
@@ -206,30 +191,23 @@ pub fn search(
     ensures { (o : ℕ) (N : Netlist) → Given (tables operands.now results.now) count
         (length words.old) (length codes.now)
         (sets set0.now set1.now set2.now set3.now) o N
-        → (told_of result.wires result.ones ≡ listed (length codes.now) (leakOf N codes.now))
-        × (bad_of result.pairs ≡ first_bad (clean_pair N codes.now) pairs.now) }
+        → (told_of result.leak ≡ listed (length codes.now) (leakOf N codes.now))
+        × (bad_of result.pair ≡ first_bad (clean_pair N codes.now) pairs.now) }
 {
     let worst = lowest(
         operands, results, count, codes, pairs, set0, set1, set2, set3, paints, marks, words, base,
         bases,
     );
-    let bad = pairs_search::search::pairs_verdict_of(worst.pair, pairs.len() / 2);
-    let wire = worst.wire;
-    if words.len() <= wire {
-        return WideVerdicts {
-            wires: WideVerdict::Clean,
-            ones: [0u32; 12],
-            pairs: bad,
-        };
-    }
-    let told = tell(
-        operands, results, count, codes, set0, set1, set2, set3, wire, paints, words, base, bases,
-    );
-    let ones = told.ones;
-    let items = ones.items;
-    WideVerdicts {
-        wires: WideVerdict::Leak(wire, ones.count, told.base, told.count),
-        ones: items,
-        pairs: bad,
+    let leak = if worst.wire < words.len() {
+        tell(
+            operands, results, count, codes, set0, set1, set2, set3, worst.wire, paints, words,
+            base, bases,
+        )
+    } else {
+        None
+    };
+    WideFound {
+        leak,
+        pair: (worst.pair < pairs.len() / 2).then_some(worst.pair),
     }
 }

@@ -1,6 +1,7 @@
 -- Two lists being put together: what was written, and what is left.
 use Prim.Native.Nat.{ℕ, zero, suc, ◌+◌, ◌≤◌, ◌<◌}
-use mathlib.Core.Path.{◌≡◌, refl, sym, ap, ap₂, ◌∙◌, subst}
+use mathlib.Core.Path.{◌≡◌, refl, sym, ap, ap₂, ◌∙◌}
+use Rattle.std.specs.Prelude.{Some}
 use mathlib.Core.List.{List, [], ◌∷◌, ◌++◌, append_assoc, append-nil}
 use native.Mathlib.Numerals.{add-one}
 use native.Mathlib.Omega.{arith}
@@ -10,9 +11,7 @@ use Rattle.wide.specs.Sets.{merge}
 use Rattle.wide_sets.specs.declared.unite.Head.{Head}
 use Rattle.wide_sets.specs.Packed.{second, Small, Items}
 use Rattle.wide_sets.specs.declared.members.Members.{Members}
-use Rattle.wide_sets.specs.declared.unite.United.{United}
-use Rattle.wide_sets.specs.declared.unite.United.TheVariants.{Few, Many}
-use Rattle.wide_sets.specs.Together.{Next, Unites, count_of, Together}
+use Rattle.wide_sets.specs.Together.{Next, Unites, Together}
 
 pub record Merging (x y out₀ out : List ℕ) (i j k : ℕ) : Type 0 where
   pub left : i ≤ length x
@@ -84,20 +83,11 @@ module _ (x y : Members) (X : Items x.items) (Y : Items y.items) where
   abbrev right : List ℕ
   right = take y.count y.items
 
-  pub together : {u : United} (v : United) (out : List ℕ) → u ≡ v → length out ≡ 12
-      → Unites left right out u × (Small left → Small right → Small (replicate 12 0) → Small out)
-      → Together left right (record { items = out; count = count_of v })
-  together {u} (Few k) out e long h =
-      let g : Unites left right out (Few k) = subst (Unites left right out) e h.0 in
-      record {
-        few = λ _. g.1;
-        many = λ l. absurd (omega (arith, g.0));
-        items = record { long = long; small = h.1 (take-small x.count x.items X.small) (take-small y.count y.items Y.small) (zeros-small 12) };
-      }
-  together {u} Many out e long h =
-      let g : Unites left right out Many = subst (Unites left right out) e h.0 in
-      record {
-        few = λ l. absurd (omega arith);
-        many = λ l. omega (arith, g);
-        items = record { long = long; small = h.1 (take-small x.count x.items X.small) (take-small y.count y.items Y.small) (zeros-small 12) };
-      }
+  pub together-few : {k : ℕ} (out : List ℕ) → length out ≡ 12
+      → Unites left right out (Some k) × (Small left → Small right → Small (replicate 12 0) → Small out)
+      → Together left right (Some (record { items = out; count = k }))
+  together-few out long h = (
+    h.0.1,
+    omega (arith, h.0.0),
+    record { long = long; small = h.1 (take-small x.count x.items X.small) (take-small y.count y.items Y.small) (zeros-small 12) },
+  )

@@ -1,15 +1,13 @@
 -- The sets of all wires, line by line.
-use Rattle.std.specs.Prelude.{ℕ, ◌≤◌, ◌<◌, Bool, true, false, List, ◌≡◌, length}
+use Rattle.std.specs.Prelude.{ℕ, ◌≤◌, ◌<◌, Bool, true, false, List, ◌≡◌, Option, Some, None, length}
 use Rattle.netlist.specs.Netlist.{Netlist}
 use Rattle.wide.specs.Sets.{merge, reach_set}
-use Rattle.wide_sets.specs.declared.reach.One.{One}
-use Rattle.wide_sets.specs.declared.reach.One.TheVariants.{Wire, Neither}
 use Rattle.wide_sets.specs.Packed.{Sets, set_at, Put}
 
 -- the set of a wire below W is that of two wires together
-abbrev pub OneOf : Sets → ℕ → ℕ → ℕ → One → Type 0
-OneOf S W a b (Wire w) = (w < W) × (merge (set_at S a) (set_at S b) ≡ set_at S w)
-OneOf S W a b Neither = Unit
+abbrev pub OneOf : Sets → ℕ → ℕ → ℕ → Option ℕ → Type 0
+OneOf S W a b (Some w) = (w < W) × (merge (set_at S a) (set_at S b) ≡ set_at S w)
+OneOf S W a b None = Unit
 
 -- a list of at most twelve became the set of wire c, or it is longer
 pub record Lined (S S' : Sets) (c : ℕ) (is : List ℕ) (r : Bool) : Type 0 where

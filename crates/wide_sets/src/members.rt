@@ -45,7 +45,7 @@ fn unpack(a: u64, b: u64, c: u64, d: u64) -> Members
         (d / THIRD % SECOND) as u32,
     ];
     Members {
-        items: items,
+        items,
         count: (a / COUNT) as usize,
     }
 }
@@ -138,16 +138,7 @@ pub fn same(set0: &[u64], set1: &[u64], set2: &[u64], set3: &[u64], a: usize, b:
     ensures { let S = sets set0.now set1.now set2.now set3.now in
         result ≡ true → set_at S a ≡ set_at S b }
 {
-    if set0[a] != set0[b] {
-        return false;
-    }
-    if set1[a] != set1[b] {
-        return false;
-    }
-    if set2[a] != set2[b] {
-        return false;
-    }
-    set3[a] == set3[b]
+    set0[a] == set0[b] && set1[a] == set1[b] && set2[a] == set2[b] && set3[a] == set3[b]
 }
 
 // Wire w is reached by no input: the first entry alone tells.
@@ -172,9 +163,7 @@ pub fn start(set0: &mut [u64], n: usize)
     ensures { ((b c d : List ℕ) (w : ℕ) → set_at (sets set0.new b c d) w ≡ start_set n (length set0.old) w)
         × ((w : ℕ) → count_in (get_or set0.new w 0) ≤ 12) }
 {
-    let mut w = 0;
-    while w < set0.len() {
-        set0[w] = start_entry(w, n);
-        w += 1;
+    for (w, entry) in set0.iter_mut().enumerate() {
+        *entry = start_entry(w, n);
     }
 }

@@ -11,29 +11,27 @@ ghost use Rattle.wide_sets.specs.Reached.{OneOf, Lined, Reached};
 use crate::{members, unite};
 use gate_table::Parts;
 
-// A wire whose set is that of two wires together: the other has none, or both have the same.
-#[derive(Clone, Copy)]
-pub enum One {
-    Wire(usize),
-    Neither,
-}
-
-fn one_of(set0: &[u64], set1: &[u64], set2: &[u64], set3: &[u64], a: usize, b: usize) -> One
+// A wire whose set is that of two wires together, where the other has none or both have the same.
+fn one_of(
+    set0: &[u64],
+    set1: &[u64],
+    set2: &[u64],
+    set3: &[u64],
+    a: usize,
+    b: usize,
+) -> Option<usize>
     requires { Sized (sets set0.now set1.now set2.now set3.now) (length set0.now)
         × (a < length set0.now) × (b < length set0.now) }
     ensures { OneOf (sets set0.now set1.now set2.now set3.now)
         (length set0.now) a b result }
 {
-    if members::empty(set0, b) {
-        return One::Wire(a);
+    if members::empty(set0, b) || members::same(set0, set1, set2, set3, a, b) {
+        Some(a)
+    } else if members::empty(set0, a) {
+        Some(b)
+    } else {
+        None
     }
-    if members::same(set0, set1, set2, set3, a, b) {
-        return One::Wire(a);
-    }
-    if members::empty(set0, a) {
-        return One::Wire(b);
-    }
-    One::Neither
 }
 
 // Wire c is reached by what reaches wire a or wire b. Says whether those are at most twelve.
@@ -53,12 +51,13 @@ fn unite_sets(
 {
     let x = members::get(set0, set1, set2, set3, a);
     let y = members::get(set0, set1, set2, set3, b);
-    let u = unite::both(x, y);
-    if 12 < u.count {
-        return false;
+    match unite::both(x, y) {
+        Some(u) => {
+            members::put(set0, set1, set2, set3, c, u);
+            true
+        }
+        None => false,
     }
-    members::put(set0, set1, set2, set3, c, u);
-    true
 }
 
 // Puts the union of the sets of wires a and b for wire c, unless it has more than twelve members; a set that is that of both is copied.
@@ -77,11 +76,11 @@ fn join(
         Lined S (sets set0.new set1.new set2.new set3.new) c (merge (set_at S a) (set_at S b)) result }
 {
     match one_of(set0, set1, set2, set3, a, b) {
-        One::Wire(w) => {
+        Some(w) => {
             members::copy(set0, set1, set2, set3, w, c);
             true
         }
-        One::Neither => unite_sets(set0, set1, set2, set3, a, b, c),
+        None => unite_sets(set0, set1, set2, set3, a, b, c),
     }
 }
 
@@ -92,23 +91,17 @@ fn line(set0: &mut [u64], set1: &mut [u64], set2: &mut [u64], set3: &mut [u64], 
         Lined S (sets set0.new set1.new set2.new set3.new) gate.result
         (gate_set (set_at S) (gate_by gate)) result }
 {
-    let kind = gate.kind;
-    let a = gate.left;
-    let b = gate.right;
-    let c = gate.result;
-    if 4 < kind {
-        members::none(set0, c);
-        return true;
+    match gate.kind {
+        1 | 2 => join(set0, set1, set2, set3, gate.left, gate.right, gate.result),
+        3 | 4 => {
+            members::copy(set0, set1, set2, set3, gate.left, gate.result);
+            true
+        }
+        _ => {
+            members::none(set0, gate.result);
+            true
+        }
     }
-    if 2 < kind {
-        members::copy(set0, set1, set2, set3, a, c);
-        return true;
-    }
-    if 0 < kind {
-        return join(set0, set1, set2, set3, a, b, c);
-    }
-    members::none(set0, c);
-    true
 }
 
 // The sets of all wires of the tables' netlist, of which the first n are its inputs besides the mask pair. Says whether at most twelve
@@ -131,13 +124,11 @@ pub fn reach(
         count (length set0.old) (n + 2) o N → WellFormed N → Reached N n S result) }
 {
     members::start(set0, n);
-    let mut i = 0;
-    while i < count {
+    for i in 0..count {
         let gate = gate_table::split(operands[i], results[i]);
         if !line(set0, set1, set2, set3, gate) {
             return false;
         }
-        i += 1;
     }
     true
 }

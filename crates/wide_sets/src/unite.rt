@@ -22,13 +22,13 @@ fn next(x: &[u32], i: usize, y: &[u32], j: usize) -> Head
         return Head {
             value: x[i],
             i: i + 1,
-            j: j,
+            j,
         };
     }
     if i == x.len() {
         return Head {
             value: y[j],
-            i: i,
+            i,
             j: j + 1,
         };
     }
@@ -38,13 +38,13 @@ fn next(x: &[u32], i: usize, y: &[u32], j: usize) -> Head
         return Head {
             value: p,
             i: i + 1,
-            j: j,
+            j,
         };
     }
     if q < p {
         return Head {
             value: q,
-            i: i,
+            i,
             j: j + 1,
         };
     }
@@ -55,14 +55,8 @@ fn next(x: &[u32], i: usize, y: &[u32], j: usize) -> Head
     }
 }
 
-// How many numbers the two lists have together, which stand at the front of `out`; or more than it can hold.
-#[derive(Clone, Copy)]
-pub enum United {
-    Few(usize),
-    Many,
-}
-
-pub fn unite(x: &[u32], y: &[u32], out: &mut [u32]) -> United
+// How many numbers the two lists have together, which stand at the front of `out`; none where it cannot hold them.
+pub fn unite(x: &[u32], y: &[u32], out: &mut [u32]) -> Option<usize>
     requires { (length x.now ≤ 12) × (length y.now ≤ 12) }
     ensures { Unites x.now y.now out.new result
         × (Small x.now → Small y.now → Small out.old → Small out.new) }
@@ -73,34 +67,22 @@ pub fn unite(x: &[u32], y: &[u32], out: &mut [u32]) -> United
     while i + j < x.len() + y.len() {
         let h = next(x, i, y, j);
         if k == out.len() {
-            return United::Many;
+            return None;
         }
         out[k] = h.value;
         i = h.i;
         j = h.j;
         k += 1;
     }
-    United::Few(k)
+    Some(k)
 }
 
-// The members of two sets; with more than twelve the count is 13.
-pub fn both(x: Members, y: Members) -> Members
+// The members of two sets; none where they are more than twelve.
+pub fn both(x: Members, y: Members) -> Option<Members>
     requires { (x.count ≤ 12) × (y.count ≤ 12) × Items x.items × Items y.items }
     ensures { Together (take x.count x.items) (take y.count y.items) result }
 {
-    let xs = x.items;
-    let n = x.count;
-    let ys = y.items;
-    let m = y.count;
-    let mut out = [0u32; 12];
-    match unite(&xs[..n], &ys[..m], &mut out) {
-        United::Few(k) => Members {
-            items: out,
-            count: k,
-        },
-        United::Many => Members {
-            items: out,
-            count: 13,
-        },
-    }
+    let mut items = [0u32; 12];
+    let count = unite(&x.items[..x.count], &y.items[..y.count], &mut items)?;
+    Some(Members { items, count })
 }

@@ -5,13 +5,14 @@ use mathlib.Core.Bool.{true, false}
 use mathlib.Core.List.{List, [], ◌∷◌, ◌++◌, append_assoc}
 use native.Mathlib.Nat.{lt_of_lt_of_le, one-le-pow, pow-suc, div-div-eq-div-mul, le-div_iff_mul-le, mul_comm}
 use native.Mathlib.Omega.{arith}
-use lib.Dec.{ltb, lit<, lit≤}
+use lib.Dec.{ltb, leb, lit<, lit≤}
 use lib.ListN.{length, length-append}
-use borrow.Author.Tests.{ltb-true, ltb-false}
+use mir.Val.{bool_byte}
+use borrow.Author.Tests.{ltb-true, ltb-false, leb-true, leb-false}
 use Rattle.netlist.specs.Number.{decimal}
 use Rattle.netlist.proofs.Tests.{on_bool}
 use Rattle.netlist.proofs.Decimal.{low, high, decimal-of, decimal-unique, decimal-length}
-use Rattle.write_buffer.specs.Digits.{last_two, reaches, Counted}
+use Rattle.write_buffer.specs.Digits.{last_two, Counted}
 
 fits : {n : ℕ} → n < 2 ^ 64 → n < 10 ^ 20
 fits h = lt_of_lt_of_le h (lit≤ tt)
@@ -63,6 +64,14 @@ digits-high (suc k) n l h =
 -- all digits of a number of 32 bits
 pub counted : {n r : ℕ} → n < 2 ^ 32 → r ≡ length (decimal n) → Counted n r
 counted {n} l e = record { exact = e; few = omega (arith, digits-most 10 n (omega arith) (lit< tt) (omega arith)) }
+
+-- 1 for a number from k on, and 0 below
+unfoldable pub reaches : ℕ → ℕ → ℕ
+reaches k n = 1 - (k - n)
+
+pub reached : (n : ℕ) {r : ℕ} (k : ℕ) → r ≡ bool_byte (leb k n) → r ≡ reaches k n
+unfolding reaches
+reached n k e = on_bool (leb k n) (λ h. grind (arith, leb-true k n h)) (λ h. grind (arith, leb-false k n h))
 
 -- the last digit apart, where there may be no other
 digits_last : (n : ℕ) → n < 2 ^ 64 → length (decimal n) ≡ reaches 10 n + length (decimal (n / 10))

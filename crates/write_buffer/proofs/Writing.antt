@@ -50,6 +50,9 @@ copied_more {s = s} {i = i} a h b = record { passed = omega arith; wrote = rw (a
 pub copied_all : {e x s : List ℕ} {at r i : ℕ} → Copied e at s x r i → length s ≤ i → Wrote e at s x r
 copied_all {s = s} {i = i} w h = wrote_as (take_all i s h) w.wrote
 
+pub copied-as : {e x s : List ℕ} {at r t i : ℕ} → r ≡ t → Copied e at s x r i → Copied e at s x t i
+copied-as p w = rw p at w
+
 -- as many bytes as they are
 pub exactly : {e x u : List ℕ} {at r : ℕ} → Wrote e at u x r → WroteFew (length u) e at u x r
 exactly w = record { wrote = w; few = omega arith }

@@ -1,23 +1,16 @@
 // How many digits a wire's number has, by comparisons.
 ghost use Rattle.std.specs.Prelude.{◌<◌};
-ghost use Rattle.write_buffer.specs.Digits.{Reaches, Counted};
-
-// 1 for a number from k on, and 0 below.
-fn reaches(n: u32, k: u32) -> usize
-    ensures { Reaches k n result }
-{
-    if n < k {
-        return 0;
-    }
-    1
-}
+ghost use Rattle.write_buffer.specs.Digits.{Counted};
 
 // How many digits a number of at most five has.
 fn five(n: u32) -> usize
     requires { n < 100000 }
     ensures { Counted n result }
 {
-    1 + reaches(n, 10) + reaches(n, 100) + reaches(n, 1000) + reaches(n, 10000)
+    1 + usize::from(10 <= n)
+        + usize::from(100 <= n)
+        + usize::from(1000 <= n)
+        + usize::from(10000 <= n)
 }
 
 // How many digits a number has.
@@ -25,7 +18,8 @@ pub fn count(n: u32) -> usize
     ensures { Counted n result }
 {
     if n < 100000 {
-        return five(n);
+        five(n)
+    } else {
+        5 + five(n / 100000)
     }
-    5 + five(n / 100000)
 }

@@ -1,27 +1,21 @@
 // Writes bytes and numbers into a lent buffer, from a place on. Each function stores only where the
 // buffer reaches and answers the next place in any case, so that one and the same pass measures a
-// text (on a buffer of one byte) and writes it; those of `store` are for callers that have seen that
-// there is room.
+// text (on a buffer of one byte) and writes it; `store` is for callers that have seen that there is room.
+// Buffer and place are parameters of their own, here and in the crates above: C lends buffers and tables one
+// by one, and a struct of `&mut` slices would have to promise at each call that it still holds them.
 #![tactic(auto)]
 
 pub mod digits;
-pub mod store;
 
-ghost use Rattle.std.specs.Prelude.{◌+◌, ◌≡◌, [], ◌∷◌};
+ghost use Rattle.std.specs.Prelude.{◌+◌, ◌≡◌, ◌≤◌, [], ◌∷◌, length};
 ghost use Rattle.netlist.specs.Number.{decimal};
 ghost use Rattle.write_buffer.specs.Wrote.{Wrote, cap};
-
-// The largest place, 2^64 - 1, at which places stay: no buffer reaches so far.
-const TOP: usize = 18446744073709551615;
 
 // The place `by` bytes on; past the largest there is none, and it stays there.
 pub fn moved(at: usize, by: usize) -> usize
     ensures { result ≡ cap (at + by) }
 {
-    if by < TOP - at {
-        return at + by;
-    }
-    TOP
+    at.saturating_add(by)
 }
 
 // One byte.
@@ -30,7 +24,6 @@ pub fn put(out: &mut [u8], at: usize, b: u8) -> usize
 {
     if at < out.len() {
         out[at] = b;
-        return at + 1;
     }
     moved(at, 1)
 }
@@ -40,21 +33,27 @@ pub fn bytes(out: &mut [u8], at: usize, s: &[u8]) -> usize
     ensures { Wrote out.old at s.now out.new result }
 {
     let mut next = at;
-    let mut i = 0;
-    while i < s.len() {
-        next = put(out, next, s[i]);
-        i += 1;
+    for b in s {
+        next = put(out, next, *b);
     }
     next
+}
+
+// Bytes that the buffer has room for, without a test for each.
+pub fn store<const N: usize>(out: &mut [u8], at: usize, bytes: [u8; N]) -> usize
+    requires { at + N ≤ length out.old }
+    ensures { Wrote out.old at bytes.entry out.new result }
+{
+    for (i, b) in bytes.iter().enumerate() {
+        out[at + i] = *b;
+    }
+    at + N
 }
 
 // A number in decimal.
 pub fn number(out: &mut [u8], at: usize, n: usize) -> usize
     ensures { Wrote out.old at (decimal n) out.new result }
 {
-    if n < 10 {
-        return put(out, at, 48 + n as u8);
-    }
-    let last = number(out, at, n / 10);
-    put(out, last, 48 + (n % 10) as u8)
+    let last = if n < 10 { at } else { number(out, at, n / 10) };
+    put(out, last, b'0' + (n % 10) as u8)
 }

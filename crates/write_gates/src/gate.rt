@@ -1,30 +1,58 @@
 // Gate lines. Where the buffer has room for the longest, a line is stored by words; near its end it is
 // written byte by byte as far as it fits; behind it only its length is added. `d` is the table of words.
-ghost use Rattle.std.specs.Prelude.{[], ◌∷◌};
+ghost use Rattle.std.specs.Prelude.{◌≤◌, [], ◌∷◌};
+ghost use Rattle.std.specs.Int.{to_le_bytes, w32};
 ghost use Rattle.netlist.specs.declared.Gate.TheVariants.{Xor, And, Inv, Eqw, Eq};
 ghost use Rattle.netlist.specs.Table.{gate_in};
+ghost use Rattle.write_buffer.specs.Wrote.{Wrote};
 ghost use Rattle.write_wires.specs.Packed.{WordTable};
+ghost use Rattle.write_parts.specs.Parts.{line_of};
 ghost use Rattle.write_gates.specs.Gates.{WroteGates};
 
 use write_buffer::store;
 use write_parts::LONGEST;
+
+// The names of three letters, each with LF behind it, as numbers: the first letter is the lowest byte.
+const XOR: u32 = 0x0a524f58;
+
+const AND: u32 = 0x0a444e41;
+
+const INV: u32 = 0x0a564e49;
+
+const EQW: u32 = 0x0a575145;
+
+// The line of a gate of one of these names. The name is a const parameter, so that each is stored as a constant.
+fn line<const N: usize, const NAME: u32>(
+    d: &[u64],
+    out: &mut [u8],
+    at: usize,
+    operands: [u32; N],
+    c: u32,
+) -> usize
+    requires word_table { WordTable d.now }
+    requires few { N ≤ 2 }
+    ensures { Wrote out.old at (line_of operands.entry c (to_le_bytes w32 NAME)) out.new result }
+{
+    let name = NAME.to_le_bytes();
+    if out.len() <= at {
+        return write_parts::beyond(at, operands, c);
+    }
+    if out.len() - at < LONGEST {
+        return write_parts::near(out, at, operands, c, name);
+    }
+    if !write_parts::packable(d.len(), operands, c) {
+        return write_parts::spell(out, at, operands, c, name);
+    }
+    let end = write_parts::front(d, out, at, operands, c);
+    store(out, end, name)
+}
 
 // The line of an XOR.
 pub fn xor(d: &[u64], out: &mut [u8], at: usize, a: u32, b: u32, c: u32) -> usize
     requires { WordTable d.now }
     ensures { WroteGates out.old at (Xor a b c ∷ []) out.new result }
 {
-    if out.len() <= at {
-        return write_parts::beyond2(at, a, b, c);
-    }
-    if out.len() - at < LONGEST {
-        return write_parts::near2(out, at, a, b, c, b'X', b'O', b'R');
-    }
-    if write_parts::spelt2(d.len(), a, b, c) {
-        return write_parts::spell2(out, at, a, b, c, b'X', b'O', b'R');
-    }
-    let name = write_parts::front2(d, out, at, a, b, c);
-    store::four(out, name, b'X', b'O', b'R', b'\n')
+    line::<2, XOR>(d, out, at, [a, b], c)
 }
 
 // The line of an AND.
@@ -32,17 +60,7 @@ pub fn and(d: &[u64], out: &mut [u8], at: usize, a: u32, b: u32, c: u32) -> usiz
     requires { WordTable d.now }
     ensures { WroteGates out.old at (And a b c ∷ []) out.new result }
 {
-    if out.len() <= at {
-        return write_parts::beyond2(at, a, b, c);
-    }
-    if out.len() - at < LONGEST {
-        return write_parts::near2(out, at, a, b, c, b'A', b'N', b'D');
-    }
-    if write_parts::spelt2(d.len(), a, b, c) {
-        return write_parts::spell2(out, at, a, b, c, b'A', b'N', b'D');
-    }
-    let name = write_parts::front2(d, out, at, a, b, c);
-    store::four(out, name, b'A', b'N', b'D', b'\n')
+    line::<2, AND>(d, out, at, [a, b], c)
 }
 
 // The line of an INV.
@@ -50,17 +68,7 @@ pub fn inv(d: &[u64], out: &mut [u8], at: usize, a: u32, c: u32) -> usize
     requires { WordTable d.now }
     ensures { WroteGates out.old at (Inv a c ∷ []) out.new result }
 {
-    if out.len() <= at {
-        return write_parts::beyond1(at, a, c);
-    }
-    if out.len() - at < LONGEST {
-        return write_parts::near1(out, at, a, c, b'I', b'N', b'V');
-    }
-    if write_parts::spelt1(d.len(), a, c) {
-        return write_parts::spell1(out, at, a, c, b'I', b'N', b'V');
-    }
-    let name = write_parts::front1(d, out, at, a, c);
-    store::four(out, name, b'I', b'N', b'V', b'\n')
+    line::<1, INV>(d, out, at, [a], c)
 }
 
 // The line of an EQW.
@@ -68,17 +76,7 @@ pub fn eqw(d: &[u64], out: &mut [u8], at: usize, a: u32, c: u32) -> usize
     requires { WordTable d.now }
     ensures { WroteGates out.old at (Eqw a c ∷ []) out.new result }
 {
-    if out.len() <= at {
-        return write_parts::beyond1(at, a, c);
-    }
-    if out.len() - at < LONGEST {
-        return write_parts::near1(out, at, a, c, b'E', b'Q', b'W');
-    }
-    if write_parts::spelt1(d.len(), a, c) {
-        return write_parts::spell1(out, at, a, c, b'E', b'Q', b'W');
-    }
-    let name = write_parts::front1(d, out, at, a, c);
-    store::four(out, name, b'E', b'Q', b'W', b'\n')
+    line::<1, EQW>(d, out, at, [a], c)
 }
 
 // The line of an EQ.

@@ -6,13 +6,7 @@ ghost use Rattle.write_gates.specs.Room.{longest_line};
 pub fn ample(room: usize, header: usize, gates: usize, wires: usize) -> bool
     ensures { result ≡ leb (header + gates * longest_line wires) room }
 {
-    if room < header {
-        return false;
-    }
     let mut none = [0u8; 1];
     let longest = 3 * write_buffer::number(&mut none, 0, wires) + 11;
-    if (room - header) / longest < gates {
-        return false;
-    }
-    true
+    header <= room && gates <= (room - header) / longest
 }

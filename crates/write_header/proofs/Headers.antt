@@ -10,10 +10,10 @@ use Rattle.netlist.specs.Number.{decimal}
 use Rattle.netlist.specs.Netlist.{Netlist}
 use Rattle.netlist.specs.Text.{space, lf}
 use Rattle.netlist.specs.Write.{line, decimals, gate_text, write_netlist}
-use Rattle.write_buffer.specs.Wrote.{Wrote, top}
+use Rattle.write_buffer.specs.Wrote.{Wrote}
 use Rattle.old_form.specs.OldWrite.{party_bits, write_old}
 use Rattle.write_header.specs.Header.{spaced, header_text, old_header_text}
-use Rattle.write_buffer.proofs.Writing.{wrote_none, wrote_then, wrote_as}
+use Rattle.write_buffer.proofs.Writing.{wrote_then, wrote_as}
 
 regroup : (a b c d e : List ℕ) → (a ++ (b ++ (c ++ d))) ++ e ≡ a ++ (b ++ (c ++ (d ++ e)))
 regroup a b c d e = simp append_assoc
@@ -45,9 +45,6 @@ spaced-append (x ∷ xs) ys =
 pub record Spaced (e : List ℕ) (at : ℕ) (s x : List ℕ) (r i : ℕ) : Type 0 where
   pub passed : i ≤ length s
   pub wrote : Wrote e at (spaced (take i s)) x r
-
-pub spaced-none : (e : List ℕ) (at : ℕ) (s : List ℕ) → length e ≤ top → at ≤ top → Spaced e at s e at 0
-spaced-none e at s h k = record { passed = omega arith; wrote = wrote_none e at h k }
 
 pub spaced-more : {e m x s : List ℕ} {at r t i : ℕ} → Spaced e at s m r i → i < length s → Wrote m r (spaced (get_or s i 0 ∷ [])) x t → Spaced e at s x t (i + 1)
 spaced-more {s = s} {i = i} a h b = record {

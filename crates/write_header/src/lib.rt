@@ -32,10 +32,8 @@ fn widths(out: &mut [u8], at: usize, ws: &[u32]) -> usize
     ensures { Wrote out.old at (spaced ws.now) out.new result }
 {
     let mut next = at;
-    let mut i = 0;
-    while i < ws.len() {
-        next = width(out, next, ws[i]);
-        i += 1;
+    for w in ws {
+        next = width(out, next, *w);
     }
     next
 }
@@ -77,10 +75,7 @@ pub fn header(
 fn width_at(ws: &[u32], i: usize) -> u32
     ensures { result ≡ get_or ws.now i 0 }
 {
-    if i < ws.len() {
-        return ws[i];
-    }
-    0
+    ws.get(i).copied().unwrap_or(0)
 }
 
 // The two lines of the older dialect, of at most two input values and one output value, and the blank line behind them.

@@ -9,9 +9,22 @@ ghost use Rattle.netlist.specs.Table.{tables, gates_of, Wired};
 ghost use Rattle.write_buffer.specs.Wrote.{Wrote, top};
 ghost use Rattle.write_gates.specs.Gates.{WroteGates};
 ghost use Rattle.write_netlist.specs.Form.{form_text, form_text_in};
+ghost use Rattle.write_netlist.specs.Text.{text_of, Within, WiredIn};
 
-use netlist::Answer;
+use netlist::{Answer, Question};
 use old_form::Dialect;
+
+// A netlist in its tables, with the numbers and the widths of its header, and the dialect of its text.
+#[derive(Clone, Copy)]
+struct Form<'a> {
+    count: usize,
+    wires: usize,
+    ins: &'a [u32],
+    outs: &'a [u32],
+    operands: &'a [u64],
+    results: &'a [u64],
+    dialect: Dialect,
+}
 
 // The lines of the tables' first gates.
 fn gates(
@@ -27,124 +40,44 @@ fn gates(
     ensures { WroteGates out.old at (gates_of (tables operands.now results.now) count) out.new result }
 {
     let mut next = at;
-    let mut i = 0;
-    while i < count {
+    for i in 0..count {
         next = write_gates::gate::entry(d, out, next, operands[i], results[i]);
-        i += 1;
     }
     next
 }
 
 // The header, the blank line and the gate lines, from the buffer's first place on; answers the place behind them.
-fn write(
-    d: &[u64],
-    out: &mut [u8],
-    count: usize,
-    wires: usize,
-    ins: &[u32],
-    outs: &[u32],
-    operands: &[u64],
-    results: &[u64],
-    dialect: Dialect,
-) -> usize
+fn write<'a>(d: &[u64], out: &mut [u8], f: Form<'a>) -> usize
     requires word_table { WordTable d.now }
-    requires count_in_bounds { (count ≤ length operands.now) × (count ≤ length results.now) }
-    ensures { Wrote out.old 0 (form_text_in dialect count wires ins.now outs.now
-        (tables operands.now results.now)) out.new result }
+    requires count_in_bounds { Within f }
+    ensures { Wrote out.old 0 (text_of f.entry) out.new result }
 {
-    let at = write_header::header_in(out, 0, count, wires, ins, outs, dialect);
-    gates(d, out, at, operands, results, count)
+    let at = write_header::header_in(out, 0, f.count, f.wires, f.ins, f.outs, f.dialect);
+    gates(d, out, at, f.operands, f.results, f.count)
 }
 
 // Question 14 of the text: yes where lines of the longest kind would fit, and otherwise as it is measured.
-fn holds(
-    d: &[u64],
-    room: usize,
-    count: usize,
-    wires: usize,
-    ins: &[u32],
-    outs: &[u32],
-    operands: &[u64],
-    results: &[u64],
-    dialect: Dialect,
-) -> bool
+fn holds<'a>(d: &[u64], room: usize, f: Form<'a>) -> bool
     requires word_table { WordTable d.now }
-    requires wired { Wired (tables operands.now results.now) wires count × (room < top) }
-    ensures { result ≡ leb (length (form_text_in dialect count wires ins.now outs.now
-        (tables operands.now results.now))) room }
+    requires wired { WiredIn f × (room < top) }
+    ensures { result ≡ leb (length (text_of f.entry)) room }
 {
     let mut none = [0u8; 1];
-    let header = write_header::header_in(&mut none, 0, count, wires, ins, outs, dialect);
-    if write_gates::room::ample(room, header, count, wires) {
-        return true;
-    }
-    write(
-        d, &mut none, count, wires, ins, outs, operands, results, dialect,
-    ) <= room
+    let header = write_header::header_in(&mut none, 0, f.count, f.wires, f.ins, f.outs, f.dialect);
+    write_gates::room::ample(room, header, f.count, f.wires) || write(d, &mut none, f) <= room
 }
 
 // Question 14, and then the text.
-fn answer(
-    d: &[u64],
-    out: &mut [u8],
-    count: usize,
-    wires: usize,
-    ins: &[u32],
-    outs: &[u32],
-    operands: &[u64],
-    results: &[u64],
-    dialect: Dialect,
-) -> Answer
+fn answer<'a>(d: &[u64], out: &mut [u8], f: Form<'a>) -> Answer
     requires word_table { WordTable d.now }
-    requires wired { Wired (tables operands.now results.now) wires count }
-    ensures { Delivers (form_text_in dialect count wires ins.now outs.now
-        (tables operands.now results.now)) out.old out.new result }
+    requires wired { WiredIn f }
+    ensures { Delivers (text_of f.entry) out.old out.new result }
 {
-    if !holds(
-        d,
-        out.len(),
-        count,
-        wires,
-        ins,
-        outs,
-        operands,
-        results,
-        dialect,
-    ) {
-        return Answer::Refused(14);
+    if holds(d, out.len(), f) {
+        Ok(write(d, out, f))
+    } else {
+        Err(Question::Room)
     }
-    Answer::Done(write(d, out, count, wires, ins, outs, operands, results, dialect))
-}
-
-// Question 14 and the text, by the words that the front of a table has.
-fn answer_on(
-    d: &[u64],
-    k: usize,
-    out: &mut [u8],
-    count: usize,
-    wires: usize,
-    ins: &[u32],
-    outs: &[u32],
-    operands: &[u64],
-    results: &[u64],
-    dialect: Dialect,
-) -> Answer
-    requires low_table { LowTable d.now k }
-    requires wired { Wired (tables operands.now results.now) wires count }
-    ensures { Delivers (form_text_in dialect count wires ins.now outs.now
-        (tables operands.now results.now)) out.old out.new result }
-{
-    answer(
-        &d[..k],
-        out,
-        count,
-        wires,
-        ins,
-        outs,
-        operands,
-        results,
-        dialect,
-    )
 }
 
 // Question 14 and the text. No line on a hundred wires or fewer is stored by words, so there no table is filled, and on few more
@@ -163,33 +96,26 @@ pub fn deliver_in(
     ensures { Delivers (form_text_in dialect count wires ins.now outs.now
         (tables operands.now results.now)) out.old out.new result }
 {
+    let f = Form {
+        count,
+        wires,
+        ins,
+        outs,
+        operands,
+        results,
+        dialect,
+    };
     if wires <= 100 {
-        let none = [0u64; 1];
-        return answer_on(
-            &none, 0, out, count, wires, ins, outs, operands, results, dialect,
-        );
+        return answer(&[], out, f);
     }
     let mut table = [0u64; 2000];
     if wires <= 1000 {
         let tens = (wires + 9) / 10;
         write_wires::table::fill(&mut table, tens);
-        return answer_on(
-            &table,
-            10 * tens,
-            out,
-            count,
-            wires,
-            ins,
-            outs,
-            operands,
-            results,
-            dialect,
-        );
+        return answer(&table[..10 * tens], out, f);
     }
     write_wires::table::fill(&mut table, 100);
-    answer(
-        &table, out, count, wires, ins, outs, operands, results, dialect,
-    )
+    answer(&table, out, f)
 }
 
 // Question 14 and the written form of document 01.

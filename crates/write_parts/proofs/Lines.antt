@@ -1,59 +1,56 @@
 -- A gate line: its front, the gate's name and LF; how long it is.
 use Prim.Native.Nat.{ℕ, ◌+◌, ◌/◌, ◌%◌, ◌≤◌, ◌<◌}
-use mathlib.Core.Path.{◌≡◌, sym, ap, ◌∙◌}
-use mathlib.Core.Bool.{true, false}
-use mathlib.Core.List.{List, [], ◌∷◌, ◌++◌, append_assoc}
+use mathlib.Core.Path.{◌≡◌, refl, sym, ap, ◌∙◌}
+use mathlib.Core.List.{List, [], ◌∷◌, ◌++◌, append_assoc, append-nil}
 use mathlib.Core.Logic.{inl, inr}
 use native.Mathlib.Omega.{arith}
-use lib.ListN.{length, length-append}
+use native.Mathlib.Numerals.{add-one}
+use lib.ListN.{length, get_or, take, length-append}
+use lib.Seq.{take-suc, take_all}
 use Rattle.netlist.specs.Text.{space, lf}
 use Rattle.netlist.specs.Number.{decimal}
 use Rattle.netlist.specs.GateLine.{eq_bytes}
 use Rattle.netlist.specs.Write.{line, one, two}
-use Rattle.netlist.proofs.Tests.{clash}
 use Rattle.write_buffer.specs.Wrote.{Wrote, top, cap}
 use Rattle.write_buffer.proofs.Decimals.{decimal-one, decimal-two}
 use Rattle.write_wires.specs.Packed.{Worded}
-use Rattle.write_wires.specs.Spilt.{Spilt}
-use Rattle.write_wires.proofs.Spilling.{spilt-all}
-use Rattle.write_parts.specs.Parts.{parted, front_of1, front_of2, words1, words2}
-use Rattle.write_buffer.proofs.Writing.{wrote_as, wrote-out}
+use Rattle.write_parts.specs.Parts.{parted, spaced, head_of, front_of, line_of}
+use Rattle.write_buffer.proofs.Writing.{wrote-out}
 
-pub line1 : (a c : ℕ) (name : List ℕ) → front_of1 a c ++ (name ++ (lf ∷ [])) ≡ line (words1 a c name)
-line1 a c name = simp append_assoc
+spaced-append : (u v : List ℕ) → spaced (u ++ v) ≡ spaced u ++ spaced v
+spaced-append [] v = refl
+spaced-append (n ∷ u) v =
+    ap (λ (w : List ℕ). parted (decimal n) ++ w) (spaced-append u v) ∙ sym (append_assoc (parted (decimal n)) (spaced u) (spaced v))
 
-pub line2 : (a b c : ℕ) (name : List ℕ) → front_of2 a b c ++ (name ++ (lf ∷ [])) ≡ line (words2 a b c name)
-line2 a b c name = simp append_assoc
+-- one number more of some
+pub spaced-more : (h os : List ℕ) (i : ℕ) → i < length os → (h ++ spaced (take i os)) ++ parted (decimal (get_or os i 0)) ≡ h ++ spaced (take (i + 1) os)
+spaced-more h os i l =
+    let n : ℕ = get_or os i 0 in
+    append_assoc h (spaced (take i os)) (parted (decimal n))
+    ∙ ap (λ (v : List ℕ). h ++ (spaced (take i os) ++ v)) (sym (append-nil (parted (decimal n))))
+    ∙ ap (λ (v : List ℕ). h ++ v) (sym (spaced-append (take i os) (n ∷ [])))
+    ∙ ap (λ (v : List ℕ). h ++ spaced v) (rw (add-one, take-suc os i 0))
 
-pub line_eq : (v c : ℕ) → (parted one ++ parted one) ++ (parted (decimal v) ++ (decimal c ++ (space ∷ (eq_bytes ++ (lf ∷ []))))) ≡ line (words1 v c eq_bytes)
+-- all of some numbers
+pub whole-front : {n i : ℕ} (os : List ℕ) (c : ℕ) → n ≡ length os → length os ≤ i → (head_of n ++ spaced (take i os)) ++ parted (decimal c) ≡ front_of os c
+whole-front {i = i} os c p h = λ j. (head_of (p j) ++ spaced (take_all i os h j)) ++ parted (decimal c)
+
+-- the lines of two operands, of one, and of a constant, which has a shorter name
+pub line-two : (a b c : ℕ) (name : List ℕ) → line_of (a ∷ b ∷ []) c (name ++ (lf ∷ [])) ≡ line (two ∷ one ∷ decimal a ∷ decimal b ∷ decimal c ∷ name ∷ [])
+line-two a b c name = simp append_assoc
+
+pub line-one : (a c : ℕ) (name : List ℕ) → line_of (a ∷ []) c (name ++ (lf ∷ [])) ≡ line (one ∷ one ∷ decimal a ∷ decimal c ∷ name ∷ [])
+line-one a c name = simp append_assoc
+
+pub line_eq : (v c : ℕ) → (parted one ++ parted one) ++ (parted (decimal v) ++ (decimal c ++ (space ∷ (eq_bytes ++ (lf ∷ []))))) ≡ line (one ∷ one ∷ decimal v ∷ decimal c ∷ eq_bytes ∷ [])
 line_eq v c = simp append_assoc
 
--- a line's length, under a name of three letters
-pub sized1 : (a c : ℕ) (name : List ℕ) → length name ≡ 3 → 10 + length (decimal a) + length (decimal c) ≡ length (line (words1 a c name))
-sized1 a c name e = simp length-append (omega (arith, e))
-
-pub sized2 : (a b c : ℕ) (name : List ℕ) → length name ≡ 3
-    → 11 + length (decimal a) + length (decimal b) + length (decimal c) ≡ length (line (words2 a b c name))
-sized2 a b c name e = simp length-append (omega (arith, e))
-
 -- a line of which nothing fits
-pub line-beyond : {e l : List ℕ} {at r n : ℕ} → length e ≤ top → length e ≤ at → r ≡ cap (at + n) → n ≡ length l → Wrote e at l e r
-line-beyond {at = at} h k p q = wrote-out _ h k (p ∙ ap (λ (m : ℕ). cap (at + m)) q)
-
--- the name behind the front makes the line
-pub named : {e m x front end l : List ℕ} {at r s j : ℕ} → front ++ end ≡ l → Spilt j 4 e at front m r → Wrote m r end x s → 4 ≤ length end → Wrote e at l x s
-named p w v h = wrote_as p (spilt-all w v h)
-
--- the parts of a front one behind the other
-pub front1 : (a c : ℕ) → ((parted one ++ parted one) ++ parted (decimal a)) ++ parted (decimal c) ≡ front_of1 a c
-front1 a c = append_assoc (parted one ++ parted one) (parted (decimal a)) (parted (decimal c))
-
-pub front2 : (a b c : ℕ) → (((parted two ++ parted one) ++ parted (decimal a)) ++ parted (decimal b)) ++ parted (decimal c) ≡ front_of2 a b c
-front2 a b c = simp append_assoc
-
--- a test that is never passed
-pub untrue : {P : Type 0} → true ≡ false → P
-untrue e = clash (cc)
+pub line-beyond : {e : List ℕ} {at r : ℕ} (os : List ℕ) (c : ℕ) (name : List ℕ) → length e ≤ top → length e ≤ at → length name ≡ 4
+    → r ≡ cap (at + (4 + length (front_of os c))) → Wrote e at (line_of os c name) e r
+line-beyond {at = at} os c name h k l p =
+    let n : 4 + length (front_of os c) ≡ length (line_of os c name) = simp length-append (omega (arith, l)) in
+    wrote-out _ h k (p ∙ ap (λ (m : ℕ). cap (at + m)) n)
 
 -- numbers that have words
 pub worded-whole : {k n : ℕ} → k ≡ 2000 → n < 1000000 → Worded k n

@@ -3,7 +3,6 @@ use Prim.Native.Nat.{ℕ, ◌+◌, ◌*◌, ◌/◌, ◌%◌, ◌^◌, ◌≤◌
 use mathlib.Core.Path.{◌≡◌, sym, ap, ◌∙◌}
 use mathlib.Core.List.{List}
 use mathlib.Core.Logic.{⊎_elim}
-use native.Mathlib.Nat.{mul-add}
 use native.Mathlib.Omega.{arith}
 use lib.Dec.{ltb}
 use lib.ListN.{length, take, get_or, set, length-set}
@@ -11,7 +10,7 @@ use lib.Seq.{get_or-set_same, get_or-set_other, get_or-take, length-take-le}
 use borrow.Author.Tests.{ltb-true, ltb-false}
 use Rattle.netlist.proofs.Tests.{on_bool}
 use Rattle.write_wires.specs.Packed.{packed, added, Filled, WordTable, LowTable, Worded, Tens}
-use Rattle.write_wires.proofs.Packing.{packed-one, packed-two, packed-three, added-three}
+use Rattle.write_wires.proofs.Packing.{Looks, looks, packed-one, packed-two, packed-three, added-three}
 
 -- one entry of each half more
 abbrev grown : List ℕ → ℕ → ℕ → ℕ → List ℕ
@@ -78,49 +77,27 @@ filled-low f h = record { few = h; long = omega (arith, f.long); words = f.words
 pub word_low : {d : List ℕ} (n : ℕ) → WordTable d → Worded (length d) n → n < 1000 → get_or d n 0 ≡ packed n
 word_low n t w h = ⊎_elim (λ e. (t.filled e).words n h) (λ l. t.low l n (w.entry h)) w.size
 
+-- what is looked up for a number of four to six digits
+pub table-looks : {d : List ℕ} {n : ℕ} → WordTable d → Worded (length d) n → 1000 ≤ n → Looks n (get_or d (n / 1000) 0) (get_or d (1000 + n % 1000) 0)
+table-looks t w h =
+    let f = t.filled (w.thousands h) in
+    let small = w.six in
+    looks small h (f.words _ (omega arith)) (f.more _ (omega arith))
+
 pub filled-as : {d : List ℕ} {j k : ℕ} → j ≡ k → Filled d j → Filled d k
 filled-as e f = rw e at f
 
 -- ---- ten entries
 
--- the first i of ten entries from `at` on are filled; w and a are the next ones
-pub record Rising (at word unit added : ℕ) (d : List ℕ) (i w a : ℕ) : Type 0 where
-  pub tens : Tens at word unit added
-  pub passed : i ≤ 10
-  pub filled : Filled d (at + i)
-  pub words : w ≡ word + unit * i
-  pub adds : a ≡ added + 65536 * i
-
-pub rising_none : {at word unit more : ℕ} {d : List ℕ} → Tens at word unit more → Filled d at → Rising at word unit more d 0 word more
-rising_none {at} {word} {unit} {more} {d} t f =
-    let z : at ≡ at + 0 = omega arith in
-    record { tens = t; passed = omega arith; filled = filled-as z f; words = omega arith; adds = omega arith }
-
--- the next entries
-pub rising_word : {at word unit more : ℕ} {d : List ℕ} {i w a : ℕ} → Rising at word unit more d i w a → i < 10 → w ≡ packed (at + i)
-rising_word {i = i} r h = r.words ∙ r.tens.words i h
-
-pub rising-add : {at word unit more : ℕ} {d : List ℕ} {i w a : ℕ} → Rising at word unit more d i w a → i < 10 → a ≡ added (at + i)
-rising-add {i = i} r h = r.adds ∙ r.tens.adds i h
-
-pub rising-more : {at word unit more : ℕ} {d : List ℕ} {i w a : ℕ} → Rising at word unit more d i w a → i < 10
-    → Rising at word unit more (set (set d (at + i) w) (1000 + at + i) a) (i + 1) (w + unit) (a + 65536)
-rising-more {at} {word} {unit} {more} {d} {i} {w} {a} r h =
-    let t = r.tens.within in
+-- the next entries of both halves
+pub ten-more : {at word unit more : ℕ} {d : List ℕ} {i : ℕ} → Tens at word unit more → Filled d (at + i) → i < 10
+    → Filled (set (set d (at + i) (word + unit * i)) (1000 + at + i) (more + 65536 * i)) (at + (i + 1))
+ten-more {at} {word} {unit} {more} {d} {i} t f h =
+    let w = t.within in
     let one : at + i + 1 ≡ at + (i + 1) = omega arith in
     let half : 1000 + (at + i) ≡ 1000 + at + i = omega arith in
-    let f = filled_more r.filled (omega arith) (rising_word r h) (rising-add r h) in
-    let g = rw half at f in
-    record {
-      tens = r.tens;
-      passed = omega arith;
-      filled = filled-as one g;
-      words = omega (arith, r.words, mul-add unit i 1);
-      adds = omega (arith, r.adds);
-    }
-
-pub rising-all : {at word unit more : ℕ} {d : List ℕ} {i w a : ℕ} → Rising at word unit more d i w a → 10 ≤ i → Filled d (at + 10)
-rising-all {at} {i = i} r h = let e : i ≡ 10 = omega (arith, r.passed) in filled-as (ap (λ (k : ℕ). at + k) e) r.filled
+    let g = filled_more f (omega arith) (t.words i h) (t.adds i h) in
+    filled-as one (rw half at g)
 
 -- ---- which ten
 
@@ -141,24 +118,30 @@ three a b c k = k + a + (48 + b) * 256 + (48 + c) * 65536 + 536870912
 three-ten : (t i k : ℕ) → i < 10 → three ((10 * t + i) / 100) ((10 * t + i) / 10 % 10) ((10 * t + i) % 10) k ≡ three (t / 10) (t % 10) i k
 three-ten t i k h = λ j. three (first_of t i h j) (second-of t i h j) (last_of t i h j) k
 
-three-sum : (a b i k : ℕ) → three a b i k ≡ k + a + (48 + b) * 256 + 3145728 + 536870912 + 65536 * i
+-- two digits and a 0 in front of a space, without the 48 of the first
+abbrev digits : ℕ → ℕ → ℕ
+digits a b = a + (48 + b) * 256 + 3145728 + 536870912
+
+abbrev pub high : ℕ → ℕ
+high t = digits (t / 10) (t % 10)
+
+three-sum : (a b i k : ℕ) → three a b i k ≡ k + digits a b + 65536 * i
 three-sum a b i k = omega arith
 
-adds-ten : (t i : ℕ) → t < 100 → i < 10 → 16 + t / 10 + (48 + t % 10) * 256 + 3145728 + 536870912 + 65536 * i ≡ added (10 * t + i)
+adds-ten : (t i : ℕ) → t < 100 → i < 10 → 16 + high t + 65536 * i ≡ added (10 * t + i)
 adds-ten t i h l = sym (added-three (10 * t + i) (omega arith) ∙ three-ten t i 16 l ∙ three-sum (t / 10) (t % 10) i 16)
 
 words-ten : (t i : ℕ) → 10 ≤ t → t < 100 → i < 10
-    → 48 + t / 10 + (48 + t % 10) * 256 + 3145728 + 536870912 + 4 * 72057594037927936 + 65536 * i ≡ packed (10 * t + i)
+    → 48 + high t + 4 * 72057594037927936 + 65536 * i ≡ packed (10 * t + i)
 words-ten t i p h l =
     let e = three-sum (t / 10) (t % 10) i 48 in
     sym
     (packed-three (10 * t + i) (omega arith) (omega arith) ∙ ap (λ (x : ℕ). x + 4 * 2 ^ 56) (three-ten t i 48 l ∙ e) ∙ last (t / 10) (t % 10))
   where
-    last : (a b : ℕ) → 48 + a + (48 + b) * 256 + 3145728 + 536870912 + 65536 * i + 4 * 2 ^ 56
-        ≡ 48 + a + (48 + b) * 256 + 3145728 + 536870912 + 4 * 72057594037927936 + 65536 * i
+    last : (a b : ℕ) → 48 + digits a b + 65536 * i + 4 * 2 ^ 56 ≡ 48 + digits a b + 4 * 72057594037927936 + 65536 * i
     last a b = omega arith
 
-pub tens-none : (t : ℕ) → t ≡ 0 → Tens (10 * t) (48 + 8192 + 2 * 72057594037927936) 1 (16 + t / 10 + (48 + t % 10) * 256 + 3145728 + 536870912)
+pub tens-none : (t : ℕ) → t ≡ 0 → Tens (10 * t) (48 + 8192 + 2 * 72057594037927936) 1 (16 + high t)
 tens-none t z = record {
   within = omega arith;
   words = λ i l. sym (packed-one (10 * t + i) (omega arith) ∙ omega arith);
@@ -167,7 +150,7 @@ tens-none t z = record {
 }
 
 pub tens-two : (t : ℕ) → 0 < t → t < 10
-    → Tens (10 * t) (48 + t + 12288 + 2097152 + 3 * 72057594037927936) 256 (16 + t / 10 + (48 + t % 10) * 256 + 3145728 + 536870912)
+    → Tens (10 * t) (48 + t + 12288 + 2097152 + 3 * 72057594037927936) 256 (16 + high t)
 tens-two t p h = record {
   within = omega arith;
   words = λ i l. sym (packed-two (10 * t + i) (omega arith) (omega arith) ∙ omega arith);
@@ -176,8 +159,8 @@ tens-two t p h = record {
 }
 
 pub tens-three : (t : ℕ) → 10 ≤ t → t < 100
-    → Tens (10 * t) (48 + t / 10 + (48 + t % 10) * 256 + 3145728 + 536870912 + 4 * 72057594037927936) 65536
-    (16 + t / 10 + (48 + t % 10) * 256 + 3145728 + 536870912)
+    → Tens (10 * t) (48 + high t + 4 * 72057594037927936) 65536
+    (16 + high t)
 tens-three t p h = record {
   within = omega arith;
   words = λ i l. words-ten t i p h l;

@@ -5,6 +5,7 @@ use mathlib.Core.List.{List, [], ◌∷◌, ◌++◌, append_assoc, append-nil}
 use native.Mathlib.Nat.{le_of_suc-le-suc}
 use native.Mathlib.Omega.{arith}
 use lib.Pow.{shr-shr}
+use Rattle.std.specs.Int.{to_le_bytes, w64}
 use lib.ListN.{length, set, length-append}
 use lib.Seq.{sets, set-set, set_comm}
 use Rattle.write_buffer.specs.Wrote.{Wrote, cap}
@@ -68,6 +69,17 @@ spilt-then {u = u} {v = v} {r = r} k a b h f g = record {
 pub spilt-as : {e x u v : List ℕ} {at r j k : ℕ} → u ≡ v → Spilt j k e at u x r → Spilt j k e at v x r
 spilt-as p w = rw p at w
 
+-- no more than that
+pub spilt-most : {e x u : List ℕ} {at r i l : ℕ} (j k : ℕ) → i ≤ j → l ≤ k → Spilt i l e at u x r → Spilt j k e at u x r
+spilt-most j k p q w = record {
+  rest = w.rest;
+  end = w.end;
+  wrote = w.wrote;
+  few = omega (arith, w.few);
+  spilt = omega (arith, w.spilt);
+  next = w.next;
+}
+
 -- the text of an operand, and that of a result, whose name has four bytes
 pub spilt-operand : {e m x u : List ℕ} {at r s j l : ℕ} (n : ℕ) → n < 1000000 → Spilt j l e at u m r → Stored m r (text n) x s → l ≤ 8
     → Spilt (j + 7) 6 e at (u ++ text n) x s
@@ -83,31 +95,25 @@ spilt-all {u = u} {v = v} a b h = over u a.rest v a.wrote a.next b (omega (arith
 
 -- ---- a word
 
--- the eight bytes of a word, each by one division
-pub eight-bytes : (w : ℕ) → w < 2 ^ 64
-    → (w % 256) ∷ (w / 256 % 256) ∷ (w / 65536 % 256) ∷ (w / 16777216 % 256) ∷ (w / 4294967296 % 256) ∷ (w / 1099511627776 % 256)
-    ∷ (w / 281474976710656 % 256) ∷ (w / 72057594037927936) ∷ [] ≡ bytes_of 8 w
-eight-bytes w h =
+-- the eight bytes of a word
+pub eight-bytes : (w : ℕ) → to_le_bytes w64 w ≡ bytes_of 8 w
+eight-bytes w =
     let a = shr-shr w 8 8 in
     let b = ap (λ (x : ℕ). x / 2 ^ 8) a ∙ shr-shr w 16 8 in
     let c = ap (λ (x : ℕ). x / 2 ^ 8) b ∙ shr-shr w 24 8 in
     let d = ap (λ (x : ℕ). x / 2 ^ 8) c ∙ shr-shr w 32 8 in
     let e = ap (λ (x : ℕ). x / 2 ^ 8) d ∙ shr-shr w 40 8 in
     let f = ap (λ (x : ℕ). x / 2 ^ 8) e ∙ shr-shr w 48 8 in
-    let top : w / 72057594037927936 % 256 ≡ w / 72057594037927936 = omega arith in
-    sym
-    ((λ i. (w % 256) ∷ (w / 256 % 256) ∷ (a i % 256) ∷ (b i % 256) ∷ (c i % 256) ∷ (d i % 256) ∷ (e i % 256) ∷ (f i % 256) ∷ [])
-    ∙ (λ i. (w % 256) ∷ (w / 256 % 256) ∷ (w / 65536 % 256) ∷ (w / 16777216 % 256) ∷ (w / 4294967296 % 256) ∷ (w / 1099511627776 % 256)
-    ∷ (w / 281474976710656 % 256) ∷ top i ∷ []))
+    sym (λ i. (w % 256) ∷ (w / 256 % 256) ∷ (a i % 256) ∷ (b i % 256) ∷ (c i % 256) ∷ (d i % 256) ∷ (e i % 256) ∷ (f i % 256) ∷ [])
 
-pub stored : {e x : List ℕ} {at r w : ℕ} (n : ℕ) → n < 1000000 → at + 8 ≤ length e → w ≡ packed n → Wrote e at (bytes_of 8 w) x r
+pub stored : {e x : List ℕ} {at r w : ℕ} (n : ℕ) → n < 1000000 → at + 8 ≤ length e → w ≡ packed n → Wrote e at (to_le_bytes w64 w) x r
     → Stored e at (text n) x (at + w / 72057594037927936)
 unfolding spare
 stored {at = at} {r = r} {w = w} n h l p v =
     let few = text-most n h in
     let whole : length (text n) + length (spare n) ≡ 8 = omega (arith, length-bytes (8 - length (text n)) (length (text n) * 2 ^ (56 - 8 * length (text n)))) in
-    let q : r ≡ at + 8 = omega (arith, v.next, v.room, length-bytes 8 w) in
-    let u = wrote_as (ap (bytes_of 8) p ∙ packed-bytes n h) v in
+    let q : r ≡ at + 8 = omega (arith, v.next, v.room) in
+    let u = wrote_as (eight-bytes w ∙ ap (bytes_of 8) p ∙ packed-bytes n h) v in
     record {
       rest = spare n;
       wrote = rw q at u;

@@ -2,23 +2,17 @@
 ghost use Rattle.std.specs.Prelude.{◌≡◌, ◌<◌, ◌≤◌, ◌+◌, ◌*◌, length};
 ghost use Rattle.write_wires.specs.Packed.{packed, Filled, Tens, WordTable, Worded};
 
-// 2^56: how many bytes of text a word has stands in its top byte.
-const TOP: u64 = 72057594037927936;
+use crate::TOP;
 
 // Ten entries from `at` on: words that rise by `unit`, and what three digits add, which rises in its third byte.
 fn ones(d: &mut [u64], at: usize, word: u64, unit: u64, added: u64)
     requires { Filled d.old at × Tens at word unit added }
     ensures { Filled d.new (at + 10) }
 {
-    let mut i = 0;
-    let mut w = word;
-    let mut a = added;
-    while i < 10 {
-        d[at + i] = w;
-        d[1000 + at + i] = a;
-        w += unit;
-        a += 65536;
-        i += 1;
+    for i in 0..10 {
+        let k = i as u64;
+        d[at + i] = word + unit * k;
+        d[1000 + at + i] = added + 65536 * k;
     }
 }
 
@@ -28,22 +22,13 @@ fn ten(d: &mut [u64], t: usize)
     ensures { Filled d.new (10 * t + 10) }
 {
     let n = t as u64;
-    let added = 16 + n / 10 + (48 + n % 10) * 256 + 3145728 + 536870912;
-    if t == 0 {
-        ones(d, 10 * t, 48 + 8192 + 2 * TOP, 1, added);
-        return;
-    }
-    if t < 10 {
-        ones(d, 10 * t, 48 + n + 12288 + 2097152 + 3 * TOP, 256, added);
-        return;
-    }
-    ones(
-        d,
-        10 * t,
-        48 + n / 10 + (48 + n % 10) * 256 + 3145728 + 536870912 + 4 * TOP,
-        65536,
-        added,
-    );
+    let high = n / 10 + (48 + n % 10) * 256 + 3145728 + 536870912;
+    let (word, unit) = match t {
+        0 => (48 + 8192 + 2 * TOP, 1),
+        1..=9 => (48 + n + 12288 + 2097152 + 3 * TOP, 256),
+        _ => (48 + high + 4 * TOP, 65536),
+    };
+    ones(d, 10 * t, word, unit, 16 + high);
 }
 
 // The entries of so many tens, a hundred being all.
@@ -51,10 +36,8 @@ pub fn fill(d: &mut [u64], tens: usize)
     requires { (length d.old ≡ 2000) × (tens ≤ 100) }
     ensures { Filled d.new (10 * tens) }
 {
-    let mut t = 0;
-    while t < tens {
+    for t in 0..tens {
         ten(d, t);
-        t += 1;
     }
 }
 

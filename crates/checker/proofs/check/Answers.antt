@@ -1,5 +1,5 @@
 -- `check`: the answer, and then zero in every table.
-use Rattle.clear.proofs.Filled.{zeros-same}
+use borrow.Author.Rules.{rules}
 use Rattle.checker.proofs.Calling.{call-judged}
 use Rattle.checker.proofs.check.Goals as goal
 
@@ -11,9 +11,9 @@ returns c =
       outcome = a.ensures;
       judged = call-judged s.sizes s.text.now s.codes.now s.operands.now s.results.now s.marks.now s.words.now s.base.now
           a.result a.ensures;
-      operands = zeros-same c.words.ensures a.auto.operands;
-      results = zeros-same c.words-2.ensures a.auto.results;
-      marks = zeros-same c.bytes.ensures a.auto.marks;
-      words = zeros-same c.words-3.ensures a.auto.words;
-      base = zeros-same c.words-4.ensures a.auto.base;
+      operands = search rules;
+      results = search rules;
+      marks = search rules;
+      words = search rules;
+      base = search rules;
     }

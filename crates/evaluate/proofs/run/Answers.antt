@@ -1,7 +1,9 @@
 -- `evaluate::run` meets its contract.
+use Prim.Native.Nat.{◌+◌, ◌-◌}
+use mathlib.Core.Path.{◌≡◌}
+use native.Mathlib.Omega.{arith}
 use Rattle.netlist.specs.Table.{tables}
 use Rattle.evaluate.proofs.Steps.{ran-none, ran-all, ahead_within, ahead_step}
-use native.Mathlib.Omega.{arith}
 use Rattle.evaluate.proofs.run.Goals as goal
 
 pub returns-then-count-eq0 : goal.returns-then-count-eq0
@@ -10,18 +12,18 @@ returns-then-count-eq0 c = ran-all (ran-none (tables c.args.operands.now c.args.
 pub loop-i-init : goal.loop-i-init
 loop-i-init c = record { ran = ran-none _ _ _; inside = omega arith; parts = c.split-next.ensures }
 
-pub overflow_add-i : goal.overflow_add-i
-overflow_add-i c = omega (arith, c.loop-i.invariant.inside)
-
 pub step-requires : goal.step-requires
 step-requires c = ahead_within c.loop-i.invariant c.requires
 
 pub loop-i-preserved : goal.loop-i-preserved
 loop-i-preserved c =
     let step = c.step in
-    record {
-      ran = ahead_step c.loop-i.invariant step.new.words step.auto.words step.ensures;
-      inside = omega (arith, c.loop-i-test.true);
+    let i = c.loop-i.i in
+    let here : i + 1 - 1 ≡ i = omega arith in
+    let behind : i - 1 + 1 ≡ i = omega arith in
+    rw here record {
+      ran = rw behind at (ahead_step c.loop-i.invariant step.new.words step.auto.words step.ensures);
+      inside = c.loop-i-test.true;
       parts = c.split-next-in-loop-i.ensures;
     }
 
@@ -32,4 +34,4 @@ pub returns : goal.returns
 returns c =
     let step = c.step-2 in
     ran-all (ahead_step c.loop-i.invariant step.new.words step.auto.words step.ensures)
-    c.loop-i-test.false
+    (omega arith)

@@ -5,7 +5,4 @@ use Rattle.evaluate.proofs.Steps.{Ahead}
 use Rattle.evaluate.proofs.run.Given as goal
 
 abbrev pub invariant-loop-i : goal.invariant-loop-i
-invariant-loop-i l = Ahead (tables l.operands l.results) l.count l.initial.words l.words l.i l.next
-
-abbrev pub decreases-loop-i : goal.decreases-loop-i
-decreases-loop-i l = l.count - l.i
+invariant-loop-i l = Ahead (tables l.operands l.results) l.count l.initial.words l.words (l.i - 1) l.next

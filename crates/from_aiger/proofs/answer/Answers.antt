@@ -2,37 +2,24 @@
 use mathlib.Core.List.{[], ◌∷◌}
 use lib.ListN.{length}
 use Rattle.netlist.specs.Table.{tables}
-use Rattle.from_aiger.proofs.Calling.{file-read, file-not, read_is, read-not, one_value, call-read}
+use Rattle.std.proofs.lemmas.Result.{err_from_is_err_and}
+use Rattle.from_aiger.proofs.Calling.{file-read, file-not, asked-not, one_value, call-read}
 use Rattle.from_aiger.proofs.answer.Goals as goal
 
 pub read-requires : goal.read-requires
-read-requires c = rw c.small-l.ensures (one_value c.args.sizes)
+read-requires c = rw c.small.ensures (one_value c.args.sizes)
 
-pub write-requires : goal.write-requires
-write-requires c =
-    let s =
-    c.args in
-    let r = c.read in
-    let a = read_is c.small-l.ensures (length s.operands.now ∷ length s.results.now ∷ length s.variables.now ∷ []) s.text.now
-    (tables r.new.operands r.new.results) r.result _ c.in-Done.is r.ensures in
-    a.wired
+pub returns-in_err-m : goal.returns-in_err-m
+returns-in_err-m c =
+    let s = c.args in
+    let p = err_from_is_err_and c.from_residual.result c.from_residual.ensures.1 in
+    rw (p.1, p.2) (call-read s.sizes s.text.now s.out.now s.operands.now s.results.now s.variables.now
+    (file-not _ _ _ (asked-not (length s.operands.now ∷ length s.results.now ∷ length s.variables.now ∷ []) s.text.now c.small.ensures
+    c.in_err-m.ensures)))
 
-pub returns-in-Refused : goal.returns-in-Refused
-returns-in-Refused c =
+pub returns : goal.returns
+returns c =
     let s = c.args in
     let r = c.read in
     call-read s.sizes s.text.now s.out.now s.operands.now s.results.now s.variables.now
-    (file-not _ _ _ (read-not c.small-l.ensures
-    (length s.operands.now ∷ length s.results.now ∷ length s.variables.now ∷ []) s.text.now (tables r.new.operands r.new.results)
-    r.result _ c.in-Refused.is r.ensures))
-
-pub returns-in-Done : goal.returns-in-Done
-returns-in-Done c =
-    let s =
-    c.args in
-    let r = c.read in
-    let T = tables r.new.operands r.new.results in
-    call-read s.sizes s.text.now s.out.now s.operands.now s.results.now s.variables.now
-    (file-read _ T _ (read_is
-    c.small-l.ensures (length s.operands.now ∷ length s.results.now ∷ length s.variables.now ∷ []) s.text.now T r.result _
-    c.in-Done.is r.ensures) c.write.ensures)
+    (file-read _ (tables r.new.operands r.new.results) _ (rw c.small.ensures at c.in_ok-m.ensures) c.write.ensures)

@@ -1,16 +1,13 @@
--- `all_up_to`: the first i entries are in the range.
-use borrow.Author.Tests.{le-leb, lt-leb}
-use Rattle.lists.proofs.Ranges.{passing-none, passing-more, passing-fails, passing-all}
+-- `all_up_to`: every entry is in the range.
+use Rattle.std.proofs.Common.{rules, ◌≤◌, ◌↔◌, IsTrue, EachIndex, get_or}
+use Rattle.std.proofs.lemmas.Bool.{le-leb, leb-true}
+use Rattle.lists.specs.Range.{up_to}
+use Rattle.lists.proofs.Ranges.{every-from_iff}
 use Rattle.lists.proofs.all_up_to.Goals as goal
 
-pub loop-i-init : goal.loop-i-init
-loop-i-init c = passing-none _ _
-
-pub returns-then-most-list : goal.returns-then-most-list
-returns-then-most-list c = passing-fails c.loop-i.invariant c.loop-i-test.true (lt-leb _ _ c.if-most-list.true)
-
-pub loop-i-preserved : goal.loop-i-preserved
-loop-i-preserved c = passing-more c.loop-i.invariant c.loop-i-test.true (le-leb _ _ c.if-most-list.false)
-
 pub returns : goal.returns
-returns c = passing-all c.loop-i.invariant c.loop-i-test.false
+returns c =
+    let list = c.args.list.now in
+    let most = c.args.most in
+    let all : IsTrue c.all.result ↔ EachIndex list (λ k. get_or list k 0 ≤ most) = search rules in
+    every-from_iff (up_to most) (λ e. e ≤ most) (λ e. le-leb e most) (λ e. leb-true e most) list c.all.result all

@@ -1,5 +1,5 @@
 -- `mask`: the answer, and then zero in every table.
-use Rattle.clear.proofs.Filled.{zeros-same}
+use borrow.Author.Rules.{rules}
 use Rattle.mask.proofs.Promised.{call-masks}
 use Rattle.mask.proofs.mask.Goals as goal
 
@@ -11,8 +11,8 @@ returns c =
       masks =
           call-masks s.sizes s.text.now s.codes.now s.wanted.now s.out.now s.out_codes.now
           s.operands.now s.results.now s.wires.now s.marks.now c.answer-r.ensures;
-      operands = zeros-same c.words.ensures c.answer-r.auto.operands;
-      results = zeros-same c.words-2.ensures c.answer-r.auto.results;
-      wires = zeros-same c.wires.ensures c.answer-r.auto.wires;
-      marks = zeros-same c.bytes.ensures c.answer-r.auto.marks;
+      operands = search rules;
+      results = search rules;
+      wires = search rules;
+      marks = search rules;
     }

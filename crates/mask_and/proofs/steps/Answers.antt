@@ -1,6 +1,5 @@
 -- `mask_and::steps` meets its contract.
 use mathlib.Core.Path.{refl}
-use Rattle.write_buffer.proofs.Writing.{wrote-length}
 use Rattle.mask_and.proofs.Rows.{walked_none, walked_more, walked_all, row_at}
 use native.Mathlib.Omega.{arith}
 use Rattle.mask_and.proofs.steps.Goals as goal
@@ -30,9 +29,6 @@ pub loop-i-preserved : goal.loop-i-preserved
 loop-i-preserved c =
     walked_more c.loop-i.invariant c.loop-i-test.true
     c.row-next.ensures
-
-pub shape_of-out : goal.shape_of-out
-shape_of-out c = wrote-length c.loop-i.invariant.wrote.wrote
 
 pub returns : goal.returns
 returns c = walked_all c.loop-i.invariant c.loop-i-test.false

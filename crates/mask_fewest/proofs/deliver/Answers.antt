@@ -1,6 +1,6 @@
 -- `deliver`: questions 11, 13, 22 and 14 in order, then the choice and its results.
 use mathlib.Core.Path.{refl, sym, ◌∙◌}
-use borrow.Author.Tests.{not-true, not-false}
+use borrow.Author.Tests.{not-false}
 use Rattle.netlist.specs.Mask.{is_wanted}
 use Rattle.mask_twins.proofs.Made.{codes-length}
 use Rattle.fewest.specs.Choice.{is_call_code}
@@ -13,29 +13,29 @@ pub returns-then-not-free_codes : goal.returns-then-not-free_codes
 returns-then-not-free_codes c =
     let s = c.args in
     λ N a. fewest-11 a s.codes.now s.wanted.now s.budget s.out.now s.ins.now s.ends.now s.tally.now
-    (sym c.free_codes.ensures ∙ not-true _ c.if-not-free_codes.true-raw)
+    (sym c.free_codes.ensures ∙ c.if-not-free_codes.true)
 
 pub returns-then-not-valid_wanted : goal.returns-then-not-valid_wanted
 returns-then-not-valid_wanted c =
     let s =
     c.args in
-    let p = sym c.free_codes.ensures ∙ not-false _ c.if-not-free_codes.false-raw in
+    let p = sym c.free_codes.ensures ∙ c.if-not-free_codes.false in
     λ N a. fewest-13 a s.codes.now s.wanted.now s.budget s.out.now s.ins.now s.ends.now s.tally.now p
-    (sym c.valid_wanted.ensures ∙ not-true _ c.if-not-valid_wanted.true-raw)
+    (sym c.valid_wanted.ensures ∙ c.if-not-valid_wanted.true)
 
 pub returns-then-budget-eq0 : goal.returns-then-budget-eq0
 returns-then-budget-eq0 c =
     let s =
     c.args in
-    let p = sym c.free_codes.ensures ∙ not-false _ c.if-not-free_codes.false-raw in
-    let q = sym c.valid_wanted.ensures ∙ not-false _ c.if-not-valid_wanted.false-raw in
+    let p = sym c.free_codes.ensures ∙ c.if-not-free_codes.false in
+    let q = sym c.valid_wanted.ensures ∙ c.if-not-valid_wanted.false in
     λ N a. fewest-22 a s.codes.now s.wanted.now s.budget s.out.now s.ins.now s.ends.now s.tally.now p q c.if-budget-eq0.true
 
 pub returns-then-ins-codes : goal.returns-then-ins-codes
 returns-then-ins-codes c =
     let s =
-    c.args in let p = sym c.free_codes.ensures ∙ not-false _ c.if-not-free_codes.false-raw in
-    let q = sym c.valid_wanted.ensures ∙ not-false _ c.if-not-valid_wanted.false-raw in
+    c.args in let p = sym c.free_codes.ensures ∙ c.if-not-free_codes.false in
+    let q = sym c.valid_wanted.ensures ∙ c.if-not-valid_wanted.false in
     let o = left-some s.budget c.if-budget-eq0.false in λ N a. fewest-14-inputs a s.codes.now s.wanted.now s.budget s.out.now s.ins.now
     s.ends.now s.tally.now p q o c.if-ins-codes.true
 

@@ -4,8 +4,8 @@ use Rattle.mask_rule.proofs.Twins.{past-most}
 use native.Mathlib.Omega.{arith}
 use Rattle.mask_gate.proofs.and.Goals as goal
 
-pub steps-end-requires : goal.steps-end-requires
-steps-end-requires c =
+pub steps-requires : goal.steps-requires
+steps-requires c =
     let a = c.args in
     record {
       word_table = c.requires.word_table;
@@ -20,4 +20,4 @@ returns c =
     c.changed-second.ensures
     c.past-next.ensures c.mask_wire-p.ensures
     c.mask_wire-q.ensures
-    c.steps-end.ensures c.and_twin-twin.ensures
+    c.steps.ensures

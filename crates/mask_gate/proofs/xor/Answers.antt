@@ -7,4 +7,4 @@ returns c =
     let a = c.args in
     xor-made a.n a.c a.a a.b c.change-from.ensures
     c.changed-second.ensures c.past-next.ensures
-    c.xor-end.ensures c.xor_twin-twin.ensures
+    c.xor.ensures

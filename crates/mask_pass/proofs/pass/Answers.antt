@@ -8,10 +8,10 @@ use Rattle.mask_pass.proofs.Passes.{pass-made}
 use native.Mathlib.Omega.{arith}
 use Rattle.mask_pass.proofs.pass.Goals as goal
 
-pub gates-t-requires : goal.gates-t-requires
-gates-t-requires c =
+pub gates-place-requires : goal.gates-place-requires
+gates-place-requires c =
     let p = c.requires in
-    let s = c.start-next in
+    let s = c.start-first in
     record { word_table = p.word_table; n_bound = omega (arith, p.ready.small, p.ready.ins, started-most s.ensures); wired = (wired-same s.auto.wire p.ready.wired, omega (arith, p.ready.codes, s.auto.wire, s.auto.code)) }
 
 pub overflow_sub-from : goal.overflow_sub-from
@@ -19,16 +19,16 @@ overflow_sub-from c =
     omega (
       arith,
       c.requires.ready.outs,
-      c.start-next.auto.wire,
-      c.gates-t.auto.wire,
+      c.start-first.auto.wire,
+      c.gates-place.auto.wire,
     )
 
 pub outs-end-requires : goal.outs-end-requires
 outs-end-requires c =
     let p = c.requires.ready
     in
-    let s = c.start-next in
-    let g = c.gates-t in
+    let s = c.start-first in
+    let g = c.gates-place in
     record {
       word_table = c.requires.word_table;
       n_bound = omega (
@@ -73,22 +73,22 @@ overflow_add-result c =
       p.ins,
       p.outs,
       started-most
-          c.start-next.ensures,
-      c.gates-t.ensures.grown,
+          c.start-first.ensures,
+      c.gates-place.ensures.grown,
     )
 
 pub shape_of-wire : goal.shape_of-wire
-shape_of-wire c = c.gates-t.auto.wire ∙ c.start-next.auto.wire
+shape_of-wire c = c.gates-place.auto.wire ∙ c.start-first.auto.wire
 
 pub shape_of-code : goal.shape_of-code
-shape_of-code c = c.gates-t.auto.code ∙ c.start-next.auto.code
+shape_of-code c = c.gates-place.auto.code ∙ c.start-first.auto.code
 
 pub returns : goal.returns
 returns c =
     let a = c.args in
     let p = c.requires.ready in
-    let s = c.start-next in
-    let g = c.gates-t in
+    let s = c.start-first in
+    let g = c.gates-place in
     let wires = g.auto.wire ∙ s.auto.wire in
     let codes = g.auto.code ∙ s.auto.code ∙ p.codes in
     λ N h. pass-made (tables a.operands.now a.results.now) a.count (length a.wire.now) s.result a.codes.now a.wanted.now

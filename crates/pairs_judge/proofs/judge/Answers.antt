@@ -1,65 +1,59 @@
--- `judge`: questions 10 to 12 and 21, and both verdicts.
-use mathlib.Core.Path.{◌≡◌, sym, ap, ◌∙◌}
+-- `judge`: questions 10 to 12 and 21, and both answers.
+use mathlib.Core.Path.{◌≡◌, sym, ◌∙◌}
 use mathlib.Core.Bool.{true}
 use lib.ListN.{take}
-use borrow.Author.Tests.{not-true, not-false}
-use Rattle.check_netlist.specs.Judge.{asked_of}
+use lib.Seq.{length-take-le}
+use native.Mathlib.Omega.{arith}
+use Rattle.std.proofs.lemmas.Result.{err_from_is_err_and}
 use Rattle.check_netlist.proofs.Judging.{asked-bits, asked-codes}
 use Rattle.pairs.specs.Call.{pairs_good}
-use Rattle.pairs_judge.proofs.Judging.{good-below, refused-asked, refused-twelve, refused-pairs, answered}
-use native.Mathlib.Omega.{arith}
+use Rattle.pairs_judge.proofs.Judging.{good-below, told, refused-asked, refused-twelve, refused-pairs, answered}
 use Rattle.pairs_judge.proofs.judge.Goals as goal
+
+pub returns-in_err-ask_codes : goal.returns-in_err-ask_codes
+returns-in_err-ask_codes c N h e =
+    let a = c.args in
+    let p = err_from_is_err_and c.from_residual.result c.from_residual.ensures.1 in
+    rw (p.1, p.2) (refused-asked N a.codes.now a.pairs.now (take a.h.input_values a.widths) e c.in_err-ask_codes.ensures)
 
 pub returns-then-codes-gt-MOST_BITS : goal.returns-then-codes-gt-MOST_BITS
 returns-then-codes-gt-MOST_BITS c N h e =
     let a = c.args in
-    refused-twelve N a.codes.now a.pairs.now (take a.h.input_values a.widths) e
-    (sym (ap asked_of c.in-Passed.is) ∙ c.ask_codes.ensures) c.if-codes-gt-MOST_BITS.true
+    refused-twelve N a.codes.now a.pairs.now (take a.h.input_values a.widths) e c.in_ok-ask_codes.ensures c.if-codes-gt-MOST_BITS.true
 
 pub returns-then-not-pairs_good : goal.returns-then-not-pairs_good
 returns-then-not-pairs_good c N h e =
     let a = c.args in
-    refused-pairs N a.codes.now a.pairs.now (take a.h.input_values a.widths) e
-    (sym (ap asked_of c.in-Passed.is) ∙ c.ask_codes.ensures)
-    c.if-codes-gt-MOST_BITS.false h.wires (sym c.pairs_good.ensures ∙ not-true _ c.if-not-pairs_good.true-raw)
+    refused-pairs N a.codes.now a.pairs.now (take a.h.input_values a.widths) e c.in_ok-ask_codes.ensures
+    c.if-codes-gt-MOST_BITS.false h.wires (sym c.pairs_good.ensures ∙ c.if-not-pairs_good.true)
 
-pub verdicts-requires : goal.verdicts-requires
-verdicts-requires c =
+pub search-found-requires : goal.search-found-requires
+search-found-requires c =
     let p = c.requires in
     let a = c.args in
     let ws = take a.h.input_values a.widths in
-    let asked = (sym c.ask_codes.ensures ∙ ap asked_of
-    c.in-Passed.is) in
+    let asked = sym c.in_ok-ask_codes.ensures in
     let bits = asked-bits ws a.codes.now asked in
-    let good : pairs_good a.h.wires a.pairs.now ≡ true = sym c.pairs_good.ensures ∙ not-false _
-    c.if-not-pairs_good.false-raw in
+    let good : pairs_good a.h.wires a.pairs.now ≡ true = sym c.pairs_good.ensures ∙ c.if-not-pairs_good.false in
+    let w = length-take-le a.h.wires a.words.now p.input_values_bound.3 in
+    let b = length-take-le a.h.wires a.base.now p.input_values_bound.4 in
+    let z = length-take-le a.h.wires a.bases.now p.input_values_bound.5 in
     record {
-      wired = p.wired;
+      wired = rw w p.wired;
       codes_len_bound = (
         c.if-codes-gt-MOST_BITS.false,
-        omega (arith, bits, p.input_values_bound.1, p.input_values_bound.2),
-        p.input_values_bound.3,
-        p.input_values_bound.4,
-        p.input_values_bound.5,
-        good-below a.h.wires a.pairs.now good,
+        omega (arith, bits, p.input_values_bound.1, p.input_values_bound.2, w),
+        z ∙ sym w,
+        b ∙ sym w,
+        λ i l. omega (arith, good-below a.h.wires a.pairs.now good i l, w),
         asked-codes ws a.codes.now asked,
       );
     }
 
-pub returns-in-Refused : goal.returns-in-Refused
-returns-in-Refused c N h e =
+pub returns : goal.returns
+returns c N h e =
     let a = c.args in
-    refused-asked N a.codes.now a.pairs.now (take a.h.input_values a.widths) e
-    (sym (ap asked_of c.in-Refused.is) ∙ c.ask_codes.ensures)
-
-pub returns-else-not-pairs_good : goal.returns-else-not-pairs_good
-returns-else-not-pairs_good c N h e =
-    let a =
-    c.args in
-    answered N a.codes.now a.pairs.now (take a.h.input_values a.widths) e
-    (sym (ap asked_of c.in-Passed.is) ∙
-    c.ask_codes.ensures)
-    c.if-codes-gt-MOST_BITS.false h.wires
-    (sym c.pairs_good.ensures ∙ not-false _
-    c.if-not-pairs_good.false-raw)
-    (c.verdicts.ensures _ _ N h)
+    let w = length-take-le a.h.wires a.words.now c.requires.input_values_bound.3 in
+    answered N a.codes.now a.pairs.now (take a.h.input_values a.widths) e c.in_ok-ask_codes.ensures
+    c.if-codes-gt-MOST_BITS.false h.wires (sym c.pairs_good.ensures ∙ c.if-not-pairs_good.false)
+    (told N a.codes.now a.pairs.now c.search-found.result (c.search-found.ensures a.h.input_bits a.h.output_bits N (rw w h)))

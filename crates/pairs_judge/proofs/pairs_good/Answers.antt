@@ -1,9 +1,16 @@
 -- `pairs_good`: question 21.
+use Rattle.std.proofs.Common.{rules, ◌<◌, ◌↔◌, IsTrue, EachIndex, get_or, ltb}
+use borrow.Author.Tests.{lt-ltb, ltb-true}
+use Rattle.lists.proofs.Ranges.{every-from_iff}
 use Rattle.pairs_judge.proofs.Judging.{good-odd, good-even}
 use Rattle.pairs_judge.proofs.pairs_good.Goals as goal
 
-pub returns-then-pairs-ne0 : goal.returns-then-pairs-ne0
-returns-then-pairs-ne0 c = let a = c.args in good-odd a.wires a.pairs.now c.if-pairs-ne0.true
+pub returns-then-pairs-eq0 : goal.returns-then-pairs-eq0
+returns-then-pairs-eq0 c =
+    let ws = c.args.pairs.now in
+    let W = c.args.wires in
+    let all : IsTrue c.all.result ↔ EachIndex ws (λ k. get_or ws k 0 < W) = search rules in
+    good-even W ws c.if-pairs-eq0.true (every-from_iff (λ w. ltb w W) (λ w. w < W) (λ w. lt-ltb w W) (λ w. ltb-true w W) ws c.all.result all)
 
-pub returns : goal.returns
-returns c = let a = c.args in good-even a.wires a.pairs.now c.if-pairs-ne0.false c.all_below.ensures
+pub returns-else-pairs-eq0 : goal.returns-else-pairs-eq0
+returns-else-pairs-eq0 c = good-odd c.args.wires c.args.pairs.now c.if-pairs-eq0.false

@@ -6,8 +6,9 @@ use Rattle.program_text.proofs.digits.Goals as goal
 
 pub loop-entry-preserved : goal.loop-entry-preserved
 loop-entry-preserved c =
-    printing-more c.loop-entry.invariant c.loop-entry-test.true c.wide.ensures
-    (omega (arith, c.wide.ensures, c.type_inv.list c.loop-entry.entry-index)) c.number-at.ensures
+    let e = c.from.ensures in
+    printing-more c.loop-entry.invariant c.loop-entry-test.true e
+    (omega (arith, e, c.type_inv.list c.loop-entry.entry-index)) c.number-at.ensures
 
 pub returns : goal.returns
 returns c = few-then _ 1 (printing-all c.loop-entry.invariant c.loop-entry-test.false) (exactly c.put.ensures)

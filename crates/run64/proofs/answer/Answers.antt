@@ -1,51 +1,17 @@
--- `answer`: the netlist read, and its output words.
-use mathlib.Core.List.{[], ◌∷◌}
-use lib.Dec.{lit<}
-use lib.ListN.{length}
-use Rattle.netlist.specs.Netlist.{large}
-use Rattle.netlist.specs.Table.{tables}
-use Rattle.netlist.proofs.Answering.{table_at}
-use Rattle.read_netlist.proofs.Wholes.{read_is, readable-large}
+-- `answer`: the first no, or what is made of the netlist read.
+use Rattle.std.proofs.lemmas.Result.{err_from_is_err_and}
 use Rattle.run64.proofs.Running.{call-not, call-read}
-use native.Mathlib.Omega.{arith}
 use Rattle.run64.proofs.answer.Goals as goal
 
-pub read-requires : goal.read-requires
-read-requires c =
-    rw c.large-l.ensures
-    (readable-large c.args.sizes)
-
-pub evaluate-requires : goal.evaluate-requires
-evaluate-requires c =
+pub returns-in_err-h : goal.returns-in_err-h
+returns-in_err-h c =
     let s = c.args in
-    let t = c.read in
-    let o = length s.operands.now in
-    let r = length s.results.now in
-    let g = length s.marks.now in
-    let w = length s.words.now in
-    let k = read_is (o ∷ r ∷ g ∷ w ∷ []) s.text.now t.new.inputs t.new.outputs (tables t.new.operands t.new.results)
-    c.large-l.ensures c.in-Done.is t.ensures in
-    let a = k.1 in
-    (a.wired, a.in_bits, a.out_bits, omega (arith, a.wires, table_at (large s.sizes) (o ∷ r ∷ g ∷ w ∷ []) 3 k.0 (lit< tt)))
+    let p = err_from_is_err_and c.from_residual.result c.from_residual.ensures.1 in
+    rw (p.1, p.2) (call-not s.sizes s.text.now s.list.now s.out.now s.operands.now s.results.now s.marks.now s.words.now
+    (rw c.large.ensures at c.in_err-h.ensures))
 
-pub returns-in-Refused : goal.returns-in-Refused
-returns-in-Refused c =
+pub returns : goal.returns
+returns c =
     let s = c.args in
-    let t = c.read in
-    call-not s.sizes s.text.now s.list.now _ s.operands.now s.results.now s.marks.now s.words.now
-    (read_is (length s.operands.now ∷ length s.results.now ∷ length s.marks.now ∷ length s.words.now ∷ []) s.text.now
-    t.new.inputs t.new.outputs (tables t.new.operands t.new.results)
-    c.large-l.ensures
-    c.in-Refused.is t.ensures)
-
-pub returns-in-Done : goal.returns-in-Done
-returns-in-Done c =
-    let s = c.args in
-    let t = c.read in
-    call-read s.sizes s.text.now s.list.now s.out.now s.operands.now s.results.now s.marks.now s.words.now
-    (read_is (length s.operands.now ∷ length s.results.now ∷ length s.marks.now ∷ length s.words.now ∷ []) s.text.now
-    t.new.inputs t.new.outputs (tables t.new.operands t.new.results)
-    c.large-l.ensures
-    c.in-Done.is
-    t.ensures)
+    call-read s.sizes s.text.now s.list.now s.out.now s.operands.now s.results.now s.marks.now s.words.now (rw c.large.ensures at c.in_ok-h.ensures)
     c.evaluate.ensures

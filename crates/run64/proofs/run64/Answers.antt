@@ -1,5 +1,6 @@
 -- `run64`: the answer, and then zero in every table.
-use Rattle.clear.proofs.Filled.{zeros-same}
+use Rattle.std.proofs.Common.{arith}
+use Rattle.std.proofs.lemmas.Grind.{common_steps}
 use Rattle.run64.proofs.Running.{call-lanes}
 use Rattle.run64.proofs.run64.Goals as goal
 
@@ -10,9 +11,8 @@ returns c =
     record {
       answers = a.ensures;
       lane = call-lanes s.sizes s.text.now s.list.now s.out.now s.operands.now s.results.now s.marks.now s.words.now a.ensures;
-      operands = zeros-same c.words.ensures
-          a.auto.operands;
-      results = zeros-same c.words-2.ensures a.auto.results;
-      marks = zeros-same c.bytes.ensures a.auto.marks;
-      words = zeros-same c.words-3.ensures a.auto.words;
+      operands = grind (arith, common_steps);
+      results = grind (arith, common_steps);
+      marks = grind (arith, common_steps);
+      words = grind (arith, common_steps);
     }

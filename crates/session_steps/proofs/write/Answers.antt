@@ -1,10 +1,12 @@
 -- `write`: one record more stands in the list.
-use native.Mathlib.Omega.{arith}
+use Rattle.std.proofs.Common.{arith, map}
+use lib.ListN.{length-map}
+use Rattle.gate_records.specs.Records.{record_of}
+use Rattle.session_plan.specs.Plan.{steps_in}
 use Rattle.session_steps.proofs.Writes.{wrote-more}
 use Rattle.session_steps.proofs.write.Goals as goal
 
 pub loop-k-preserved : goal.loop-k-preserved
-loop-k-preserved c = (
-  wrote-more c.loop-k.invariant.0 c.loop-k-test.true (omega (arith, c.loop-k-test.true, c.requires.gates)) (λ _. c.gate-m.ensures.gate),
-  c.gate-m.ensures.next,
-)
+loop-k-preserved c =
+    let gs = steps_in c.args.n c.args.x in
+    wrote-more c.args.list.now (map record_of gs) c.args.at c.loop-k.invariant (omega (arith, length-map gs record_of)) (λ _. c.gate.ensures)

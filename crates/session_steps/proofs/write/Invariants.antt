@@ -1,11 +1,9 @@
--- `write`: the first k records of the batch stand in the list, and an opening goes on at input bit w.
-use Rattle.std.proofs.Common.{◌≡◌, ◌-◌}
-use Rattle.session_plan.specs.Batch.{batch_gates, GoesOn}
-use Rattle.session_steps.proofs.Writes.{Wrote}
+-- `write`: the first k records stand in the list.
+use Rattle.std.proofs.Common.{◌≡◌, map, take}
+use Rattle.std.proofs.lemmas.List.Edits.{sets}
+use Rattle.gate_records.specs.Records.{record_of}
+use Rattle.session_plan.specs.Plan.{steps_in}
 use Rattle.session_steps.proofs.write.Given as goal
 
 abbrev pub invariant-loop-k : goal.invariant-loop-k
-invariant-loop-k l = Wrote l.initial.list (batch_gates l.codes l.batch) l.at l.count l.k l.list × (l.batch.kind ≡ 0 → GoesOn l.codes l.k l.w)
-
-abbrev pub decreases-loop-k : goal.decreases-loop-k
-decreases-loop-k l = l.count - l.k
+invariant-loop-k l = l.list ≡ sets l.initial.list l.at (take l.k (map record_of (steps_in l.n l.x)))

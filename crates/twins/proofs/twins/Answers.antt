@@ -1,5 +1,5 @@
 -- `twins`: the answer, and then zero in every table.
-use Rattle.clear.proofs.Filled.{zeros-same}
+use borrow.Author.Rules.{rules}
 use Rattle.twins.proofs.Promised.{call-twins}
 use Rattle.twins.proofs.twins.Goals as goal
 
@@ -12,7 +12,7 @@ returns c =
       twins =
           call-twins s.sizes s.text.now s.codes.now s.wires.now s.out_codes.now s.operands.now s.results.now s.marks.now
           a.ensures;
-      operands = zeros-same c.words.ensures a.auto.operands;
-      results = zeros-same c.words-2.ensures a.auto.results;
-      marks = zeros-same c.bytes.ensures a.auto.marks;
+      operands = search rules;
+      results = search rules;
+      marks = search rules;
     }

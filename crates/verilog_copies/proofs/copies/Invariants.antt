@@ -1,10 +1,13 @@
 -- One port after another.
+use Rattle.verilog_tokens.specs.Kind.{number_of}
 use Rattle.verilog_gates.proofs.Joins.{left}
 use Rattle.verilog_copies.proofs.Copying.{Copying}
 use Rattle.verilog_copies.proofs.copies.Given as goal
 
-abbrev pub invariant-loop-code : goal.invariant-loop-code
-invariant-loop-code l = Copying l.text l.words l.states l.wires l.count l.n l.at l.next l.initial.operands l.initial.results l.operands l.results l.code l.from l.to l.free
+abbrev pub invariant-loop-text : goal.invariant-loop-text
+invariant-loop-text l =
+    Copying l.names.text.now l.names.words.now l.states l.wires l.names.count l.n l.at l.next l.initial.operands l.initial.results
+    l.operands l.results (number_of l.token.kind) l.token.from l.token.to l.free
 
-abbrev pub decreases-loop-code : goal.decreases-loop-code
-decreases-loop-code l = left l.text l.code l.to
+abbrev pub decreases-loop-text : goal.decreases-loop-text
+decreases-loop-text l = left l.names.text.now (number_of l.token.kind) l.token.to

@@ -1,66 +1,31 @@
 -- One token after another.
-use borrow.Author.Tests.{eq-eqb, ne_eqb}
-use Rattle.verilog_form.proofs.Walks.{walk_start, walk-low, walk-bad, walk-stuck, walk-on, walk_end, refused-scan, one-operator, left_less}
-use borrow.Author.Rules.{rules}
-use native.Mathlib.Omega.{arith}
+use Rattle.std.specs.Ordering.{ord_max, nat_cmp}
+use Rattle.std.proofs.lemmas.Bool.Decides.{nat_tests}
+use Rattle.std.proofs.Common.{ℕ, max, arith, ◌≡◌, ◌∙◌, sym}
+use denote.Enum.Bare.{differs_true, differs_false}
+use Rattle.verilog_tokens.proofs.KindTests.{other_kind, this_kind, number_low}
+use Rattle.verilog_tokens.specs.declared.Kind.TheVariants.{End}
+use Rattle.verilog_form.specs.contracts.Phase.{the_type}
+use Rattle.verilog_form.proofs.Walks.{walk-stuck, walk-on, walk_end, walk_unended}
 use Rattle.verilog_form.proofs.walk.Goals as goal
 
-pub loop-code-init : goal.loop-code-init
-loop-code-init c = walk_start _ c.next-first.ensures
+max-same : (a b : ℕ) → ord_max nat_cmp a b ≡ max a b
+max-same a b = grind (arith, nat_tests)
 
-pub returns-then-code-gt15 : goal.returns-then-code-gt15
-returns-then-code-gt15 c = refused-scan _ _ _ (walk-bad _ c.loop-code.invariant (search rules))
+pub returns-in_err-step : goal.returns-in_err-step
+returns-in_err-step c =
+    rw c.from_residual.ensures (walk-stuck _ c.loop-token.invariant (other_kind c.loop-token.token.kind End c.loop-token-test.ensures) c.in_err-step.ensures.step)
 
-pub behind-s-requires : goal.behind-s-requires
-behind-s-requires c = (
-  walk-low _ c.loop-code.invariant,
-  search rules,
-  omega (
-    arith,
-    c.loop-code.invariant.under,
-    c.loop-code.invariant.few.0,
-    c.loop-code.invariant.token.start,
-    c.loop-code.invariant.token.onward,
-    c.loop-code.invariant.token.within,
-    c.requires,
-  ),
-)
+pub loop-token-preserved : goal.loop-token-preserved
+loop-token-preserved c =
+    rw (c.max-deepest.ensures ∙ max-same c.loop-token.deepest c.in_ok-step.step.depth, c.operators-count.ensures)
+    (walk-on _ c.loop-token.invariant (other_kind c.loop-token.token.kind End c.loop-token-test.ensures) (number_low c.loop-token.token.kind) _ _
+    c.in_ok-step.ensures.step c.in_ok-step.ensures.grows c.next-token-in-loop-token.ensures)
 
-pub returns-then-s-eq16 : goal.returns-then-s-eq16
-returns-then-s-eq16 c =
-    refused-scan _ _ _ (walk-stuck _ c.loop-code.invariant
-    (ne_eqb _ _ c.loop-code-test.true) (search rules) _ c.behind-s.ensures.0 c.if-s-eq16.true)
-
-pub overflow_add-operators : goal.overflow_add-operators
-overflow_add-operators c =
-    omega (
-      arith,
-      c.operator-operators.ensures,
-      one-operator c.loop-code.code,
-      c.loop-code.invariant.few.1,
-      c.loop-code.invariant.token.start,
-      c.loop-code.invariant.token.onward,
-      c.loop-code.invariant.token.within,
-      c.requires,
-    )
-
-pub next-t-requires : goal.next-t-requires
-next-t-requires c = c.loop-code.invariant.token.within
-
-pub loop-code-smaller : goal.loop-code-smaller
-loop-code-smaller c =
-    left_less c.args.text.now
-    c.loop-code.code
-    c.loop-code.to
-    (ne_eqb _ _ c.loop-code-test.true) c.next-t.ensures
-
-pub loop-code-preserved : goal.loop-code-preserved
-loop-code-preserved c =
-    rw (c.larger-deepest.ensures, c.operator-operators.ensures)
-    (walk-on _ c.loop-code.invariant
-    (ne_eqb _ _ c.loop-code-test.true) (search rules) _
-    c.behind-s.ensures.0 c.if-s-eq16.false
-    c.behind-s.ensures.1 c.behind-s.ensures.2 c.next-t.ensures)
+pub returns-then-ne : goal.returns-then-ne
+returns-then-ne c =
+    walk_unended _ c.loop-token.invariant (this_kind c.loop-token.token.kind End c.loop-token-test.ensures) (differs_true the_type _ _ (sym c.if-ne.ensures))
 
 pub returns : goal.returns
-returns c = walk_end _ c.loop-code.invariant (eq-eqb _ _ c.loop-code-test.false)
+returns c =
+    walk_end _ c.loop-token.invariant (this_kind c.loop-token.token.kind End c.loop-token-test.ensures) (differs_false the_type tt _ _ (sym c.if-ne.ensures))

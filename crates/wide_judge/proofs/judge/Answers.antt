@@ -1,13 +1,12 @@
 -- `judge`: questions 10, 11, 21 and 12, and both verdicts.
-use mathlib.Core.Path.{◌≡◌, sym, ap, subst, ◌∙◌}
+use mathlib.Core.Path.{◌≡◌, sym, subst, ◌∙◌}
 use mathlib.Core.Bool.{true}
 use mathlib.Core.List.{List}
 use Prim.Native.Nat.{ℕ, ◌+◌, ◌≤◌}
 use lib.ListN.{length, take}
 use lib.Seq.{length-take-le}
-use borrow.Author.Tests.{not-true, not-false}
+use Rattle.std.proofs.lemmas.Result.{err_from_is_err_and}
 use Rattle.netlist.specs.Table.{tables, Holds}
-use Rattle.check_netlist.specs.Judge.{asked_of}
 use Rattle.check_netlist.proofs.Judging.{asked-bits, asked-codes}
 use Rattle.pairs.specs.Call.{pairs_good}
 use Rattle.pairs_judge.proofs.Judging.{good-below}
@@ -18,70 +17,24 @@ use Rattle.wide_judge.proofs.judge.Goals as goal
 pub returns-then-not-pairs_good : goal.returns-then-not-pairs_good
 returns-then-not-pairs_good c =
     let a = c.args in
-    λ N H F e. c.refuse-then-not-pairs_good.ensures ∙ refused-pairs N a.codes.now a.pairs.now (take a.h.input_values a.widths) e
-    (sym (ap asked_of c.in-Passed.is) ∙ c.ask_codes.ensures)
-    H.wires (sym c.pairs_good.ensures ∙ not-true _ c.if-not-pairs_good.true-raw)
+    λ N H F e. refused-pairs N a.codes.now a.pairs.now (take a.h.input_values a.widths) e
+    c.in_ok-ask_codes.ensures
+    H.wires (sym c.pairs_good.ensures ∙ c.if-not-pairs_good.true)
 
-pub slice_bounds-within-end-in-Passed : goal.slice_bounds-within-end-in-Passed
-slice_bounds-within-end-in-Passed c =
-    sym
-    (length-take-le _ _ c.requires.input_values_bound.3)
-
-pub slice_bounds-within-end-in-Passed-3 : goal.slice_bounds-within-end-in-Passed-3
-slice_bounds-within-end-in-Passed-3 c =
-    sym
-    (length-take-le _ _ c.requires.input_values_bound.4)
-
-pub slice_bounds-within-end-in-Passed-5 : goal.slice_bounds-within-end-in-Passed-5
-slice_bounds-within-end-in-Passed-5 c =
-    sym
-    (length-take-le _ _ c.requires.input_values_bound.5)
-
-pub slice_bounds-within-end-in-Passed-7 : goal.slice_bounds-within-end-in-Passed-7
-slice_bounds-within-end-in-Passed-7 c =
-    sym
-    (length-take-le _ _ c.requires.input_values_bound.6)
-
-pub slice_bounds-within-end-in-Passed-9 : goal.slice_bounds-within-end-in-Passed-9
-slice_bounds-within-end-in-Passed-9 c =
-    sym
-    (length-take-le _ _ c.requires.input_values_bound.7)
-
-pub slice_bounds-within-end-in-Passed-11 : goal.slice_bounds-within-end-in-Passed-11
-slice_bounds-within-end-in-Passed-11 c =
-    sym
-    (length-take-le _ _ c.requires.input_values_bound.8)
-
-pub slice_bounds-within-end-in-Passed-13 : goal.slice_bounds-within-end-in-Passed-13
-slice_bounds-within-end-in-Passed-13 c =
-    sym
-    (length-take-le _ _ c.requires.input_values_bound.9)
-
-pub slice_bounds-within-end-in-Passed-14 : goal.slice_bounds-within-end-in-Passed-14
-slice_bounds-within-end-in-Passed-14 c =
-    let bits = asked-bits (take c.args.h.input_values c.args.widths) c.args.codes.now
-    (sym c.ask_codes.ensures ∙ ap
-    asked_of c.in-Passed.is) in
+pub slice_bounds-within-end-15 : goal.slice_bounds-within-end-15
+slice_bounds-within-end-15 c =
+    let bits = asked-bits (take c.args.h.input_values c.args.widths) c.args.codes.now (sym c.in_ok-ask_codes.ensures) in
     omega (arith, bits, c.requires.input_values_bound.1, c.requires.input_values_bound.2, c.requires.input_values_bound.10)
-
-pub slice_bounds-within-end-in-Passed-15 : goal.slice_bounds-within-end-in-Passed-15
-slice_bounds-within-end-in-Passed-15 c =
-    let bits = asked-bits (take c.args.h.input_values c.args.widths) c.args.codes.now
-    (sym c.ask_codes.ensures ∙
-    ap asked_of c.in-Passed.is) in
-    sym (length-take-le _ _ (omega (arith, bits, c.requires.input_values_bound.1, c.requires.input_values_bound.2, c.requires.input_values_bound.10)))
 
 pub within-requires : goal.within-requires
 within-requires c =
     let a = c.args in
     let p = c.requires.input_values_bound in
     let vs = take a.h.input_values a.widths in
-    let asked = sym c.ask_codes.ensures ∙ ap asked_of c.in-Passed.is
-    in
+    let asked = sym c.in_ok-ask_codes.ensures in
     let bits = asked-bits vs a.codes.now asked in
     let good : pairs_good a.h.wires a.pairs.now ≡ true = sym
-    c.pairs_good.ensures ∙ not-false _
-    c.if-not-pairs_good.false-raw in
+    c.pairs_good.ensures ∙ c.if-not-pairs_good.false in
     let L : (l : List ℕ) → a.h.wires ≤ length l → length (take a.h.wires l) ≡ a.h.wires = λ l h. length-take-le a.h.wires l h in
     let w = L a.words.now p.3 in
     let n = length-take-le (length a.codes.now) a.paints.now (omega (arith, bits, p.1, p.2, p.10)) in
@@ -100,25 +53,21 @@ within-requires c =
       );
     }
 
-pub returns-in-Refused : goal.returns-in-Refused
-returns-in-Refused c =
-    let a =
-    c.args in
-    λ N H F e. c.refuse.ensures ∙ refused-asked N a.codes.now a.pairs.now (take a.h.input_values a.widths) e
-    (sym (ap asked_of c.in-Refused.is) ∙ c.ask_codes.ensures)
+pub returns-in_err-ask_codes : goal.returns-in_err-ask_codes
+returns-in_err-ask_codes c =
+    let a = c.args in
+    let p = err_from_is_err_and c.from_residual.result c.from_residual.ensures.1 in
+    λ N H F e. rw (p.1, p.2) (refused-asked N a.codes.now a.pairs.now (take a.h.input_values a.widths) e c.in_err-ask_codes.ensures)
 
-pub returns-else-not-pairs_good : goal.returns-else-not-pairs_good
-returns-else-not-pairs_good c =
+pub returns : goal.returns
+returns c =
     let a = c.args in
     let p = c.requires.input_values_bound in
     let vs = take a.h.input_values a.widths in
-    let asked = sym (ap asked_of
-    c.in-Passed.is) ∙
-    c.ask_codes.ensures in
+    let asked = c.in_ok-ask_codes.ensures in
     let bits = asked-bits vs a.codes.now (sym asked) in
     let good : pairs_good a.h.wires a.pairs.now ≡ true = sym
-    c.pairs_good.ensures ∙ not-false _
-    c.if-not-pairs_good.false-raw in
+    c.pairs_good.ensures ∙ c.if-not-pairs_good.false in
     let t = tables a.operands.now a.results.now in
     let w = length-take-le a.h.wires a.words.now p.3 in
     let n : a.h.input_bits ≡ length a.codes.now + 2 = p.1 ∙ sym bits in

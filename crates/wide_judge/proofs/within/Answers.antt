@@ -2,7 +2,6 @@
 use mathlib.Core.Path.{sym, subst, ◌∙◌}
 use Prim.Native.Nat.{ℕ, ◌+◌}
 use lib.ListN.{length}
-use borrow.Author.Tests.{not-true, not-false}
 use Rattle.netlist.specs.Table.{tables, Holds}
 use Rattle.netlist.proofs.Puts.{wired-same}
 use Rattle.wide_sets.specs.Packed.{sets, Sized}
@@ -23,7 +22,7 @@ returns-then-not-reach c =
     let r = c.reach in
     let S = sets r.new.set0 r.new.set1 r.new.set2 r.new.set3 in
     let t = tables a.operands.now a.results.now in
-    λ o N H F. c.refuse.ensures ∙ wires-many S a.codes.now a.pairs.now H c.requires.wired.1 (not-true _ c.if-not-reach.true-raw)
+    λ o N H F. wires-many S a.codes.now a.pairs.now H c.requires.wired.1 (c.if-not-reach.true)
     (r.ensures.1 o N (subst (λ (Y : ℕ). Holds t a.count Y (length a.codes.now + 2) o N) (sym c.requires.paints_len.5) H) F)
 
 pub pairs_few-requires : goal.pairs_few-requires
@@ -31,7 +30,7 @@ pairs_few-requires c =
     let r = c.reach in
     let S = sets r.new.set0 r.new.set1 r.new.set2 r.new.set3 in
     let e = r.auto.set0 in
-    (subst (Sized S) (sym e) (r.ensures.0 (not-false _ c.if-not-reach.false-raw)), λ i l. omega (arith, c.requires.wired.1 i l, c.requires.paints_len.5, e))
+    (subst (Sized S) (sym e) (r.ensures.0 (c.if-not-reach.false)), λ i l. omega (arith, c.requires.wired.1 i l, c.requires.paints_len.5, e))
 
 pub returns-then-not-pairs_few : goal.returns-then-not-pairs_few
 returns-then-not-pairs_few c =
@@ -39,10 +38,10 @@ returns-then-not-pairs_few c =
     let r = c.reach in
     let S = sets r.new.set0 r.new.set1 r.new.set2 r.new.set3 in
     let t = tables a.operands.now a.results.now in
-    λ o N H F. c.refuse-then-not-pairs_few.ensures ∙ pairs-many S a.codes.now a.pairs.now H c.requires.wired.1
-    (not-false _ c.if-not-reach.false-raw)
+    λ o N H F. pairs-many S a.codes.now a.pairs.now H c.requires.wired.1
+    (c.if-not-reach.false)
     (r.ensures.1 o N (subst (λ (Y : ℕ). Holds t a.count Y (length a.codes.now + 2) o N) (sym c.requires.paints_len.5) H) F)
-    (c.pairs_few.ensures.1 (not-true _ c.if-not-pairs_few.true-raw))
+    (c.pairs_few.ensures.1 (c.if-not-pairs_few.true))
 
 pub search-found-requires : goal.search-found-requires
 search-found-requires c =
@@ -55,12 +54,11 @@ search-found-requires c =
       wired = (
         p.0,
         subst (Sized S) (sym e)
-            (r.ensures.0 (not-false _
-            c.if-not-reach.false-raw)),
+            (r.ensures.0 (c.if-not-reach.false)),
         λ i l. omega
             (arith, p.1 i l, q.5, e),
         c.pairs_few.ensures.0
-            (not-false _ c.if-not-pairs_few.false-raw),
+            (c.if-not-pairs_few.false),
       );
       paints_len = (q.0, e ∙ q.5, q.1, q.2, q.3, q.4);
     }
@@ -85,12 +83,12 @@ returns c =
     in
     let S = sets r.new.set0 r.new.set1 r.new.set2 r.new.set3 in
     let t = tables a.operands.now a.results.now in
-    let y = not-false _ c.if-not-reach.false-raw in
+    let y = c.if-not-reach.false in
     λ o N H F.
     let R = r.ensures.1 o N (subst (λ (Y : ℕ). Holds t a.count Y (length a.codes.now + 2) o N) (sym q.5) H) F in
     let g = c.search-found.ensures o N
     (given S a.codes.now a.pairs.now H c.requires.wired.1 y R) in
     all-few S a.codes.now a.pairs.now H c.requires.wired.1 y R (subst (Sized S) q.5 (r.ensures.0 y))
     (c.pairs_few.ensures.0
-    (not-false _ c.if-not-pairs_few.false-raw))
+    (c.if-not-pairs_few.false))
     (told-both g.0 g.1)

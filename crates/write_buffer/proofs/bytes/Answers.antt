@@ -1,20 +1,6 @@
--- `bytes`: the first i bytes are written.
-use native.Mathlib.Omega.{arith}
-use Rattle.write_buffer.proofs.Writing.{copied_none, copied_more, copied_all, wrote-length}
+-- `bytes`: the first bytes are written.
+use Rattle.write_buffer.proofs.Writing.{copied_more}
 use Rattle.write_buffer.proofs.bytes.Goals as goal
 
-pub loop-i-init : goal.loop-i-init
-loop-i-init c = copied_none _ _ _ (omega arith) (omega arith)
-
-pub loop-i-preserved : goal.loop-i-preserved
-loop-i-preserved c =
-    copied_more
-    c.loop-i.invariant
-    c.loop-i-test.true
-    c.put-next.ensures
-
-pub shape_of-out : goal.shape_of-out
-shape_of-out c = wrote-length c.loop-i.invariant.wrote
-
-pub returns : goal.returns
-returns c = copied_all c.loop-i.invariant c.loop-i-test.false
+pub loop-b-preserved : goal.loop-b-preserved
+loop-b-preserved c = copied_more c.loop-b.invariant c.loop-b-test.true c.put-next.ensures

@@ -7,11 +7,10 @@ use Rattle.write_netlist.proofs.holds.Goals as goal
 
 pub returns-then-ample : goal.returns-then-ample
 returns-then-ample c =
-    let a = c.args in
-    sym (form-ample a.dialect a.count a.wires a.ins.now a.outs.now (omega (arith, c.ranges.wires)) c.requires.wired.0
+    let f = c.args.f in
+    c.if-ample.true
+    ∙ sym (form-ample f.dialect f.count f.wires f.ins.now f.outs.now (omega arith) c.requires.wired.0
     c.header_in-header.ensures c.requires.wired.1 (sym c.ample.ensures ∙ c.if-ample.true))
 
-pub returns : goal.returns
-returns c =
-    measured-holds c.write.ensures
-    c.requires.wired.1
+pub returns-else-ample : goal.returns-else-ample
+returns-else-ample c = measured-holds c.write.ensures c.requires.wired.1

@@ -1,12 +1,9 @@
 -- `certify_netlist::ones::count` meets its contract.
-use Prim.Native.Nat.{◌-◌}
-use lib.ListN.{get_or}
+use mathlib.Core.Path.{◌≡◌}
+use lib.ListN.{length, get_or}
 use Rattle.evaluate.specs.Lane.{lane}
-use Rattle.certify_netlist.proofs.Counting.{Counting}
+use Rattle.certify_netlist.specs.Ones.{ones_below}
 use Rattle.certify_netlist.proofs.ones.count.Given as goal
 
-abbrev pub invariant-loop-i : goal.invariant-loop-i
-invariant-loop-i l = Counting (λ k. lane l.place (get_or l.words k 0)) l.n l.many l.i
-
-abbrev pub decreases-loop-i : goal.decreases-loop-i
-decreases-loop-i l = l.n - l.i
+abbrev pub invariant-loop-word : goal.invariant-loop-word
+invariant-loop-word l = l.many ≡ length (ones_below (λ k. lane l.place (get_or l.words k 0)) l.word-index)

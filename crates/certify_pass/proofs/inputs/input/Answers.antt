@@ -1,5 +1,5 @@
 -- `certify_pass::inputs::input` meets its contract.
-use mathlib.Core.Path.{refl, ◌∙◌}
+use mathlib.Core.Path.{◌∙◌}
 use Rattle.certify_pass.proofs.InputWires.{input-open}
 use Rattle.certify_pass.proofs.inputs.input.Goals as goal
 
@@ -10,7 +10,6 @@ returns-then-code-eq0 c = record {
       let laid = c.lay.ensures.holds N codes M h e H in
       record {
         known = laid.known;
-        marked = c.mark.ensures.1 refl N codes
-            (input-open M _ h (e ∙ c.if-code-eq0.true)) laid.marked;
+        marked = c.mark.ensures N codes (input-open M _ h (e ∙ c.if-code-eq0.true)) laid.marked;
       };
 }

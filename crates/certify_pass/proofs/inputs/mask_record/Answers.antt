@@ -4,8 +4,7 @@ use Rattle.certify_pass.proofs.InputWires.{MaskIs, first-known, second-known}
 use Rattle.certify_pass.proofs.inputs.mask_record.Goals as goal
 
 pub returns : goal.returns
-returns c = λ N codes M. (
+returns c = rw c.over.ensures (λ N codes M. (
   λ e. first-known M c.mask.result (subst (MaskIs c.mask.result) e c.mask.ensures),
-  λ e. second-known M c.mask.result
-      (subst (MaskIs c.mask.result) e c.mask.ensures),
-)
+  λ e. second-known M c.mask.result (subst (MaskIs c.mask.result) e c.mask.ensures),
+))

@@ -2,15 +2,9 @@
 use mathlib.Core.Path.{sym, subst}
 use Prim.Native.Nat.{ℕ}
 use Rattle.netlist.specs.Table.{tables, Holds}
-use Rattle.netlist.proofs.Puts.{wired-same}
 use Rattle.certify_search.proofs.Rounds.{ran}
 use native.Mathlib.Omega.{arith}
 use Rattle.certify_search.proofs.search.run.Goals as goal
-
-pub wires-requires : goal.wires-requires
-wires-requires c =
-    let l = c.inputs-noise.auto.words in
-    record { wired = wired-same l c.requires.0; ins_in_bounds = omega (arith, l, c.requires.1) }
 
 pub returns : goal.returns
 returns c = λ n o N H M. let l = c.inputs-noise.auto.words in

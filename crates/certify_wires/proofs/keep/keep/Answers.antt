@@ -1,25 +1,10 @@
 -- `certify_wires::keep::keep` meets its contract.
-use Rattle.certify_wires.proofs.Stores.{keeping_none, keeping-more, keeping-stop}
+use Rattle.certify_wires.proofs.Stores.{keeping-more, keeping-stop}
 use native.Mathlib.Omega.{arith}
 use Rattle.certify_wires.proofs.keep.keep.Goals as goal
 
-pub loop-k-init : goal.loop-k-init
-loop-k-init c = keeping_none _ _ _
-
-pub step-requires : goal.step-requires
-step-requires c = omega (arith, c.loop-k.invariant.long)
-
-pub returns-in-Stored : goal.returns-in-Stored
-returns-in-Stored c =
-    keeping-stop c.loop-k.invariant
-    c.loop-k-test.true c.step.result
-    c.step.ensures
+pub returns-in_default : goal.returns-in_default
+returns-in_default c = keeping-stop c.loop-k.invariant (omega arith) c.step.result c.step.ensures
 
 pub loop-k-preserved : goal.loop-k-preserved
-loop-k-preserved c =
-    keeping-more c.loop-k.invariant
-    c.loop-k-test.true c.step.result
-    c.step.ensures _ c.in-Carried.is c.step.auto.records
-
-pub returns : goal.returns
-returns c = λ N codes R K. (c.loop-k.invariant.known N codes R K).0
+loop-k-preserved c = keeping-more c.loop-k.invariant (omega arith) c.step.result c.step.ensures _ c.in-Some.is c.step.auto.records

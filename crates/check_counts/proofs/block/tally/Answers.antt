@@ -7,19 +7,19 @@ use Rattle.check_counts.proofs.Tallies.{tallied-none, tallied-more, tallied-all,
 use native.Mathlib.Omega.{arith}
 use Rattle.check_counts.proofs.block.tally.Goals as goal
 
-pub loop-w-init : goal.loop-w-init
-loop-w-init c = tallied-none _ _
+pub loop-word-init : goal.loop-word-init
+loop-word-init c = tallied-none _ _
 
-pub loop-w-preserved : goal.loop-w-preserved
-loop-w-preserved c =
-    let at = c.loop-w in
+pub loop-word-preserved : goal.loop-word-preserved
+loop-word-preserved c =
+    let at = c.loop-word in
     tallied-more c.counts.result at.invariant (omega arith)
-    (λ s l. c.counts.ensures s l ∙ ap (λ (x : ℕ). ones x s) (at.invariant.rest at.w (le_refl _)))
+    (λ s l. c.counts.ensures s l ∙ ap (λ (x : ℕ). ones x s) (at.invariant.rest at.word-index (le_refl _)))
 
 pub shape_of-words : goal.shape_of-words
-shape_of-words c = c.loop-w.invariant.long
+shape_of-words c = c.loop-word.invariant.long
 
 pub returns : goal.returns
 returns c =
     let words = c.args.words.now in
-    tallied-all c.loop-w.invariant (omega arith) (ones-past words)
+    tallied-all c.loop-word.invariant (omega arith) (ones-past words)

@@ -2,7 +2,7 @@
 use mathlib.Core.Path.{ap, ◌∙◌}
 use lib.ListN.{length, take}
 use lib.Seq.{take_at}
-use Rattle.clear.proofs.Laid.{laid_none, laid_more, laid-all}
+use Rattle.netlist.proofs.Laid.{laid_none, laid_more, laid-all}
 use Rattle.check_counts.specs.Paint.{paint_each}
 use Rattle.check_counts.proofs.Paints.{length-each, each_at}
 use native.Mathlib.Omega.{arith}

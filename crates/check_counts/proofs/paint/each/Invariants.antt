@@ -1,12 +1,9 @@
 -- `paint::each`: the paints are laid one by one.
-use Prim.Native.Nat.{◌-◌, ◌≤◌}
+use Prim.Native.Nat.{◌≤◌}
 use lib.ListN.{length, replicate}
-use Rattle.clear.proofs.Laid.{Laid}
+use Rattle.netlist.proofs.Laid.{Laid}
 use Rattle.check_counts.specs.Paint.{paint_each}
 use Rattle.check_counts.proofs.paint.each.Given as goal
 
 abbrev pub invariant-loop-i : goal.invariant-loop-i
 invariant-loop-i l = Laid 0 (paint_each 0 l.codes) (replicate 12 0) l.paints l.i × (l.i ≤ length l.codes)
-
-abbrev pub decreases-loop-i : goal.decreases-loop-i
-decreases-loop-i l = length l.codes - l.i

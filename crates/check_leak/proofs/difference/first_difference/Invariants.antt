@@ -1,10 +1,6 @@
 -- `check_leak::difference::first_difference` meets its contract.
-use Prim.Native.Nat.{◌-◌, ◌≤◌}
 use Rattle.check_counts.specs.Block.{ones_of, nibbles_of, Agree}
 use Rattle.check_leak.proofs.difference.first_difference.Given as goal
 
 abbrev pub invariant-loop-w : goal.invariant-loop-w
-invariant-loop-w l = (l.w ≤ l.limit) × Agree (nibbles_of l.base) (ones_of l.words) l.w 16
-
-abbrev pub decreases-loop-w : goal.decreases-loop-w
-decreases-loop-w l = l.limit - l.w
+invariant-loop-w l = Agree (nibbles_of l.base) (ones_of l.words) l.w 16

@@ -1,16 +1,17 @@
 -- `check_leak::search::find` meets its contract.
-use mathlib.Core.Path.{refl, sym, subst, ◌∙◌}
+use mathlib.Core.Path.{refl, sym, ap, subst, ◌∙◌}
 use Prim.Native.Nat.{ℕ}
 use native.Mathlib.Omega.{arith}
 use Rattle.netlist.specs.Table.{tables}
 use Rattle.netlist.proofs.Puts.{wired-same}
 use Rattle.evaluate.specs.Bare.{bare}
 use Rattle.check_counts.specs.Block.{Ready}
-use Rattle.check_leak.proofs.Differences.{find_none, find-more, find-all}
+use Rattle.check_leak.specs.Difference.{wire_of}
+use Rattle.check_leak.proofs.Differences.{find_none, find-more, find-all, wire-within}
 use Rattle.check_leak.proofs.search.find.Goals as goal
 
 pub loop-block-init : goal.loop-block-init
-loop-block-init c = find_none c.args.blocks refl c.requires.paints_in_bounds.1 (λ m. (c.public-publics.ensures.1 m, λ z. absurd (z refl))) c.none-best.ensures
+loop-block-init c = find_none c.args.blocks refl c.requires.paints_in_bounds.1 (λ m. (c.public-publics.ensures.1 m, λ z. absurd (z refl)))
 
 pub search_block-found-requires : goal.search_block-found-requires
 search_block-found-requires c =
@@ -22,7 +23,7 @@ search_block-found-requires c =
       paints_in_bounds = (
         omega (arith, c.requires.paints_in_bounds.0, w),
         at.invariant.long-base ∙ sym w,
-        omega (arith, at.invariant.lowest.within, w),
+        omega (arith, c.limit-limit.ensures, wire-within at.best at.invariant.lowest, ap (λ (W : ℕ). wire_of W at.best) w, w),
         subst
             (λ (W : ℕ). Ready c.public-publics.result (bare t c.args.count W) c.args.paints.now at.base
             at.block)
@@ -30,23 +31,13 @@ search_block-found-requires c =
       );
     }
 
-pub better-best-requires : goal.better-best-requires
-better-best-requires c = (omega (arith, c.requires.paints_in_bounds.2), λ l. (c.search_block-found.ensures.0.differs l).inside)
-
-pub overflow_add-block : goal.overflow_add-block
-overflow_add-block c =
-    omega (
-      arith,
-      c.requires.paints_in_bounds.2,
-    )
-
 pub loop-block-preserved : goal.loop-block-preserved
 loop-block-preserved c =
     let at = c.loop-block in
     let search-block = c.search_block-found in
     find-more at.invariant c.loop-block-test.true search-block.new.words search-block.new.base search-block.result
     c.better-best.result
-    search-block.auto.words search-block.auto.base search-block.ensures.0 search-block.ensures.1 c.better-best.ensures
+    search-block.auto.words search-block.auto.base (rw c.limit-limit.ensures at search-block.ensures.0) search-block.ensures.1 c.better-best.ensures
 
 pub shape_of-words : goal.shape_of-words
 shape_of-words c = c.loop-block.invariant.long-words

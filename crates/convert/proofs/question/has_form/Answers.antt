@@ -1,5 +1,10 @@
--- `has_form`: by the dialect.
+-- `has_form`: by the dialect, the values and the gates.
+use Rattle.std.proofs.Common.{◌∙◌}
+use Rattle.convert.proofs.OldEntries.{form-gates, entries-gates}
 use Rattle.convert.proofs.question.has_form.Goals as goal
 
-pub returns-in-Old : goal.returns-in-Old
-returns-in-Old c = rw c.in-Old.is c.has_old_form.ensures
+pub returns-then-outputs-le1 : goal.returns-then-outputs-le1
+returns-then-outputs-le1 c = λ operands.
+    let a = c.args in
+    let t = c.if-outputs-le1.true in
+    rw c.in-Old.is (form-gates _ a.inputs a.outputs t.0 t.1 (c.old_entries.ensures ∙ entries-gates operands a.results.now a.count c.requires))

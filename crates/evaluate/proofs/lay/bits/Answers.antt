@@ -3,7 +3,7 @@ use mathlib.Core.Path.{refl, ◌∙◌}
 use native.Mathlib.Omega.{arith}
 use lib.ListN.{get_or}
 use Rattle.netlist.specs.Services.{is_one}
-use Rattle.clear.proofs.Laid.{laid_none, laid_more}
+use Rattle.netlist.proofs.Laid.{laid_none, laid_more}
 use Rattle.evaluate.proofs.Lanes.{bool-bit}
 use Rattle.evaluate.proofs.Fronts.{laid-front, bits-long, bits_at}
 use Rattle.evaluate.proofs.lay.bits.Goals as goal
@@ -11,14 +11,12 @@ use Rattle.evaluate.proofs.lay.bits.Goals as goal
 pub loop-i-init : goal.loop-i-init
 loop-i-init c = laid_none 0 _ _
 
-pub overflow_cast-dst : goal.overflow_cast-dst
-overflow_cast-dst c = tt
-
 pub loop-i-preserved : goal.loop-i-preserved
 loop-i-preserved c =
     let src = c.args.src.now in
     let at = c.loop-i in
-    laid_more _ at.invariant (omega (arith, bits-long is_one src)) (omega arith) (bool-bit (is_one (get_or src at.i 0)) ∙ bits_at is_one src at.i refl)
+    laid_more _ at.invariant (omega (arith, bits-long is_one src)) (omega arith)
+    (c.from.ensures ∙ bool-bit (is_one (get_or src at.i 0)) ∙ bits_at is_one src at.i refl)
 
 pub shape_of-dst : goal.shape_of-dst
 shape_of-dst c = c.loop-i.invariant.long

@@ -3,7 +3,7 @@ use mathlib.Core.Path.{refl, ◌∙◌}
 use native.Mathlib.Omega.{arith}
 use lib.Bits.{and_le_r}
 use lib.ListN.{get_or}
-use Rattle.clear.proofs.Laid.{laid_none, laid_more}
+use Rattle.netlist.proofs.Laid.{laid_none, laid_more}
 use Rattle.evaluate.specs.Lane.{lane}
 use Rattle.evaluate.proofs.Lanes.{bit-first}
 use Rattle.evaluate.proofs.Fronts.{laid-front, bits-long, bits_at}

@@ -1,9 +1,9 @@
 -- `search::search`: where the search stands.
-use Prim.Native.Nat.{suc, ◌+◌, ◌-◌, ◌<◌}
-use mathlib.Core.Path.{◌≡◌, refl, sym, ◌∙◌}
+use Prim.Native.Nat.{◌+◌, ◌<◌}
+use mathlib.Core.Path.{refl, sym, ◌∙◌}
 use lib.ListN.{length}
 use Rattle.netlist.proofs.Puts.{wired-same}
-use Rattle.fewest_search.proofs.Standing.{moved-some, left-some, standing-first, standing-turned, span-some, found-floor, found-short, found-end, found-spent, low-here}
+use Rattle.fewest_search.proofs.Standing.{left-some, standing-first, standing-turned, span-some, found-floor, found-short, found-end, found-spent, low-here}
 use native.Mathlib.Omega.{arith}
 use Rattle.fewest_search.proofs.search.search.Goals as goal
 
@@ -24,31 +24,6 @@ pub bounds-lows-0 : goal.bounds-lows-0
 bounds-lows-0 c =
     let p =
     c.requires.0.fits in omega (arith, c.loop-least.invariant.lows-long, p.some)
-
-pub shape_of-way-then-least-lows : goal.shape_of-way-then-least-lows
-shape_of-way-then-least-lows c =
-    let p =
-    c.requires.0.fits in c.loop-least.invariant.ways-long ∙ p.places ∙ sym p.ways
-
-pub shape_of-best-then-least-lows : goal.shape_of-best-then-least-lows
-shape_of-best-then-least-lows c =
-    let p =
-    c.requires.0.fits in
-    c.loop-least.invariant.bests-long ∙ p.places ∙ sym p.bests
-
-pub shape_of-code-then-least-lows : goal.shape_of-code-then-least-lows
-shape_of-code-then-least-lows c =
-    let p =
-    c.requires.0.fits in c.loop-least.invariant.codes-long ∙ p.places
-
-pub shape_of-lows-then-least-lows : goal.shape_of-lows-then-least-lows
-shape_of-lows-then-least-lows c =
-    let p =
-    c.requires.0.fits in
-    c.loop-least.invariant.lows-long ∙ p.places ∙ sym p.lowest
-
-pub shape_of-spans-then-least-lows : goal.shape_of-spans-then-least-lows
-shape_of-spans-then-least-lows c = c.start-least.auto.spans
 
 pub returns-then-least-lows : goal.returns-then-least-lows
 returns-then-least-lows c =
@@ -88,41 +63,14 @@ bounds-lows-0-then-left-span c =
     c.requires.0.fits in
     omega (arith, c.loop-least.invariant.lows-long, p.some)
 
-pub shape_of-way-then-left-span : goal.shape_of-way-then-left-span
-shape_of-way-then-left-span c =
-    let p =
-    c.requires.0.fits in
-    c.loop-least.invariant.ways-long ∙ p.places ∙ sym p.ways
-
-pub shape_of-best-then-left-span : goal.shape_of-best-then-left-span
-shape_of-best-then-left-span c =
-    let p =
-    c.requires.0.fits in
-    c.loop-least.invariant.bests-long ∙ p.places ∙ sym p.bests
-
-pub shape_of-code-then-left-span : goal.shape_of-code-then-left-span
-shape_of-code-then-left-span c =
-    let p =
-    c.requires.0.fits in
-    c.loop-least.invariant.codes-long ∙ p.places
-
-pub shape_of-lows-then-left-span : goal.shape_of-lows-then-left-span
-shape_of-lows-then-left-span c =
-    let p =
-    c.requires.0.fits in
-    c.loop-least.invariant.lows-long ∙ p.places ∙ sym p.lowest
-
-pub shape_of-spans-then-left-span : goal.shape_of-spans-then-left-span
-shape_of-spans-then-left-span c = c.start-least.auto.spans
-
 pub returns-then-left-span : goal.returns-then-left-span
 returns-then-left-span c =
     let p = c.requires.0.fits in
     λ N Q. found-short p.some (omega arith)
     c.start-least.ensures.spans c.loop-least.invariant (rw (sym p.places) at Q) _ c.if-left-span.true refl refl
 
-pub next-moved-requires : goal.next-moved-requires
-next-moved-requires c =
+pub next-requires : goal.next-requires
+next-requires c =
     let p =
     c.requires.0.fits in (
       omega (arith, c.loop-least.invariant.high, p.wired.results),
@@ -130,38 +78,10 @@ next-moved-requires c =
           (arith, c.loop-least.invariant.high, c.loop-least.invariant.ways-long),
     )
 
-pub shape_of-way-then-moved-eq0 : goal.shape_of-way-then-moved-eq0
-shape_of-way-then-moved-eq0 c =
-    let p =
-    c.requires.0.fits in
-    c.next-moved.auto.way ∙ c.loop-least.invariant.ways-long ∙
-    p.places ∙ sym p.ways
-
-pub shape_of-best-then-moved-eq0 : goal.shape_of-best-then-moved-eq0
-shape_of-best-then-moved-eq0 c =
-    let p =
-    c.requires.0.fits in
-    c.loop-least.invariant.bests-long ∙ p.places ∙ sym p.bests
-
-pub shape_of-code-then-moved-eq0 : goal.shape_of-code-then-moved-eq0
-shape_of-code-then-moved-eq0 c =
-    let p =
-    c.requires.0.fits in
-    c.loop-least.invariant.codes-long ∙ p.places
-
-pub shape_of-lows-then-moved-eq0 : goal.shape_of-lows-then-moved-eq0
-shape_of-lows-then-moved-eq0 c =
-    let p =
-    c.requires.0.fits in
-    c.loop-least.invariant.lows-long ∙ p.places ∙ sym p.lowest
-
-pub shape_of-spans-then-moved-eq0 : goal.shape_of-spans-then-moved-eq0
-shape_of-spans-then-moved-eq0 c = c.start-least.auto.spans
-
-pub returns-then-moved-eq0 : goal.returns-then-moved-eq0
-returns-then-moved-eq0 c =
+pub returns-in_default : goal.returns-in_default
+returns-in_default c =
     let p = c.requires.0.fits in
-    let M = rw c.if-moved-eq0.true at c.next-moved.ensures in
+    let M = c.in_default.ensures in
     λ N Q. found-end p.some (omega arith)
     c.start-least.ensures.spans c.loop-least.invariant
     (rw (sym p.places) at Q) c.if-left-span.false _ M refl refl
@@ -171,56 +91,23 @@ bounds-lows-0-then-left-eq0 c =
     let p =
     c.requires.0.fits in omega (arith, c.loop-least.invariant.lows-long, p.some)
 
-pub shape_of-way-then-left-eq0 : goal.shape_of-way-then-left-eq0
-shape_of-way-then-left-eq0 c =
-    let p =
-    c.requires.0.fits in c.next-moved.auto.way ∙
-    c.loop-least.invariant.ways-long ∙ p.places ∙ sym p.ways
-
-pub shape_of-best-then-left-eq0 : goal.shape_of-best-then-left-eq0
-shape_of-best-then-left-eq0 c =
-    let p =
-    c.requires.0.fits in c.loop-least.invariant.bests-long ∙ p.places ∙ sym p.bests
-
-pub shape_of-code-then-left-eq0 : goal.shape_of-code-then-left-eq0
-shape_of-code-then-left-eq0 c =
-    let p =
-    c.requires.0.fits in c.loop-least.invariant.codes-long ∙ p.places
-
-pub shape_of-lows-then-left-eq0 : goal.shape_of-lows-then-left-eq0
-shape_of-lows-then-left-eq0 c =
-    let p =
-    c.requires.0.fits in c.loop-least.invariant.lows-long ∙ p.places ∙ sym p.lowest
-
-pub shape_of-spans-then-left-eq0 : goal.shape_of-spans-then-left-eq0
-shape_of-spans-then-left-eq0 c = c.start-least.auto.spans
-
 pub returns-then-left-eq0 : goal.returns-then-left-eq0
 returns-then-left-eq0 c =
     let p = c.requires.0.fits in
-    let r = c.next-moved.result in
-    let e : r ≡ suc (r - 1) = moved-some r c.if-moved-eq0.false in
-    let M = rw e at c.next-moved.ensures in
+    let M = c.in-Some.ensures in
     λ N Q. found-spent p.some (omega arith)
     c.start-least.ensures.spans
     c.loop-least.invariant (rw (sym p.places) at Q)
-    c.if-left-span.false (r - 1) M _
+    c.if-left-span.false c.in-Some.place M _
     c.if-left-eq0.true refl refl
-
-pub overflow_sub-moved : goal.overflow_sub-moved
-overflow_sub-moved c =
-    let r = c.next-moved.result in
-    let e : r ≡ suc (r - 1) = moved-some r c.if-moved-eq0.false in omega arith
 
 pub turn-t-requires : goal.turn-t-requires
 turn-t-requires c =
     let p = c.requires.0.fits in
     let I = c.loop-least.invariant in
-    let r = c.next-moved.result in
-    let e : r ≡ suc (r - 1) = moved-some r c.if-moved-eq0.false in
-    let M = rw e at c.next-moved.ensures in
+    let M = c.in-Some.ensures in
     let Q = rw (sym p.places) at c.requires.0.source in
-    let b : r - 1 < length c.args.codes.now + c.args.count = omega (arith, M.within, I.high) in
+    let b : c.in-Some.place < length c.args.codes.now + c.args.count = omega (arith, M.within, I.high) in
     record {
       fits = record {
         wired = wired-same (I.codes-long ∙ p.places) p.wired;
@@ -236,7 +123,7 @@ turn-t-requires c =
         b,
         low-here p.some (omega arith)
             c.start-least.ensures.spans I Q
-            c.if-left-span.false (r - 1) M b,
+            c.if-left-span.false c.in-Some.place M b,
       );
     }
 
@@ -252,13 +139,11 @@ pub loop-least-preserved : goal.loop-least-preserved
 loop-least-preserved c =
     let p = c.requires.0.fits in
     let I = c.loop-least.invariant in
-    let r = c.next-moved.result in
-    let e : r ≡ suc (r - 1) = moved-some r c.if-moved-eq0.false in
-    let M = rw e at c.next-moved.ensures in
+    let M = c.in-Some.ensures in
     let S = c.start-least.ensures.spans in
     let some = span-some p.some (omega arith) S I (rw (sym p.places) at c.requires.0.source) in
     let T = c.turn-t in
-    standing-turned p.some (omega arith) S I (r - 1)
+    standing-turned p.some (omega arith) S I c.in-Some.place
     c.if-left-span.false M
     some (left-some _ c.if-left-eq0.false) T.ensures
     (T.auto.best ∙ I.bests-long) (T.auto.code ∙ I.codes-long) (T.auto.lows ∙ I.lows-long)

@@ -1,6 +1,6 @@
 -- `search::start`.
 use Prim.Native.Nat.{◌-◌, ◌≤◌, ◌<◌}
-use mathlib.Core.Path.{◌≡◌, sym, ◌∙◌}
+use mathlib.Core.Path.{◌≡◌}
 use lib.ListN.{length, set, length-set}
 use Rattle.netlist.specs.Table.{tables}
 use Rattle.fewest_search.proofs.Turning.{low_first, low-room, entered-most, begun-whole, begun_all}
@@ -17,19 +17,13 @@ enter-requires c =
     record {
       wired = p.wired;
       count_in_bounds = (
-        omega (arith, p.places, p.ways, c.bytes.auto.bytes),
+        omega (arith, p.places, p.ways, c.fill.auto.self),
         omega (arith, p.places),
         omega (arith, p.lowest, p.places, p.some, length-set c.args.lows.now 0 c.twices.result),
         omega arith,
         low-room (length c.args.codes.now) c.args.count (set c.args.lows.now 0 c.twices.result) low few,
       );
     }
-
-pub keep-requires : goal.keep-requires
-keep-requires c =
-    let p = c.requires.0 in
-    p.bests ∙ sym p.ways ∙ sym
-    c.bytes.auto.bytes
 
 pub weigh-requires : goal.weigh-requires
 weigh-requires c =
@@ -50,12 +44,6 @@ weigh-requires c =
       omega arith,
     )
 
-pub shape_of-lows : goal.shape_of-lows
-shape_of-lows c =
-    c.enter.auto.lows ∙ length-set
-    c.args.lows.now 0
-    c.twices.result
-
 pub returns : goal.returns
 returns c =
     let p = c.requires.0 in
@@ -65,7 +53,7 @@ returns c =
     c.twices.ensures in
     let E = c.enter in
     let e = begun-whole E.ensures low few in
-    begun_all c.bytes.ensures
+    begun_all (c.fill.ensures.after (λ y e. e))
     c.spans.ensures
     c.twices.ensures e
-    E.ensures c.keep.ensures c.weigh.ensures
+    E.ensures c.copy_from_slice.ensures.after c.weigh.ensures

@@ -56,4 +56,4 @@ pub returns : goal.returns
 returns c =
     turn-fewer _ c.enter-stop.ensures
     c.weigh-c.ensures c.if-stop-count.false
-    c.if-least-c.false refl c.keep.ensures
+    c.if-least-c.false refl c.copy_from_slice.ensures.after

@@ -7,6 +7,3 @@ use Rattle.fewest_walk.proofs.next.next.Given as goal
 
 abbrev pub invariant-loop-p : goal.invariant-loop-p
 invariant-loop-p l = Advancing (ways_at l.codes l.results) (length l.codes + l.count) l.initial.way l.way l.p
-
-abbrev pub decreases-loop-p : goal.decreases-loop-p
-decreases-loop-p l = l.p

@@ -1,11 +1,6 @@
 -- `outputs::outputs`: the changes of the first i outputs.
-use Prim.Native.Nat.{◌-◌}
-use lib.ListN.{length}
 use Rattle.fewest_walk.proofs.Ending.{Ending}
 use Rattle.fewest_walk.proofs.outputs.outputs.Given as goal
 
 abbrev pub invariant-loop-i : goal.invariant-loop-i
 invariant-loop-i l = Ending l.code l.from l.wanted l.i l.sum
-
-abbrev pub decreases-loop-i : goal.decreases-loop-i
-decreases-loop-i l = length l.wanted - l.i

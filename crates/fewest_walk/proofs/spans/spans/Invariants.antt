@@ -7,6 +7,3 @@ use Rattle.fewest_walk.proofs.spans.spans.Given as goal
 
 abbrev pub invariant-loop-p : goal.invariant-loop-p
 invariant-loop-p l = Spanning (ways_at l.codes l.results) (length l.codes + l.count) l.initial.spans l.spans l.p l.span
-
-abbrev pub decreases-loop-p : goal.decreases-loop-p
-decreases-loop-p l = l.p

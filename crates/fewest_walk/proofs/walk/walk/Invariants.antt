@@ -1,11 +1,7 @@
 -- `walk::walk`: the gates from one on up to gate i are done.
-use Prim.Native.Nat.{◌-◌}
 use Rattle.netlist.specs.Table.{tables}
 use Rattle.fewest_walk.proofs.Walking.{Walking}
 use Rattle.fewest_walk.proofs.walk.walk.Given as goal
 
 abbrev pub invariant-loop-i : goal.invariant-loop-i
 invariant-loop-i l = Walking (tables l.operands l.results) l.count l.n l.way l.from l.initial.code l.initial.lows l.code l.lows l.i l.low
-
-abbrev pub decreases-loop-i : goal.decreases-loop-i
-decreases-loop-i l = l.count - l.i

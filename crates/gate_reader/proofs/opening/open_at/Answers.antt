@@ -1,4 +1,5 @@
 -- `open_at`: the head, the number of gate lines, the room for the widths, and then the widths.
+use Rattle.std.proofs.lemmas.Result.{err_from_is_err_and}
 use Rattle.netlist.proofs.Size.{large-fits}
 use Rattle.gate_reader.proofs.Openings.{head-under, open-not, open-6, open-14-in, open-14-out, open_at}
 use native.Mathlib.Omega.{arith}
@@ -7,46 +8,26 @@ use Rattle.gate_reader.proofs.opening.open_at.Goals as goal
 pub read_opening-requires : goal.read_opening-requires
 read_opening-requires c = rw c.large.ensures (large-fits c.args.sizes)
 
-pub count_lines-requires : goal.count_lines-requires
-count_lines-requires c =
-    let a = head-under _ _ _ c.large.ensures c.in-Is.is c.read_opening.ensures in
-    a.header.within
+pub returns-in_err-h : goal.returns-in_err-h
+returns-in_err-h c =
+    let p = err_from_is_err_and c.from_residual.result c.from_residual.ensures.1 in
+    let a = rw c.large.ensures at c.in_err-h.ensures in
+    rw (p.1, p.2) (open-not a)
 
 pub returns-then-count_lines-h : goal.returns-then-count_lines-h
-returns-then-count_lines-h c =
-    let a = head-under _ _ _ c.large.ensures c.in-Is.is c.read_opening.ensures in
-    open-6 a c.count_lines.ensures c.if-count_lines-h.true
+returns-then-count_lines-h c = open-6 (head-under c.large.ensures c.in_ok-h.ensures) c.count_lines.ensures c.if-count_lines-h.true
 
 pub returns-then-inputs-h : goal.returns-then-inputs-h
 returns-then-inputs-h c =
-    let a = head-under _ _ _ c.large.ensures c.in-Is.is c.read_opening.ensures in
-    open-14-in a c.count_lines.ensures c.if-count_lines-h.false c.if-inputs-h.true
+    open-14-in (head-under c.large.ensures c.in_ok-h.ensures) c.count_lines.ensures c.if-count_lines-h.false c.if-inputs-h.true
 
 pub returns-then-outputs-h : goal.returns-then-outputs-h
 returns-then-outputs-h c =
-    let a = head-under _ _ _ c.large.ensures c.in-Is.is c.read_opening.ensures in
-    open-14-out a c.count_lines.ensures c.if-count_lines-h.false
-    c.if-inputs-h.false c.if-outputs-h.true
+    open-14-out (head-under c.large.ensures c.in_ok-h.ensures) c.count_lines.ensures c.if-count_lines-h.false c.if-inputs-h.false
+    c.if-outputs-h.true
 
-pub copy-requires : goal.copy-requires
-copy-requires c =
-    let a = head-under _ _ _ c.large.ensures c.in-Is.is c.read_opening.ensures in
-    omega (arith, a.inside.inputs, c.read_opening.auto.inputs)
-
-pub copy-requires-in-Is : goal.copy-requires-in-Is
-copy-requires-in-Is c =
-    let a = head-under _ _ _ c.large.ensures c.in-Is.is c.read_opening.ensures in
-    omega (arith, a.inside.outputs, c.read_opening.auto.outputs)
-
-pub returns-in-Refused : goal.returns-in-Refused
-returns-in-Refused c =
-    open-not
-    (head-under _ _ _ c.large.ensures c.in-Refused.is
-    c.read_opening.ensures)
-
-pub returns-else-outputs-h : goal.returns-else-outputs-h
-returns-else-outputs-h c =
-    let a = head-under _ _ _ c.large.ensures c.in-Is.is c.read_opening.ensures in
-    open_at a c.count_lines.ensures c.if-count_lines-h.false c.if-inputs-h.false c.if-outputs-h.false
-    (omega (arith, c.read_opening.auto.inputs)) (omega (arith, c.read_opening.auto.outputs))
-    c.copy.ensures c.copy-in-Is.ensures
+pub returns : goal.returns
+returns c =
+    open_at (head-under c.large.ensures c.in_ok-h.ensures) c.count_lines.ensures c.if-count_lines-h.false c.if-inputs-h.false
+    c.if-outputs-h.false (omega (arith, c.read_opening.auto.inputs)) (omega (arith, c.read_opening.auto.outputs)) c.copy.ensures
+    c.copy-2.ensures

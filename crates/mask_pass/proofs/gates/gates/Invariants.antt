@@ -1,5 +1,4 @@
 -- `mask_pass::gates::gates` meets its contract.
-use Prim.Native.Nat.{◌-◌}
 use lib.ListN.{length}
 use Rattle.netlist.specs.Table.{tables}
 use Rattle.mask_twins.specs.State.{state_of}
@@ -8,8 +7,5 @@ use Rattle.mask_pass.proofs.gates.gates.Given as goal
 
 abbrev pub invariant-loop-i : goal.invariant-loop-i
 invariant-loop-i l =
-    Emitting l.initial.out l.at l.n (tables l.operands l.results) l.count
+    Emitting l.initial.out l.at l.n (tables l.operands l.results)
     (state_of l.c l.initial.wire l.initial.code) l.out l.place l.next (length l.initial.wire) l.wire l.code l.i
-
-abbrev pub decreases-loop-i : goal.decreases-loop-i
-decreases-loop-i l = l.count - l.i

@@ -37,7 +37,7 @@ pub overflow_add-result : goal.overflow_add-result
 overflow_add-result c =
     omega (
       arith,
-      kind-small c.emit-made.ensures,
+      kind-small c.emit-end.ensures,
       c.requires.n_bound.1,
     )
 
@@ -47,4 +47,4 @@ returns c =
     step-parts a.wire.now a.code.now a.operands a.results
     c.split-g.ensures
     c.twin-a.ensures
-    c.twin-b.ensures c.emit-made.ensures
+    c.twin-b.ensures c.emit-end.ensures

@@ -1,11 +1,6 @@
 -- `mask_pass::outs::codes` meets its contract.
-use Prim.Native.Nat.{◌-◌}
-use lib.ListN.{length}
 use Rattle.mask_pass.proofs.Outputs.{Picked}
 use Rattle.mask_pass.proofs.outs.codes.Given as goal
 
 abbrev pub invariant-loop-i : goal.invariant-loop-i
 invariant-loop-i l = Picked l.initial.res l.code l.from l.wanted l.res l.i
-
-abbrev pub decreases-loop-i : goal.decreases-loop-i
-decreases-loop-i l = length l.wanted - l.i

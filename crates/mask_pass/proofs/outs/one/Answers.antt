@@ -2,14 +2,14 @@
 use Rattle.mask_pass.proofs.Outputs.{out-changed}
 use borrow.Author.Tests.{eq-eqb, ne_eqb}
 use Rattle.mask_pass.proofs.outs.one.Goals as goal
+use Rattle.mask_pass.proofs.outs.one.Goals.{then-want-eq0-via-then-want-eq0, then-want-eq0-via-else-want-eq0+then-want-t}
 
 pub returns-then-want-eq0 : goal.returns-then-want-eq0
-returns-then-want-eq0 c = rw (eq-eqb _ 0 c.if-want-eq0.true) c.eqw.ensures
-
-pub returns-then-want-t : goal.returns-then-want-t
-returns-then-want-t c =
-    rw (ne_eqb _ 0 c.if-want-eq0.false, eq-eqb _ _ c.if-want-t.true)
-    c.eqw-then-want-t.ensures
+returns-then-want-eq0 c =
+    elim c.then-want-eq0.branch [
+      | then-want-eq0-via-then-want-eq0 w ↦ rw (eq-eqb _ 0 w.if-want-eq0.true) c.eqw.ensures
+      | then-want-eq0-via-else-want-eq0+then-want-t w ↦ rw (ne_eqb _ 0 w.if-want-eq0.false, eq-eqb _ _ w.if-want-t.true) c.eqw.ensures
+    ]
 
 pub returns : goal.returns
 returns c =

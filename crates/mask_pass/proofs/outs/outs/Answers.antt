@@ -1,5 +1,4 @@
 -- `mask_pass::outs::outs` meets its contract.
-use Rattle.write_buffer.proofs.Writing.{wrote-length}
 use Rattle.mask_pass.proofs.Outputs.{outed-none, outed-more, outed-all}
 use native.Mathlib.Omega.{arith}
 use Rattle.mask_pass.proofs.outs.outs.Goals as goal
@@ -13,9 +12,6 @@ loop-i-preserved c =
     outed-more c.loop-i.invariant
     c.loop-i-test.true p.0 p.1 c.twin-t.ensures
     c.one-place.ensures
-
-pub shape_of-out : goal.shape_of-out
-shape_of-out c = wrote-length c.loop-i.invariant.wrote.wrote
 
 pub returns : goal.returns
 returns c = outed-all c.loop-i.invariant c.loop-i-test.false

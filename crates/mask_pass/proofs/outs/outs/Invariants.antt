@@ -1,11 +1,6 @@
 -- `mask_pass::outs::outs` meets its contract.
-use Prim.Native.Nat.{◌-◌}
-use lib.ListN.{length}
 use Rattle.mask_pass.proofs.Outputs.{Outed}
 use Rattle.mask_pass.proofs.outs.outs.Given as goal
 
 abbrev pub invariant-loop-i : goal.invariant-loop-i
-invariant-loop-i l = Outed l.initial.out l.at l.n l.c l.wire l.code l.from l.wanted l.out l.place l.next l.i
-
-abbrev pub decreases-loop-i : goal.decreases-loop-i
-decreases-loop-i l = length l.wanted - l.i
+invariant-loop-i l = Outed l.initial.out l.at l.n l.c l.wire l.code l.from l.wanted l.out l.place l.i

@@ -9,19 +9,10 @@ loop-i-init c = entered-none _ _ _ _ c.requires.0
 pub past-next-requires : goal.past-next-requires
 past-next-requires c = omega (arith, c.loop-i.invariant.inputs.most)
 
-pub overflow_add-w : goal.overflow_add-w
-overflow_add-w c = omega (arith, c.loop-i.invariant.inputs.input)
-
 pub loop-i-preserved : goal.loop-i-preserved
 loop-i-preserved c =
     entered-more c.loop-i.invariant c.loop-i-test.true
     c.requires.1 c.input-t.ensures c.past-next.ensures
-
-pub shape_of-wire : goal.shape_of-wire
-shape_of-wire c = c.loop-i.invariant.wires
-
-pub shape_of-code : goal.shape_of-code
-shape_of-code c = omega (arith, c.loop-i.invariant.codes, c.requires.0)
 
 pub returns : goal.returns
 returns c = entered_all c.loop-i.invariant c.loop-i-test.false

@@ -1,11 +1,6 @@
 -- `inputs::inputs`: the twins of the first i inputs were laid.
-use Prim.Native.Nat.{◌-◌}
-use lib.ListN.{length}
 use Rattle.mask_twins.proofs.Starts.{Entered}
 use Rattle.mask_twins.proofs.inputs.inputs.Given as goal
 
 abbrev pub invariant-loop-i : goal.invariant-loop-i
-invariant-loop-i l = Entered l.c l.codes l.initial.wire l.initial.code l.wire l.code l.next l.w l.i
-
-abbrev pub decreases-loop-i : goal.decreases-loop-i
-decreases-loop-i l = length l.codes - l.i
+invariant-loop-i l = Entered l.c l.codes l.initial.wire l.initial.code l.wire l.code l.next l.i

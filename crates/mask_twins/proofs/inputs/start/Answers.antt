@@ -5,5 +5,5 @@ use Rattle.mask_twins.proofs.inputs.start.Goals as goal
 pub returns : goal.returns
 returns c =
     started c.args.c c.args.codes.now c.args.wire.now c.args.code.now c.requires.0
-    c.wires.ensures
-    c.bytes.ensures c.inputs.ensures
+    (c.fill.ensures.after (λ y p. p))
+    (c.fill-2.ensures.after (λ y p. p)) c.inputs.ensures

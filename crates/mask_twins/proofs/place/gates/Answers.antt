@@ -1,10 +1,11 @@
 -- `gates`: the state has advanced by the first i gates.
-use Rattle.mask_twins.proofs.Advances.{advancing-none, advancing-more, advancing-all}
+use Rattle.mask_twins.proofs.Advances.{advancing-none, advancing-more}
+use mathlib.Core.Path.{◌≡◌}
 use native.Mathlib.Omega.{arith}
 use Rattle.mask_twins.proofs.place.gates.Goals as goal
 
 pub loop-i-init : goal.loop-i-init
-loop-i-init c = advancing-none _ _ _ _ _ c.requires.wired.1
+loop-i-init c = advancing-none _ _ _ _ c.requires.wired.1
 
 pub step-next-requires : goal.step-next-requires
 step-next-requires c =
@@ -22,15 +23,8 @@ step-next-requires c =
 pub loop-i-preserved : goal.loop-i-preserved
 loop-i-preserved c =
     let s = c.step-next in
-    advancing-more c.loop-i.invariant
-    c.loop-i-test.true s.auto.wire s.auto.code
+    advancing-more c.loop-i.invariant s.auto.wire s.auto.code
     s.ensures
 
-pub shape_of-wire : goal.shape_of-wire
-shape_of-wire c = c.loop-i.invariant.wires
-
-pub shape_of-code : goal.shape_of-code
-shape_of-code c = omega (arith, c.loop-i.invariant.codes, c.requires.wired.1)
-
 pub returns : goal.returns
-returns c = advancing-all c.loop-i.invariant c.loop-i-test.false
+returns c = let q : c.loop-i.i ≡ c.args.count = omega arith in rw q at c.loop-i.invariant.made

@@ -5,6 +5,8 @@ use Rattle.netlist.specs.Table.{tables}
 use Rattle.netlist.proofs.Puts.{wired-same}
 use Rattle.evaluate.specs.Bare.{bare}
 use Rattle.pairs_search.specs.Bases.{HeldOn}
+use Rattle.check_leak.proofs.Differences.{wire-within}
+use Rattle.pairs_search.proofs.Uneven.{pair-within}
 use Rattle.pairs_search.proofs.Finds.{find_none, find-more, find-all}
 use native.Mathlib.Omega.{arith}
 use Rattle.pairs_search.proofs.search.find.Goals as goal
@@ -12,7 +14,6 @@ use Rattle.pairs_search.proofs.search.find.Goals as goal
 pub loop-block-init : goal.loop-block-init
 loop-block-init c =
     find_none c.args.pairs.now c.args.blocks refl c.requires.paints_in_bounds.1 c.requires.paints_in_bounds.2 (λ m. (c.public-publics.ensures.1 m, λ z. absurd (z refl)))
-    c.none.ensures refl
 
 pub run-requires : goal.run-requires
 run-requires c =
@@ -38,23 +39,12 @@ look-best-requires c =
     let run = c.run in
     let w = run.auto.words ∙ at.invariant.long-words in (
       omega (arith, c.requires.paints_in_bounds.3, c.loop-block-test.true),
-      omega (arith, at.invariant.found.lowest.within, c.requires.paints_in_bounds.4, w),
-      omega (arith, at.invariant.found.uneven.within),
+      omega (arith, wire-within at.best.leak at.invariant.found.lowest, c.requires.paints_in_bounds.4, w),
+      pair-within at.best.pair at.invariant.found.uneven,
       run.auto.bases ∙ at.invariant.long-bases ∙ sym w,
       run.auto.base ∙ at.invariant.long-base ∙ sym w,
       λ i l. omega (arith, c.requires.paints_in_bounds.5 i l, w),
     )
-
-pub overflow_add-block : goal.overflow_add-block
-overflow_add-block c =
-    omega (
-      arith,
-      c.requires.paints_in_bounds.3,
-      c.loop-block-test.true,
-    )
-
-pub loop-block-smaller : goal.loop-block-smaller
-loop-block-smaller c = omega (arith, c.loop-block-test.true)
 
 pub loop-block-preserved : goal.loop-block-preserved
 loop-block-preserved c =

@@ -7,7 +7,6 @@ use lib.ListN.{length}
 use Rattle.netlist.specs.Table.{tables}
 use Rattle.evaluate.specs.Bare.{bare}
 use Rattle.check_counts.proofs.Paints.{length-each}
-use Rattle.check_leak.specs.Search.{found_at}
 use Rattle.check_leak.proofs.Answers.{tells-found}
 use Rattle.pairs_search.specs.Level.{counts_of}
 use Rattle.pairs_search.specs.Search.{Found}
@@ -20,22 +19,20 @@ slice_bounds-find-end c =
     sym (ap length c.each-paints.ensures ∙ length-each 0
     c.args.codes.now)
 
-pub find-best-requires : goal.find-best-requires
-find-best-requires c =
+pub find-requires : goal.find-requires
+find-requires c =
     let e = ap length c.each-paints.ensures ∙ length-each 0 c.args.codes.now in
     record { wired = c.requires.wired; paints_in_bounds = (omega (arith, c.requires.codes_len_bound.1, e), c.requires.codes_len_bound.2, c.requires.codes_len_bound.3, c.blocks_of.ensures.1, omega arith, c.requires.codes_len_bound.4) }
 
 pub returns : goal.returns
 returns c = λ n o N h. let a = c.args in
-    let find = c.find-best in
+    let find = c.find in
     let blocks = c.blocks_of in
     let N' = bare (tables a.operands.now a.results.now) a.count (length a.words.now) in
     let W = length a.words.now in
     let S = blocks.result * 16 in
     let found = subst (λ (ps : List ℕ). Found (counts_of N' false ps) (counts_of N' true ps) a.pairs.now W (length a.pairs.now / 2) S find.result)
     c.each-paints.ensures find.ensures in (
-      c.wires_verdict_of.ensures ∙ ap (found_at find.result.difference) find.auto.words
-          ∙ tells-found h a.codes.now S find.result.difference blocks.ensures.0 c.requires.codes_len_bound.5 found.lowest,
-      c.pairs_verdict_of.ensures
-          ∙ tells-pairs h a.codes.now c.requires.codes_len_bound.5 a.pairs.now S find.result.pair blocks.ensures.0 found.uneven,
+      tells-found h a.codes.now S find.result.leak blocks.ensures.0 c.requires.codes_len_bound.5 found.lowest,
+      tells-pairs h a.codes.now c.requires.codes_len_bound.5 a.pairs.now S find.result.pair blocks.ensures.0 found.uneven,
     )

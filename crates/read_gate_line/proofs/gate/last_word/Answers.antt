@@ -1,15 +1,12 @@
 -- A gate, and the line's end.
-use Rattle.read_text.proofs.Answering.{end_is, end_more}
 use Rattle.read_gate_line.proofs.GateWords.{last-unnamed, last_more, last-gate}
 use Rattle.read_gate_line.proofs.gate.last_word.Goals as goal
 
-pub returns-in_default : goal.returns-in_default
-returns-in_default c = last-unnamed _ _ _ c.in_default.is
+pub returns-in_err-g : goal.returns-in_err-g
+returns-in_err-g c = rw c.from_residual.ensures (last-unnamed _ _ _ c.in_err-g.was)
 
-pub returns-in-At : goal.returns-in-At
-returns-in-At c =
-    last-gate _ _ _ _ _ c.in-Is.is c.requires.1
-    (end_is _ _ _ _ c.in-At.is c.line_end.ensures)
+pub returns-in_err-next : goal.returns-in_err-next
+returns-in_err-next c = rw c.from_residual-in_err-next.ensures (last_more _ _ _ c.in_err-next.ensures)
 
-pub returns-in-More : goal.returns-in-More
-returns-in-More c = last_more _ _ _ (end_more _ _ _ c.in-More.is c.line_end.ensures)
+pub returns : goal.returns
+returns c = last-gate _ _ _ _ _ c.in_ok-g.was c.requires.1 c.in_ok-next.ensures

@@ -4,11 +4,11 @@ use borrow.Author.Rules.{rules}
 use Rattle.read_text.proofs.AllowedBytes.{testing-start, testing-end, plain-on}
 use Rattle.read_text.proofs.allowed.all_plain.Goals as goal
 
-pub loop-i-init : goal.loop-i-init
-loop-i-init c = testing-start _ _
+pub loop-b-init : goal.loop-b-init
+loop-b-init c = testing-start _ _
 
-pub loop-i-preserved : goal.loop-i-preserved
-loop-i-preserved c = plain-on _ _ _ _ (search rules) c.fault-faults.ensures c.loop-i.invariant
+pub loop-b-preserved : goal.loop-b-preserved
+loop-b-preserved c = plain-on _ _ _ _ (search rules) c.fault-faults.ensures c.loop-b.invariant
 
 pub returns : goal.returns
-returns c = testing-end _ _ _ _ refl (search rules) c.loop-i.invariant
+returns c = testing-end _ _ _ _ refl (search rules) c.loop-b.invariant

@@ -1,35 +1,44 @@
--- `plan`: nothing on a no, and otherwise the opening's gates.
-use Rattle.session_plan.proofs.Openings.{opening-yes, opened-plan, refused-plan}
-use native.Mathlib.Omega.{arith}
+-- `plan`: the first no, or the opening's masked gates.
+use Rattle.std.proofs.Common.{ℕ, sym, ap, ◌+◌, ◌∙◌, arith}
+use Rattle.netlist.specs.declared.Limits.{Limits}
+use Rattle.netlist.specs.Mask.{is_input_code}
+use Rattle.netlist.specs.Services.{list_good}
+use Rattle.session_plan.proofs.Openings.{no-four, no-five-values, no-five-bits, no-eleven, no-fourteen, opens, open-count}
 use Rattle.session_plan.proofs.opening.plan.Goals as goal
 
-pub returns-then-no-ne0 : goal.returns-then-no-ne0
-returns-then-no-ne0 c =
-    let a = c.args in refused-plan a.sizes a.widths.now a.codes.now a.room c.if-no-ne0.true
-    c.question-no.ensures
+pub returns-then-not-positive : goal.returns-then-not-positive
+returns-then-not-positive c = let a = c.args in no-four a.sizes a.widths.now a.codes.now a.room (sym c.if-not-positive.ensures)
 
-pub publics-requires : goal.publics-requires
-publics-requires c =
+pub returns-then-l-widths : goal.returns-then-l-widths
+returns-then-l-widths c =
     let a = c.args in
-    let y = opening-yes a.sizes a.widths.now a.codes.now a.room (rw c.if-no-ne0.false at c.question-no.ensures) in
-    (omega arith, omega (arith, y.0))
+    no-five-values a.sizes a.widths.now a.codes.now a.room (sym c.if-not-positive.ensures) (omega (arith, ap (λ (l : Limits). l.inputs) c.small-l.ensures))
 
-pub overflow_add-many : goal.overflow_add-many
-overflow_add-many c = omega (arith, c.publics.ensures.few)
-
-pub overflow_cast-result : goal.overflow_cast-result
-overflow_cast-result c =
+pub returns-then-l-bits : goal.returns-then-l-bits
+returns-then-l-bits c =
     let a = c.args in
-    let y = opening-yes a.sizes a.widths.now a.codes.now a.room (rw c.if-no-ne0.false at c.question-no.ensures) in
-    omega (arith, y.0)
+    no-five-bits a.sizes a.widths.now a.codes.now a.room (sym c.if-not-positive.ensures) (omega (arith, ap (λ (l : Limits). l.inputs) c.small-l.ensures))
+    (omega (arith, ap (λ (l : Limits). l.wires) c.small-l.ensures))
 
-pub overflow_cast-result-2 : goal.overflow_cast-result-2
-overflow_cast-result-2 c =
+pub returns-then-not-valid_codes : goal.returns-then-not-valid_codes
+returns-then-not-valid_codes c =
     let a = c.args in
-    let y = opening-yes a.sizes a.widths.now a.codes.now a.room (rw c.if-no-ne0.false at c.question-no.ensures) in
-    omega (arith, y.0, c.publics.ensures.few)
+    no-eleven a.sizes a.widths.now a.codes.now a.room (sym c.if-not-positive.ensures) (omega (arith, ap (λ (l : Limits). l.inputs) c.small-l.ensures))
+    (omega (arith, ap (λ (l : Limits). l.wires) c.small-l.ensures))
+    (ap (λ (n : ℕ). list_good is_input_code n a.codes.now) (sym c.total-bits.ensures) ∙ sym c.if-not-valid_codes.ensures)
+
+pub returns-then-room-many : goal.returns-then-room-many
+returns-then-room-many c =
+    let a = c.args in
+    no-fourteen a.sizes a.widths.now a.codes.now a.room (sym c.if-not-positive.ensures) (omega (arith, ap (λ (l : Limits). l.inputs) c.small-l.ensures))
+    (omega (arith, ap (λ (l : Limits). l.wires) c.small-l.ensures))
+    (ap (λ (n : ℕ). list_good is_input_code n a.codes.now) (sym c.total-bits.ensures) ∙ sym c.if-not-valid_codes.ensures)
+    (ap (λ (k : ℕ). 3 + k) c.publics-many.ensures ∙ open-count a.codes.now) (omega arith)
 
 pub returns : goal.returns
 returns c =
     let a = c.args in
-    opened-plan a.sizes a.widths.now a.codes.now a.room c.publics.ensures (rw c.if-no-ne0.false at c.question-no.ensures)
+    opens a.sizes a.widths.now a.codes.now a.room (sym c.if-not-positive.ensures) (omega (arith, ap (λ (l : Limits). l.inputs) c.small-l.ensures))
+    (omega (arith, ap (λ (l : Limits). l.wires) c.small-l.ensures))
+    (ap (λ (n : ℕ). list_good is_input_code n a.codes.now) (sym c.total-bits.ensures) ∙ sym c.if-not-valid_codes.ensures)
+    (ap (λ (k : ℕ). 3 + k) c.publics-many.ensures ∙ open-count a.codes.now) (omega arith)

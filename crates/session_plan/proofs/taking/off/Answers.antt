@@ -1,9 +1,13 @@
 -- `off`: 23, or one gate less.
-use Rattle.session_plan.proofs.Openings.{off-none, off-one}
+use Rattle.std.proofs.Common.{refl, arith}
+use borrow.Author.Tests.{le-leb}
+use Rattle.session.specs.Lists.{off_asked}
 use Rattle.session_plan.proofs.taking.off.Goals as goal
 
 pub returns-then-s-eq0 : goal.returns-then-s-eq0
-returns-then-s-eq0 c = let a = c.args in off-none a.s a.from c.if-s-eq0.true
+unfolding off_asked
+returns-then-s-eq0 c = rw c.if-s-eq0.true refl
 
 pub returns : goal.returns
-returns c = let a = c.args in off-one a.s a.from c.if-s-eq0.false
+unfolding off_asked
+returns c = rw (le-leb 1 c.args.s.gates (omega arith), c.record.ensures) refl

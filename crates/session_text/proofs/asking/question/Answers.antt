@@ -1,9 +1,7 @@
 -- `question`: the first no.
 use mathlib.Core.Path.{sym, ap, ◌∙◌}
-use mathlib.Core.List.{[], ◌∷◌}
-use lib.Dec.{leb}
 use Rattle.netlist.specs.declared.Limits.{Limits}
-use Rattle.netlist.specs.Lists.{every}
+use Rattle.netlist.specs.Services.{tables_long}
 use Rattle.netlist.specs.Netlist.{small}
 use Rattle.netlist.specs.Header.{within_limits}
 use Rattle.session_text.specs.Shown.{head_of}
@@ -11,29 +9,28 @@ use Rattle.session_text.proofs.Askings.{no_one, no-four, no-four-out, no-five, n
 use native.Mathlib.Omega.{arith}
 use Rattle.session_text.proofs.asking.question.Goals as goal
 
-pub returns-then-not-long : goal.returns-then-not-long
-returns-then-not-long c =
+pub returns-then-not-admit : goal.returns-then-not-admit
+returns-then-not-admit c =
     let a = c.args in
-    no_one (small a.sizes) (a.a ∷ a.b ∷ a.c ∷ a.d ∷ []) a.widths.now a.outputs.now a.gates a.places
-    (ap (λ (l : Limits). every (leb l.table) (a.a ∷ a.b ∷ a.c ∷ a.d ∷ [])) (sym c.small-l.ensures) ∙ sym c.long.ensures ∙
-    c.if-not-long.true)
+    no_one (small a.sizes) a.lengths.now a.widths.now a.outputs.now a.gates a.places
+    (ap (λ (l : Limits). tables_long l a.lengths.now) (sym c.small-l.ensures) ∙ sym c.if-not-admit.ensures)
 
 pub returns-then-not-positive : goal.returns-then-not-positive
 returns-then-not-positive c =
     let a = c.args in
-    no-four (small a.sizes) (a.a ∷ a.b ∷ a.c ∷ a.d ∷ []) a.widths.now a.outputs.now a.gates a.places
-    (ap (λ (l : Limits). every (leb l.table) (a.a ∷ a.b ∷ a.c ∷ a.d ∷ [])) (sym c.small-l.ensures) ∙ sym
-    c.long.ensures ∙ c.if-not-long.false)
-    (sym c.positive.ensures ∙ c.if-not-positive.true)
+    no-four (small a.sizes) a.lengths.now a.widths.now a.outputs.now a.gates a.places
+    (ap (λ (l : Limits). tables_long l a.lengths.now) (sym c.small-l.ensures) ∙ sym
+    c.if-not-admit.ensures)
+    (sym c.if-not-positive.ensures)
 
 pub returns-then-not-positive-2 : goal.returns-then-not-positive-2
 returns-then-not-positive-2 c =
     let a = c.args in
-    no-four-out (small a.sizes) (a.a ∷ a.b ∷ a.c ∷ a.d ∷ []) a.widths.now a.outputs.now a.gates a.places
-    (ap (λ (l : Limits). every (leb l.table) (a.a ∷ a.b ∷ a.c ∷ a.d ∷ [])) (sym c.small-l.ensures) ∙
-    sym c.long.ensures ∙ c.if-not-long.false)
-    (sym c.positive.ensures ∙ c.if-not-positive.false)
-    (sym c.positive-2.ensures ∙ c.if-not-positive-2.true)
+    no-four-out (small a.sizes) a.lengths.now a.widths.now a.outputs.now a.gates a.places
+    (ap (λ (l : Limits). tables_long l a.lengths.now) (sym c.small-l.ensures) ∙
+    sym c.if-not-admit.ensures)
+    (sym c.if-not-positive.ensures)
+    (sym c.if-not-positive-2.ensures)
 
 pub within-requires : goal.within-requires
 within-requires c =
@@ -43,37 +40,37 @@ within-requires c =
 pub returns-then-not-within : goal.returns-then-not-within
 returns-then-not-within c =
     let a = c.args in
-    no-five (small a.sizes) (a.a ∷ a.b ∷ a.c ∷ a.d ∷ []) a.widths.now a.outputs.now a.gates a.places
-    (ap (λ (l : Limits). every (leb l.table) (a.a ∷ a.b ∷ a.c ∷ a.d ∷ []))
+    no-five (small a.sizes) a.lengths.now a.widths.now a.outputs.now a.gates a.places
+    (ap (λ (l : Limits). tables_long l a.lengths.now)
     (sym c.small-l.ensures) ∙ sym
-    c.long.ensures ∙ c.if-not-long.false)
-    (sym c.positive.ensures ∙ c.if-not-positive.false)
-    (sym c.positive-2.ensures ∙ c.if-not-positive-2.false)
+    c.if-not-admit.ensures)
+    (sym c.if-not-positive.ensures)
+    (sym c.if-not-positive-2.ensures)
     (ap (λ (l : Limits). within_limits l (head_of a.widths.now a.outputs.now a.gates))
-    (sym c.small-l.ensures) ∙ sym c.within.ensures ∙ c.if-not-within.true)
+    (sym c.small-l.ensures) ∙ sym c.if-not-within.ensures)
 
 pub returns-then-places-gates : goal.returns-then-places-gates
 returns-then-places-gates c =
     let a = c.args in
-    no_six (small a.sizes) (a.a ∷ a.b ∷ a.c ∷ a.d ∷ []) a.widths.now a.outputs.now a.gates a.places
-    (ap (λ (l : Limits). every (leb l.table) (a.a ∷ a.b ∷ a.c ∷ a.d ∷ []))
+    no_six (small a.sizes) a.lengths.now a.widths.now a.outputs.now a.gates a.places
+    (ap (λ (l : Limits). tables_long l a.lengths.now)
     (sym c.small-l.ensures) ∙ sym
-    c.long.ensures ∙ c.if-not-long.false)
-    (sym c.positive.ensures ∙ c.if-not-positive.false)
-    (sym c.positive-2.ensures ∙ c.if-not-positive-2.false)
+    c.if-not-admit.ensures)
+    (sym c.if-not-positive.ensures)
+    (sym c.if-not-positive-2.ensures)
     (ap (λ (l : Limits). within_limits l (head_of a.widths.now a.outputs.now a.gates))
-    (sym c.small-l.ensures) ∙ sym c.within.ensures ∙ c.if-not-within.false)
+    (sym c.small-l.ensures) ∙ sym c.if-not-within.ensures)
     c.if-places-gates.true
 
 pub returns : goal.returns
 returns c =
     let a = c.args in
-    no_none (small a.sizes) (a.a ∷ a.b ∷ a.c ∷ a.d ∷ []) a.widths.now a.outputs.now a.gates a.places
-    (ap (λ (l : Limits). every (leb l.table) (a.a ∷ a.b ∷ a.c ∷ a.d ∷ []))
+    no_none (small a.sizes) a.lengths.now a.widths.now a.outputs.now a.gates a.places
+    (ap (λ (l : Limits). tables_long l a.lengths.now)
     (sym c.small-l.ensures) ∙ sym
-    c.long.ensures ∙ c.if-not-long.false)
-    (sym c.positive.ensures ∙ c.if-not-positive.false)
-    (sym c.positive-2.ensures ∙ c.if-not-positive-2.false)
+    c.if-not-admit.ensures)
+    (sym c.if-not-positive.ensures)
+    (sym c.if-not-positive-2.ensures)
     (ap (λ (l : Limits). within_limits l (head_of a.widths.now a.outputs.now a.gates))
-    (sym c.small-l.ensures) ∙ sym c.within.ensures ∙ c.if-not-within.false)
+    (sym c.small-l.ensures) ∙ sym c.if-not-within.ensures)
     c.if-places-gates.false

@@ -1,15 +1,13 @@
--- `entry`: a no before the record, its own, or its entries.
-use Rattle.session_text.proofs.Gates.{record-kept, record-no, record-yes}
+-- `entry`: the record's no, or its entries.
+use Rattle.std.proofs.lemmas.Result.{err_from_is_err_and}
 use native.Mathlib.Omega.{arith}
+use Rattle.session_text.proofs.Gates.{record-yes}
 use Rattle.session_text.proofs.entries.entry.Goals as goal
 
-pub returns-then-no-ne0 : goal.returns-then-no-ne0
-returns-then-no-ne0 c = let a = c.args in record-kept a.r a.next c.if-no-ne0.true
-
-pub returns-then-asked-ne0 : goal.returns-then-asked-ne0
-returns-then-asked-ne0 c = let a = c.args in record-no a.r a.next c.if-no-ne0.false c.if-asked-ne0.true c.gate_no-asked.ensures
+pub returns-in_err-gate_good : goal.returns-in_err-gate_good
+returns-in_err-gate_good c =
+    let p = err_from_is_err_and c.from_residual.result c.from_residual.ensures.1 in
+    rw (p.1, p.2) (rw c.from.ensures at c.in_err-gate_good.ensures)
 
 pub returns : goal.returns
-returns c =
-    let a = c.args in record-yes a.r a.next c.if-no-ne0.false
-    c.if-asked-ne0.false c.gate_no-asked.ensures c.entry_of-e.ensures (omega arith) (omega arith)
+returns c = let a = c.args in record-yes a.r a.next (rw c.from.ensures at c.in_ok-gate_good.ensures) c.entry_of.ensures (omega arith) (omega arith)

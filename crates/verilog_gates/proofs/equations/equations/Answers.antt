@@ -1,63 +1,45 @@
 -- One assignment after another.
+use Rattle.verilog_tokens.specs.declared.Kind.TheVariants.{Assign}
+use Rattle.verilog_tokens.proofs.KindTests.{this_number, other_number}
 use Rattle.verilog_gates.proofs.Assigning.{go-start, go-ready, go_on, go-less, go-end}
 use Rattle.verilog_gates.proofs.equations.equations.Goals as goal
 
-pub next-first-requires : goal.next-first-requires
-next-first-requires c = c.requires.within
-
-pub loop-code-init : goal.loop-code-init
-loop-code-init c = go-start c.requires c.next-first.ensures
-
-pub next-target-requires : goal.next-target-requires
-next-target-requires c = c.loop-code.invariant.token.within
-
-pub next-equals-requires : goal.next-equals-requires
-next-equals-requires c = c.next-target.ensures.within
+pub loop-text-init : goal.loop-text-init
+loop-text-init c = go-start c.requires c.next-token.ensures
 
 pub expression-v-requires : goal.expression-v-requires
 expression-v-requires c =
-    go-ready c.loop-code.invariant c.next-target.ensures
+    go-ready c.loop-text.invariant c.next-target.ensures
     c.next-equals.ensures
 
-pub give-requires : goal.give-requires
-give-requires c = (
-  c.loop-code.invariant.ready.names,
-  c.loop-code.invariant.ready.wired,
-  c.next-target.ensures.onward,
-  c.next-target.ensures.within,
-)
-
-pub next-t-requires : goal.next-t-requires
-next-t-requires c = c.expression-v.ensures.token.within
-
-pub loop-code-smaller : goal.loop-code-smaller
-loop-code-smaller c =
+pub loop-text-smaller : goal.loop-text-smaller
+loop-text-smaller c =
     go-less
-    c.loop-code.invariant
+    c.loop-text.invariant
     c.next-target.ensures
     c.next-equals.ensures
     c.expression-v.ensures
-    c.loop-code-test.true
-    c.next-t.ensures
+    (this_number c.loop-text.token.kind Assign c.loop-text-test.ensures)
+    c.next-token-in-loop-text.ensures
 
-pub loop-code-preserved : goal.loop-code-preserved
-loop-code-preserved c =
-    go_on c.loop-code.invariant c.next-target.ensures
+pub loop-text-preserved : goal.loop-text-preserved
+loop-text-preserved c =
+    go_on c.loop-text.invariant c.next-target.ensures
     c.next-equals.ensures
     c.expression-v.ensures
-    c.loop-code-test.true
+    (this_number c.loop-text.token.kind Assign c.loop-text-test.ensures)
     c.expression-v.auto.operands
     c.expression-v.auto.results
-    c.give.ensures c.next-t.ensures
+    c.give.ensures c.next-token-in-loop-text.ensures
 
 pub shape_of-wires : goal.shape_of-wires
-shape_of-wires c = c.loop-code.invariant.wide
+shape_of-wires c = c.loop-text.invariant.wide
 
 pub shape_of-operands : goal.shape_of-operands
-shape_of-operands c = c.loop-code.invariant.operands
+shape_of-operands c = c.loop-text.invariant.operands
 
 pub shape_of-results : goal.shape_of-results
-shape_of-results c = c.loop-code.invariant.results
+shape_of-results c = c.loop-text.invariant.results
 
 pub returns : goal.returns
-returns c = go-end c.loop-code.invariant c.loop-code-test.false
+returns c = go-end c.loop-text.invariant (other_number c.loop-text.token.kind Assign c.loop-text-test.ensures)

@@ -1,12 +1,13 @@
 -- One assignment after another.
+use Rattle.verilog_tokens.specs.Kind.{number_of}
 use Rattle.verilog_gates.proofs.Joins.{left}
 use Rattle.verilog_gates.proofs.Assigning.{Going}
 use Rattle.verilog_gates.proofs.equations.equations.Given as goal
 
-abbrev pub invariant-loop-code : goal.invariant-loop-code
-invariant-loop-code l =
-    Going l.text l.heads l.words
-    l.links l.initial.wires l.initial.operands l.initial.results l.size l.count l.n l.at l.next l.code l.to l.free l.wires l.operands l.results
+abbrev pub invariant-loop-text : goal.invariant-loop-text
+invariant-loop-text l =
+    Going l.names.text.now l.names.words.now l.initial.wires l.initial.operands l.initial.results l.names.count l.n l.at l.next
+    (number_of l.token.kind) l.token.to l.free l.wires l.operands l.results
 
-abbrev pub decreases-loop-code : goal.decreases-loop-code
-decreases-loop-code l = left l.text l.code l.to
+abbrev pub decreases-loop-text : goal.decreases-loop-text
+decreases-loop-text l = left l.names.text.now (number_of l.token.kind) l.token.to

@@ -7,7 +7,7 @@ returns-then-negated c =
     rw c.if-negated.true
     (record {
       start = _;
-      token = c.next-t.ensures;
+      token = c.next-token.ensures;
       value = refl;
       free = refl;
       stored =
@@ -15,4 +15,4 @@ returns-then-negated c =
     })
 
 pub returns : goal.returns
-returns c = rw c.if-negated.false (record { start = _; token = c.next-t.ensures; value = refl; free = refl; stored = refl })
+returns c = rw c.if-negated.false (record { start = _; token = c.next-token.ensures; value = refl; free = refl; stored = refl })

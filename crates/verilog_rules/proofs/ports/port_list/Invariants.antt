@@ -1,12 +1,13 @@
 -- One port after another.
+use Rattle.verilog_tokens.specs.Kind.{number_of}
 use Rattle.verilog_gates.proofs.Joins.{left}
 use Rattle.verilog_rules.proofs.Seating.{Seating}
 use Rattle.verilog_rules.proofs.ports.port_list.Given as goal
 
-abbrev pub invariant-loop-code : goal.invariant-loop-code
-invariant-loop-code l =
-    Seating l.text l.words
-    l.count l.at l.initial.states l.initial.wires l.states l.wires l.code l.from l.to l.inputs l.outputs
+abbrev pub invariant-loop-text : goal.invariant-loop-text
+invariant-loop-text l =
+    Seating l.names.text.now l.names.words.now l.names.count l.at l.initial.states l.initial.wires l.states l.wires
+    (number_of l.token.kind) l.token.from l.token.to l.ports.inputs l.ports.outputs
 
-abbrev pub decreases-loop-code : goal.decreases-loop-code
-decreases-loop-code l = left l.text l.code l.to
+abbrev pub decreases-loop-text : goal.decreases-loop-text
+decreases-loop-text l = left l.names.text.now (number_of l.token.kind) l.token.to

@@ -1,26 +1,14 @@
--- One state after another.
-use Prim.Native.Nat.{ℕ}
-use mathlib.Core.Path.{◌≡◌, refl, sym, ap, ◌∙◌}
+-- Each of the first states in turn.
+use Rattle.std.proofs.Common.{rules, tests, sym, ap, ◌∙◌, take}
+use Rattle.std.proofs.lemmas.Iterator.{YieldsList-from_slice}
+use Rattle.std.proofs.lemmas.Iterator.Search.{all_from_yields_List}
+use lib.Dec.{leb}
+use Rattle.netlist.proofs.Tests.{every-list_all}
 use Rattle.verilog_rules.specs.States.{all_from}
-use Rattle.verilog_rules.proofs.Moves.{all-on, all-off}
-use borrow.Author.Rules.{rules}
-use native.Mathlib.Omega.{arith}
 use Rattle.verilog_rules.proofs.states.all_from.Goals as goal
-
-pub loop-i-init : goal.loop-i-init
-loop-i-init c = (omega arith, refl)
-
-pub returns-then-states-i : goal.returns-then-states-i
-returns-then-states-i c = all-off _ _ _ _ (search rules) c.requires c.if-states-i.true
-
-pub loop-i-preserved : goal.loop-i-preserved
-loop-i-preserved c = (
-  search rules,
-  all-on c.args.states.now c.args.least
-      c.loop-i.i (search rules) (search rules) c.loop-i.invariant.1,
-)
 
 pub returns : goal.returns
 returns c =
-    let x = c.args in let z : c.loop-i.i ≡ x.count = omega (arith, c.loop-i.invariant.0) in
-    sym (ap (λ (k : ℕ). all_from x.states.now k x.least) (sym z) ∙ c.loop-i.invariant.1)
+    let first = take c.args.count c.args.states.now in
+    all_from_yields_List (leb c.number-least.result) _ _ _ c.all.ensures.ran (YieldsList-from_slice first (cc)) (λ x b q k. search (rules, tests))
+    ∙ sym (every-list_all (leb c.number-least.result) first) ∙ ap (all_from c.args.states.now c.args.count) c.number-least.ensures

@@ -1,9 +1,8 @@
 -- `set`: of a wire, or of a pair.
-use mathlib.Core.Path.{sym, ◌∙◌}
-use Prim.Native.Nat.{◌+◌, ◌-◌, ◌*◌}
-use lib.ListN.{length, get_or}
+use mathlib.Core.Path.{refl, sym, ◌∙◌}
+use lib.ListN.{length}
 use Rattle.wide_sets.specs.Packed.{sets}
-use Rattle.wide_search.proofs.ItemSets.{item-wire, item-both}
+use Rattle.wide_search.proofs.ItemSets.{item-wire, item-some, item-both}
 use native.Mathlib.Omega.{arith}
 use Rattle.wide_search.proofs.item.set.Goals as goal
 
@@ -14,38 +13,18 @@ returns-then-k-wires c =
     let g = c.get.ensures in
     (g.0 ∙ sym (item-wire S a.pairs.now (length a.set0.now) a.k c.if-k-wires.true), omega (arith, g.1, c.requires.1.few a.k), g.2)
 
-pub overflow_cast-u : goal.overflow_cast-u
-overflow_cast-u c =
-    omega
-    (arith, c.requires.2 (2 * (c.args.k - length c.args.set0.now)) (omega (arith, c.requires.0, c.if-k-wires.false)))
+pub pair-requires : goal.pair-requires
+pair-requires c = (omega (arith, c.requires.0, c.if-k-wires.false), c.requires.1, c.requires.2)
 
-pub overflow_cast-v : goal.overflow_cast-v
-overflow_cast-v c = omega (arith, c.requires.2 (2 * (c.args.k - length c.args.set0.now) + 1) (omega (arith, c.requires.0, c.if-k-wires.false)))
-
-pub get-x-requires : goal.get-x-requires
-get-x-requires c =
-    let z = c.requires.1 in
-    let l = c.requires.2 (2 * (c.args.k - length c.args.set0.now)) (omega (arith, c.requires.0, c.if-k-wires.false)) in
-    (l, omega (arith, l, z.long1), omega (arith, l, z.long2), omega (arith, l, z.long3))
-
-pub get-y-requires : goal.get-y-requires
-get-y-requires c =
-    let z = c.requires.1 in
-    let l = c.requires.2 (2 * (c.args.k - length c.args.set0.now) + 1) (omega (arith, c.requires.0, c.if-k-wires.false)) in
-    (l, omega (arith, l, z.long1), omega (arith, l, z.long2), omega (arith, l, z.long3))
-
-pub both-requires : goal.both-requires
-both-requires c =
-    let z = c.requires.1 in
-    let g = c.get-x.ensures in
-    let h = c.get-y.ensures in
+pub unwrap-requires : goal.unwrap-requires
+unwrap-requires c =
     let a = c.args in
-    let j = a.k - length a.set0.now in
-    (omega (arith, g.1, z.few (get_or a.pairs.now (2 * j) 0)), omega (arith, h.1, z.few (get_or a.pairs.now (2 * j + 1) 0)), g.2, h.2)
+    let S = sets a.set0.now a.set1.now a.set2.now a.set3.now in
+    item-some S a.pairs.now (length a.set0.now) a.k c.if-k-wires.false c.requires.0 refl refl c.pair.result c.requires.3 c.pair.ensures
 
 pub returns : goal.returns
 returns c =
     let a = c.args in
     let S = sets a.set0.now a.set1.now a.set2.now a.set3.now in
-    item-both S a.pairs.now (length a.set0.now) a.k c.if-k-wires.false c.requires.0 c.requires.3
-    c.get-x.ensures.0 c.get-y.ensures.0 c.both.ensures
+    item-both S a.pairs.now (length a.set0.now) a.k c.if-k-wires.false c.requires.0 refl refl c.unwrap.result
+    (rw c.unwrap.ensures at c.pair.ensures)

@@ -83,7 +83,8 @@ returns c =
     let t = tables a.operands.now a.results.now in
     let most = c.most in
     let even : 2 * a.worst.pair ≤ length ws = omega (arith, p.7) in
-    let find = c.find-found in (
+    let find = c.find-found in
+    rw (c.limit.ensures, c.unwrap_or.ensures) (
       lower-wire t a.count W S a.codes.now ws below p.2 ps plain most.result
           c.blocks_of-blocks.result a.worst.wire
           a.worst.pair most.ensures.1

@@ -11,9 +11,6 @@ use Rattle.wide_search.proofs.pass.passes.Goals as goal
 pub loop-x-init : goal.loop-x-init
 loop-x-init c = passing-none _ _ _ _ _ _ _ _ _ _ _ _ _ _ refl
 
-pub overflow_sub-x : goal.overflow_sub-x
-overflow_sub-x c = omega (arith, c.loop-x-test.true)
-
 pub pass-worst-requires : goal.pass-worst-requires
 pass-worst-requires c =
     let h = c.loop-x.invariant in
@@ -34,13 +31,6 @@ pass-worst-requires c =
         omega (arith, h.fewer, q.7),
       );
     }
-
-pub loop-x-smaller : goal.loop-x-smaller
-loop-x-smaller c =
-    omega (
-      arith,
-      c.loop-x-test.true,
-    )
 
 pub loop-x-preserved : goal.loop-x-preserved
 loop-x-preserved c =

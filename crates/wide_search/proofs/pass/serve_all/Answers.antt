@@ -7,14 +7,8 @@ use Rattle.wide_search.proofs.pass.serve_all.Goals as goal
 pub loop-x-init : goal.loop-x-init
 loop-x-init c = (omega arith, refl, refl, serving-none _ _)
 
-pub overflow_sub-x : goal.overflow_sub-x
-overflow_sub-x c = omega (arith, c.loop-x-test.true)
-
 pub serve-requires : goal.serve-requires
 serve-requires c = (omega (arith, c.requires.0, c.loop-x.invariant.0, c.loop-x-test.true), c.requires.1, c.requires.2, c.requires.3)
-
-pub loop-x-smaller : goal.loop-x-smaller
-loop-x-smaller c = omega (arith, c.loop-x-test.true)
 
 pub loop-x-preserved : goal.loop-x-preserved
 loop-x-preserved c =

@@ -10,6 +10,3 @@ abbrev pub invariant-loop-x : goal.invariant-loop-x
 invariant-loop-x l =
     (l.x ≤ l.count) × (length l.paints ≡ length l.initial.paints) ×
     (length l.marks ≡ length l.initial.marks) × Serving (sets l.set0 l.set1 l.set2 l.set3) l.pairs (length l.set0) l.start l.initial.marks l.marks l.initial.paints l.paints
-
-abbrev pub decreases-loop-x : goal.decreases-loop-x
-decreases-loop-x l = l.x

@@ -39,8 +39,8 @@ passes-requires c =
 pub shape_of-marks : goal.shape_of-marks
 shape_of-marks c =
     c.passes.auto.marks ∙
-    c.bytes-2.auto.bytes ∙ c.passes-worst.auto.marks ∙
-    c.bytes.auto.bytes
+    c.fill-2.auto.self ∙ c.passes-worst.auto.marks ∙
+    c.fill.auto.self
 
 pub returns : goal.returns
 returns c =
@@ -61,8 +61,8 @@ returns c =
       λ o N G. all-judged (subst (λ (Y : ℕ). Judging N cs ws second.new.marks Y W P 0 two.wire two.pair) w
           (second.ensures.2 o N (subst (λ (Y : ℕ). Given t a.count Y (length cs) S o N) (sym w) G)
           (subst (λ (Y : ℕ). Judging N cs ws
-          c.bytes-2.new.bytes Y W P P one.wire one.pair) (sym w)
+          c.fill-2.new.self Y W P P one.wire one.pair) (sym w)
           (then-pairs (length first.new.marks)
-          c.bytes-2.ensures (first.ensures.2 o N G (first-wires N cs ws W (length a.marks.now)
-          c.bytes.ensures)))))),
+          (c.fill-2.ensures.after (λ y e. e)) (first.ensures.2 o N G (first-wires N cs ws W (length a.marks.now)
+          (c.fill.ensures.after (λ y e. e)))))))),
     )

@@ -1,45 +1,34 @@
 -- `pick`: member by member.
-use mathlib.Core.Path.{refl, sym}
-use lib.Seq.{length-take-le, get_or-take}
-use Rattle.wide_search.proofs.Answers.{picking-none, picking-more, picking-all}
+use mathlib.Core.Path.{refl}
+use lib.Seq.{length-take-le}
 use native.Mathlib.Omega.{arith}
+use Rattle.wide_search.proofs.Answers.{picking-none, picking-more, picking-all}
 use Rattle.wide_search.proofs.search.pick.Goals as goal
 
-pub loop-a-init : goal.loop-a-init
-loop-a-init c = (picking-none _ _ refl, omega arith)
+pub loop-item-init : goal.loop-item-init
+loop-item-init c = picking-none _ _ refl
 
-pub offset_bounds-items-a : goal.offset_bounds-items-a
-offset_bounds-items-a c = omega (arith, c.requires.0, c.loop-a-test.true)
-
-pub bounds-items-a : goal.bounds-items-a
-bounds-items-a c = omega (arith, c.requires.0, c.loop-a-test.true)
-
-pub offset_bounds-out-k : goal.offset_bounds-out-k
-offset_bounds-out-k c = omega (arith, c.requires.0, c.loop-a-test.true, c.loop-a.invariant.0.under)
-
-pub bounds-out-k : goal.bounds-out-k
-bounds-out-k c = omega (arith, c.requires.0, c.loop-a-test.true, c.loop-a.invariant.0.under)
-
-pub overflow_add-k : goal.overflow_add-k
-overflow_add-k c = omega (arith, c.requires.0, c.loop-a-test.true, c.loop-a.invariant.0.under)
-
-pub overflow_add-a : goal.overflow_add-a
-overflow_add-a c = omega (arith, c.requires.0, c.loop-a-test.true)
-
-pub loop-a-smaller : goal.loop-a-smaller
-loop-a-smaller c = omega (arith, c.loop-a-test.true)
-
-pub loop-a-preserved : goal.loop-a-preserved
-loop-a-preserved c =
+pub bounds-items-count : goal.bounds-items-count
+bounds-items-count c =
     let m = c.args.m in
-    let at = c.loop-a in
-    let l = c.loop-a-test.true in
     let n = length-take-le m.count m.items (omega (arith, c.requires.0, c.requires.1.long)) in
-    (picking-more _ at.invariant.0 (omega arith) (omega (arith, c.requires.0)) (sym (get_or-take m.count m.items at.a 0 l)), omega arith)
+    omega (arith, c.requires.0, c.loop-item.invariant.under)
+
+pub overflow_add-count : goal.overflow_add-count
+overflow_add-count c =
+    let m = c.args.m in
+    let n = length-take-le m.count m.items (omega (arith, c.requires.0, c.requires.1.long)) in
+    omega (arith, c.requires.0, c.loop-item.invariant.under)
+
+pub loop-item-preserved : goal.loop-item-preserved
+loop-item-preserved c =
+    let m = c.args.m in
+    let n = length-take-le m.count m.items (omega (arith, c.requires.0, c.requires.1.long)) in
+    picking-more _ c.loop-item.invariant c.loop-item-test.true (omega (arith, c.requires.0)) refl
 
 pub returns : goal.returns
 returns c =
     let m = c.args.m in
-    let h = c.loop-a.invariant in
+    let h = c.loop-item.invariant in
     let n = length-take-le m.count m.items (omega (arith, c.requires.0, c.requires.1.long)) in
-    (picking-all h.0 (omega (arith, c.loop-a-test.false)), omega (arith, h.0.under, h.1, c.requires.0))
+    (picking-all h (omega arith), omega (arith, h.under, h.passed, c.requires.0))

@@ -1,18 +1,14 @@
 -- `tell`: the first number whose counts differ, and the ones of the setting that it stands for.
-use mathlib.Core.Path.{◌≡◌, sym, ap, subst, ◌∙◌}
+use mathlib.Core.Path.{◌≡◌, sym, ap, ◌∙◌}
 use mathlib.Core.List.{List}
 use mathlib.Core.Option.{some}
-use Prim.Native.Nat.{ℕ, ◌+◌, ◌*◌, ◌^◌, ◌≤◌, ◌<◌}
-use lib.ListN.{length, take}
+use Prim.Native.Nat.{ℕ}
+use lib.ListN.{take}
 use lib.Seq.{length-take-le}
 use Rattle.check_counts.specs.Paint.{codes_of}
-use Rattle.wide.specs.Reach.{reaches}
-use Rattle.wide.specs.Rule.{colour_at}
-use Rattle.wide.specs.Sets.{reach_set, picked}
-use Rattle.wide_sets.specs.Packed.{sets}
-use Rattle.wide_colours.specs.Colours.{Inputs}
-use Rattle.wide_search.proofs.Passes.{codes-plain, marked-inputs}
-use Rattle.wide_search.proofs.Answers.{leak-told}
+use Rattle.wide.specs.Sets.{picked}
+use Rattle.wide_search.proofs.Passes.{codes-plain}
+use Rattle.wide_search.proofs.Answers.{seeded-wire, not-higher, leak-told}
 use native.Mathlib.Omega.{arith}
 use Rattle.wide_search.proofs.search.tell.Goals as goal
 
@@ -58,34 +54,35 @@ pick-requires c =
 pub shape_of-paints : goal.shape_of-paints
 shape_of-paints c = c.seed.auto.paints ∙ c.lay.auto.paints
 
+pub returns-in_err-leak : goal.returns-in_err-leak
+returns-in_err-leak c =
+    let a = c.args in
+    let p = c.requires.paints_len in
+    let m = c.get-m.result in
+    let ps = c.seed.new.paints in
+    let cs = a.codes.now in
+    let B = c.blocks_of-blocks.result in
+    let plain : codes_of ps ≡ cs = c.seed.ensures.coloured.codes ∙ ap codes_of c.lay.ensures ∙ codes-plain cs p.5 in
+    let count = length-take-le m.count m.items (omega (arith, c.get-m.ensures.1, c.requires.wired.1.few a.wire, c.get-m.ensures.2.long)) in
+    λ o pair ws N G L.
+    let f = seeded-wire cs G a.wire c.requires.wired.2 (take m.count m.items) c.lay.new.paints ps c.get-m.ensures.0
+    (c.seed.auto.paints ∙ c.lay.auto.paints ∙ p.0) c.seed.auto.paints c.seed.ensures B m.count count c.blocks_of-blocks.ensures.0 in
+    absurd (not-higher G L c.requires.wired.2 p.2 ps plain f.1 B f.2 c.find-found.result.leak c.find-found.ensures.lowest (rw c.in_err-leak.was (omega arith)))
+
 pub returns : goal.returns
 returns c =
     let a = c.args in
     let p = c.requires.paints_len in
-    let z = c.requires.wired.1 in
-    let S = sets a.set0.now a.set1.now a.set2.now a.set3.now in
-    let seed = c.seed in
-    let lay = c.lay in
-    let get = c.get-m in
-    let m = get.result in
-    let find = c.find-found in
-    let difference = find.result.difference in
-    let blocks = c.blocks_of-blocks in
-    let ps₀ = lay.new.paints in
-    let ps = seed.new.paints in
+    let m = c.get-m.result in
+    let ps = c.seed.new.paints in
     let cs = a.codes.now in
-    let is = take m.count m.items in
-    let plain : codes_of ps ≡ cs = seed.ensures.coloured.codes ∙ ap codes_of lay.ensures ∙ codes-plain cs p.5 in
-    let long : length ps ≡ length cs = seed.auto.paints ∙ lay.auto.paints ∙ p.0 in
-    let count : length is ≡ m.count = length-take-le m.count m.items (omega (arith, get.ensures.1, z.few a.wire, get.ensures.2.long)) in
+    let B = c.blocks_of-blocks.result in
+    let leak = c.in_ok-leak.leak in
+    let plain : codes_of ps ≡ cs = c.seed.ensures.coloured.codes ∙ ap codes_of c.lay.ensures ∙ codes-plain cs p.5 in
+    let count = length-take-le m.count m.items (omega (arith, c.get-m.ensures.1, c.requires.wired.1.few a.wire, c.get-m.ensures.2.long)) in
     λ o pair ws N G L.
-    let e : is ≡ reach_set N (length ps) a.wire = get.ensures.0 ∙ G.each a.wire c.requires.wired.2 ∙ ap (λ (j : ℕ). reach_set N j a.wire) (sym long) in
-    let inputs : Inputs (reach_set N (length ps) a.wire) (length ps₀) = subst (Inputs (reach_set N (length ps) a.wire)) seed.auto.paints
-    (marked-inputs (λ i. reaches N i a.wire) (length ps)) in
-    let ranked : (b : ℕ) → b < length (reach_set N (length ps) a.wire) → colour_at (reach_set N (length ps) a.wire) ps b ≡ b + 1
-    = subst (λ (js : List ℕ). Inputs js (length ps₀) → (b : ℕ) → b < length js → colour_at js ps b ≡ b + 1) e seed.ensures.each inputs in
-    let room : 2 ^ length (reach_set N (length ps) a.wire) ≤ blocks.result * 16 = subst (λ (k : ℕ). 2 ^ k ≤ blocks.result * 16) (sym count ∙ ap length e)
-    blocks.ensures.0 in
-    ap (λ (js : List ℕ). some (record { wire = a.wire; ones = js; base = difference.base; own = difference.count }))
-    (c.pick.ensures.0 ∙ ap (λ (js : List ℕ). picked js difference.setting) e)
-    ∙ sym (leak-told G L c.requires.wired.2 p.2 ps plain ranked blocks.result room difference find.ensures.lowest)
+    let f = seeded-wire cs G a.wire c.requires.wired.2 (take m.count m.items) c.lay.new.paints ps c.get-m.ensures.0
+    (c.seed.auto.paints ∙ c.lay.auto.paints ∙ p.0) c.seed.auto.paints c.seed.ensures B m.count count c.blocks_of-blocks.ensures.0 in
+    ap (λ (js : List ℕ). some (record { wire = a.wire; ones = js; base = leak.base; own = leak.own }))
+    (c.pick.ensures.0 ∙ ap (λ (js : List ℕ). picked js leak.setting) f.0)
+    ∙ sym (leak-told G L c.requires.wired.2 p.2 ps plain f.1 B f.2 c.find-found.result.leak c.find-found.ensures.lowest leak c.in_ok-leak.was)

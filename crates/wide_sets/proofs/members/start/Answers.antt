@@ -9,18 +9,6 @@ loop-w-init c = started_none _ _
 pub start_entry-requires : goal.start_entry-requires
 start_entry-requires c = c.requires
 
-pub offset_bounds-set0-w : goal.offset_bounds-set0-w
-offset_bounds-set0-w c = omega (arith, c.loop-w.invariant.long)
-
-pub bounds-set0-w : goal.bounds-set0-w
-bounds-set0-w c = omega (arith, c.loop-w.invariant.long)
-
-pub overflow_add-w : goal.overflow_add-w
-overflow_add-w c = omega (arith, c.loop-w.invariant.long)
-
-pub loop-w-smaller : goal.loop-w-smaller
-loop-w-smaller c = omega (arith, c.loop-w.invariant.long)
-
 pub loop-w-preserved : goal.loop-w-preserved
 loop-w-preserved c = started-more _ c.loop-w.invariant (omega (arith, c.loop-w.invariant.long)) c.start_entry.ensures
 

@@ -2,7 +2,6 @@
 use mathlib.Core.Path.{refl, sym, ap, subst, ◌∙◌}
 use Prim.Native.Nat.{ℕ, ◌+◌}
 use lib.Dec.{T}
-use borrow.Author.Tests.{not-true, not-false}
 use Rattle.netlist.specs.Table.{tables, Holds}
 use Rattle.gate_table.specs.Parts.{Within}
 use Rattle.wide_sets.specs.Packed.{sets, start_set, Sized}
@@ -69,29 +68,15 @@ returns-then-not-line c =
       λ e. absurd (subst T (sym e) tt),
       λ o N H F. line-full c.loop-i.invariant
           c.loop-i-test.true c.split-gate.ensures
-          line.ensures (not-true _ c.if-not-line.true-raw) o N
+          line.ensures (c.if-not-line.true) o N
           (subst (λ (W : ℕ). Holds (tables a.operands.now a.results.now) a.count W (a.n + 2) o N) (sym c.requires.n_bound.1) H) F,
-    )
-
-pub overflow_add-i : goal.overflow_add-i
-overflow_add-i c =
-    omega (
-      arith,
-      c.loop-i-test.true,
-    )
-
-pub loop-i-smaller : goal.loop-i-smaller
-loop-i-smaller c =
-    omega (
-      arith,
-      c.loop-i-test.true,
     )
 
 pub loop-i-preserved : goal.loop-i-preserved
 loop-i-preserved c =
     let line = c.line in
     line-more c.loop-i.invariant c.loop-i-test.true c.split-gate.ensures
-    line.ensures (not-false _ c.if-not-line.false-raw)
+    line.ensures (c.if-not-line.false)
 
 pub shape_of-set0 : goal.shape_of-set0
 shape_of-set0 c = c.loop-i.invariant.sized.long0 ∙ c.requires.n_bound.1

@@ -1,5 +1,4 @@
 -- `reach::reach`: line by line.
-use Prim.Native.Nat.{◌-◌}
 use lib.ListN.{length}
 use Rattle.netlist.specs.Table.{tables}
 use Rattle.wide_sets.specs.Packed.{sets}
@@ -10,6 +9,3 @@ abbrev pub invariant-loop-i : goal.invariant-loop-i
 invariant-loop-i l =
     Reaching (tables l.operands l.results) l.count (length l.initial.set1) l.n
     (sets l.set0 l.set1 l.set2 l.set3) l.i
-
-abbrev pub decreases-loop-i : goal.decreases-loop-i
-decreases-loop-i l = l.count - l.i

@@ -1,51 +1,44 @@
 -- `reach::unite_sets`: two sets put together, where they are at most twelve.
-use mathlib.Core.Path.{sym, ap₂, subst, ◌∙◌}
+use mathlib.Core.Path.{ap₂, subst, ◌∙◌}
 use mathlib.Core.List.{List}
 use Prim.Native.Nat.{ℕ, ◌<◌}
 use lib.Dec.{T}
 use lib.ListN.{length}
+use native.Mathlib.Omega.{arith}
 use Rattle.wide.specs.Sets.{merge}
 use Rattle.wide_sets.specs.Packed.{Put}
-use native.Mathlib.Omega.{arith}
 use Rattle.wide_sets.proofs.reach.unite_sets.Goals as goal
 
-pub both-u-requires : goal.both-u-requires
-both-u-requires c =
+pub both-requires : goal.both-requires
+both-requires c =
     let z = c.requires.0 in
     let g = c.get-x in
     let h = c.get-y in
     (omega (arith, g.ensures.1, z.few c.args.a), omega (arith, h.ensures.1, z.few c.args.b), g.ensures.2, h.ensures.2)
 
-pub returns-then-u-gt12 : goal.returns-then-u-gt12
-returns-then-u-gt12 c =
-    let g = c.get-x in
-    let h = c.get-y in
-    record {
-      put = λ e. absurd (subst T (sym e) tt);
-      many = λ _. subst (λ (is : List ℕ). 12 < length is) (ap₂ merge g.ensures.0 h.ensures.0) (c.both-u.ensures.many c.if-u-gt12.true);
-    }
-
 pub put-requires : goal.put-requires
 put-requires c =
     let z = c.requires.0 in
-    let l = c.requires.3 in (
+    let l = c.requires.3 in
+    let both = c.in-Some.ensures in (
       l,
       omega (arith, l, z.long1),
       omega (arith, l, z.long2),
       omega (arith, l, z.long3),
-      c.if-u-gt12.false,
-      c.both-u.ensures.items,
+      both.1,
+      both.2,
     )
 
-pub returns : goal.returns
-returns c =
-    let put = c.put in
-    let both = c.both-u in
-    let h = c.get-y in
-    let g = c.get-x in
+pub returns-in-Some : goal.returns-in-Some
+returns-in-Some c =
     record {
-      put = λ _. subst (Put _ _ _)
-          (both.ensures.few c.if-u-gt12.false ∙ ap₂ merge
-          g.ensures.0 h.ensures.0) put.ensures;
+      put = λ _. subst (Put _ _ _) (c.in-Some.ensures.0 ∙ ap₂ merge c.get-x.ensures.0 c.get-y.ensures.0) c.put.ensures;
       many = λ e. absurd (subst T e tt);
+    }
+
+pub returns-in-None : goal.returns-in-None
+returns-in-None c =
+    record {
+      put = λ e. cc;
+      many = λ _. subst (λ (is : List ℕ). 12 < length is) (ap₂ merge c.get-x.ensures.0 c.get-y.ensures.0) c.in-None.ensures;
     }

@@ -1,14 +1,13 @@
 -- `five`: a digit more for each power of ten that is reached.
 use mathlib.Core.Path.{◌∙◌}
 use Prim.Native.Nat.{◌+◌}
-use Rattle.write_buffer.proofs.Decimals.{digits-five, counted}
+use Rattle.write_buffer.proofs.Decimals.{digits-five, reached, counted}
 use native.Mathlib.Omega.{arith}
 use Rattle.write_buffer.proofs.digits.five.Goals as goal
 
 pub returns : goal.returns
 returns c =
+    let n = c.args.n in
     counted (omega arith)
-    ((λ i.
-    1 + c.reaches.ensures.exact i + c.reaches-2.ensures.exact i
-    + c.reaches-3.ensures.exact i + c.reaches-4.ensures.exact i)
+    ((λ i. 1 + reached n 10 c.from.ensures i + reached n 100 c.from-2.ensures i + reached n 1000 c.from-3.ensures i + reached n 10000 c.from-4.ensures i)
     ∙ digits-five _ c.requires)

@@ -1,24 +1,11 @@
--- `xor`: behind the end, near it, for wires without words, and before it.
-use mathlib.Core.Path.{refl}
+-- `xor`: the line under its name.
 use Rattle.netlist.specs.GateLine.{xor_bytes}
-use Rattle.write_parts.proofs.Lines.{line2, sized2, line-beyond, named}
+use Rattle.write_buffer.proofs.Writing.{wrote_as}
+use Rattle.write_parts.proofs.Lines.{line-two}
 use Rattle.write_gates.proofs.GateLines.{gates-one}
-use native.Mathlib.Omega.{arith}
 use Rattle.write_gates.proofs.gate.xor.Goals as goal
 
-pub returns-then-out-at : goal.returns-then-out-at
-returns-then-out-at c =
-    let a = c.args in
-    gates-one _ (line-beyond (omega arith) (omega arith) c.beyond2.ensures (sized2 a.a a.b a.c xor_bytes refl))
-
-pub returns-then-out-at-lt-LONGEST : goal.returns-then-out-at-lt-LONGEST
-returns-then-out-at-lt-LONGEST c = gates-one _ c.near2.ensures
-
-pub returns-then-spelt2 : goal.returns-then-spelt2
-returns-then-spelt2 c = gates-one _ c.spell2.ensures
-
-pub front2-name-requires : goal.front2-name-requires
-front2-name-requires c = (c.requires, c.spelt2.ensures c.if-spelt2.false, omega arith)
-
 pub returns : goal.returns
-returns c = gates-one _ (named (line2 _ _ _ xor_bytes) c.front2-name.ensures c.four.ensures (omega arith))
+returns c =
+    let a = c.args in
+    gates-one _ (wrote_as (line-two a.a a.b a.c xor_bytes) c.line.ensures)

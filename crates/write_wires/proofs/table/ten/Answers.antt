@@ -2,12 +2,14 @@
 use Rattle.write_wires.proofs.Filling.{tens-none, tens-two, tens-three}
 use native.Mathlib.Omega.{arith}
 use Rattle.write_wires.proofs.table.ten.Goals as goal
+use Rattle.write_wires.proofs.table.ten.Goals.{in-0, in-1-to-9, in_default}
 
 pub ones-requires : goal.ones-requires
-ones-requires c = (c.requires.0, tens-none _ c.if-t-eq0.true)
-
-pub ones-requires-then-t-lt10 : goal.ones-requires-then-t-lt10
-ones-requires-then-t-lt10 c = (c.requires.0, tens-two _ (omega arith) c.if-t-lt10.true)
-
-pub ones-requires-2 : goal.ones-requires-2
-ones-requires-2 c = (c.requires.0, tens-three _ c.if-t-lt10.false c.requires.1)
+ones-requires c = (
+  c.requires.0,
+  elim c.match-t.branch [
+    | in-0 w ↦ rw w.word-is (tens-none _ w.in-0.is)
+    | in-1-to-9 w ↦ rw w.word-is (tens-two _ (omega arith) (omega arith))
+    | in_default w ↦ rw w.word-is (tens-three _ (omega arith) c.requires.1)
+  ],
+)

@@ -3,7 +3,7 @@ use mathlib.Core.Path.{sym, ap, ◌∙◌}
 use mathlib.Core.Bool.{not}
 use borrow.Author.Rules.{rules}
 use Rattle.read_text.proofs.Lines.{line-found, line-last}
-use Rattle.read_text.proofs.Scans.{scan-start, scan-on, scan-stop, scan-end}
+use Rattle.read_text.proofs.Scans.{scan-start, scan-on, scan-stop, scanned_all}
 use Rattle.read_text.proofs.cursor.Cursor.next_line.Goals as goal
 
 pub loop-i-init : goal.loop-i-init
@@ -18,4 +18,4 @@ pub loop-i-preserved : goal.loop-i-preserved
 loop-i-preserved c = scan-on _ _ _ _ (search rules) (ap not (sym c.is_line_end.ensures ∙ c.if-is_line_end.false)) c.loop-i.invariant
 
 pub returns : goal.returns
-returns c = line-last _ _ _ (search rules) (scan-end _ _ _ _ (search rules) c.loop-i.invariant)
+returns c = line-last _ _ _ (search rules) (scanned_all _ _ _ _ (search rules) c.loop-i.invariant)

@@ -1,6 +1,5 @@
 -- A scan over spaces, and the word behind them.
 use mathlib.Core.Path.{sym, ◌∙◌}
-use borrow.Author.Tests.{not-true, not-false}
 use borrow.Author.Rules.{rules}
 use Rattle.read_text.proofs.Scans.{scan-start, scan-on}
 use Rattle.read_text.proofs.DigitByDigit.{number-found, number-other, number-missing}
@@ -17,11 +16,11 @@ returns-then-is_digit c =
 pub returns-then-not-is_space : goal.returns-then-not-is_space
 returns-then-not-is_space c =
     number-other _ _ _ c.loop-i.invariant (search rules)
-    (sym c.is_space.ensures ∙ not-true _ c.if-not-is_space.true-raw) (sym c.is_digit.ensures ∙ c.if-is_digit.false)
+    (sym c.is_space.ensures ∙ c.if-not-is_space.true) (sym c.is_digit.ensures ∙ c.if-is_digit.false)
 
 pub loop-i-preserved : goal.loop-i-preserved
 loop-i-preserved c =
-    scan-on _ _ _ _ (search rules) (sym c.is_space.ensures ∙ not-false _ c.if-not-is_space.false-raw)
+    scan-on _ _ _ _ (search rules) (sym c.is_space.ensures ∙ c.if-not-is_space.false)
     c.loop-i.invariant
 
 pub returns : goal.returns

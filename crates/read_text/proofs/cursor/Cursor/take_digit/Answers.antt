@@ -1,7 +1,6 @@
 -- A digit, and a space.
 use mathlib.Core.Path.{refl, sym, ◌∙◌}
 use native.Mathlib.Omega.{arith}
-use borrow.Author.Tests.{not-true, not-false}
 use borrow.Author.Rules.{rules}
 use Rattle.read_text.proofs.DigitByDigit as R
 use Rattle.read_text.proofs.cursor.Cursor.take_digit.Goals as goal
@@ -12,7 +11,7 @@ returns-then-text-at-lt2 c =
     R.digit-short s.text.now s.self.at (omega arith)
 
 pub returns-then-not-is_digit : goal.returns-then-not-is_digit
-returns-then-not-is_digit c = rw (sym c.is_digit.ensures ∙ not-true _ c.if-not-is_digit.true-raw)
+returns-then-not-is_digit c = rw (sym c.is_digit.ensures ∙ c.if-not-is_digit.true)
 
 pub returns-then-text-at-ne32 : goal.returns-then-text-at-ne32
 returns-then-text-at-ne32 c =
@@ -20,11 +19,11 @@ returns-then-text-at-ne32 c =
     R.digit-longer s.text.now s.self.at c.if-text-at-ne32.true
 
 pub digit_value-requires : goal.digit_value-requires
-digit_value-requires c = sym c.is_digit.ensures ∙ not-false _ c.if-not-is_digit.false-raw
+digit_value-requires c = sym c.is_digit.ensures ∙ c.if-not-is_digit.false
 
 pub returns : goal.returns
 returns c =
     let s = c.args in
     R.digit-number s.text.now s.self.at _ _ (search rules)
-    (sym c.is_digit.ensures ∙ not-false _ c.if-not-is_digit.false-raw) c.if-text-at-ne32.false
+    (sym c.is_digit.ensures ∙ c.if-not-is_digit.false) c.if-text-at-ne32.false
     c.digit_value.ensures.0 refl

@@ -1,4 +1,0 @@
--- What the proofs of several functions use.
-mod Signed
-pub mod Rooms
-pub mod Ones

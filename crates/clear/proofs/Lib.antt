@@ -1,3 +1,0 @@
--- Laws on tables that a loop writes from the front.
-pub mod Laid
-pub mod Filled

@@ -1,0 +1,10 @@
+-- `beyond`: the result's digits and those of the first operands are counted.
+use Prim.Native.Nat.{◌+◌, ◌*◌, ◌≤◌}
+use mathlib.Core.Path.{◌≡◌}
+use lib.ListN.{length, take}
+use Rattle.netlist.specs.Number.{decimal}
+use Rattle.write_parts.specs.Parts.{spaced}
+use Rattle.write_parts.proofs.beyond.Given as goal
+
+abbrev pub invariant-loop-a : goal.invariant-loop-a
+invariant-loop-a g l = (l.length ≡ 9 + length (decimal l.c) + length (spaced (take l.a-index l.fn.operands))) × (l.length ≤ 19 + 11 * l.a-index)
