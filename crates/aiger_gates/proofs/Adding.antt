@@ -13,12 +13,14 @@ use Rattle.netlist.specs.Table.{Tables, Wired, Named}
 use Rattle.netlist.specs.Leak.{bit}
 use borrow.Author.Tests.{eqb-true, eqb-false}
 use Rattle.netlist.proofs.Tests.{true-T, on_bool}
+use Rattle.gate_table.specs.declared.Kind.{Kind}
+use Rattle.gate_table.specs.declared.Kind.TheVariants as kind
+use Rattle.gate_table.specs.Kind.{gate_for}
 use Rattle.gate_table.specs.Numbers.{Names}
 use Rattle.aiger.specs.File.{literal}
 use Rattle.aiger.specs.Rules.{readable}
 use Rattle.aiger.specs.Made.{wire_at, operand}
 use Rattle.aiger_gates.specs.Places.{Holding, Keeps, Keeping, Standing, Added, OperandIs, AndIs, out_kind, OutIs}
-use Rattle.gate_table.specs.Numbers.{gate_for}
 use Rattle.aiger.proofs.MadeGates.{InOrder, order-next, operand-order}
 use Rattle.aiger_gates.proofs.Placing.{literal-low, literal-even, literal-odd, literal-readable, place-wire}
 
@@ -130,18 +132,18 @@ module _ (table : List ℕ) (t u : Tables) (n count x c : ℕ) (same : c ≡ n +
       let e : Eq x c ≡ Eq (bit (eqb x 1)) (n + count) = rw (bit-of x h, same) in
       rw (literal-low x h) (rw e at s)
 
-  pub out-other : (w kind : ℕ) → 2 ≤ x → w ≡ get_or table (x / 2) 0 - 1 → kind ≡ out_kind x → Keeping t u count (gate_for kind w 0 c) → OutIs table t u n count x
-  out-other w kind high at q k given wires gs S r =
+  pub out-other : (w : ℕ) (k : Kind) → 2 ≤ x → w ≡ get_or table (x / 2) 0 - 1 → k ≡ out_kind x → Keeping t u count (gate_for k w 0 c) → OutIs table t u n count x
+  out-other w v high at q k given wires gs S r =
       let p = wire-of table t n count x c same w high at S r in
       on_bool (eqb (x % 2) 0)
       (λ b. let e = eqb-true (x % 2) 0 b in
-      let f : kind ≡ 4 = q ∙ rw b in
+      let f : v ≡ kind.Eqw = q ∙ rw b in
       let m : Names (n + count + 1) (Eqw w c) = (omega (arith, p.1), omega arith) in
       let s : Standing table u n (count + 1) given wires (gs ++ (Eqw w c ∷ [])) = standing-more S (Eqw w c) m (rw f at k) in
       let g : Eqw w c ≡ Eqw (wire_at wires (x / 2)) (n + count) = rw (p.0, same) in
       rw (literal-even x high e) (rw g at s))
       (λ b. let e = eqb-false (x % 2) 0 b in
-      let f : kind ≡ 3 = q ∙ rw b in
+      let f : v ≡ kind.Inv = q ∙ rw b in
       let m : Names (n + count + 1) (Inv w c) = (omega (arith, p.1), omega arith) in
       let s : Standing table u n (count + 1) given wires (gs ++ (Inv w c ∷ [])) = standing-more S (Inv w c) m (rw f at k) in
       let g : Inv w c ≡ Inv (wire_at wires (x / 2)) (n + count) = rw (p.0, same) in

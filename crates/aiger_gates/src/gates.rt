@@ -7,7 +7,7 @@ ghost use Rattle.aiger_gates.specs.Places.{Keeping, OperandIs, AndIs, out_kind, 
 
 use crate::keep::keep;
 use crate::variables::entry;
-use gate_table::GateNumbers;
+use gate_table::{GateNumbers, Kind};
 
 // The wire that carries an operand, and how many gates there are with its own.
 #[derive(Clone, Copy)]
@@ -36,8 +36,8 @@ pub fn operand(
             results,
             count,
             GateNumbers {
-                kind: gate_table::EQ,
-                left: x,
+                kind: Kind::Eq(x),
+                left: 0,
                 right: 0,
                 result: c,
             },
@@ -56,7 +56,7 @@ pub fn operand(
         results,
         count,
         GateNumbers {
-            kind: gate_table::INV,
+            kind: Kind::Inv,
             left: w,
             right: 0,
             result: c,
@@ -79,7 +79,7 @@ fn and_gate(operands: &mut [u64], results: &mut [u64], left: u32, right: u32, n:
         results,
         count,
         GateNumbers {
-            kind: gate_table::AND,
+            kind: Kind::And,
             left,
             right,
             result: n + count as u32,
@@ -115,14 +115,10 @@ pub fn and_gates(
 }
 
 // The kind of an output that is no constant: a copy, or the inverse.
-fn out_kind(x: u32) -> u64
+fn out_kind(x: u32) -> Kind
     ensures { result ≡ out_kind x }
 {
-    if x % 2 == 0 {
-        gate_table::EQW
-    } else {
-        gate_table::INV
-    }
+    if x % 2 == 0 { Kind::Eqw } else { Kind::Inv }
 }
 
 // An output: an EQW, an INV or an EQ.
@@ -145,8 +141,8 @@ pub fn out_gate(
             results,
             count,
             GateNumbers {
-                kind: gate_table::EQ,
-                left: x,
+                kind: Kind::Eq(x),
+                left: 0,
                 right: 0,
                 result: c,
             },

@@ -1,5 +1,5 @@
 // A line of so many numbers, and nothing else.
-ghost use Rattle.std.specs.Prelude.{◌≡◌, ◌≤◌, length, drop};
+ghost use Rattle.std.specs.Prelude.{◌≤◌, length, drop};
 
 use crate::between::{is_stray, past_spaces, to_word};
 use crate::lines::Lines;

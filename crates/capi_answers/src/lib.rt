@@ -6,7 +6,7 @@ pub mod certified;
 pub mod pair_answers;
 pub mod wide_answers;
 
-ghost use Rattle.std.specs.Prelude.{◌≡◌, [], ◌∷◌, pos, neg_ℤ, set};
+ghost use Rattle.std.specs.Prelude.{◌≡◌, pos, neg_ℤ};
 ghost use Rattle.std.proofs.lemmas.List.Edits.{sets};
 ghost use Rattle.netlist.specs.Question.{number_of};
 ghost use Rattle.check_leak.specs.declared.difference.Leak.{Leak};
@@ -14,6 +14,7 @@ ghost use Rattle.capi_answers.specs.Number.{sizes_of, number as counted, leak_nu
 
 use check_leak::difference::Leak;
 use check_netlist::Checked;
+use lists::put;
 use netlist::{Answer, Question, Sizes};
 
 // The number of a refusal.
@@ -31,15 +32,6 @@ pub fn number(a: Answer) -> i64
     match a {
         Ok(n) => n as i64,
         Err(question) => minus(question),
-    }
-}
-
-// One entry of a list, where the list is long enough.
-pub fn put(list: &mut [u64], at: usize, entry: u64)
-    ensures { list.new ≡ set list.old at entry }
-{
-    if at < list.len() {
-        list[at] = entry;
     }
 }
 

@@ -1,10 +1,11 @@
 // Both answers of Check with pairs: their number, and the numbers of a leak and of a bad pair in their lists.
 ghost use Rattle.std.specs.Prelude.{◌≡◌, length};
 ghost use Rattle.std.proofs.lemmas.List.Edits.{sets};
-ghost use Rattle.capi_answers.specs.Pairs.{both as bothOf, told_leak, bad_numbers, room_for, ShowsBoth};
+ghost use Rattle.capi_answers.specs.Pairs.{both as both_of, told_leak, bad_numbers, room_for, ShowsBoth};
 
-use crate::{minus, put, show};
+use crate::{minus, show};
 use check_leak::difference::Leak;
+use lists::put;
 use netlist::Question;
 use pairs_judge::CheckedPairs;
 use pairs_search::search::PairsFound;
@@ -39,7 +40,7 @@ pub fn room_for(leak: usize, bad: usize, a: CheckedPairs) -> CheckedPairs
 
 // The number of both answers: 1 for a leak, and 2 more for a bad pair.
 fn both(found: PairsFound) -> i64
-    ensures { result ≡ bothOf found }
+    ensures { result ≡ both_of found }
 {
     match (found.leak, found.pair) {
         (None, None) => 0,

@@ -1,11 +1,12 @@
 // Both answers of the check of netlists with many inputs: as those of Check with pairs, with how many input bits are one in place of the
 // setting, and those bits in a list of their own.
-ghost use Rattle.std.specs.Prelude.{◌≡◌, min, length, take};
+ghost use Rattle.std.specs.Prelude.{◌≡◌, min, take};
 ghost use Rattle.std.proofs.lemmas.List.Edits.{sets};
 ghost use Rattle.capi_answers.specs.Wide.{room_ones, to_ones, ShowsWide};
 
-use crate::{pair_answers, put};
+use crate::pair_answers;
 use check_leak::difference::Leak;
+use lists::put;
 use netlist::Question;
 use pairs_judge::CheckedPairs;
 use pairs_search::search::PairsFound;

@@ -5,6 +5,7 @@
 ghost use Rattle.certify.specs.Promise.{call, Answers, Promise};
 
 use certify_netlist::Certified;
+use gate_table::Gates;
 use netlist::Sizes;
 use read_netlist::read::read;
 
@@ -39,8 +40,13 @@ fn answer(
         &[words.len(), base.len(), records.len() / 15],
         l,
     )?;
+    let gates = Gates {
+        operands,
+        results,
+        count: h.gates as usize,
+    };
     certify_netlist::judge(
-        h, inputs, codes, leak, ones, operands, results, marks, words, base, records,
+        h, inputs, codes, leak, ones, gates, marks, words, base, records,
     )
 }
 

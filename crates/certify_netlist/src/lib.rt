@@ -5,10 +5,9 @@
 mod ones;
 
 ghost use Rattle.std.specs.Prelude.{◌≡◌, List, ℕ, ◌+◌, ◌*◌, ◌<◌, ◌≤◌, length, take};
-ghost use Rattle.std.proofs.lemmas.List.Edits.{sets};
 ghost use Rattle.netlist.specs.Lists.{sum};
 ghost use Rattle.netlist.specs.Netlist.{Netlist};
-ghost use Rattle.netlist.specs.Table.{tables, Wired, Holds};
+ghost use Rattle.gate_table.specs.Gates.{WiredGates, HoldsGates};
 ghost use Rattle.certify_pass.specs.Pass.{Masked};
 ghost use Rattle.certify_search.specs.Witness.{Witness};
 ghost use Rattle.netlist.specs.Leak.{EqualCounts};
@@ -16,6 +15,7 @@ ghost use Rattle.netlist.specs.Read.{WellFormed};
 ghost use Rattle.certify_netlist.specs.Judge.{Judged, JudgedAs};
 
 use check_leak::difference::Leak;
+use gate_table::Gates;
 use netlist::Question;
 use read_header::HeaderNumbers;
 
@@ -65,54 +65,47 @@ fn tell_unknown(wire: usize, leak: &mut [u64]) -> Certified
 
 // A witness is looked for, where a wire is not known to be clean.
 fn witness(
-    count: usize,
     sure: usize,
     codes: &[u8],
     leak: &mut [u64],
     ones: &mut [u64],
-    operands: &[u64],
-    results: &[u64],
+    gates: Gates,
     words: &mut [u64],
     base: &mut [u64],
 ) -> Certified
-    requires { Wired (tables operands.now results.now) (length words.old) count × (length codes.now + 2 ≤ length words.old)
+    requires { WiredGates gates (length words.old) × (length codes.now + 2 ≤ length words.old)
         × (length base.old ≡ length words.old) × (sure < length words.old) }
-    ensures { (n o : ℕ) (N : Netlist) → Holds (tables operands.now results.now) count (length words.old) n
-        o N → Masked N codes.now → ((w : ℕ) → w < sure → EqualCounts N codes.now w)
+    ensures { (n o : ℕ) (N : Netlist) → HoldsGates gates.entry (length words.old) n o N
+        → Masked N codes.now → ((w : ℕ) → w < sure → EqualCounts N codes.now w)
         → Judged N codes.now leak.old leak.new ones.old ones.new result }
 {
-    match certify_search::search::search(operands, results, count, codes, words, base) {
+    match certify_search::search::search(gates, codes, words, base) {
         Some(found) => tell_leak(&words[..codes.len()], found, leak, ones),
         None => tell_unknown(sure, leak),
     }
 }
 
-// What the certifier says of `count` gates over `wires` wires.
+// What the certifier says of these gates over `wires` wires.
 fn decide(
-    count: usize,
     wires: usize,
     codes: &[u8],
     leak: &mut [u64],
     ones: &mut [u64],
-    operands: &[u64],
-    results: &[u64],
+    gates: Gates,
     marks: &mut [u8],
     words: &mut [u64],
     base: &mut [u64],
     records: &mut [u64],
 ) -> Certified
-    requires { Wired (tables operands.now results.now) wires count × (length codes.now + 2 ≤ wires) × (wires ≤ length marks.old)
+    requires { WiredGates gates wires × (length codes.now + 2 ≤ wires) × (wires ≤ length marks.old)
         × (wires ≤ length words.old) × (wires ≤ length base.old) × (15 * wires ≤ length records.old) }
-    ensures { (n o : ℕ) (N : Netlist) → Holds (tables operands.now results.now) count wires n o N
-        → Masked N codes.now
+    ensures { (n o : ℕ) (N : Netlist) → HoldsGates gates.entry wires n o N → Masked N codes.now
         → Judged N codes.now leak.old leak.new ones.old ones.new result }
 {
     let entries = 15 * wires;
     let sure = certify_pass::pass::certified(
         codes,
-        operands,
-        results,
-        count,
+        gates,
         &mut records[..entries],
         &mut marks[..wires],
         &mut words[..wires],
@@ -121,50 +114,44 @@ fn decide(
         return Ok(Verdict::Clean);
     }
     witness(
-        count,
         sure,
         codes,
         leak,
         ones,
-        operands,
-        results,
+        gates,
         &mut words[..wires],
         &mut base[..wires],
     )
 }
 
-// Questions 10 and 11 and the verdict, from a header's numbers and tables that begin with its input widths and its gates.
+// Questions 10 and 11 and the verdict, from a header's numbers, its input widths and its gates.
 pub fn judge(
     h: HeaderNumbers,
     widths: [u32; 17],
     codes: &[u8],
     leak: &mut [u64],
     ones: &mut [u64],
-    operands: &[u64],
-    results: &[u64],
+    gates: Gates,
     marks: &mut [u8],
     words: &mut [u64],
     base: &mut [u64],
     records: &mut [u64],
 ) -> Certified
-    requires wired { Wired (tables operands.now results.now) h.wires h.gates }
+    requires wired { WiredGates gates h.wires }
     requires input_values_bound { (h.input_values ≤ 17) × (h.input_bits ≡ sum (take h.input_values widths)) × (h.input_bits ≤ h.wires)
         × (h.wires ≤ length marks.old) × (h.wires ≤ length words.old) × (h.wires ≤ length base.old)
         × (15 * h.wires ≤ length records.old) }
-    ensures { (N : Netlist) → Holds (tables operands.now results.now) h.gates h.wires h.input_bits
-        h.output_bits N
+    ensures { (N : Netlist) → HoldsGates gates.entry h.wires h.input_bits h.output_bits N
         → take h.input_values widths ≡ N.inputs → WellFormed N
         → JudgedAs N codes.now leak.old leak.new ones.old ones.new result }
 {
     check_netlist::ask_codes(h, widths, codes)?;
     decide(
-        h.gates as usize,
         h.wires as usize,
         codes,
         leak,
         ones,
-        operands,
-        results,
+        gates,
         marks,
         words,
         base,

@@ -49,7 +49,7 @@ pub fn fellows(r: Record, s: Record) -> bool
 }
 
 // The record of what a kind of gate makes of two wires, from a record of each; none where it has more than four atoms. Atoms on
-// which nothing depends are left out.
+// which nothing depends are left out. The kind stays the number of the tables: `evaluate::gate::made` works by it without a jump.
 pub fn combine(kind: usize, x: Record, y: Record) -> Option<Record>
     requires { kind < 8 }
     ensures { JoinIs kind x y result }

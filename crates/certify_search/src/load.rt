@@ -1,5 +1,5 @@
 // The words of the input wires in one round of chosen settings.
-ghost use Rattle.std.specs.Prelude.{◌≡◌, ◌+◌, ◌≤◌, length};
+ghost use Rattle.std.specs.Prelude.{◌+◌, ◌≤◌, length};
 ghost use Rattle.certify_search.specs.Round.{InputWord, Loaded};
 
 use check_counts::load;

@@ -1,7 +1,7 @@
 // Rounds of chosen settings.
 ghost use Rattle.std.specs.Prelude.{◌≡◌, Some, List, ℕ, ◌+◌, ◌<◌, ◌≤◌, length};
 ghost use Rattle.netlist.specs.Netlist.{Netlist};
-ghost use Rattle.netlist.specs.Table.{tables, Wired, Holds};
+ghost use Rattle.gate_table.specs.Gates.{WiredGates, HoldsGates};
 ghost use Rattle.certify_pass.specs.Pass.{Masked};
 ghost use Rattle.check_leak.specs.declared.difference.Leak.{Leak};
 ghost use Rattle.certify_search.specs.Round.{Ran};
@@ -11,22 +11,16 @@ use crate::load;
 use check_counts::block;
 use check_leak::difference;
 use check_leak::difference::Leak;
+use gate_table::Gates;
 
 // The words of all wires in one round. Returns the generator's last number.
-fn run(
-    operands: &[u64],
-    results: &[u64],
-    count: usize,
-    codes: &[u8],
-    seed: u64,
-    words: &mut [u64],
-) -> u64
-    requires { Wired (tables operands.now results.now) (length words.old) count × (length codes.now + 2 ≤ length words.old) }
-    ensures { (n o : ℕ) (N : Netlist) → Holds (tables operands.now results.now) count (length words.old) n
-        o N → Masked N codes.now → Ran N codes.now words.new }
+fn run(gates: Gates, codes: &[u8], seed: u64, words: &mut [u64]) -> u64
+    requires { WiredGates gates (length words.old) × (length codes.now + 2 ≤ length words.old) }
+    ensures { (n o : ℕ) (N : Netlist) → HoldsGates gates.entry (length words.old) n o N
+        → Masked N codes.now → Ran N codes.now words.new }
 {
     let noise = load::inputs(codes, seed, words);
-    evaluate::wires(operands, results, count, codes.len() + 2, words);
+    evaluate::wires(gates, codes.len() + 2, words);
     noise
 }
 
@@ -44,23 +38,16 @@ fn look(words: &[u64], base: &mut [u64]) -> Option<Leak>
 const ROUNDS: usize = 64;
 
 // A wire and a setting with another count than its base, among the chosen settings: `words` then holds the round's words; or no wire.
-pub fn search(
-    operands: &[u64],
-    results: &[u64],
-    count: usize,
-    codes: &[u8],
-    words: &mut [u64],
-    base: &mut [u64],
-) -> Option<Leak>
-    requires { Wired (tables operands.now results.now) (length words.old) count × (length codes.now + 2 ≤ length words.old)
+pub fn search(gates: Gates, codes: &[u8], words: &mut [u64], base: &mut [u64]) -> Option<Leak>
+    requires { WiredGates gates (length words.old) × (length codes.now + 2 ≤ length words.old)
         × (length base.old ≡ length words.old) }
     ensures inside { (p : Leak) → result ≡ Some p → p.setting < 16 }
-    ensures witness { (n o : ℕ) (N : Netlist) → Holds (tables operands.now results.now) count (length words.old) n
-        o N → Masked N codes.now → Witnessed N codes.now words.new result }
+    ensures witness { (n o : ℕ) (N : Netlist) → HoldsGates gates.entry (length words.old) n o N
+        → Masked N codes.now → Witnessed N codes.now words.new result }
 {
     let mut seed = 0x9e37_79b9_7f4a_7c15;
     for _ in 0..ROUNDS {
-        seed = run(operands, results, count, codes, seed, words);
+        seed = run(gates, codes, seed, words);
         if let Some(leak) = look(words, base) {
             return Some(leak);
         }

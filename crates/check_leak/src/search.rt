@@ -3,8 +3,8 @@ ghost use Rattle.std.specs.Prelude.{◌≡◌, true, false, ℕ, ◌+◌, ◌*�
 ghost use Rattle.netlist.specs.Netlist.{Netlist};
 ghost use Rattle.netlist.specs.Leak.{leak};
 ghost use Rattle.netlist.specs.Services.{max_checked};
-ghost use Rattle.netlist.specs.Table.{tables, Wired, Holds};
-ghost use Rattle.evaluate.specs.Bare.{bare};
+ghost use Rattle.gate_table.specs.Gates.{WiredGates, HoldsGates};
+ghost use Rattle.evaluate.specs.Bare.{bare_of};
 ghost use Rattle.check_counts.specs.Base.{count_in};
 ghost use Rattle.check_counts.specs.Block.{Ready};
 ghost use Rattle.check_leak.specs.Difference.{LowestDifference, from};
@@ -13,12 +13,11 @@ ghost use Rattle.check_leak.specs.Search.{found_of};
 use crate::difference;
 use crate::difference::Leak;
 use check_counts::{block, paint};
+use gate_table::Gates;
 
 // A block is run and searched, for wires below a limit.
 fn search_block(
-    operands: &[u64],
-    results: &[u64],
-    count: usize,
+    gates: Gates,
     paints: &[u8],
     publics: bool,
     block: u64,
@@ -26,45 +25,39 @@ fn search_block(
     base: &mut [u64],
     limit: usize,
 ) -> Option<Leak>
-    requires wired { Wired (tables operands.now results.now) (length words.old) count }
+    requires wired { WiredGates gates (length words.old) }
     requires paints_in_bounds { (length paints.now + 2 ≤ length words.old) × (length base.old ≡ length words.old)
-        × (limit ≤ length words.old) × Ready publics (bare (tables operands.now results.now) count (length words.old)) paints.now
+        × (limit ≤ length words.old) × Ready publics (bare_of gates (length words.old)) paints.now
         base.old block }
-    ensures { let N = bare (tables operands.now results.now) count (length words.old) in LowestDifference
+    ensures { let N = bare_of gates.entry (length words.old) in LowestDifference
         (from (block * 16) (count_in N false paints.now)) (from (block * 16) (count_in N true paints.now)) limit 16 result
         × Ready publics N paints.now base.new (block + 1) }
 {
-    block::run_block(operands, results, count, paints, true, block, words);
-    block::refresh(
-        operands, results, count, paints, publics, block, words, base,
-    );
+    block::run_block(gates, paints, true, block, words);
+    block::refresh(gates, paints, publics, block, words, base);
     difference::scan(words, base, limit)
 }
 
 // The first wire whose counts are not those of its base, over all settings of these blocks. Blocks
 // rise, and wires above the lowest difference are looked at no more.
 fn find(
-    operands: &[u64],
-    results: &[u64],
-    count: usize,
+    gates: Gates,
     paints: &[u8],
     blocks: u64,
     words: &mut [u64],
     base: &mut [u64],
 ) -> Option<Leak>
-    requires wired { Wired (tables operands.now results.now) (length words.old) count }
+    requires wired { WiredGates gates (length words.old) }
     requires paints_in_bounds { (length paints.now + 2 ≤ length words.old) × (length base.old ≡ length words.old)
         × (blocks < 65536) }
-    ensures { let N = bare (tables operands.now results.now) count (length words.old) in LowestDifference
+    ensures { let N = bare_of gates.entry (length words.old) in LowestDifference
         (count_in N false paints.now) (count_in N true paints.now) (length words.old) (blocks * 16) result }
 {
     let publics = block::public(paints);
     let mut best = None;
     for block in 0..blocks {
         let limit = difference::limit(best, words.len());
-        let found = search_block(
-            operands, results, count, paints, publics, block, words, base, limit,
-        );
+        let found = search_block(gates, paints, publics, block, words, base, limit);
         best = difference::better(best, found, block);
     }
     best
@@ -80,29 +73,14 @@ pub fn blocks_of(k: usize) -> u64
 
 // The leak of the tables' netlist under the input codes, or none: then it is clean. The words and
 // the base, one entry for each wire, are working store.
-pub fn leaks(
-    operands: &[u64],
-    results: &[u64],
-    count: usize,
-    codes: &[u8],
-    words: &mut [u64],
-    base: &mut [u64],
-) -> Option<Leak>
-    requires wired { Wired (tables operands.now results.now) (length words.old) count }
+pub fn leaks(gates: Gates, codes: &[u8], words: &mut [u64], base: &mut [u64]) -> Option<Leak>
+    requires wired { WiredGates gates (length words.old) }
     requires codes_len_bound { (length codes.now ≤ max_checked) × (length codes.now + 2 ≤ length words.old) × (length base.old ≡ length words.old)
         × ((i : ℕ) → i < length codes.now → get_or codes.now i 0 < 4) }
-    ensures { (n o : ℕ) (N : Netlist) → Holds (tables operands.now results.now) count
+    ensures { (n o : ℕ) (N : Netlist) → HoldsGates gates.entry
         (length words.old) n o N → found_of result ≡ leak N codes.now }
 {
     let paints = paint::each(codes);
     let n = codes.len();
-    find(
-        operands,
-        results,
-        count,
-        &paints[..n],
-        blocks_of(n),
-        words,
-        base,
-    )
+    find(gates, &paints[..n], blocks_of(n), words, base)
 }

@@ -1,16 +1,15 @@
 // Questions 10 to 12 of a netlist that was read, and the verdict on it.
 #![tactic(auto)]
 
-ghost use Rattle.std.specs.Prelude.{◌≡◌, ℕ, ◌+◌, ◌<◌, ◌≤◌, length, take, get_or};
+ghost use Rattle.std.specs.Prelude.{◌≡◌, ◌≤◌, length, take};
 ghost use Rattle.netlist.specs.Lists.{sum};
-ghost use Rattle.netlist.specs.Leak.{leak as leakOf};
 ghost use Rattle.netlist.specs.Netlist.{Netlist};
-ghost use Rattle.netlist.specs.Outcome.{done};
-ghost use Rattle.netlist.specs.Services.{ends_in_masks, check_outcome, max_checked};
-ghost use Rattle.netlist.specs.Table.{tables, Wired, Holds};
+ghost use Rattle.netlist.specs.Services.{ends_in_masks, check_outcome};
+ghost use Rattle.gate_table.specs.Gates.{WiredGates, HoldsGates};
 ghost use Rattle.check_netlist.specs.Judge.{asked_of, codes_asked, outcome_of};
 
 use check_leak::difference::Leak;
+use gate_table::Gates;
 use netlist::Question;
 use read_header::HeaderNumbers;
 
@@ -41,21 +40,19 @@ pub fn ask_codes(h: HeaderNumbers, widths: [u32; 17], codes: &[u8]) -> Result<()
     Ok(())
 }
 
-// Questions 10 to 12 and the verdict, from a header's numbers and tables that begin with its input widths and its gates.
+// Questions 10 to 12 and the verdict, from a header's numbers, its input widths and its gates.
 pub fn judge(
     h: HeaderNumbers,
     widths: [u32; 17],
     codes: &[u8],
-    operands: &[u64],
-    results: &[u64],
+    gates: Gates,
     words: &mut [u64],
     base: &mut [u64],
 ) -> Checked
-    requires wired { Wired (tables operands.now results.now) h.wires h.gates }
+    requires wired { WiredGates gates h.wires }
     requires input_values_bound { (h.input_values ≤ 17) × (h.input_bits ≡ sum (take h.input_values widths)) × (h.input_bits ≤ h.wires)
         × (h.wires ≤ length words.old) × (h.wires ≤ length base.old) }
-    ensures { (N : Netlist) → Holds (tables operands.now results.now) h.gates h.wires h.input_bits
-        h.output_bits N
+    ensures { (N : Netlist) → HoldsGates gates.entry h.wires h.input_bits h.output_bits N
         → take h.input_values widths ≡ N.inputs → outcome_of result ≡ check_outcome codes.now N }
 {
     ask_codes(h, widths, codes)?;
@@ -63,13 +60,6 @@ pub fn judge(
         return Err(Question::Settings);
     }
     let wires = h.wires as usize;
-    let found = check_leak::search::leaks(
-        operands,
-        results,
-        h.gates as usize,
-        codes,
-        &mut words[..wires],
-        &mut base[..wires],
-    );
+    let found = check_leak::search::leaks(gates, codes, &mut words[..wires], &mut base[..wires]);
     Ok(found)
 }

@@ -6,6 +6,7 @@ ghost use Rattle.std.specs.Prelude.{◌≡◌};
 ghost use Rattle.pairs_judge.specs.Judge.{outcome_of};
 ghost use Rattle.check_pairs.specs.Promise.{call, Promise};
 
+use gate_table::Gates;
 use netlist::Sizes;
 use pairs_judge::CheckedPairs;
 use read_netlist::read::read;
@@ -39,9 +40,12 @@ fn answer(
         &[words.len(), base.len(), bases.len()],
         l,
     )?;
-    pairs_judge::judge(
-        h, inputs, codes, pairs, operands, results, words, base, bases,
-    )
+    let gates = Gates {
+        operands,
+        results,
+        count: h.gates as usize,
+    };
+    pairs_judge::judge(h, inputs, codes, pairs, gates, words, base, bases)
 }
 
 // Whether the netlist in `text` is clean under the input codes, and each pair of wires: pair j is entries 2j and 2j + 1 of `pairs`.

@@ -2,10 +2,11 @@
 // wire and each listed pair through gate lines. Questions 1 to 11 with the large limits, then 21, then 12.
 #![tactic(auto)]
 
-ghost use Rattle.std.specs.Prelude.{◌≡◌, true, ◌&&◌, ℕ, leb};
+ghost use Rattle.std.specs.Prelude.{◌≡◌};
 ghost use Rattle.wide_judge.specs.Judge.{outcome_of};
 ghost use Rattle.check_wide.specs.Promise.{call, Promise};
 
+use gate_table::Gates;
 use netlist::Sizes;
 use read_netlist::read::read;
 use wide_judge::CheckedWide;
@@ -54,9 +55,13 @@ fn answer(
         ],
         l,
     )?;
+    let gates = Gates {
+        operands,
+        results,
+        count: h.gates as usize,
+    };
     wide_judge::judge(
-        h, inputs, codes, pairs, operands, results, marks, words, base, bases, set0, set1, set2,
-        set3, paints,
+        h, inputs, codes, pairs, gates, marks, words, base, bases, set0, set1, set2, set3, paints,
     )
 }
 

@@ -6,6 +6,7 @@ ghost use Rattle.check_netlist.specs.Judge.{outcome_of};
 ghost use Rattle.checker.specs.Promise.{call, Promise};
 
 use check_netlist::Checked;
+use gate_table::Gates;
 use netlist::Sizes;
 use read_netlist::read::read;
 
@@ -36,7 +37,12 @@ fn answer(
         &[words.len(), base.len()],
         l,
     )?;
-    check_netlist::judge(h, inputs, codes, operands, results, words, base)
+    let gates = Gates {
+        operands,
+        results,
+        count: h.gates as usize,
+    };
+    check_netlist::judge(h, inputs, codes, gates, words, base)
 }
 
 // Whether the netlist in `text` is clean under the input codes. The tables, of any content, are zero on return.

@@ -4,7 +4,7 @@
 // that refuses it.
 ghost use Rattle.std.specs.Prelude.{◌≡◌, [], ◌≤◌, length, take};
 ghost use Rattle.netlist.specs.declared.Sizes.TheVariants.{Old};
-ghost use Rattle.netlist.specs.Netlist.{large as largeLimits};
+ghost use Rattle.netlist.specs.Netlist.{large as large_limits};
 ghost use Rattle.netlist.specs.Programs.{readable, list_file, print_check, check_program};
 ghost use Rattle.netlist.specs.Services.{check_call};
 ghost use Rattle.write_buffer.specs.Wrote.{Wrote};
@@ -29,7 +29,7 @@ fn answer(
 ) -> Checked
     requires { Roomy operands.old results.old marks.old words.old base.old }
     ensures { outcome_of result ≡ readable netlist.now
-        (check_call (largeLimits Old) [] netlist.now (list_file inputs.old)) }
+        (check_call (large_limits Old) [] netlist.now (list_file inputs.old)) }
 {
     if FILE_LIMIT < netlist.len() {
         return Err(Question::Length);

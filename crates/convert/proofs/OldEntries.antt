@@ -1,11 +1,11 @@
 -- Question 15 of gates in tables.
-use Prim.Native.Nat.{ℕ, zero, suc, ◌+◌, ◌/◌, ◌%◌, ◌<◌, ◌≤◌}
+use Prim.Native.Nat.{ℕ, zero, suc, ◌+◌, ◌/◌, ◌%◌, ◌≤◌}
 use mathlib.Core.Path.{◌≡◌, refl, sym, ap, ◌∙◌}
 use mathlib.Core.Bool.{Bool, true, false, cond, ◌&&◌, and-true, and_assoc}
 use mathlib.Core.List.{List, [], ◌∷◌, ◌++◌}
 use native.Mathlib.Omega.{arith}
-use lib.Dec.{eqb, leb, ltb}
-use borrow.Author.Tests.{ne_eqb, eqb-true, eqb-false, lt-ltb, ltb-true, ltb-false, le-leb}
+use lib.Dec.{eqb, leb}
+use borrow.Author.Tests.{le-leb}
 use Rattle.netlist.specs.declared.Gate.{Gate}
 use Rattle.netlist.specs.declared.Gate.TheVariants.{Xor, And, Inv, Eqw, Eq}
 use lib.ListN.{length, get_or, take}
@@ -16,38 +16,8 @@ use Rattle.std.proofs.lemmas.List.Recursion.{and_at, and_from_places}
 use Rattle.convert.specs.Convert.{old_entry}
 use Rattle.netlist.specs.Lists.{every}
 use Rattle.netlist.specs.Table.{tables, half, gate_of, gate_at, gates_of}
-use Rattle.netlist.proofs.Tests.{on_bool}
 use Rattle.netlist.proofs.Puts.{gates-more}
 use Rattle.old_form.specs.OldWrite.{is_old_gate}
-
--- ---- one entry, by its kind
-
-high-kind : (k a b c : ℕ) → 3 < k → is_old_gate (gate_of k a b c) ≡ false
-high-kind k a b c h = rw (ne_eqb k 1 (λ p. omega arith), ne_eqb k 2 (λ p. omega arith), ne_eqb k 3 (λ p. omega arith)) (by (eqb k 4) (eqb k 5))
-  where
-    by : (u v : Bool) → is_old_gate (cond u (Eqw a c) (cond v (Eq 0 c) (Eq 1 c))) ≡ false
-    by true v = refl
-    by false true = refl
-    by false false = refl
-
-low-kind : (k a b c : ℕ) → 0 < k → k ≤ 3 → is_old_gate (gate_of k a b c) ≡ true
-low-kind k a b c l h =
-    on_bool (eqb k 1) (λ e. rw e) (λ n. on_bool (eqb k 2) (λ e. rw (n, e)) (λ m.
-    let p : k ≡ 1 → ⊥ = eqb-false k 1 n in
-    let q : k ≡ 2 → ⊥ = eqb-false k 2 m in
-    let three : k ≡ 3 = omega arith in
-    rw three))
-
-pub entry-kind : (r : ℕ) → (ltb 0 (r / half) && ltb (r / half) 4) ≡ old_entry r
-entry-kind r = on_bool (eqb (r / half) 0)
-    (λ e. let z : r / half ≡ 0 = eqb-true (r / half) 0 e in rw z)
-    (λ n. let z : r / half ≡ 0 → ⊥ = eqb-false (r / half) 0 n in
-    rw (lt-ltb 0 (r / half) (omega arith))
-    (on_bool (ltb (r / half) 4)
-    (λ e. let l = ltb-true (r / half) 4 e in e ∙ sym (low-kind (r / half) 0 0 (r % half) (omega arith) (omega arith)))
-    (λ e. let l = ltb-false (r / half) 4 e in e ∙ sym (high-kind (r / half) 0 0 (r % half) (omega arith)))))
-
--- ---- the entries
 
 every-last : (gs : List Gate) (g : Gate) → every is_old_gate (gs ++ (g ∷ [])) ≡ (every is_old_gate gs && is_old_gate g)
 every-last [] g = and-true (is_old_gate g)

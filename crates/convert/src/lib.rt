@@ -7,39 +7,37 @@ mod question;
 ghost use Rattle.std.specs.Prelude.{◌≤◌, length, take};
 ghost use Rattle.netlist.specs.Outcome.{ask};
 ghost use Rattle.netlist.specs.Services.{delivered, Answers, Delivers};
-ghost use Rattle.netlist.specs.Table.{tables, gates_of, Wired};
+ghost use Rattle.gate_table.specs.Gates.{tables_of, gates_in, WiredGates};
 ghost use Rattle.write_netlist.specs.Form.{form_text_in};
 ghost use Rattle.convert.specs.Convert.{call, has_form, Converts};
 
 use crate::question::has_form;
+use gate_table::Gates;
 use netlist::{Answer, Question, Sizes};
 use old_form::Dialect;
 use read_header::HeaderNumbers;
 
-// Question 14 and the text in a dialect, from a header's numbers and tables that begin with its widths and gates.
+// Question 14 and the text in a dialect, from a header's numbers and gates, and tables that begin with its widths.
 pub fn deliver(
     out: &mut [u8],
     h: HeaderNumbers,
     inputs: [u32; 17],
     outputs: [u32; 16],
-    operands: &[u64],
-    results: &[u64],
+    gates: Gates,
     to: Dialect,
 ) -> Answer
-    requires { (h.input_values ≤ 17) × (h.output_values ≤ 16) × Wired (tables operands.now results.now) h.wires h.gates }
-    ensures { Delivers (form_text_in to h.gates h.wires (take h.input_values inputs) (take h.output_values outputs)
-        (tables operands.now results.now)) out.old out.new result }
+    requires { (h.input_values ≤ 17) × (h.output_values ≤ 16) × WiredGates gates h.wires }
+    ensures { Delivers (form_text_in to gates.entry.count h.wires (take h.input_values inputs)
+        (take h.output_values outputs) (tables_of gates.entry)) out.old out.new result }
 {
     let ins = h.input_values;
     let outs = h.output_values;
     write_netlist::deliver_in(
         out,
-        h.gates as usize,
+        gates,
         h.wires as usize,
         &inputs[..ins],
         &outputs[..outs],
-        operands,
-        results,
         to,
     )
 }
@@ -50,27 +48,25 @@ fn write(
     h: HeaderNumbers,
     inputs: [u32; 17],
     outputs: [u32; 16],
-    operands: &[u64],
-    results: &[u64],
+    gates: Gates,
     to: Dialect,
 ) -> Answer
-    requires { (h.input_values ≤ 17) × (h.output_values ≤ 16) × Wired (tables operands.now results.now) h.wires h.gates }
-    ensures { Answers (ask 15 (has_form to (gates_of (tables operands.now results.now) h.gates)
-        (length (take h.input_values inputs)) (length (take h.output_values outputs)))
-        (delivered (length out.old) (form_text_in to h.gates h.wires (take h.input_values inputs)
-        (take h.output_values outputs)
-        (tables operands.now results.now)))) out.old out.new result }
+    requires { (h.input_values ≤ 17) × (h.output_values ≤ 16) × WiredGates gates h.wires }
+    ensures { Answers (ask 15 (has_form to (gates_in gates.entry) (length (take h.input_values inputs))
+        (length (take h.output_values outputs))) (delivered (length out.old)
+        (form_text_in to gates.entry.count h.wires (take h.input_values inputs) (take h.output_values outputs)
+        (tables_of gates.entry)))) out.old out.new result }
 {
     if !has_form(
-        results,
-        h.gates as usize,
+        gates.results,
+        gates.count,
         h.input_values,
         h.output_values,
         to,
     ) {
         return Err(Question::OldForm);
     }
-    deliver(out, h, inputs, outputs, operands, results, to)
+    deliver(out, h, inputs, outputs, gates, to)
 }
 
 // The answer, with tables that are still to be cleared. None is lent but the reader's own.
@@ -100,7 +96,12 @@ fn answer(
         sizes.large(),
         from,
     )?;
-    write(out, h, inputs, outputs, operands, results, to)
+    let gates = Gates {
+        operands,
+        results,
+        count: h.gates as usize,
+    };
+    write(out, h, inputs, outputs, gates, to)
 }
 
 // The netlist of a text in one dialect, written in the other at the front of `out`. The tables, of any content, are zero on return.

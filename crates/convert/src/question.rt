@@ -4,15 +4,17 @@ ghost use Rattle.netlist.specs.Lists.{every};
 ghost use Rattle.netlist.specs.Table.{tables, gates_of};
 ghost use Rattle.convert.specs.Convert.{old_entry, has_form};
 
-use gate_table::{EQW, HALF};
+use gate_table::Kind;
 use old_form::Dialect;
 
-// Whether an entry is that of XOR, AND or INV, the kinds before EQW.
+// Whether an entry is that of XOR, AND or INV.
 fn is_old_entry(res: u64) -> bool
     ensures { result ≡ old_entry res }
 {
-    let kind = res / HALF;
-    0 < kind && kind < EQW
+    match Kind::of(gate_table::split(0, res).kind) {
+        Kind::Xor | Kind::And | Kind::Inv => true,
+        _ => false,
+    }
 }
 
 // Whether all entries are.

@@ -9,37 +9,38 @@ pub mod wide;
 
 ghost use Rattle.std.specs.Prelude.{◌≡◌, ℕ, ◌≤◌, ◌<◌, length, take};
 ghost use Rattle.netlist.specs.Eval.{run_gates, wire_bits};
-ghost use Rattle.netlist.specs.Table.{tables, gates_of, Wired};
+ghost use Rattle.gate_table.specs.Gates.{WiredGates, gates_in};
 ghost use Rattle.evaluate.specs.Lane.{lanes};
-ghost use Rattle.evaluate.specs.Bare.{bare};
+ghost use Rattle.evaluate.specs.Bare.{bare_of};
+
+use gate_table::Gates;
 
 // Runs the tables' first gates on the wires' words, each lane for itself. A gate's entries are taken
 // apart a turn before its step: so it is compiled to fewer instructions.
-fn run(operands: &[u64], results: &[u64], count: usize, words: &mut [u64])
-    requires { Wired (tables operands.now results.now) (length words.old) count }
-    ensures { (j : ℕ) → j < 64 → lanes j words.new
-        ≡ run_gates (lanes j words.old) (gates_of (tables operands.now results.now) count) }
+fn run(gates: Gates, words: &mut [u64])
+    requires { WiredGates gates (length words.old) }
+    ensures { (j : ℕ) → j < 64 → lanes j words.new ≡ run_gates (lanes j words.old) (gates_in gates.entry) }
 {
-    if count == 0 {
+    if gates.count == 0 {
         return;
     }
-    let mut next = gate_table::split(operands[0], results[0]);
-    for i in 1..count {
+    let mut next = gates.at(0);
+    for i in 1..gates.count {
         gate::step(words, next);
-        next = gate_table::split(operands[i], results[i]);
+        next = gates.at(i);
     }
     gate::step(words, next);
 }
 
 // The words of all wires, from those of the input wires, which are the first; what the others held
 // before does not matter.
-pub fn wires(operands: &[u64], results: &[u64], count: usize, ins: usize, words: &mut [u64])
-    requires wired { Wired (tables operands.now results.now) (length words.old) count }
+pub fn wires(gates: Gates, ins: usize, words: &mut [u64])
+    requires wired { WiredGates gates (length words.old) }
     requires ins_in_bounds { ins ≤ length words.old }
     ensures { (j : ℕ) → j < 64 → lanes j words.new
-        ≡ wire_bits (bare (tables operands.now results.now) count (length words.old))
+        ≡ wire_bits (bare_of gates.entry (length words.old))
         (lanes j (take ins words.old)) }
 {
     words[ins..].fill(0);
-    run(operands, results, count, words);
+    run(gates, words);
 }

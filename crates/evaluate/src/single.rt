@@ -3,28 +3,21 @@ ghost use Rattle.std.specs.Prelude.{◌≡◌, ◌≤◌, length};
 ghost use Rattle.std.proofs.lemmas.List.Edits.{sets};
 ghost use Rattle.netlist.specs.Netlist.{Netlist};
 ghost use Rattle.netlist.specs.Services.{output_list};
-ghost use Rattle.netlist.specs.Table.{tables, Wired, Holds};
+ghost use Rattle.gate_table.specs.Gates.{WiredGates, HoldsGates};
 
 use crate::lay;
+use gate_table::Gates;
 
 // The output bits of the tables' netlist, over the front of `out`. The words, one for each wire,
 // are working store.
-pub fn outputs(
-    operands: &[u64],
-    results: &[u64],
-    count: usize,
-    outs: usize,
-    bits: &[u8],
-    words: &mut [u64],
-    out: &mut [u8],
-)
-    requires wired { Wired (tables operands.now results.now) (length words.old) count }
+pub fn outputs(gates: Gates, outs: usize, bits: &[u8], words: &mut [u64], out: &mut [u8])
+    requires wired { WiredGates gates (length words.old) }
     requires bits_in_bounds { (length bits.now ≤ length words.old) × (outs ≤ length words.old) × (outs ≤ length out.old) }
-    ensures { (N : Netlist) → Holds (tables operands.now results.now) count (length words.old)
+    ensures { (N : Netlist) → HoldsGates gates.entry (length words.old)
         (length bits.now) outs N → out.new ≡ sets out.old 0 (output_list N bits.now) }
 {
     lay::bits(bits, words);
-    crate::wires(operands, results, count, bits.len(), words);
+    crate::wires(gates, bits.len(), words);
     let from = words.len() - outs;
     lay::low_bits(&words[from..], out);
 }

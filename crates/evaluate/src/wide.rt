@@ -2,27 +2,21 @@
 ghost use Rattle.std.specs.Prelude.{◌≡◌, ◌≤◌, length};
 ghost use Rattle.std.proofs.lemmas.List.Edits.{sets};
 ghost use Rattle.netlist.specs.Netlist.{Netlist};
-ghost use Rattle.netlist.specs.Table.{tables, Wired, Holds};
+ghost use Rattle.gate_table.specs.Gates.{WiredGates, HoldsGates};
 ghost use Rattle.evaluate.specs.Lane.{output_words};
+
+use gate_table::Gates;
 
 // The output words of the tables' netlist, over the front of `out`. The words, one for each wire,
 // are working store.
-pub fn outputs(
-    operands: &[u64],
-    results: &[u64],
-    count: usize,
-    outs: usize,
-    list: &[u64],
-    words: &mut [u64],
-    out: &mut [u64],
-)
-    requires wired { Wired (tables operands.now results.now) (length words.old) count }
+pub fn outputs(gates: Gates, outs: usize, list: &[u64], words: &mut [u64], out: &mut [u64])
+    requires wired { WiredGates gates (length words.old) }
     requires list_in_bounds { (length list.now ≤ length words.old) × (outs ≤ length words.old) × (outs ≤ length out.old) }
-    ensures { (N : Netlist) → Holds (tables operands.now results.now) count (length words.old)
+    ensures { (N : Netlist) → HoldsGates gates.entry (length words.old)
         (length list.now) outs N → out.new ≡ sets out.old 0 (output_words N list.now) }
 {
     words[..list.len()].copy_from_slice(list);
-    crate::wires(operands, results, count, list.len(), words);
+    crate::wires(gates, list.len(), words);
     let from = words.len() - outs;
     out[..outs].copy_from_slice(&words[from..]);
 }

@@ -1,25 +1,22 @@
 // A choice put to use: the ANDs that it swaps are swapped in the gate tables, and its input codes are filled in.
 #![tactic(auto)]
 
-ghost use Rattle.std.specs.Prelude.{◌≡◌, ℕ, ◌+◌, ◌≤◌, length};
-ghost use Rattle.netlist.specs.Table.{tables, gate_in, Wired};
-ghost use Rattle.fewest.specs.Choice.{chosen_gate};
+ghost use Rattle.std.specs.Prelude.{◌+◌, ◌≤◌, length};
+ghost use Rattle.netlist.specs.Table.{tables};
 ghost use Rattle.fewest_apply.specs.Apply.{SwapsEntry, Swapped, Chosen};
 
 use fewest_walk::inputs;
+use fewest_walk::next::is_and;
 use gate_table::HALF;
 
 // The entry of a gate's operands, exchanged where it is an AND whose way is the swapped one.
 fn swapped(way: u8, operands: u64, results: u64) -> u64
     ensures { SwapsEntry way operands results result }
 {
-    if way != 1 {
-        return operands;
+    if way == 1 && is_and(results) {
+        return operands / HALF + operands % HALF * HALF;
     }
-    if results / HALF != gate_table::AND {
-        return operands;
-    }
-    operands / HALF + operands % HALF * HALF
+    operands
 }
 
 // Exchanges the operands of the ANDs among the first gates, behind n inputs, that the table of ways takes swapped.

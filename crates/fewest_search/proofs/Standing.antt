@@ -177,9 +177,6 @@ module _ {t : Tables} {m : ℕ} {codes wanted : List ℕ} {W budget : ℕ} {s₀
               let m : min budget (choices N codes) ≡ budget = min-eq_left (omega arith) in
               found_some Q (omega arith) (k ∙ sym m) B r c (omega arith) (fl ∙ low-zero)
 
-          abbrev left' : ℕ
-          left' = left - get_or s (length codes + stop - 1) 0
-
           number' : budget - left + product (drop (length codes + stop) (ways codes N.gates)) ≡ budget - (left - get_or s (length codes + stop - 1) 0)
           number' = let e = exact h in let w = I.within in omega arith
 

@@ -17,12 +17,6 @@ pub record Fits (t : Tables) (count : ℕ) (codes wanted way best code lows : Li
   pub bests : length best ≡ length code
   pub lowest : length lows ≡ length code
 
--- entry i of the table of operands names wires below W
-pub record IdleFits (operands : List ℕ) (i W : ℕ) : Type 0 where
-  pub entry : i < length operands
-  pub left : get_or operands i 0 % half < W
-  pub right : get_or operands i 0 / half < W
-
 -- the operands of the gate of a place behind n inputs have equal codes
 abbrev pub idle_at : List ℕ → ℕ → ℕ → List ℕ → Bool
 idle_at operands n place u =

@@ -1,9 +1,11 @@
 // All choices in order, as many as the budget allows.
 ghost use Rattle.std.specs.Prelude.{◌≡◌, ◌≤◌, length};
 ghost use Rattle.netlist.specs.Netlist.{Netlist};
-ghost use Rattle.netlist.specs.Table.{tables};
-ghost use Rattle.fewest_search.specs.Turn.{Fits};
-ghost use Rattle.fewest_search.specs.Search.{Source, Searchable, Begun, Found};
+ghost use Rattle.fewest_search.specs.Search.{Found};
+ghost use Rattle.fewest_search.specs.Job.{FitsFor, SourceFor, SearchableFor, BegunFor};
+
+use crate::Job;
+use crate::turn::{enter, turn, weigh};
 
 // More changes than any choice has.
 const MANY: u32 = u32::MAX;
@@ -17,29 +19,23 @@ pub struct Tally {
 
 // The first choice: its changes. `spans` gets for each place how many choices share the places up to it.
 fn start(
-    operands: &[u64],
-    results: &[u64],
-    count: usize,
-    codes: &[u8],
-    wanted: &[u8],
+    job: Job,
     way: &mut [u8],
     best: &mut [u8],
     code: &mut [u8],
     lows: &mut [u32],
     spans: &mut [u64],
 ) -> u32
-    requires { Fits (tables operands.now results.now) count codes.now wanted.now way.old best.old code.old lows.old
-        × (length spans.old ≡ length code.old) }
-    ensures { Begun (tables operands.now results.now) count codes.now wanted.now
-        way.old code.old lows.old spans.old way.new best.new
+    requires { FitsFor job way.old best.old code.old lows.old × (length spans.old ≡ length code.old) }
+    ensures { BegunFor job.entry way.old code.old lows.old spans.old way.new best.new
         code.new lows.new spans.new result }
 {
     way.fill(0);
-    fewest_walk::spans::spans(codes, results, count, spans);
-    lows[0] = fewest_walk::twices::twices(operands, results, count);
-    crate::turn::enter(operands, results, count, codes, way, code, lows, 0, MANY);
+    fewest_walk::spans::spans(job.codes, job.gates.results, job.gates.count, spans);
+    lows[0] = fewest_walk::twices::twices(job.gates);
+    enter(job, way, code, lows, 0, MANY);
     best.copy_from_slice(way);
-    crate::turn::weigh(code, lows, count, wanted)
+    weigh(job, code, lows)
 }
 
 // The first choice with the fewest changes among as many as the budget allows, into `best`, its changes and the floor. The gate tables
@@ -47,11 +43,7 @@ fn start(
 // that share their first places are passed together, and counted, where none of them has fewer changes than the best so far; all
 // that are left are where the best has no more changes than there are gates that name one wire twice.
 pub fn search(
-    operands: &[u64],
-    results: &[u64],
-    count: usize,
-    codes: &[u8],
-    wanted: &[u8],
+    job: Job,
     budget: u64,
     way: &mut [u8],
     best: &mut [u8],
@@ -59,18 +51,13 @@ pub fn search(
     lows: &mut [u32],
     spans: &mut [u64],
 ) -> Tally
-    requires { Searchable (tables operands.now results.now) count codes.now wanted.now way.old best.old code.old lows.old
-        spans.old × (1 ≤ budget) }
-    ensures { (N : Netlist)
-        → Source (tables operands.now results.now) count codes.now wanted.now
-        (length code.old) N
-        → Found N codes.now wanted.now budget best.new result }
+    requires { SearchableFor job way.old best.old code.old lows.old spans.old × (1 ≤ budget) }
+    ensures { (N : Netlist) → SourceFor job.entry (length code.old) N
+        → Found N job.entry.codes.now job.entry.wanted.now budget best.new result }
 {
-    let n = codes.len();
-    let mut least = start(
-        operands, results, count, codes, wanted, way, best, code, lows, spans,
-    );
-    let mut stop = count;
+    let n = job.codes.len();
+    let mut least = start(job, way, best, code, lows, spans);
+    let mut stop = job.gates.count;
     let mut left = budget;
     loop {
         if least <= lows[0] {
@@ -87,7 +74,7 @@ pub fn search(
             };
         }
         left -= span;
-        let Some(place) = fewest_walk::next::next(codes, results, stop, way) else {
+        let Some(place) = fewest_walk::next::next(job.codes, job.gates.results, stop, way) else {
             return Tally {
                 changes: least,
                 floor: least,
@@ -99,9 +86,7 @@ pub fn search(
                 floor: lows[0],
             };
         }
-        let t = crate::turn::turn(
-            operands, results, count, codes, wanted, way, best, code, lows, place, least,
-        );
+        let t = turn(job, way, best, code, lows, place, least);
         stop = t.stop;
         least = t.least;
     }

@@ -4,21 +4,31 @@ use Rattle.netlist.specs.declared.Gate.{Gate}
 use Rattle.netlist.specs.Table.{Tables, gate_at}
 use Rattle.netlist.specs.Mask.{third}
 use Rattle.netlist.specs.Leak.{bit}
+use Rattle.gate_table.specs.declared.Kind.{Kind}
+use Rattle.gate_table.specs.declared.Kind.TheVariants.{Xor, And, Inv, Eqw, Eq}
 use Rattle.fewest.specs.Choice.{chosen_gate}
 use Rattle.fewest.specs.Fewest.{twice}
 use Rattle.fewest.specs.Codes.{code_at, second_code, gate_change, coded}
 
 -- the code of a result, by a gate's kind, its way and its operands' codes
-abbrev pub code_by : ℕ → ℕ → ℕ → ℕ → ℕ
-code_by k d e f = cond (eqb k 1) (third e (second_code e f)) (cond (eqb k 2) (cond (eqb d 1) f e) (cond (eqb k 3) e (cond (eqb k 4) e 1)))
+abbrev pub code_by : Kind → ℕ → ℕ → ℕ → ℕ
+code_by Xor d e f = third e (second_code e f)
+code_by And d e f = cond (eqb d 1) f e
+code_by Inv d e f = e
+code_by Eqw d e f = e
+code_by (Eq v) d e f = 1
 
 -- the change of a gate that does not name one wire twice: those that do are counted beforehand
 abbrev pub added_change : (ℕ → ℕ) → Gate → ℕ
 added_change u g = cond (twice g) 0 (gate_change u g)
 
 -- the same by its kind, its operands' wires and their codes
-abbrev pub added_by : ℕ → ℕ → ℕ → ℕ → ℕ → ℕ
-added_by k a b e f = cond (eqb a b) 0 (cond (eqb k 1) (bit (eqb e f)) (cond (eqb k 2) (bit (eqb e f)) 0))
+abbrev pub added_by : Kind → ℕ → ℕ → ℕ → ℕ → ℕ
+added_by Xor a b e f = cond (eqb a b) 0 (bit (eqb e f))
+added_by And a b e f = cond (eqb a b) 0 (bit (eqb e f))
+added_by Inv a b e f = 0
+added_by Eqw a b e f = 0
+added_by (Eq v) a b e f = 0
 
 -- one gate is done, in way d: the codes behind it, and its added change
 pub record Stepped (u : List ℕ) (d : ℕ) (g : Gate) (v : List ℕ) (r : ℕ) : Type 0 where

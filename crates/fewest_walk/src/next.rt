@@ -1,8 +1,16 @@
 // From one choice to the next: the last place that has a further way takes it, and the places behind it take their first.
-ghost use Rattle.std.specs.Prelude.{◌≡◌, ◌+◌, ◌≤◌, ◌<◌, length};
+ghost use Rattle.std.specs.Prelude.{◌≡◌, ◌+◌, ◌/◌, ◌≤◌, ◌<◌, eqb, length};
+ghost use Rattle.netlist.specs.Table.{half};
 ghost use Rattle.fewest_walk.specs.Advance.{ways_at, behind, Advanced};
 
-use gate_table::HALF;
+use gate_table::{HALF, Kind};
+
+// Whether the gate of an entry in the table of results is an AND.
+pub fn is_and(results: u64) -> bool
+    ensures { result ≡ eqb (results / half) 2 }
+{
+    results / HALF == Kind::And.number()
+}
 
 // How many ways a place has: an input by its code, a gate by its kind.
 pub fn ways(codes: &[u8], results: &[u64], p: usize) -> u8
@@ -16,7 +24,7 @@ pub fn ways(codes: &[u8], results: &[u64], p: usize) -> u8
         }
         return 1;
     }
-    if results[p - n] / HALF == gate_table::AND {
+    if is_and(results[p - n]) {
         return 2;
     }
     1

@@ -1,32 +1,30 @@
 // The gates of two operands that name one wire twice.
 ghost use Rattle.std.specs.Prelude.{◌≡◌, ◌≤◌, ◌<◌, ◌^◌, length};
-ghost use Rattle.netlist.specs.Table.{tables, gate_in, gates_of};
+ghost use Rattle.gate_table.specs.Gates.{gates_in};
+ghost use Rattle.gate_table.specs.Parts.{gate_by};
 ghost use Rattle.netlist.specs.Leak.{bit};
-ghost use Rattle.fewest.specs.Fewest.{twice as namesTwice, twices as allTwice};
+ghost use Rattle.fewest.specs.Fewest.{twice as gate_twice, twices as gates_twice};
+
+use gate_table::{Gates, Kind, Parts};
 
 // Whether a gate does.
-fn twice(operands: u64, results: u64) -> u32
-    ensures { result ≡ bit (namesTwice (gate_in operands results)) }
+fn twice(g: Parts) -> u32
+    ensures { result ≡ bit (gate_twice (gate_by g)) }
 {
-    let g = gate_table::split(operands, results);
-    let kind = g.kind as u64;
-    if kind == gate_table::XOR {
-        return (g.left == g.right) as u32;
+    match Kind::of(g.kind) {
+        Kind::Xor | Kind::And => (g.left == g.right) as u32,
+        _ => 0,
     }
-    if kind == gate_table::AND {
-        return (g.left == g.right) as u32;
-    }
-    0
 }
 
 // How many of the tables' first gates do.
-pub fn twices(operands: &[u64], results: &[u64], count: usize) -> u32
-    requires { (count ≤ length operands.now) × (count ≤ length results.now) × (count < 2 ^ 32) }
-    ensures { result ≡ allTwice (gates_of (tables operands.now results.now) count) }
+pub fn twices(gates: Gates) -> u32
+    requires { (gates.count ≤ length gates.operands.now) × (gates.count ≤ length gates.results.now) × (gates.count < 2 ^ 32) }
+    ensures { result ≡ gates_twice (gates_in gates.entry) }
 {
     let mut sum = 0;
-    for i in 0..count {
-        sum += twice(operands[i], results[i]);
+    for i in 0..gates.count {
+        sum += twice(gates.at(i));
     }
     sum
 }

@@ -8,6 +8,7 @@ ghost use Rattle.netlist.specs.Table.{tables, Wired};
 ghost use Rattle.write_netlist.specs.Form.{form_text};
 ghost use Rattle.from_aiger.specs.Promise.{call, Promise};
 
+use gate_table::Gates;
 use netlist::{Answer, Sizes};
 use read_aiger::read::NetlistNumbers;
 
@@ -17,15 +18,12 @@ pub fn write(out: &mut [u8], m: NetlistNumbers, operands: &[u64], results: &[u64
     ensures { Delivers (form_text m.gates m.wires (m.inputs ∷ []) (m.outputs ∷ [])
         (tables operands.now results.now)) out.old out.new result }
 {
-    write_netlist::deliver(
-        out,
-        m.gates,
-        m.wires,
-        &[m.inputs],
-        &[m.outputs],
+    let gates = Gates {
         operands,
         results,
-    )
+        count: m.gates,
+    };
+    write_netlist::deliver(out, gates, m.wires, &[m.inputs], &[m.outputs])
 }
 
 // The file read, and its netlist's text.

@@ -3,7 +3,7 @@
 #![tactic(auto)]
 
 ghost use Rattle.std.specs.Prelude.{◌≡◌, ◌*◌, ◌≤◌, ◌<◌, length, replicate};
-ghost use Rattle.netlist.specs.Netlist.{small as smallLimits};
+ghost use Rattle.netlist.specs.Netlist.{small as small_limits};
 ghost use Rattle.netlist.specs.Outcome.{and_then};
 ghost use Rattle.netlist.specs.Services.{rewrite_outcome, Answers};
 ghost use Rattle.verilog.specs.Call.{read_equations};
@@ -25,11 +25,11 @@ fn read_and_write(
     wires: &mut [u32],
     sizes: Sizes,
 ) -> Answer
-    requires sizes_in_bounds { ((smallLimits sizes).table ≤ length operands.old) × ((smallLimits sizes).table ≤ length results.old)
+    requires sizes_in_bounds { ((small_limits sizes).table ≤ length operands.old) × ((small_limits sizes).table ≤ length results.old)
         × (0 < length heads.old) × (heads.old ≡ replicate (length heads.old) 0) × (wires.old ≡ replicate (length wires.old) 0) }
-    requires sizes_in_bounds_2 { (8 * (smallLimits sizes).table ≤ length words.old) × (8 * (smallLimits sizes).table ≤ length links.old)
-        × (8 * (smallLimits sizes).table ≤ length states.old) × (8 * (smallLimits sizes).table ≤ length wires.old) }
-    ensures { Answers (and_then (read_equations (smallLimits sizes) text.now) (rewrite_outcome (length out.old)))
+    requires sizes_in_bounds_2 { (8 * (small_limits sizes).table ≤ length words.old) × (8 * (small_limits sizes).table ≤ length links.old)
+        × (8 * (small_limits sizes).table ≤ length states.old) × (8 * (small_limits sizes).table ≤ length wires.old) }
+    ensures { Answers (and_then (read_equations (small_limits sizes) text.now) (rewrite_outcome (length out.old)))
         out.old out.new result }
 {
     let m = read_verilog::read::read(

@@ -29,6 +29,7 @@ use Rattle.read_header.specs.declared.HeaderNumbers.{HeaderNumbers}
 use Rattle.gate_reader.specs.Steps.{step_said, place_after, StepIs}
 use Rattle.gate_reader.specs.Opens.{numbers_of, opening_call, OpeningIs}
 use Rattle.gate_reader.specs.Calls.{left_after, left_at, AtCall, Behind, ReaderIs, CurrentIs, AdvanceIs, Called, CallIs}
+use Rattle.gate_reader.specs.declared.GateReader.{GateReader}
 use Rattle.gate_reader.specs.declared.calls.Call.{Call}
 
 -- ---- what is left of the gate lines
@@ -164,5 +165,6 @@ module _ {L : Limits} {t ins ins' outs outs' : List ℕ} where
           let f = rw (le-leb (length H.inputs) (length ins) (omega (arith, h.inputs)), le-leb (length H.outputs) (length outs) (omega (arith, h.outputs))) at e in
           clash (cc)
 
-  pub reader-on : {h : HeaderNumbers} {at k : ℕ} {r : Result (Maybe (Gate × ℕ)) Question} → OpeningIs L t ins ins' outs outs' (Ok (h, at)) → CallIs t at k r → ReaderIs L t k r
-  reader-on o c = c.call L o.place
+  pub reader-on : {h : HeaderNumbers} {from : GateReader} {k : ℕ} {r : Result (Maybe (Gate × ℕ)) Question} → OpeningIs L t ins ins' outs outs' (Ok (h, from))
+      → CallIs t from.at k r → ReaderIs L t k r
+  reader-on o c = c.call L o.place.1

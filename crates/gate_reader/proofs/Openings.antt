@@ -22,6 +22,7 @@ use Rattle.read_header.specs.declared.HeaderNumbers.{HeaderNumbers}
 use Rattle.read_header.proofs.Heads.{inputs-front, outputs-front}
 use Rattle.gate_reader.specs.Calls.{left_at}
 use Rattle.gate_reader.specs.Opens.{numbers_of, opening_call, OpeningIs}
+use Rattle.gate_reader.specs.declared.GateReader.{GateReader}
 
 -- ---- widths copied
 
@@ -87,16 +88,16 @@ module _ {L : Limits} {t ws vs : List ℕ} {h : HeaderNumbers} {to n : ℕ} (a :
     open-14-out {ins} {outs} i k = refuses (called (length ins) (length outs) ∙ rw (le-leb _ _ i, lt-leb _ _ k))
 
     -- both have room
-    pub open_at : {ins ins' outs outs' : List ℕ} → h.input_values ≤ length ins → h.output_values ≤ length outs → L.inputs ≤ length ws
+    pub open_at : {ins ins' outs outs' : List ℕ} {r : GateReader} → r.text.now ≡ t → r.at ≡ to → h.input_values ≤ length ins → h.output_values ≤ length outs → L.inputs ≤ length ws
         → L.outputs ≤ length vs → ins' ≡ sets ins 0 (take h.input_values ws) → outs' ≡ sets outs 0 (take h.output_values vs)
-        → OpeningIs L t ins ins' outs outs' (Ok (h, to))
+        → OpeningIs L t ins ins' outs outs' (Ok (h, r))
     unfolding left_at
-    open_at {ins} {ins'} {outs} i o room room' p q =
+    open_at {ins} {ins'} {outs} x y i o room room' p q =
         let H = a.header in
         let c : opening_call L t (length ins) (length outs) ≡ done H.is = called (length ins) (length outs) ∙ rw (le-leb _ _ i, le-leb _ _ o) in
         record {
           said = rw c (ap done (numbers-same H));
           inputs = p ∙ rw c (ap (sets ins 0) (inputs-front a room));
           outputs = q ∙ rw c (ap (sets outs 0) (outputs-front a room'));
-          place = record { head = H.is; opens = opens; left = H.place; within = H.within };
+          place = (x, rw y (record { head = H.is; opens = opens; left = H.place; within = H.within }));
         }

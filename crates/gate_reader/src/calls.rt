@@ -47,6 +47,6 @@ pub fn kth(text: &[u8], k: usize, sizes: Sizes) -> Step
 {
     let mut inputs = [0u32; 17];
     let mut outputs = [0u32; 16];
-    let (_, at) = open_at(text, &mut inputs, &mut outputs, sizes)?;
-    call_at(text, at, k)
+    let (_, reader) = open_at(text, &mut inputs, &mut outputs, sizes)?;
+    call_at(text, reader.at, k)
 }

@@ -20,7 +20,7 @@ pub struct GateReader<'a> {
 }
 
 impl<'a> GateReader<'a> {
-    // The reader at a place of a text: made of the place that opening the text gives, it stands before its first call.
+    // The reader at a place of a text.
     pub fn new(text: &'a [u8], at: usize) -> Self
         ensures { (result.text ≡ text.entry) × (result.at ≡ at)
             × ((L : Limits) (k : ℕ) → AtCall L text.now k at → AtCall L result.text.now k result.at) }

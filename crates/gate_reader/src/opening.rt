@@ -1,30 +1,21 @@
 // Opening a gate reader: questions 2 to 6 with the large limits, and 14 of the buffers for the widths.
-ghost use Rattle.std.specs.Prelude.{◌≡◌, ◌≤◌, length, take};
-ghost use Rattle.std.proofs.lemmas.List.Edits.{sets};
 ghost use Rattle.netlist.specs.Netlist.{large as large_limits};
 ghost use Rattle.gate_reader.specs.Opens.{OpeningIs};
 
+use crate::GateReader;
 use netlist::{Question, Sizes};
 use read_header::HeaderNumbers;
 use read_header::head::read_opening;
 use read_text::count::count_lines;
 
-// The first widths to the front of a table.
-fn copy(widths: &[u32], count: usize, table: &mut [u32])
-    requires { (count ≤ length widths.now) × (count ≤ length table.old) }
-    ensures { table.new ≡ sets table.old 0 (take count widths.now) }
-{
-    table[..count].copy_from_slice(&widths[..count]);
-}
-
-// Questions 2 to 6, and 14 of the two buffers: the header's numbers, with the place of the reader's first call. The widths of the values go
+// Questions 2 to 6, and 14 of the two buffers: the header's numbers, with the reader before its first call. The widths of the values go
 // to the buffers' fronts; on a refusal they stay untouched.
-pub fn open_at(
-    text: &[u8],
+pub fn open_at<'a>(
+    text: &'a [u8],
     inputs: &mut [u32],
     outputs: &mut [u32],
     sizes: Sizes,
-) -> Result<(HeaderNumbers, usize), Question>
+) -> Result<(HeaderNumbers, GateReader<'a>), Question>
     ensures { OpeningIs (large_limits sizes) text.now inputs.old inputs.new outputs.old
         outputs.new result }
 {
@@ -40,7 +31,7 @@ pub fn open_at(
     if outputs.len() < h.output_values {
         return Err(Question::Room);
     }
-    copy(&ins, h.input_values, inputs);
-    copy(&outs, h.output_values, outputs);
-    Ok((h, at.at))
+    inputs[..h.input_values].copy_from_slice(&ins[..h.input_values]);
+    outputs[..h.output_values].copy_from_slice(&outs[..h.output_values]);
+    Ok((h, GateReader::new(text, at.at)))
 }

@@ -1,18 +1,28 @@
 -- A gate's entries in the two tables.
-use Rattle.std.specs.Prelude.{ℕ, ◌+◌, ◌*◌, ◌≡◌, cond, [], ◌∷◌, ◌++◌, eqb}
+use Rattle.std.specs.Prelude.{ℕ, ◌+◌, ◌*◌, ◌≡◌, [], ◌∷◌, ◌++◌}
 use Rattle.netlist.specs.declared.Gate.{Gate}
 use Rattle.netlist.specs.Table.{Tables, half, gate_in, gates_of, Named, Wired}
 use Rattle.gate_table.specs.declared.GateNumbers.{GateNumbers}
 use Rattle.gate_table.specs.declared.Entry.{Entry}
-use Rattle.gate_table.specs.Numbers.{has_constant, second_of}
+use Rattle.gate_table.specs.Kind.{number}
+use Rattle.gate_table.specs.declared.Kind.{Kind}
+use Rattle.gate_table.specs.declared.Kind.TheVariants.{Xor, And, Inv, Eqw, Eq}
 
 -- the entries of a kind, its operands and its result
 abbrev pub packed : ℕ → ℕ → ℕ → ℕ → Entry
 packed k a b c = record { operands = a + b * half; results = c + k * half }
 
--- the entries of a gate; a constant that is not 0 is taken for 1
+-- the entries of a kind and wires: a constant has none of an operand
+abbrev pub entry_for : Kind → ℕ → ℕ → ℕ → Entry
+entry_for Xor a b c = packed 1 a b c
+entry_for And a b c = packed 2 a b c
+entry_for Inv a b c = packed 3 a a c
+entry_for Eqw a b c = packed 4 a a c
+entry_for (Eq v) a b c = packed (number (Eq v)) 0 0 c
+
+-- the entries of a gate
 abbrev pub entry_of : GateNumbers → Entry
-entry_of g = cond (has_constant g) (packed (cond (eqb g.left 0) 5 6) 0 0 g.result) (packed g.kind g.left (second_of g) g.result)
+entry_of g = entry_for g.kind g.left g.right g.result
 
 -- the two entries hold the gate
 pub record Entered (W : ℕ) (g : Gate) (operands results : ℕ) : Type 0 where

@@ -1,30 +1,62 @@
 // Gates as numbers: the kinds, a gate on its way between text and tables, and its entries in the two lent tables.
 #![tactic(auto)]
 
-ghost use Rattle.std.specs.Prelude.{◌≡◌, ◌<◌, length};
-ghost use Rattle.netlist.specs.Table.{tables, put_entry};
-ghost use Rattle.gate_table.specs.Numbers.{gate_said, has_constant, second_of};
+ghost use Rattle.std.specs.Prelude.{◌≡◌, ℕ, ◌<◌, length};
+ghost use Rattle.netlist.specs.Table.{gate_of, tables, put_entry};
+ghost use Rattle.gate_table.specs.Kind.{number, gate_for};
+ghost use Rattle.gate_table.specs.Numbers.{gate_said, second_of};
 ghost use Rattle.gate_table.specs.Entry.{packed, entry_of};
 ghost use Rattle.gate_table.specs.Parts.{parts_of};
+ghost use Rattle.gate_table.specs.Gates.{tables_of, parts_at};
 
 use netlist::Gate;
 
-// The kinds. In the tables EQ 0 has the kind EQ, and EQ 1 the one after it.
-pub const XOR: u64 = 1;
+// What a gate does. An EQ has its constant here.
+#[derive(Clone, Copy)]
+pub enum Kind {
+    Xor,
+    And,
+    Inv,
+    Eqw,
+    Eq(u32),
+}
 
-pub const AND: u64 = 2;
+impl Kind {
+    // The kind of a number of the tables: 1 to 4 are XOR, AND, INV and EQW, 5 is EQ 0, any other EQ 1.
+    #[inline(always)]
+    pub fn of(number: usize) -> Kind
+        ensures { (a b c : ℕ) → gate_for result a b c ≡ gate_of number a b c }
+    {
+        match number {
+            1 => Kind::Xor,
+            2 => Kind::And,
+            3 => Kind::Inv,
+            4 => Kind::Eqw,
+            5 => Kind::Eq(0),
+            _ => Kind::Eq(1),
+        }
+    }
 
-pub const INV: u64 = 3;
+    // Its number in the tables.
+    pub fn number(self) -> u64
+        ensures { result ≡ number self }
+    {
+        match self {
+            Kind::Xor => 1,
+            Kind::And => 2,
+            Kind::Inv => 3,
+            Kind::Eqw => 4,
+            Kind::Eq(0) => 5,
+            Kind::Eq(_) => 6,
+        }
+    }
+}
 
-pub const EQW: u64 = 4;
-
-pub const EQ: u64 = 5;
-
-// A gate as plain numbers: its way into the tables needs no jump on its kind. The constant of an EQ stands on the left, and a
-// gate of one operand has 0 on the right.
+// A gate with its kind apart from its wires: its way into the tables needs no jump on its kind. A gate of one operand has 0 on the
+// right, and an EQ on the left too.
 #[derive(Clone, Copy)]
 pub struct GateNumbers {
-    pub kind: u64,
+    pub kind: Kind,
     pub left: u32,
     pub right: u32,
     pub result: u32,
@@ -37,7 +69,7 @@ pub struct Entry {
     pub results: u64,
 }
 
-// A gate's entries, taken apart: its operands' wires, its result's wire, and its kind.
+// A gate's entries, taken apart: its operands' wires, its result's wire, and its kind's number, by which the evaluator needs no jump.
 #[derive(Clone, Copy)]
 pub struct Parts {
     pub left: usize,
@@ -53,38 +85,32 @@ pub const HALF: u64 = 4294967296;
 pub fn gate_of(g: GateNumbers) -> Gate
     ensures { result ≡ gate_said g }
 {
-    let kind = g.kind;
-    match kind {
-        XOR => Gate::Xor(g.left, g.right, g.result),
-        AND => Gate::And(g.left, g.right, g.result),
-        INV => Gate::Inv(g.left, g.result),
-        EQW => Gate::Eqw(g.left, g.result),
-        _ => Gate::Eq(g.left, g.result),
+    match g.kind {
+        Kind::Xor => Gate::Xor(g.left, g.right, g.result),
+        Kind::And => Gate::And(g.left, g.right, g.result),
+        Kind::Inv => Gate::Inv(g.left, g.result),
+        Kind::Eqw => Gate::Eqw(g.left, g.result),
+        Kind::Eq(v) => Gate::Eq(v, g.result),
     }
-}
-
-// Whether a constant stands in place of operands.
-pub fn has_constant(g: GateNumbers) -> bool
-    ensures { result ≡ has_constant g }
-{
-    g.kind == 0 || EQW < g.kind
 }
 
 // The second operand; for a gate of one operand, that one again.
 pub fn second(g: GateNumbers) -> u32
     ensures { result ≡ second_of g }
 {
-    if AND < g.kind { g.left } else { g.right }
+    match g.kind {
+        Kind::Xor | Kind::And => g.right,
+        _ => g.left,
+    }
 }
 
 // The entries of a kind, its operands and its result.
-pub fn pack(kind: u64, a: u32, b: u32, c: u32) -> Entry
-    requires { kind < 8 }
-    ensures { result ≡ packed kind a b c }
+pub fn pack(kind: Kind, a: u32, b: u32, c: u32) -> Entry
+    ensures { result ≡ packed (number kind) a b c }
 {
     Entry {
         operands: a as u64 + b as u64 * HALF,
-        results: c as u64 + kind * HALF,
+        results: c as u64 + kind.number() * HALF,
     }
 }
 
@@ -92,13 +118,10 @@ pub fn pack(kind: u64, a: u32, b: u32, c: u32) -> Entry
 pub fn entry_of(g: GateNumbers) -> Entry
     ensures { result ≡ entry_of g }
 {
-    if has_constant(g) {
-        if g.left == 0 {
-            return pack(EQ, 0, 0, g.result);
-        }
-        return pack(EQ + 1, 0, 0, g.result);
+    match g.kind {
+        Kind::Eq(_) => pack(g.kind, 0, 0, g.result),
+        _ => pack(g.kind, g.left, second(g), g.result),
     }
-    pack(g.kind, g.left, second(g), g.result)
 }
 
 // Stores entries at a place of the tables.
@@ -120,5 +143,23 @@ pub fn split(operands: u64, results: u64) -> Parts
         right: (operands / HALF) as usize,
         result: (results % HALF) as usize,
         kind: (results / HALF) as usize,
+    }
+}
+
+// The first `count` gates of the two tables, to read.
+#[derive(Clone, Copy)]
+pub struct Gates<'a> {
+    pub operands: &'a [u64],
+    pub results: &'a [u64],
+    pub count: usize,
+}
+
+impl<'a> Gates<'a> {
+    // The parts of gate i.
+    pub fn at(self, i: usize) -> Parts
+        requires { (i < length self.operands.now) × (i < length self.results.now) }
+        ensures { result ≡ parts_at (tables_of self.entry) i }
+    {
+        split(self.operands[i], self.results[i])
     }
 }

@@ -2,7 +2,7 @@
 // with the large limits to the first text and then to the second, 25, 5 of the joined netlist, and 14.
 #![tactic(auto)]
 
-ghost use Rattle.std.specs.Prelude.{◌≡◌, [], ◌∷◌, ◌+◌, ◌-◌, ◌≤◌, length, take};
+ghost use Rattle.std.specs.Prelude.{◌≡◌, [], ◌∷◌, ◌+◌, ◌-◌, ◌≤◌, length};
 ghost use Rattle.netlist.specs.Lists.{every};
 ghost use Rattle.netlist.specs.Netlist.{Netlist};
 ghost use Rattle.netlist.specs.Outcome.{and_then};
@@ -16,6 +16,7 @@ ghost use Rattle.join_gates.specs.Appended.{wires_of, Meeting};
 ghost use Rattle.join.specs.Blocks.{BlockIs, Numbers, First, Second, seam_holds, seam_of};
 ghost use Rattle.join.specs.Promise.{call, Promise};
 
+use gate_table::Gates;
 use join_gates::SeamNumbers;
 use netlist::{Answer, Limits, Question, Sizes};
 use old_form::Dialect;
@@ -89,15 +90,12 @@ fn write(
         second: b.wires,
         inner,
     };
-    join_gates::append(
-        operands,
-        results,
-        a.gates as usize,
-        words,
-        base,
-        b.gates as usize,
-        s,
-    );
+    let second = Gates {
+        operands: words,
+        results: base,
+        count: b.gates as usize,
+    };
+    join_gates::append(operands, results, a.gates as usize, second, s);
     let h = HeaderNumbers {
         gates: a.gates + b.gates,
         wires: a.wires + (b.wires - inner),
@@ -106,7 +104,12 @@ fn write(
         output_values: b.output_values,
         output_bits: b.output_bits,
     };
-    convert::deliver(out, h, inputs, outputs, operands, results, Dialect::Fashion)
+    let gates = Gates {
+        operands,
+        results,
+        count: h.gates as usize,
+    };
+    convert::deliver(out, h, inputs, outputs, gates, Dialect::Fashion)
 }
 
 // Questions 25, 5 and 14 and the joined text, of two blocks that were read.

@@ -3,9 +3,10 @@
 
 ghost use Rattle.std.specs.Prelude.{◌≡◌, ◌+◌, ◌*◌, ◌/◌, ◌%◌, ◌≤◌, ◌<◌, length};
 ghost use Rattle.netlist.specs.Table.{tables, half, Wired};
+ghost use Rattle.gate_table.specs.Gates.{tables_of, WiredGates};
 ghost use Rattle.join_gates.specs.Appended.{Meeting, goes_to, Appended};
 
-use gate_table::HALF;
+use gate_table::{Gates, HALF};
 
 // The numbers of a seam; input bits include the mask pair.
 #[derive(Clone, Copy)]
@@ -53,24 +54,21 @@ fn result_entry(s: SeamNumbers, entry: u64) -> u64
     c as u64 + entry / HALF * HALF
 }
 
-// Behind the first `count` gates of two tables, the first `more` gates of two others, `ops` and `res`. EQ has no case of its own: the
-// operands of its entry are never read.
+// Behind the first `count` gates of two tables, a second's. EQ has no case of its own: the operands of its entry are never read.
 pub fn append(
     operands: &mut [u64],
     results: &mut [u64],
     count: usize,
-    ops: &[u64],
-    res: &[u64],
-    more: usize,
+    second: Gates,
     s: SeamNumbers,
 )
-    requires meeting { Meeting s × Wired (tables operands.old results.old) s.wires count × Wired (tables ops.now res.now) s.second more }
-    requires more_in_bounds { (count + more ≤ length operands.old) × (count + more ≤ length results.old) }
-    ensures { Appended s (tables operands.old results.old) count (tables ops.now res.now) more
+    requires meeting { Meeting s × Wired (tables operands.old results.old) s.wires count × WiredGates second s.second }
+    requires second_in_bounds { (count + second.count ≤ length operands.old) × (count + second.count ≤ length results.old) }
+    ensures { Appended s (tables operands.old results.old) count (tables_of second.entry) second.entry.count
         (tables operands.new results.new) }
 {
-    for i in 0..more {
-        operands[count + i] = operands_entry(s, ops[i]);
-        results[count + i] = result_entry(s, res[i]);
+    for i in 0..second.count {
+        operands[count + i] = operands_entry(s, second.operands[i]);
+        results[count + i] = result_entry(s, second.results[i]);
     }
 }

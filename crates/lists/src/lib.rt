@@ -1,7 +1,7 @@
-// Questions 11 and 13: has a list one entry for each bit, each in its range?
+// Lent lists: questions 11 and 13, that one has an entry for each bit, each in its range; and an entry stored where there is room.
 #![tactic(auto)]
 
-ghost use Rattle.std.specs.Prelude.{◌≡◌};
+ghost use Rattle.std.specs.Prelude.{◌≡◌, set};
 ghost use Rattle.netlist.specs.Lists.{every};
 ghost use Rattle.netlist.specs.Mask.{is_input_code, is_wanted};
 ghost use Rattle.netlist.specs.Services.{list_good, is_bit};
@@ -47,4 +47,13 @@ pub fn valid_wanted(list: &[u8], n: usize) -> bool
     ensures { result ≡ list_good is_wanted n list.now }
 {
     good(list, n, 3)
+}
+
+// One entry of a list, where the list is long enough.
+pub fn put<T: Copy>(list: &mut [T], at: usize, entry: T)
+    ensures { list.new ≡ set list.old at entry }
+{
+    if at < list.len() {
+        list[at] = entry;
+    }
 }

@@ -8,26 +8,28 @@ ghost use Rattle.netlist.specs.Read.{WellFormed};
 ghost use Rattle.netlist.specs.Mask.{mask_netlist};
 ghost use Rattle.netlist.specs.Table.{tables, Wired};
 ghost use Rattle.mask_text.specs.Whole.{Source as MaskSource};
-ghost use Rattle.mask.specs.Fronts.{Fronts, Read};
+ghost use Rattle.mask.specs.Fronts.{Read};
 ghost use Rattle.fewest.specs.Call.{deliver as delivery, fewest_outcome};
 ghost use Rattle.fewest_search.specs.Search.{Source};
 ghost use Rattle.mask_fewest.specs.Stages.{Room, Choosable, Chose, Givable, given, room, FewestAnswers};
 ghost use Rattle.mask_fewest.specs.Promise.{call, Promise};
 
+use fewest_search::Job;
 use fewest_search::search::Tally;
+use gate_table::Gates;
 use netlist::{Answer, Question, Sizes};
 use read_header::HeaderNumbers;
 use read_netlist::read::read;
 
 // The choice that is given: its ANDs are swapped in the table of operands, its input codes stand at the front of `ways`; its changes and
 // the floor.
-fn choose(
-    codes: &[u8],
-    wanted: &[u8],
+fn choose<'a>(
+    codes: &'a [u8],
+    wanted: &'a [u8],
     budget: u64,
     h: HeaderNumbers,
     operands: &mut [u64],
-    results: &[u64],
+    results: &'a [u64],
     wires: &mut [u32],
     marks: &mut [u8],
     ways: &mut [u8],
@@ -44,12 +46,17 @@ fn choose(
 {
     let all = h.wires as usize;
     let count = h.gates as usize;
-    let r = fewest_search::search::search(
-        operands,
-        results,
-        count,
+    let job = Job {
+        gates: Gates {
+            operands,
+            results,
+            count,
+        },
         codes,
         wanted,
+    };
+    let r = fewest_search::search::search(
+        job,
         budget,
         &mut ways[..all],
         &mut best[..all],

@@ -1,5 +1,5 @@
 -- What a source gate makes of the state.
-use Prim.Native.Nat.{ℕ, ◌+◌, ◌/◌, ◌%◌, ◌≤◌}
+use Prim.Native.Nat.{ℕ, ◌+◌, ◌≤◌}
 use mathlib.Core.Path.{◌≡◌, refl, sym, ap, ap₂, ◌∙◌}
 use mathlib.Core.List.{List, [], ◌∷◌, ◌++◌, append_assoc, append-nil}
 use native.Mathlib.Omega.{arith}
@@ -7,13 +7,15 @@ use lib.ListN.{length, set}
 use Rattle.netlist.specs.declared.Gate.{Gate}
 use Rattle.netlist.specs.declared.Twin.{Twin}
 use Rattle.gate_table.specs.declared.Parts.{Parts}
-use Rattle.gate_table.specs.Parts.{parts_of}
-use Rattle.netlist.specs.Table.{Tables, half, gate_of, gate_in, gate_at, gates_of}
+use Rattle.gate_table.specs.Parts.{gate_by}
+use Rattle.gate_table.specs.declared.Kind.{Kind}
+use Rattle.gate_table.specs.Kind.{gate_for}
+use Rattle.netlist.specs.Table.{Tables, gate_of, gate_at, gates_of}
 use Rattle.netlist.specs.Mask.{State, twin, emit, result_twin, advance, emit_all, advance_all}
 use Rattle.netlist.proofs.Puts.{gates-more}
 use Rattle.write_buffer.specs.Wrote.{top}
 use Rattle.write_gates.proofs.GateLines.{gates-none, gates-then, gates-as}
-use Rattle.mask_rule.specs.Rule.{operands}
+use Rattle.mask_rule.specs.Rule.{steps_of, twin_of}
 use Rattle.mask_gate.specs.Emitted.{WroteKind}
 use Rattle.mask_rule.proofs.ByKind.{emit-of, twin-of, result-of}
 use Rattle.mask_gate.proofs.Emits.{kind-small}
@@ -21,32 +23,21 @@ use Rattle.mask_twins.specs.State.{twins_of, state_of}
 use Rattle.mask_twins.proofs.States.{twins-set, state_with, advance_all-more}
 use Rattle.mask_pass.specs.State.{WroteStep, WroteAll}
 
--- one step: with the operands' twins the gates are written, and the result's twin is stored
-step-made : {e x : List ℕ} {at n c : ℕ} {R : ℕ × Twin} {A B : Twin} (ws es : List ℕ) (o r : ℕ) → A ≡ twin (state_of c ws es) (o % half) → B ≡ twin
-    (state_of c ws es) (o / half)
-    → WroteKind e at n c (r / half) A B x R
-    → WroteStep e at n (state_of c ws es) (gate_in o r) x (R.0, R.1.wire + 1)
-    (state_of (R.1.wire + 1) (set ws (r % half) R.1.wire) (set es (r % half) R.1.code))
-step-made {n = n} {c = c} {R = R} ws es o r a b h =
+-- one step of a gate's parts: with the operands' twins the gates are written, and the result's twin is stored
+pub step-made : {e x : List ℕ} {at n c : ℕ} {R : ℕ × Twin} {A B : Twin} (ws es : List ℕ) (p : Parts) (K : Kind)
+    → ((a b c : ℕ) → gate_for K a b c ≡ gate_of p.kind a b c) → A ≡ twin (state_of c ws es) p.left → B ≡ twin (state_of c ws es) p.right
+    → WroteKind e at n c K A B x R
+    → WroteStep e at n (state_of c ws es) (gate_by p) x (R.0, R.1.wire + 1) (state_of (R.1.wire + 1) (set ws p.result R.1.wire) (set es p.result R.1.code))
+step-made {n = n} {c = c} {R = R} ws es p K said a b h =
     let S : State = state_of c ws es in
-    let k : ℕ = r / half in
-    let d : ℕ = r % half in
-    let t : R.1 ≡ result_twin S (gate_in o r)
-    = h.twin ∙ ap₂ (λ (A B : Twin). result_twin (operands c A B) (gate_of k 0 1 2)) a b ∙ sym (twin-of S k (o % half) (o / half) d) in
-    record {
-      wrote = gates-as (ap₂ (λ (A B : Twin). emit n (operands c A B) (gate_of k 0 1 2)) a b ∙ sym (emit-of S k (o % half) (o / half) d n)) h.wrote;
+    let t : R.1 ≡ result_twin S (gate_for K p.left p.right p.result) = h.twin ∙ ap₂ (twin_of c K) a b ∙ sym (twin-of S p.left p.right p.result K) in
+    rw (← said p.left p.right p.result) (record {
+      wrote = gates-as (ap₂ (steps_of n c K) a b ∙ sym (emit-of S p.left p.right p.result n K)) h.wrote;
       state =
-          ap (state_with (R.1.wire + 1)) (twins-set ws es d R.1.wire R.1.code)
-          ∙ ap₂ (λ (u : Twin) (i : ℕ). state_with (u.wire + 1) (set (twins_of ws es) i u)) t (sym (result-of k (o % half) (o / half) d));
+          ap (state_with (R.1.wire + 1)) (twins-set ws es p.result R.1.wire R.1.code)
+          ∙ ap₂ (λ (u : Twin) (i : ℕ). state_with (u.wire + 1) (set (twins_of ws es) i u)) t (sym (result-of p.left p.right p.result K));
       grown = kind-small h;
-    }
-
--- the same step by the parts of the gate's entries
-pub step-parts : {e x : List ℕ} {at n c : ℕ} {R : ℕ × Twin} {A B : Twin} {p : Parts} (ws es : List ℕ) (o r : ℕ) → p ≡ parts_of o r
-    → A ≡ twin (state_of c ws es) p.left → B ≡ twin (state_of c ws es) p.right → WroteKind e at n c p.kind A B x R
-    → WroteStep e at n (state_of c ws es) (gate_in o r) x (R.0, R.1.wire + 1)
-    (state_of (R.1.wire + 1) (set ws p.result R.1.wire) (set es p.result R.1.code))
-step-parts ws es o r q a b h = rw q (step-made ws es o r (rw q at a) (rw q at b) (rw q at h))
+    })
 
 emit_all-more : (n : ℕ) (S : State) (gs : List Gate) (g : Gate) → emit_all n S (gs ++ (g ∷ [])) ≡ emit_all n S gs ++ emit n (advance_all S gs) g
 emit_all-more n S [] g = append-nil (emit n S g)

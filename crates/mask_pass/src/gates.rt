@@ -1,33 +1,33 @@
 // The masked gates of all source gates, in the order of their lines.
 ghost use Rattle.std.specs.Prelude.{◌≡◌, ◌+◌, ◌*◌, ◌<◌, ◌^◌, length};
-ghost use Rattle.write_wires.specs.Packed.{WordTable};
-ghost use Rattle.netlist.specs.Table.{gate_in, tables, Named, Wired};
+ghost use Rattle.gate_table.specs.Parts.{gate_by, Within};
+ghost use Rattle.gate_table.specs.Gates.{tables_of, WiredGates};
 ghost use Rattle.mask_twins.specs.State.{state_of};
 ghost use Rattle.mask_pass.specs.State.{WroteStep, WroteAll};
 
-// The source gate of two entries, at the wires from c: the next place, and the next wire. Its result's twin is the one that changes.
+use gate_table::{Gates, Kind, Parts};
+use write_wires::table::Words;
+
+// A source gate of these parts, at the wires from c: the next place, and the next wire. Its result's twin is the one that changes.
 fn step(
-    d: &[u64],
+    d: Words,
     out: &mut [u8],
     at: usize,
     n: u32,
     c: u32,
-    operands: u64,
-    results: u64,
+    g: Parts,
     wire: &mut [u32],
     code: &mut [u8],
 ) -> (usize, u32)
-    requires word_table { WordTable d.now }
     requires n_bound { (n < 2 ^ 31) × (c < 2 ^ 31) }
-    requires named { Named (length wire.old) operands results × (length code.old ≡ length wire.old) }
-    ensures { WroteStep out.old at n (state_of c wire.old code.old) (gate_in operands results)
+    requires within { Within (length wire.old) g × (length code.old ≡ length wire.old) }
+    ensures { WroteStep out.old at n (state_of c wire.old code.old) (gate_by g)
         out.new result (state_of result.1 wire.new code.new) }
 {
-    let g = gate_table::split(operands, results);
     let result = g.result;
     let a = mask_twins::twin(wire, code, g.left);
     let b = mask_twins::twin(wire, code, g.right);
-    let (end, t) = mask_gate::emit(d, out, at, n, c, g.kind as u64, a, b);
+    let (end, t) = mask_gate::emit(d, out, at, n, c, Kind::of(g.kind), a, b);
     wire[result] = t.wire;
     code[result] = t.code;
     (end, t.wire + 1)
@@ -35,28 +35,25 @@ fn step(
 
 // The tables' first gates, at the wires from c, likewise.
 pub fn gates(
-    d: &[u64],
+    d: Words,
     out: &mut [u8],
     at: usize,
     n: u32,
     c: u32,
-    operands: &[u64],
-    results: &[u64],
-    count: usize,
+    gates: Gates,
     wire: &mut [u32],
     code: &mut [u8],
 ) -> (usize, u32)
-    requires word_table { WordTable d.now }
-    requires n_bound { (n < 2 ^ 31) × (c + 8 * count < 2 ^ 31) }
-    requires wired { Wired (tables operands.now results.now) (length wire.old) count × (length code.old ≡ length wire.old) }
+    requires n_bound { (n < 2 ^ 31) × (c + 8 * gates.count < 2 ^ 31) }
+    requires wired { WiredGates gates (length wire.old) × (length code.old ≡ length wire.old) }
     ensures { WroteAll out.old at n (state_of c wire.old code.old)
-        (tables operands.now results.now) count out.new result
+        (tables_of gates.entry) gates.entry.count out.new result
         (state_of result.1 wire.new code.new) }
 {
     let mut place = at;
     let mut next = c;
-    for i in 0..count {
-        (place, next) = step(d, out, place, n, next, operands[i], results[i], wire, code);
+    for i in 0..gates.count {
+        (place, next) = step(d, out, place, n, next, gates.at(i), wire, code);
     }
     (place, next)
 }

@@ -7,17 +7,18 @@ pub mod outs;
 mod publics;
 
 ghost use Rattle.std.specs.Prelude.{◌<◌, ◌^◌, length};
-ghost use Rattle.write_wires.specs.Packed.{WordTable};
 ghost use Rattle.netlist.specs.Netlist.{Netlist};
 ghost use Rattle.netlist.specs.Mask.{mask_gates, mask_netlist};
-ghost use Rattle.netlist.specs.Table.{tables, Holds};
+ghost use Rattle.gate_table.specs.Gates.{HoldsGates, tables_of};
 ghost use Rattle.write_gates.specs.Gates.{WroteGates};
 ghost use Rattle.mask_twins.specs.Place.{Ready};
 ghost use Rattle.mask_pass.specs.Pass.{WrotePass};
 
+use gate_table::Gates;
+use write_wires::table::Words;
+
 // The three gates that always follow the inputs: the sum, the product and the OR of the masks.
-fn masks(d: &[u64], out: &mut [u8], at: usize, n: u32) -> usize
-    requires word_table { WordTable d.now }
+fn masks(d: Words, out: &mut [u8], at: usize, n: u32) -> usize
     requires n_bound { n < 2 ^ 31 }
     ensures { WroteGates out.old at (mask_gates n) out.new result }
 {
@@ -29,20 +30,17 @@ fn masks(d: &[u64], out: &mut [u8], at: usize, n: u32) -> usize
 // The gates of the masked netlist: the next place, and the next wire. The tables `wire` and `code` have an entry for each source wire,
 // and may hold anything.
 pub fn pass(
-    d: &[u64],
+    d: Words,
     out: &mut [u8],
     at: usize,
-    operands: &[u64],
-    results: &[u64],
-    count: usize,
+    gates: Gates,
     codes: &[u8],
     wanted: &[u8],
     wire: &mut [u32],
     code: &mut [u8],
 ) -> (usize, u32)
-    requires word_table { WordTable d.now }
-    requires ready { Ready (tables operands.now results.now) count codes.now wanted.now wire.old code.old }
-    ensures { (N : Netlist) → Holds (tables operands.now results.now) count (length wire.old)
+    requires ready { Ready (tables_of gates) gates.count codes.now wanted.now wire.old code.old }
+    ensures { (N : Netlist) → HoldsGates gates.entry (length wire.old)
         (length codes.now) (length wanted.now) N
         → WrotePass out.old at (mask_netlist N codes.now wanted.now) (length codes.now)
         wanted.now out.new result code.new }
@@ -51,9 +49,7 @@ pub fn pass(
     let first = mask_twins::inputs::start(n + 5, codes, wire, code);
     let second = masks(d, out, at, n);
     let third = crate::publics::publics(d, out, second, n, n + 5, codes);
-    let (place, next) = crate::gates::gates(
-        d, out, third, n, first, operands, results, count, wire, code,
-    );
+    let (place, next) = crate::gates::gates(d, out, third, n, first, gates, wire, code);
     let from = wire.len() - wanted.len();
     let end = crate::outs::outs(d, out, place, n, next, wire, code, from, wanted);
     (end, next + wanted.len() as u32)

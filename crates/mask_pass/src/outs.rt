@@ -1,6 +1,5 @@
 // The gates of the output bits, and their codes. The output bits are the last source wires.
 ghost use Rattle.std.specs.Prelude.{◌≡◌, ◌+◌, ◌<◌, ◌^◌, [], ◌∷◌, length, drop};
-ghost use Rattle.write_wires.specs.Packed.{WordTable};
 ghost use Rattle.netlist.specs.Mask.{out_gate, out_gates, out_code};
 ghost use Rattle.write_buffer.specs.Wrote.{Wrote};
 ghost use Rattle.write_gates.specs.Gates.{WroteGates};
@@ -9,10 +8,10 @@ ghost use Rattle.mask_pass.specs.State.{codes_of};
 
 use mask_codes::{mask_wire, third_code};
 use netlist::Twin;
+use write_wires::table::Words;
 
 // One output bit's gate, at wire c.
-fn one(d: &[u64], out: &mut [u8], at: usize, n: u32, c: u32, t: Twin, want: u8) -> usize
-    requires word_table { WordTable d.now }
+fn one(d: Words, out: &mut [u8], at: usize, n: u32, c: u32, t: Twin, want: u8) -> usize
     requires n_bound { n < 2 ^ 31 }
     ensures { WroteGates out.old at (out_gate n c t want ∷ []) out.new result }
 {
@@ -26,7 +25,7 @@ fn one(d: &[u64], out: &mut [u8], at: usize, n: u32, c: u32, t: Twin, want: u8) 
 
 // The gates of the source wires from a wire on, at the wires from c.
 pub fn outs(
-    d: &[u64],
+    d: Words,
     out: &mut [u8],
     at: usize,
     n: u32,
@@ -36,7 +35,6 @@ pub fn outs(
     from: usize,
     wanted: &[u8],
 ) -> usize
-    requires word_table { WordTable d.now }
     requires n_bound { (n < 2 ^ 31) × (c + length wanted.now < 2 ^ 31) }
     requires wanted_value { (from + length wanted.now ≡ length wire.now) × (length code.now ≡ length wire.now) }
     ensures { WroteGates out.old at (out_gates n c (drop from (twins_of wire.now code.now))

@@ -1,12 +1,12 @@
 // The gates of the public bits: each such input XOR m0, in input order. All others arrive masked and have none.
 ghost use Rattle.std.specs.Prelude.{◌+◌, ◌<◌, ◌^◌, length};
-ghost use Rattle.write_wires.specs.Packed.{WordTable};
 ghost use Rattle.netlist.specs.Mask.{public_gate, public_gates};
 ghost use Rattle.write_gates.specs.Gates.{WroteGates};
 
+use write_wires::table::Words;
+
 // The gate of input w, where it is public, at wire c.
-fn one(d: &[u64], out: &mut [u8], at: usize, n: u32, c: u32, w: u32, e: u8) -> usize
-    requires { WordTable d.now }
+fn one(d: Words, out: &mut [u8], at: usize, n: u32, c: u32, w: u32, e: u8) -> usize
     ensures { WroteGates out.old at (public_gate n c w e) out.new result }
 {
     if e == 0 {
@@ -17,8 +17,7 @@ fn one(d: &[u64], out: &mut [u8], at: usize, n: u32, c: u32, w: u32, e: u8) -> u
 }
 
 // The gates of all inputs, at the wires from c.
-pub fn publics(d: &[u64], out: &mut [u8], at: usize, n: u32, c: u32, codes: &[u8]) -> usize
-    requires word_table { WordTable d.now }
+pub fn publics(d: Words, out: &mut [u8], at: usize, n: u32, c: u32, codes: &[u8]) -> usize
     requires codes_bound { c + length codes.now < 2 ^ 31 }
     ensures { WroteGates out.old at (public_gates n c 0 codes.now) out.new result }
 {

@@ -2,27 +2,28 @@
 use Rattle.std.specs.Prelude.{ℕ, ◌<◌, ◌≡◌, List, [], ◌∷◌, length, get_or}
 use Rattle.netlist.specs.declared.Gate.{Gate}
 use Rattle.netlist.specs.declared.Twin.{Twin}
-use Rattle.netlist.specs.Table.{gate_of}
 use Rattle.netlist.specs.Mask.{State, emit, result_twin}
 use Rattle.gate_records.specs.declared.GateRecord.{GateRecord}
 use Rattle.gate_records.specs.Records.{blank}
+use Rattle.gate_table.specs.declared.Kind.{Kind}
+use Rattle.gate_table.specs.Kind.{gate_for}
 
 -- a state in which the first two source wires have the twins A and B
 abbrev pub operands : ℕ → Twin → Twin → State
 operands c A B = record { next = c; twins = A ∷ B ∷ [] }
 
 -- the masked gates of a source gate of kind k, at the wires from c
-abbrev pub steps_of : ℕ → ℕ → ℕ → Twin → Twin → List Gate
-steps_of n c k A B = emit n (operands c A B) (gate_of k 0 1 2)
+abbrev pub steps_of : ℕ → ℕ → Kind → Twin → Twin → List Gate
+steps_of n c k A B = emit n (operands c A B) (gate_for k 0 1 2)
 
 -- its result's twin
-abbrev pub twin_of : ℕ → ℕ → Twin → Twin → Twin
-twin_of c k A B = result_twin (operands c A B) (gate_of k 0 1 2)
+abbrev pub twin_of : ℕ → Kind → Twin → Twin → Twin
+twin_of c k A B = result_twin (operands c A B) (gate_for k 0 1 2)
 
 -- r is record k of the records rs, where there is one
 abbrev pub At : List GateRecord → ℕ → GateRecord → Type 0
 At rs k r = k < length rs → r ≡ get_or rs k blank
 
 -- m is how many masked gates there are, whatever the wires
-abbrev pub Many : ℕ → Twin → Twin → ℕ → Type 0
+abbrev pub Many : Kind → Twin → Twin → ℕ → Type 0
 Many k A B m = (n c : ℕ) → m ≡ length (steps_of n c k A B)

@@ -5,18 +5,19 @@
 ghost use Rattle.std.specs.Prelude.{◌≡◌, map, ◌+◌, ◌<◌, ◌^◌, length, get_or};
 ghost use Rattle.netlist.specs.declared.Gate.TheVariants.{Xor};
 ghost use Rattle.netlist.specs.Leak.{bit};
-ghost use Rattle.netlist.specs.Mask.{after, mask_wire, changes, changed as changedTwin, past as pastWire, xor_gates, xor_twin, and_gates, and_twin};
+ghost use Rattle.netlist.specs.Mask.{after, mask_wire, changes, changed as changed_twin, past as past_wire, xor_gates, xor_twin, and_gates, and_twin};
 ghost use Rattle.gate_records.specs.Records.{blank, record_of, record4};
 ghost use Rattle.mask_rule.specs.Rule.{steps_of, twin_of, At, Many};
 
 use gate_records::GateRecord;
+use gate_table::Kind;
 use mask_codes::{code_after, mask_wire, third_code};
 use netlist::Twin;
 
 // The second operand behind its mask change, if there is one. It holds for this gate alone: the caller's twin of the operand stays
 // as it is.
 pub fn changed(c: u32, a: Twin, b: Twin) -> Twin
-    ensures { result ≡ changedTwin c a b }
+    ensures { result ≡ changed_twin c a b }
 {
     if a.code != b.code {
         return b;
@@ -31,7 +32,7 @@ pub fn changed(c: u32, a: Twin, b: Twin) -> Twin
 // The next wire behind it.
 pub fn past(c: u32, a: Twin, b: Twin) -> u32
     requires { c < 2 ^ 31 }
-    ensures { result ≡ pastWire c a b }
+    ensures { result ≡ past_wire c a b }
 {
     if a.code == b.code { c + 1 } else { c }
 }
@@ -59,20 +60,23 @@ pub fn and_twin(c: u32, a: Twin, b: Twin) -> Twin
     }
 }
 
-// The twin of a source gate's result, by the gate's kind as the gate tables have it; its operands have the twins a and b, and its
-// masked gates start at wire c.
-pub fn twin(c: u32, kind: u64, a: Twin, b: Twin) -> Twin
+// The twin of a source gate's result, by the gate's kind; its operands have the twins a and b, and its masked gates start at wire c.
+pub fn twin(c: u32, kind: Kind, a: Twin, b: Twin) -> Twin
     requires { c < 2 ^ 31 }
     ensures { result ≡ twin_of c kind a b }
 {
+    // apart from the kinds of two operands: four arms in one match are a jump through a table, which is slower where kinds are mixed
+    let single = match kind {
+        Kind::Eq(_) => 1,
+        _ => a.code,
+    };
     match kind {
-        gate_table::XOR => xor_twin(c, a, b),
-        gate_table::AND => and_twin(c, a, b),
-        gate_table::INV | gate_table::EQW => Twin {
+        Kind::Xor => xor_twin(c, a, b),
+        Kind::And => and_twin(c, a, b),
+        _ => Twin {
             wire: c,
-            code: a.code,
+            code: single,
         },
-        _ => Twin { wire: c, code: 1 },
     }
 }
 
@@ -84,13 +88,13 @@ fn extra(a: Twin, b: Twin) -> usize
 }
 
 // How many masked gates a source gate of a kind gets.
-pub fn count(kind: u64, a: Twin, b: Twin) -> usize
+pub fn count(kind: Kind, a: Twin, b: Twin) -> usize
     ensures { Many kind a b result }
 {
     let more = extra(a, b);
     match kind {
-        gate_table::XOR => more + 1,
-        gate_table::AND => more + 7,
+        Kind::Xor => more + 1,
+        Kind::And => more + 7,
         _ => 1,
     }
 }
@@ -156,16 +160,16 @@ fn one(kind: u32, a: u32, c: u32) -> GateRecord
 }
 
 // Masked gate k of a source gate, with n input bits.
-pub fn gate(n: u32, c: u32, kind: u64, a: Twin, b: Twin, k: usize) -> GateRecord
+pub fn gate(n: u32, c: u32, kind: Kind, a: Twin, b: Twin, k: usize) -> GateRecord
     requires { (n < 2 ^ 31) × (c < 2 ^ 31) × (k < length (steps_of n c kind a b)) }
     ensures { result ≡ get_or (map record_of (steps_of n c kind a b)) k blank }
 {
     match kind {
-        gate_table::XOR => xor(n, c, a, b, k),
-        gate_table::AND => and(n, c, a, b, k),
-        gate_table::INV => one(3, a.wire, c),
-        gate_table::EQW => one(4, a.wire, c),
-        gate_table::EQ => one(4, n, c),
-        _ => one(3, n, c),
+        Kind::Xor => xor(n, c, a, b, k),
+        Kind::And => and(n, c, a, b, k),
+        Kind::Inv => one(3, a.wire, c),
+        Kind::Eqw => one(4, a.wire, c),
+        Kind::Eq(0) => one(4, n, c),
+        Kind::Eq(_) => one(3, n, c),
     }
 }

@@ -1,15 +1,15 @@
 -- What a source is masked by.
 use Rattle.std.specs.Prelude.{ℕ, List, length}
 use Rattle.netlist.specs.Netlist.{Netlist}
-use Rattle.netlist.specs.Table.{tables}
 use Rattle.netlist.specs.Mask.{Masked, mask_netlist}
+use Rattle.gate_table.specs.Gates.{tables_of}
 use Rattle.mask_twins.specs.Place.{Ready}
 use Rattle.mask_text.specs.declared.Job.{Job}
 use Rattle.mask_text.specs.Whole.{Source, Numbers}
 
 -- the tables ws and es are ready for a pass
 abbrev pub ReadyFor : Job → List ℕ → List ℕ → Type 0
-ReadyFor j ws es = Ready (tables j.operands.now j.results.now) j.count j.codes.now j.wanted.now ws es
+ReadyFor j ws es = Ready (tables_of j.source) j.source.count j.codes.now j.wanted.now ws es
 
 -- the masked netlist of a source
 abbrev pub masked : Job → Netlist → Masked
@@ -17,7 +17,7 @@ masked j N = mask_netlist N j.codes.now j.wanted.now
 
 -- the source N of W wires is what the tables hold, and the numbers of line one are those of its masked netlist
 abbrev pub SourceOf : Job → ℕ → Netlist → Type 0
-SourceOf j W N = Source (tables j.operands.now j.results.now) j.count W (length j.codes.now) (length j.wanted.now) j.ins.now j.outs.now N
+SourceOf j W N = Source (tables_of j.source) j.source.count W (length j.codes.now) (length j.wanted.now) j.ins.now j.outs.now N
 
 abbrev pub NumbersOf : Job → Netlist → Type 0
 NumbersOf j N = Numbers (masked j N) (length j.wanted.now) j.gates j.wires

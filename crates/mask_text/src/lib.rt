@@ -3,27 +3,26 @@
 #![tactic(auto)]
 
 ghost use Rattle.std.specs.Prelude.{◌≡◌, ◌<◌, leb, length};
-ghost use Rattle.write_wires.specs.Packed.{WordTable};
 ghost use Rattle.netlist.specs.Netlist.{Netlist};
 ghost use Rattle.netlist.specs.Read.{WellFormed};
 ghost use Rattle.netlist.specs.Write.{write_netlist};
 ghost use Rattle.netlist.specs.Mask.{mask_netlist};
-ghost use Rattle.netlist.specs.Table.{tables};
 ghost use Rattle.netlist.specs.Services.{masked_text, deliver_outcome};
+ghost use Rattle.gate_table.specs.Gates.{tables_of};
 ghost use Rattle.write_buffer.specs.Wrote.{top};
 ghost use Rattle.mask_twins.specs.Place.{Ready};
 ghost use Rattle.mask_text.specs.Whole.{Source, WroteText, Filled, MaskAnswers};
 ghost use Rattle.mask_text.specs.Job.{ReadyFor, masked, SourceOf, NumbersOf};
 
+use gate_table::Gates;
 use netlist::{Answer, Question};
+use write_wires::table::Words;
 
-// What a source is masked by: its gate tables, the codes of its inputs and the wanted ones of its outputs, the widths of the
+// What a source is masked by: its gates, the codes of its inputs and the wanted ones of its outputs, the widths of the
 // masked values, and the numbers of the masked text's line one.
 #[derive(Clone, Copy)]
 struct Job<'a> {
-    operands: &'a [u64],
-    results: &'a [u64],
-    count: usize,
+    source: Gates<'a>,
     codes: &'a [u8],
     wanted: &'a [u8],
     ins: &'a [u32],
@@ -33,29 +32,25 @@ struct Job<'a> {
 }
 
 // The masked text.
-fn write<'a>(d: &[u64], out: &mut [u8], j: Job<'a>, wire: &mut [u32], code: &mut [u8]) -> usize
-    requires word_table { WordTable d.now }
+fn write<'a>(d: Words, out: &mut [u8], j: Job<'a>, wire: &mut [u32], code: &mut [u8]) -> usize
     requires ready { ReadyFor j wire.old code.old }
     ensures { (N : Netlist) → SourceOf j.entry (length wire.old) N → NumbersOf j.entry N
         → WroteText out.old (masked j.entry N) j.entry.wanted.now out.new code.new result }
 {
     let at = write_header::header(out, 0, j.gates, j.wires, j.ins, j.outs);
-    let (end, _) = mask_pass::pass(
-        d, out, at, j.operands, j.results, j.count, j.codes, j.wanted, wire, code,
-    );
+    let (end, _) = mask_pass::pass(d, out, at, j.source, j.codes, j.wanted, wire, code);
     end
 }
 
 // The masked text and the output codes, each into its buffer.
 fn fill<'a>(
-    d: &[u64],
+    d: Words,
     out: &mut [u8],
     out_codes: &mut [u8],
     j: Job<'a>,
     wire: &mut [u32],
     code: &mut [u8],
 ) -> usize
-    requires word_table { WordTable d.now }
     requires ready { ReadyFor j wire.old code.old }
     ensures { (N : Netlist) → SourceOf j.entry (length wire.old) N → NumbersOf j.entry N
         → Filled (masked j.entry N) out.old out.new out_codes.old out_codes.new result }
@@ -67,8 +62,7 @@ fn fill<'a>(
 }
 
 // Question 14 of the text: yes where lines of the longest kind would fit, and otherwise as it is measured.
-fn holds<'a>(d: &[u64], room: usize, j: Job<'a>, wire: &mut [u32], code: &mut [u8]) -> bool
-    requires word_table { WordTable d.now }
+fn holds<'a>(d: Words, room: usize, j: Job<'a>, wire: &mut [u32], code: &mut [u8]) -> bool
     requires ready { ReadyFor j wire.old code.old × (room < top) }
     ensures { (N : Netlist) → SourceOf j.entry (length wire.old) N → NumbersOf j.entry N
         → WellFormed (masked j.entry N).netlist
@@ -85,14 +79,13 @@ fn holds<'a>(d: &[u64], room: usize, j: Job<'a>, wire: &mut [u32], code: &mut [u
 
 // Question 14, and the text and the codes.
 fn answer<'a>(
-    d: &[u64],
+    d: Words,
     out: &mut [u8],
     out_codes: &mut [u8],
     j: Job<'a>,
     wire: &mut [u32],
     code: &mut [u8],
 ) -> Answer
-    requires word_table { WordTable d.now }
     requires ready { ReadyFor j wire.old code.old }
     ensures { (N : Netlist) → SourceOf j.entry (length wire.old) N → NumbersOf j.entry N
         → WellFormed (masked j.entry N).netlist
@@ -115,9 +108,7 @@ fn answer<'a>(
 pub fn deliver(
     out: &mut [u8],
     out_codes: &mut [u8],
-    operands: &[u64],
-    results: &[u64],
-    count: usize,
+    source: Gates,
     codes: &[u8],
     wanted: &[u8],
     ins: &[u32],
@@ -125,23 +116,19 @@ pub fn deliver(
     wire: &mut [u32],
     code: &mut [u8],
 ) -> Answer
-    requires { Ready (tables operands.now results.now) count codes.now wanted.now wire.old code.old }
+    requires { Ready (tables_of source) source.count codes.now wanted.now wire.old code.old }
     ensures { (N : Netlist)
-        → Source (tables operands.now results.now) count (length wire.old) (length codes.now)
+        → Source (tables_of source.entry) source.entry.count (length wire.old) (length codes.now)
         (length wanted.now) ins.now outs.now N
         → WellFormed (mask_netlist N codes.now wanted.now).netlist
         → MaskAnswers (deliver_outcome (length out.old) (length out_codes.old)
         (masked_text (mask_netlist N codes.now wanted.now))) out.old out.new out_codes.old
         out_codes.new result }
 {
-    let wires = mask_pass::count::count(
-        operands, results, count, codes, wanted, wire, code,
-    ) as usize;
+    let wires = mask_pass::count::count(source, codes, wanted, wire, code) as usize;
     let gates = wires - (codes.len() + 2);
     let j = Job {
-        operands,
-        results,
-        count,
+        source,
         codes,
         wanted,
         ins,
@@ -150,9 +137,9 @@ pub fn deliver(
         wires,
     };
     if wires <= 100 {
-        return answer(&[], out, out_codes, j, wire, code);
+        return answer(Words { entries: &[] }, out, out_codes, j, wire, code);
     }
     let mut table = [0u64; 2000];
     write_wires::table::fill(&mut table, 100);
-    answer(&table, out, out_codes, j, wire, code)
+    answer(Words { entries: &table }, out, out_codes, j, wire, code)
 }

@@ -6,7 +6,7 @@ use mathlib.Core.List.{List}
 use mathlib.Core.Option.{Option}
 use lib.Dec.{eqb, ltb, ltb→lt}
 use lib.ListN.{length, get_or}
-use borrow.Author.Tests.{eq-eqb, ne_eqb}
+use borrow.Author.Tests.{eq-eqb}
 use Rattle.netlist.specs.Lists.{every}
 use Rattle.netlist.specs.Netlist.{Netlist}
 use Rattle.netlist.specs.Outcome.{Outcome, refused, done}
@@ -15,7 +15,7 @@ use Rattle.netlist.specs.Services.{max_checked, check_outcome}
 use Rattle.netlist.proofs.Tests.{both, true-T, every-at}
 use Rattle.check_leak.specs.Search.{found_of}
 use Rattle.check_netlist.specs.Judge.{codes_asked}
-use Rattle.check_netlist.proofs.Judging.{outcome-refused, outcome-twelve, outcome-told}
+use Rattle.check_netlist.proofs.Judging.{outcome-refused, outcome-told}
 use Rattle.pairs.specs.Pairs.{clean_pair, first_bad}
 use Rattle.pairs.specs.Call.{BothAnswers, pairs_good, pairs_outcome}
 use Rattle.pairs.proofs.PairCalls.{pairs-refused, pairs-bad, pairs-told}
@@ -24,9 +24,6 @@ use Rattle.pairs_search.specs.Search.{bad_of}
 use Rattle.pairs_judge.specs.Judge.{both_of}
 
 -- ---- question 21
-
-pub good-odd : (W : ℕ) (ws : List ℕ) → (length ws % 2 ≡ 0 → ⊥) → eqb (length ws % 2) 0 ≡ pairs_good W ws
-good-odd W ws h = rw (ne_eqb (length ws % 2) 0 h)
 
 pub good-even : (W : ℕ) (ws : List ℕ) {r : Bool} → length ws % 2 ≡ 0 → r ≡ every (λ w. ltb w W) ws → r ≡ pairs_good W ws
 good-even W ws h e = e ∙ sym (rw (eq-eqb (length ws % 2) 0 h))
@@ -50,9 +47,6 @@ told N codes ws f g = ap₂ (λ (l : Option Found) (b : Option ℕ). done (recor
 module _ (N : Netlist) (codes ws vs : List ℕ) (widths : vs ≡ N.inputs) where
   pub refused-asked : {q : ℕ} → refused q ≡ codes_asked vs codes → refused q ≡ pairs_outcome codes ws N
   refused-asked e = pairs-refused codes ws N (outcome-refused N codes vs widths e)
-
-  pub refused-twelve : done tt ≡ codes_asked vs codes → max_checked < length codes → refused 12 ≡ pairs_outcome codes ws N
-  refused-twelve e l = pairs-refused codes ws N (outcome-twelve N codes vs widths e l)
 
   module _ (asked : done tt ≡ codes_asked vs codes) (few : length codes ≤ max_checked) where
     checked : done (leak N codes) ≡ check_outcome codes N

@@ -69,9 +69,9 @@ setting_counts t n W ps = counts_of (bare t n W) true ps
 -- the blocks before this one are searched, and the tables keep their lengths
 pub record Finding (t : Tables) (n W limit : ℕ) (ps ws : List ℕ) (publics : Bool) (blocks : ℕ) (words bases base : List ℕ) (best : PairsFound) (block : ℕ) : Type 0 where
   pub passed : block ≤ blocks
-  pub long-words : length words ≡ W
-  pub long-bases : length bases ≡ W
-  pub long-base : length base ≡ W
+  pub long_words : length words ≡ W
+  pub long_bases : length bases ≡ W
+  pub long_base : length base ≡ W
   pub held : HeldOn publics (bare t n W) ps bases base block
   pub found : Found (base_counts t n W ps) (setting_counts t n W ps) ws limit (length ws / 2) (block * 16) best
 
@@ -80,9 +80,9 @@ pub find_none : {t : Tables} {n W limit : ℕ} {ps : List ℕ} (ws : List ℕ) {
     → Finding t n W limit ps ws publics blocks words bases base (record { leak = None; pair = None }) 0
 find_none {t} {n} {W} {limit} {ps} ws blocks a b c h = record {
   passed = omega arith;
-  long-words = a;
-  long-bases = b;
-  long-base = c;
+  long_words = a;
+  long_bases = b;
+  long_base = c;
   held = h;
   found = record {
     lowest = difference-none (base_counts t n W ps).one (setting_counts t n W ps).one limit 0 (λ w l s m. absurd (omega arith));
@@ -103,12 +103,12 @@ find-more {t} {n} {W} {limit} {ps} {ws} {publics} {best = best} {block} r l us v
     let q : block * 16 + 16 ≡ (block + 1) * 16 = omega arith in
     let ran' : Evaluated (bare t n W) true ps us block × Based (bare t n W) ps vs zs block × HeldOn publics (bare t n W) ps vs zs (block + 1)
     = subst (λ (k : ℕ). Evaluated (bare t n k) true ps us block × Based (bare t n k) ps vs zs block × HeldOn publics (bare t n k) ps vs zs (block + 1))
-    r.long-words ran in
+    r.long_words ran in
     record {
       passed = omega arith;
-      long-words = a ∙ r.long-words;
-      long-bases = b ∙ r.long-bases;
-      long-base = c ∙ r.long-base;
+      long_words = a ∙ r.long_words;
+      long_bases = b ∙ r.long_bases;
+      long_base = c ∙ r.long_base;
       held = ran'.2;
       found = subst (λ (S : ℕ). Found (base_counts t n W ps) (setting_counts t n W ps) ws limit (length ws / 2) S next) q
           (looked (base_counts t n W ps) (setting_counts t n W ps) (alike-base ran'.1) (alike-setting ran'.0) r.found);

@@ -1,5 +1,5 @@
 -- The words of the bases where no bit is public: those of setting 0, for all settings.
-use mathlib.Core.Path.{◌≡◌, refl, sym, ap, ap₂, ◌∙◌}
+use mathlib.Core.Path.{◌≡◌, sym, ap, ap₂, ◌∙◌}
 use mathlib.Core.Bool.{Bool, true, false}
 use mathlib.Core.List.{List}
 use Prim.Native.Nat.{ℕ, ◌+◌, ◌*◌, ◌/◌, ◌%◌, ◌^◌, ◌≤◌, ◌<◌}
@@ -44,9 +44,6 @@ repeat-lanes r d h j l =
 pub record Repeated (words bases₀ bases : List ℕ) (w : ℕ) : Type 0 where
   pub long : length bases ≡ length bases₀
   pub done : (v : ℕ) → v < w → (j : ℕ) → j < 64 → lane j (get_or bases v 0) ≡ lane (j % 4) (get_or words v 0)
-
-pub repeated-none : (words bases : List ℕ) → Repeated words bases bases 0
-repeated-none words bases = record { long = refl; done = λ v l. absurd (omega arith) }
 
 pub repeated-more : {words bases₀ bases : List ℕ} {w : ℕ} (x : ℕ) → Repeated words bases₀ bases w → w < length bases₀
     → ((s : ℕ) → s < 16 → nibble x s ≡ nibble (get_or words w 0) 0) → Repeated words bases₀ (set bases w x) (w + 1)

@@ -1,12 +1,13 @@
 // The words of the bases of a block's settings, and the counts of single wires in them.
 ghost use Rattle.std.specs.Prelude.{◌≡◌, true, false, ℕ, ◌+◌, ◌%◌, ◌<◌, ◌≤◌, length, get_or};
-ghost use Rattle.netlist.specs.Table.{tables, Wired};
-ghost use Rattle.evaluate.specs.Bare.{bare};
+ghost use Rattle.gate_table.specs.Gates.{WiredGates};
+ghost use Rattle.evaluate.specs.Bare.{bare_of};
 ghost use Rattle.evaluate.specs.Lane.{lane};
 ghost use Rattle.check_counts.specs.Block.{ones_of, nibbles_of, Evaluated};
 ghost use Rattle.pairs_search.specs.Bases.{Based, HeldOn};
 
 use check_counts::{block, nibble};
+use gate_table::Gates;
 
 // The lanes of the first setting, for all.
 fn repeat(words: &[u64], bases: &mut [u64])
@@ -31,9 +32,7 @@ fn tally(bases: &[u64], base: &mut [u64])
 // The words and the counts of the bases of a block's settings. If no bit is public, setting 0 is the base of all settings, and its
 // words are taken from the first block's.
 pub fn refresh(
-    operands: &[u64],
-    results: &[u64],
-    count: usize,
+    gates: Gates,
     paints: &[u8],
     publics: bool,
     block: u64,
@@ -41,17 +40,17 @@ pub fn refresh(
     bases: &mut [u64],
     base: &mut [u64],
 )
-    requires wired { Wired (tables operands.now results.now) (length words.now) count }
+    requires wired { WiredGates gates (length words.now) }
     requires paints_in_bounds { (length paints.now + 2 ≤ length words.now) × (length bases.old ≡ length words.now)
         × (length base.old ≡ length words.now) }
-    requires fact { let N = bare (tables operands.now results.now) count (length words.now) in
+    requires fact { let N = bare_of gates (length words.now) in
         Evaluated N true paints.now words.now block × HeldOn publics N paints.now bases.old base.old block }
-    ensures { let N = bare (tables operands.now results.now) count (length words.now) in
+    ensures { let N = bare_of gates.entry (length words.now) in
         Based N paints.now bases.new base.new block
         × HeldOn publics N paints.now bases.new base.new (block + 1) }
 {
     if publics {
-        block::run_block(operands, results, count, paints, false, block, bases);
+        block::run_block(gates, paints, false, block, bases);
         tally(bases, base);
     } else if block == 0 {
         repeat(words, bases);

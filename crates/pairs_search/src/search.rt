@@ -1,11 +1,11 @@
 // The search for a leak on a wire and for a bad pair, block by block.
-ghost use Rattle.std.specs.Prelude.{◌≡◌, true, false, ℕ, ◌+◌, ◌*◌, ◌/◌, ◌^◌, ◌<◌, ◌≤◌, length, get_or};
+ghost use Rattle.std.specs.Prelude.{◌≡◌, true, false, ℕ, ◌+◌, ◌*◌, ◌/◌, ◌<◌, ◌≤◌, length, get_or};
 ghost use Rattle.std.specs.Option.{unwrap_or};
 ghost use Rattle.netlist.specs.Netlist.{Netlist};
-ghost use Rattle.netlist.specs.Leak.{leak as leakOf};
+ghost use Rattle.netlist.specs.Leak.{leak as leak_of};
 ghost use Rattle.netlist.specs.Services.{max_checked};
-ghost use Rattle.netlist.specs.Table.{tables, Wired, Holds};
-ghost use Rattle.evaluate.specs.Bare.{bare};
+ghost use Rattle.gate_table.specs.Gates.{WiredGates, HoldsGates};
+ghost use Rattle.evaluate.specs.Bare.{bare_of};
 ghost use Rattle.check_counts.specs.Block.{Evaluated};
 ghost use Rattle.check_leak.specs.Difference.{wire_of};
 ghost use Rattle.check_leak.specs.Search.{found_of};
@@ -18,6 +18,7 @@ use crate::{base, pair};
 use check_counts::{block, paint};
 use check_leak::difference;
 use check_leak::difference::Leak;
+use gate_table::Gates;
 
 // The lowest leak, and how many pairs stand before the first bad one; none where all are clean.
 #[derive(Clone, Copy, Debug, PartialEq, Eq)]
@@ -28,9 +29,7 @@ pub struct PairsFound {
 
 // A block is run: the words of its settings, the words of their bases, and the counts of these.
 fn run(
-    operands: &[u64],
-    results: &[u64],
-    count: usize,
+    gates: Gates,
     paints: &[u8],
     publics: bool,
     block: u64,
@@ -38,19 +37,17 @@ fn run(
     bases: &mut [u64],
     base: &mut [u64],
 )
-    requires wired { Wired (tables operands.now results.now) (length words.old) count }
+    requires wired { WiredGates gates (length words.old) }
     requires paints_in_bounds { (length paints.now + 2 ≤ length words.old) × (length bases.old ≡ length words.old)
         × (length base.old ≡ length words.old)
-        × HeldOn publics (bare (tables operands.now results.now) count (length words.old)) paints.now bases.old base.old block }
-    ensures { let N = bare (tables operands.now results.now) count (length words.old) in
+        × HeldOn publics (bare_of gates (length words.old)) paints.now bases.old base.old block }
+    ensures { let N = bare_of gates.entry (length words.old) in
         Evaluated N true paints.now words.new block
         × Based N paints.now bases.new base.new block
         × HeldOn publics N paints.now bases.new base.new (block + 1) }
 {
-    block::run_block(operands, results, count, paints, true, block, words);
-    base::refresh(
-        operands, results, count, paints, publics, block, words, bases, base,
-    );
+    block::run_block(gates, paints, true, block, words);
+    base::refresh(gates, paints, publics, block, words, bases, base);
 }
 
 // The better of the best so far, of wires below a limit, and what a block shows. Wires above the lowest leak, and pairs behind the first
@@ -86,9 +83,7 @@ fn look(
 
 // The first wire below a limit and the first pair whose counts are not those of the base, over all settings of these blocks.
 pub fn find(
-    operands: &[u64],
-    results: &[u64],
-    count: usize,
+    gates: Gates,
     paints: &[u8],
     pairs: &[u32],
     limit: usize,
@@ -97,11 +92,11 @@ pub fn find(
     bases: &mut [u64],
     base: &mut [u64],
 ) -> PairsFound
-    requires wired { Wired (tables operands.now results.now) (length words.old) count }
+    requires wired { WiredGates gates (length words.old) }
     requires paints_in_bounds { (length paints.now + 2 ≤ length words.old) × (length bases.old ≡ length words.old)
         × (length base.old ≡ length words.old) × (blocks < 65536) × (limit ≤ length words.old)
         × ((i : ℕ) → i < length pairs.now → get_or pairs.now i 0 < length words.old) }
-    ensures { let N = bare (tables operands.now results.now) count (length words.old) in
+    ensures { let N = bare_of gates.entry (length words.old) in
         Found (counts_of N false paints.now) (counts_of N true paints.now) pairs.now limit
         (length pairs.now / 2) (blocks * 16) result }
 {
@@ -111,9 +106,7 @@ pub fn find(
         pair: None,
     };
     for block in 0..blocks {
-        run(
-            operands, results, count, paints, publics, block, words, bases, base,
-        );
+        run(gates, paints, publics, block, words, bases, base);
         best = look(words, bases, base, pairs, limit, best, block);
     }
     best
@@ -122,31 +115,26 @@ pub fn find(
 // Whether the tables' netlist is clean under the input codes, and each listed pair of its wires. The three tables of words, one
 // entry for each wire, are working store.
 pub fn search(
-    operands: &[u64],
-    results: &[u64],
-    count: usize,
+    gates: Gates,
     codes: &[u8],
     pairs: &[u32],
     words: &mut [u64],
     bases: &mut [u64],
     base: &mut [u64],
 ) -> PairsFound
-    requires wired { Wired (tables operands.now results.now) (length words.old) count }
+    requires wired { WiredGates gates (length words.old) }
     requires codes_len_bound { (length codes.now ≤ max_checked) × (length codes.now + 2 ≤ length words.old) × (length bases.old ≡ length words.old)
         × (length base.old ≡ length words.old) × ((i : ℕ) → i < length pairs.now → get_or pairs.now i 0 < length words.old)
         × ((i : ℕ) → i < length codes.now → get_or codes.now i 0 < 4) }
-    ensures { (n o : ℕ) (N : Netlist) → Holds (tables operands.now results.now) count
-        (length words.old) n o N
-        → (found_of result.leak ≡ leakOf N codes.now) ×
+    ensures { (n o : ℕ) (N : Netlist) → HoldsGates gates.entry (length words.old) n o N
+        → (found_of result.leak ≡ leak_of N codes.now) ×
         (bad_of result.pair ≡ first_bad (clean_pair N codes.now) pairs.now) }
 {
     let paints = paint::each(codes);
     let n = codes.len();
     let wires = words.len();
     find(
-        operands,
-        results,
-        count,
+        gates,
         &paints[..n],
         pairs,
         wires,

@@ -20,8 +20,9 @@ use Rattle.aiger.specs.Call.{head_outcome}
 use Rattle.aiger_lines.specs.Stray.{stray_at}
 use Rattle.aiger_lines.specs.declared.lines.Lines.{Lines}
 use Rattle.aiger_lines.specs.LineAnswers.{NotSoMany, FileLineAt}
+use Rattle.read_aiger.specs.Counts.{LowCounts}
 use Rattle.read_aiger.specs.HeadAnswers.{head_said, head_asked, HeadAt}
-use Rattle.read_aiger.specs.declared.head.HeadNumbers.{HeadNumbers}
+use Rattle.read_aiger.specs.declared.counts.HeadNumbers.{HeadNumbers}
 use Rattle.read_aiger.proofs.NumberBound.{number-below}
 
 -- ---- the opening
@@ -78,8 +79,14 @@ no-head (some (a ∷ (b ∷ (c ∷ (d ∷ (x ∷ [])))))) h = absurd (h (a ∷ (
 no-head (some (a ∷ (b ∷ (c ∷ (d ∷ (x ∷ (y ∷ ys))))))) h = refl
 
 -- the header of five numbers
-abbrev pub head_from : List ℕ → HeadNumbers
-head_from xs = record { most = get_or xs 0 0; inputs = get_or xs 1 0; latches = get_or xs 2 0; outputs = get_or xs 3 0; ands = get_or xs 4 0 }
+abbrev pub head_from : (xs : List ℕ) → LowCounts (get_or xs 1 0) (get_or xs 3 0) (get_or xs 4 0) → HeadNumbers
+head_from xs low = record { most = get_or xs 0 0; inputs = get_or xs 1 0; latches = get_or xs 2 0; outputs = get_or xs 3 0; ands = get_or xs 4 0; low = low }
+
+-- its counts are numbers of a file
+pub counts-low : (t xs : List ℕ) (left : List ℕ) → FileLineAt t 5 xs left → LowCounts (get_or xs 1 0) (get_or xs 3 0) (get_or xs 4 0)
+counts-low t xs left A =
+    let low = numbers-low (file_line t) xs A.line in
+    record { inputs = entry-low 1 low; outputs = entry-low 3 low; ands = entry-low 4 low }
 
 -- ---- the questions
 
@@ -89,9 +96,10 @@ module _ (L : Limits) (t : List ℕ) where
     pub head-not : NotSoMany (numbers (file_line (drop 4 t))) 5 → head_outcome L t ≡ refused 19
     head-not h = let n : head t ≡ none = no-head (numbers (file_line (drop 4 t))) h in rw (o, n)
 
-    module _ (xs : List ℕ) (l : Lines) (same : l.text.now ≡ t) (A : FileLineAt (drop 4 t) 5 xs (drop l.at l.text.now)) where
+    module _ (xs : List ℕ) (l : Lines) (same : l.text.now ≡ t) (A : FileLineAt (drop 4 t) 5 xs (drop l.at l.text.now))
+        (low : LowCounts (get_or xs 1 0) (get_or xs 3 0) (get_or xs 4 0)) where
       abbrev H : Head
-      H = head_said (head_from xs)
+      H = head_said (head_from xs low)
 
       said : head t ≡ some H
       said = ap head_of (A.line ∙ ap some (five-entries xs A.size))
@@ -99,18 +107,16 @@ module _ (L : Limits) (t : List ℕ) where
       asked : head_outcome L t ≡ ask 19 (head_good L H) (ask 20 (eqb H.latches 0) (done H))
       asked = rw (o, said)
 
-      pub head-taken : done (tt {0}) ≡ head_asked L H → HeadAt L t (head_from xs) l
+      pub head-taken : done (tt {0}) ≡ head_asked L H → HeadAt L t (head_from xs low) l
       head-taken e = go (head_good L H) (eqb H.latches 0) refl refl e
         where
-          go : (a b : Bool) → head_good L H ≡ a → eqb H.latches 0 ≡ b → done (tt {0}) ≡ ask 19 a (ask 20 b (done (tt {0}))) → HeadAt L t (head_from xs) l
+          go : (a b : Bool) → head_good L H ≡ a → eqb H.latches 0 ≡ b → done (tt {0}) ≡ ask 19 a (ask 20 b (done (tt {0}))) → HeadAt L t (head_from xs low) l
           go true false p q e = clash (cc)
           go false b p q e = clash (cc)
           go true true p q e =
-              let low = numbers-low (file_line (drop 4 t)) xs A.line in
               record {
                 outcome = asked ∙ rw (p, q);
                 most = ltb-true H.most L.wires (both_true (leb 1 H.inputs && leb 1 H.outputs) (ltb H.most L.wires) p).1;
-                low = record { inputs = entry-low 1 low; outputs = entry-low 3 low; ands = entry-low 4 low };
                 text = same;
                 next = ap (drop l.at) (sym same) ∙ A.next;
               }

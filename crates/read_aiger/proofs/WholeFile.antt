@@ -21,7 +21,7 @@ use Rattle.aiger_lines.specs.declared.lines.Lines.{Lines}
 use Rattle.aiger_lines.specs.LineAnswers.{lines_left}
 use Rattle.read_aiger.specs.HeadAnswers.{head_said, HeadAt}
 use Rattle.read_aiger.specs.WholeAnswers.{NetlistIs}
-use Rattle.read_aiger.specs.declared.head.HeadNumbers.{HeadNumbers}
+use Rattle.read_aiger.specs.declared.counts.HeadNumbers.{HeadNumbers}
 use Rattle.read_aiger.specs.declared.read.NetlistNumbers.{NetlistNumbers}
 
 module _ (L : Limits) (H : Head) (ls : List (List (List ℕ))) where

@@ -1,7 +1,6 @@
 -- What the answer on the header means.
-use Rattle.std.specs.Prelude.{ℕ, Result, Ok, Err, ◌^◌, ◌<◌, ◌≡◌, List, drop, eqb}
+use Rattle.std.specs.Prelude.{ℕ, Result, Ok, Err, ◌<◌, ◌≡◌, List, drop, eqb}
 use Rattle.netlist.specs.declared.Limits.{Limits}
-use Rattle.netlist.specs.Number.{max_digits}
 use Rattle.netlist.specs.Outcome.{Outcome, refused, done, ask}
 use Rattle.netlist.specs.declared.Question.{Question}
 use Rattle.netlist.specs.Question.{number_of}
@@ -9,7 +8,7 @@ use Rattle.read_text.specs.Line.{after_line}
 use Rattle.aiger_lines.specs.declared.lines.Lines.{Lines}
 use Rattle.aiger.specs.Lines.{Head, head_good}
 use Rattle.aiger.specs.Call.{head_outcome}
-use Rattle.read_aiger.specs.declared.head.HeadNumbers.{HeadNumbers}
+use Rattle.read_aiger.specs.declared.counts.HeadNumbers.{HeadNumbers}
 
 -- the header that the numbers stand for
 abbrev pub head_said : HeadNumbers → Head
@@ -19,17 +18,10 @@ head_said h = record { most = h.most; inputs = h.inputs; latches = h.latches; ou
 abbrev pub head_asked : Limits → Head → Outcome (Unit {0})
 head_asked L H = ask 19 (head_good L H) (ask 20 (eqb H.latches 0) (done tt))
 
--- the numbers fit
-pub record LowHead (h : HeadNumbers) : Type 0 where
-  pub inputs : h.inputs < 10 ^ max_digits
-  pub outputs : h.outputs < 10 ^ max_digits
-  pub ands : h.ands < 10 ^ max_digits
-
 -- a header that is admitted, with the lines behind it
 pub record HeadAt (L : Limits) (t : List ℕ) (h : HeadNumbers) (l : Lines) : Type 0 where
   pub outcome : head_outcome L t ≡ done (head_said h)
   pub most : h.most < L.wires
-  pub low : LowHead h
   pub text : l.text.now ≡ t
   pub next : drop l.at t ≡ after_line (drop 4 t)
 

@@ -4,10 +4,10 @@ ghost use Rattle.std.specs.Prelude.{◌≡◌, List, ℕ, ◌+◌, ◌*◌, ◌<
 ghost use Rattle.netlist.specs.Table.{tables};
 ghost use Rattle.aiger_lines.specs.LineAnswers.{lines_left};
 ghost use Rattle.aiger_ands.specs.StepAnswers.{InputsAt};
-ghost use Rattle.read_aiger.specs.HeadAnswers.{head_said, LowHead};
+ghost use Rattle.read_aiger.specs.HeadAnswers.{head_said};
 ghost use Rattle.read_aiger.specs.WholeAnswers.{LinesIs, gates_made};
 
-use crate::head::HeadNumbers;
+use crate::counts::HeadNumbers;
 use aiger_ands::ands::ands;
 use aiger_ands::inputs::inputs;
 use aiger_lines::lines::Lines;
@@ -25,7 +25,7 @@ fn by_literals(
     operands: &mut [u64],
     results: &mut [u64],
 ) -> Option<usize>
-    requires { (h.most < length table.old) × LowHead h × (h.outputs ≤ length results.old) }
+    requires { (h.most < length table.old) × (h.outputs ≤ length results.old) }
     ensures { ((ls : List (List (List ℕ))) → InputsAt ls h.inputs h.most table.old (lines_left lines.entry)
         → LinesIs (head_said h) ls (tables operands.new results.new) result) × (gates_made result ≤ 3 * h.ands + h.outputs) }
 {
@@ -57,7 +57,7 @@ fn by_marks(
     operands: &mut [u64],
     results: &mut [u64],
 ) -> Option<usize>
-    requires { (h.most < length table.old) × LowHead h × (length results.old < h.outputs)
+    requires { (h.most < length table.old) × (length results.old < h.outputs)
         × (h.most < length operands.old) }
     ensures { ((ls : List (List (List ℕ))) → InputsAt ls h.inputs h.most table.old (lines_left lines.entry)
         → LinesIs (head_said h) ls (tables operands.new results.new) result) × (gates_made result ≤ 3 * h.ands + h.outputs) }
@@ -81,7 +81,7 @@ pub fn body(
     results: &mut [u64],
 ) -> Option<usize>
     requires { (h.most < length table.old)
-        × (table.old ≡ replicate (length table.old) 0) × LowHead h × (h.most < length operands.old) }
+        × (table.old ≡ replicate (length table.old) 0) × (h.most < length operands.old) }
     ensures { LinesIs (head_said h) (lines_left lines.entry)
         (tables operands.new results.new) result × (gates_made result ≤ 3 * h.ands + h.outputs) }
 {

@@ -4,18 +4,9 @@ ghost use Rattle.netlist.specs.Services.{stands_for};
 ghost use Rattle.aiger.specs.Lines.{opens};
 ghost use Rattle.read_aiger.specs.HeadAnswers.{head_said, head_asked, HeadIs};
 
+use crate::counts::HeadNumbers;
 use aiger_lines::lines::Lines;
 use netlist::{Limits, Question};
-
-// M I L O A.
-#[derive(Clone, Copy)]
-pub struct HeadNumbers {
-    pub most: u32,
-    pub inputs: u32,
-    pub latches: u32,
-    pub outputs: u32,
-    pub ands: u32,
-}
 
 // Whether a text begins with the four bytes.
 fn is_opening(text: &[u8]) -> bool

@@ -2,5 +2,6 @@
 #![tactic(auto)]
 
 pub mod body;
+pub mod counts;
 pub mod head;
 pub mod read;

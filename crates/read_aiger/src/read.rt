@@ -1,13 +1,14 @@
 // A whole file into lent tables: questions 1, 2, 19, 20, 19 and 5.
-ghost use Rattle.std.specs.Prelude.{◌≡◌, [], ◌∷◌, ◌≤◌, ◌<◌, ◌^◌, length, replicate};
+ghost use Rattle.std.specs.Prelude.{◌≡◌, [], ◌∷◌, ◌≤◌, ◌<◌, length, replicate};
 ghost use Rattle.netlist.specs.Table.{tables};
 ghost use Rattle.aiger.specs.Call.{lines_read, read_aiger};
 ghost use Rattle.aiger_lines.specs.LineAnswers.{lines_left};
-ghost use Rattle.read_aiger.specs.HeadAnswers.{head_said, LowHead};
+ghost use Rattle.read_aiger.specs.HeadAnswers.{head_said};
 ghost use Rattle.read_aiger.specs.WholeAnswers.{OneValue, asked_aiger, NetlistIs};
 
 use crate::body::body;
-use crate::head::{HeadNumbers, head};
+use crate::counts::HeadNumbers;
+use crate::head::head;
 use aiger_lines::lines::Lines;
 use netlist::{Limits, Question};
 
@@ -30,7 +31,7 @@ fn behind_head(
     results: &mut [u64],
 ) -> Result<NetlistNumbers, Question>
     requires at_bound { (h.most < length table.old)
-        × (table.old ≡ replicate (length table.old) 0) × LowHead h × (h.most < length operands.old) }
+        × (table.old ≡ replicate (length table.old) 0) × (h.most < length operands.old) }
     requires wires_in_bounds { (l.wires ≤ length operands.old) × (l.wires ≤ length results.old) × (1 ≤ l.inputs) × (1 ≤ l.outputs) }
     ensures { NetlistIs (lines_read l (head_said h) (lines_left lines.entry))
         (tables operands.new results.new) result }

@@ -7,19 +7,21 @@ use Rattle.netlist.specs.declared.Gate.TheVariants.{Xor, And, Inv, Eqw, Eq}
 use Rattle.read_text.specs.declared.cursor.Cursor.{Cursor}
 use Rattle.read_text.specs.Line.{LineTaken}
 use Rattle.gate_table.specs.declared.GateNumbers.{GateNumbers}
+use Rattle.gate_table.specs.declared.Kind.{Kind}
+use Rattle.gate_table.specs.declared.Kind.TheVariants as kind
 use Rattle.gate_table.specs.Numbers.{gate_said}
 
 -- the numbers of a kind
-abbrev pub numbers_for : ℕ → ℕ → ℕ → ℕ → GateNumbers
-numbers_for kind a b c = record { kind = kind; left = a; right = b; result = c }
+abbrev pub numbers_for : Kind → ℕ → ℕ → ℕ → GateNumbers
+numbers_for k a b c = record { kind = k; left = a; right = b; result = c }
 
 -- the numbers that a gate is given as
 abbrev pub numbers_of : Gate → GateNumbers
-numbers_of (Xor a b c) = numbers_for 1 a b c
-numbers_of (And a b c) = numbers_for 2 a b c
-numbers_of (Inv a c) = numbers_for 3 a 0 c
-numbers_of (Eqw a c) = numbers_for 4 a 0 c
-numbers_of (Eq v c) = numbers_for 5 v 0 c
+numbers_of (Xor a b c) = numbers_for kind.Xor a b c
+numbers_of (And a b c) = numbers_for kind.And a b c
+numbers_of (Inv a c) = numbers_for kind.Inv a 0 c
+numbers_of (Eqw a c) = numbers_for kind.Eqw a 0 c
+numbers_of (Eq v c) = numbers_for (kind.Eq v) 0 0 c
 
 unfoldable pub named_for : maybe.Option Gate → Option GateNumbers
 named_for none = None

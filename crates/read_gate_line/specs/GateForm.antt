@@ -24,24 +24,13 @@ unfoldable pub named : (List ℕ → Option Gate) → List (List ℕ) → Option
 named f [] = none
 named f (name ∷ ws) = alone (f name) ws
 
--- what stands behind the wires of a gate of one operand, and of two
-abbrev pub end1 : ℕ → ℕ → List (List ℕ) → Option Gate
-end1 a c ws = named (λ name. gate1 name a c) ws
-
-abbrev pub end2 : ℕ → ℕ → ℕ → List (List ℕ) → Option Gate
-end2 a b c ws = named (λ name. gate2 name a b c) ws
-
--- what stands behind the counts of a gate of one operand
+-- what stands behind the counts of a gate of one operand: its operand, its result and its name
 abbrev pub one : List (List ℕ) → Option Gate
-one ws = on_number ws λ a ws. on_number ws λ c ws. end1 a c ws
+one ws = on_number ws λ a ws. on_number ws λ c ws. named (λ name. gate1 name a c) ws
 
--- what stands behind the operands a and b
-abbrev pub result_form : ℕ → ℕ → List (List ℕ) → Option Gate
-result_form a b ws = on_number ws λ c ws. end2 a b c ws
-
--- what stands behind the counts of a gate of two operands
+-- of a gate of two operands
 abbrev pub two : List (List ℕ) → Option Gate
-two ws = on_number ws λ a ws. on_number ws λ b ws. result_form a b ws
+two ws = on_number ws λ a ws. on_number ws λ b ws. on_number ws λ c ws. named (λ name. gate2 name a b c) ws
 
 -- a gate of k operands and n results
 unfoldable pub counted : ℕ → ℕ → List (List ℕ) → Option Gate

@@ -1,19 +1,18 @@
 // One gate line: question 7. A line is read from the left: how many operands and results, the wires
 // or the constant, the gate's name, and nothing behind it.
 ghost use Rattle.std.specs.Prelude.{◌≡◌, ◌≤◌, length, drop};
-ghost use Rattle.netlist.specs.GateLine.{gate_line, gate1 as theGate1, gate2 as theGate2};
+ghost use Rattle.netlist.specs.GateLine.{gate_line, gate1 as the_gate1, gate2 as the_gate2};
 ghost use Rattle.read_text.specs.Line.{line_words};
-ghost use Rattle.read_gate_line.specs.GateForm.{alone, end1, end2, one, result_form, two};
+ghost use Rattle.read_gate_line.specs.GateForm.{alone, one, two};
 ghost use Rattle.read_gate_line.specs.GateAnswers.{gate_named, numbers_for, named_for, NamedExact, LineIs};
-ghost use Rattle.gate_table.specs.Numbers.{gate_said};
 
 use crate::operands::read_operands;
-use gate_table::GateNumbers;
+use gate_table::{GateNumbers, Kind};
 use read_text::bytes::same;
 use read_text::cursor::Cursor;
 
 // The numbers of a gate.
-fn numbers(kind: u64, left: u32, right: u32, wire: u32) -> GateNumbers
+fn numbers(kind: Kind, left: u32, right: u32, wire: u32) -> GateNumbers
     ensures { result ≡ numbers_for kind left right wire }
 {
     GateNumbers {
@@ -27,16 +26,16 @@ fn numbers(kind: u64, left: u32, right: u32, wire: u32) -> GateNumbers
 // The gate of one operand that a name stands for; EQ has a constant for it.
 #[tactic(auto, unfolding(crate::specs::GateAnswers::named_for))]
 fn gate1(name: &[u8], a: u32, c: u32) -> Option<GateNumbers>
-    ensures { result ≡ named_for (theGate1 name.now a c) }
+    ensures { result ≡ named_for (the_gate1 name.now a c) }
 {
     if same(name, b"INV") {
-        return Some(numbers(gate_table::INV, a, 0, c));
+        return Some(numbers(Kind::Inv, a, 0, c));
     }
     if same(name, b"EQW") {
-        return Some(numbers(gate_table::EQW, a, 0, c));
+        return Some(numbers(Kind::Eqw, a, 0, c));
     }
     if same(name, b"EQ") {
-        return Some(numbers(gate_table::EQ, a, 0, c));
+        return Some(numbers(Kind::Eq(a), 0, 0, c));
     }
     None
 }
@@ -44,13 +43,13 @@ fn gate1(name: &[u8], a: u32, c: u32) -> Option<GateNumbers>
 // The gate of two operands that a name stands for.
 #[tactic(auto, unfolding(crate::specs::GateAnswers::named_for))]
 fn gate2(name: &[u8], a: u32, b: u32, c: u32) -> Option<GateNumbers>
-    ensures { result ≡ named_for (theGate2 name.now a b c) }
+    ensures { result ≡ named_for (the_gate2 name.now a b c) }
 {
     if same(name, b"XOR") {
-        return Some(numbers(gate_table::XOR, a, b, c));
+        return Some(numbers(Kind::Xor, a, b, c));
     }
     if same(name, b"AND") {
-        return Some(numbers(gate_table::AND, a, b, c));
+        return Some(numbers(Kind::And, a, b, c));
     }
     None
 }
@@ -65,26 +64,6 @@ fn last_word(text: &[u8], at: Cursor, named: Option<GateNumbers>) -> Option<(Gat
     Some((g, next))
 }
 
-// The name of a gate of one operand and the line's end.
-fn read_end1(text: &[u8], at: Cursor, a: u32, c: u32) -> Option<(GateNumbers, Cursor)>
-    requires { at.at ≤ length text.now }
-    ensures { LineIs text.now at.at (end1 a c (line_words (drop at.at text.now))) result }
-{
-    let word = at.next_word(text);
-    let name = &text[word.from..word.to];
-    last_word(text, Cursor { at: word.to }, gate1(name, a, c))
-}
-
-// The name of a gate of two operands and the line's end.
-fn read_end2(text: &[u8], at: Cursor, a: u32, b: u32, c: u32) -> Option<(GateNumbers, Cursor)>
-    requires { at.at ≤ length text.now }
-    ensures { LineIs text.now at.at (end2 a b c (line_words (drop at.at text.now))) result }
-{
-    let word = at.next_word(text);
-    let name = &text[word.from..word.to];
-    last_word(text, Cursor { at: word.to }, gate2(name, a, b, c))
-}
-
 // The operand, the result and the name of a gate of one operand.
 fn one_operand(text: &[u8], at: Cursor) -> Option<(GateNumbers, Cursor)>
     requires { at.at ≤ length text.now }
@@ -92,16 +71,9 @@ fn one_operand(text: &[u8], at: Cursor) -> Option<(GateNumbers, Cursor)>
 {
     let (a, at1) = at.next_number(text)?;
     let (c, at2) = at1.next_number(text)?;
-    read_end1(text, at2, a, c)
-}
-
-// The result and the name of a gate of two operands.
-fn result_and_name(text: &[u8], at: Cursor, a: u32, b: u32) -> Option<(GateNumbers, Cursor)>
-    requires { at.at ≤ length text.now }
-    ensures { LineIs text.now at.at (result_form a b (line_words (drop at.at text.now))) result }
-{
-    let (c, at1) = at.next_number(text)?;
-    read_end2(text, at1, a, b, c)
+    let word = at2.next_word(text);
+    let named = gate1(&text[word.from..word.to], a, c);
+    last_word(text, Cursor { at: word.to }, named)
 }
 
 // The operands, the result and the name of a gate of two operands.
@@ -111,7 +83,10 @@ fn two_operands(text: &[u8], at: Cursor) -> Option<(GateNumbers, Cursor)>
 {
     let (a, at1) = at.next_number(text)?;
     let (b, at2) = at1.next_number(text)?;
-    result_and_name(text, at2, a, b)
+    let (c, at3) = at2.next_number(text)?;
+    let word = at3.next_word(text);
+    let named = gate2(&text[word.from..word.to], a, b, c);
+    last_word(text, Cursor { at: word.to }, named)
 }
 
 // The first line of the text from a place, as a gate, with the start of the next line.

@@ -4,11 +4,12 @@
 pub mod head;
 mod old;
 
-ghost use Rattle.std.specs.Prelude.{◌≡◌, ◌≤◌, ◌<◌, ◌^◌, length, drop, set};
+ghost use Rattle.std.specs.Prelude.{◌≤◌, ◌<◌, ◌^◌, length, drop};
 ghost use Rattle.netlist.specs.Header.{numbers, values};
 ghost use Rattle.read_text.specs.Line.{line_words};
 ghost use Rattle.read_header.specs.HeaderAnswers.{positives, CountsIs, WidthsIs, HeaderIs};
 
+use lists::put;
 use read_text::cursor::Cursor;
 
 // What the header says, besides the widths themselves.
@@ -37,15 +38,6 @@ fn counts_line(text: &[u8], at: Cursor) -> Option<(u32, u32, Cursor)>
     Some((gates, wires, next))
 }
 
-// Puts a width into its place of a table, where the table has room.
-pub fn keep(table: &mut [u32], n: usize, width: u32)
-    ensures { table.new ≡ set table.old n width }
-{
-    if n < table.len() {
-        table[n] = width;
-    }
-}
-
 // The numbers up to the line's end, each 1 or more: how many, their sum, and the start of the next line. Those past the table's end
 // are read too.
 fn read_widths(text: &[u8], at: Cursor, table: &mut [u32]) -> Option<(usize, u64, Cursor)>
@@ -64,7 +56,7 @@ fn read_widths(text: &[u8], at: Cursor, table: &mut [u32]) -> Option<(usize, u64
         if width == 0 {
             return None;
         }
-        keep(table, n, width);
+        put(table, n, width);
         n += 1;
         sum += width as u64;
         here = on;

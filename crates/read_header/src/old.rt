@@ -4,7 +4,8 @@ ghost use Rattle.old_form.specs.OldHeader.{input_values};
 ghost use Rattle.old_form.specs.declared.Dialect.TheVariants.{Old};
 ghost use Rattle.read_header.specs.HeaderAnswers.{Kept, PartiesIs, HeaderSays};
 
-use crate::{HeaderNumbers, counts_line, keep};
+use crate::{HeaderNumbers, counts_line};
+use lists::put;
 use old_form::Parties;
 use read_text::cursor::Cursor;
 
@@ -28,11 +29,11 @@ fn parties_line(text: &[u8], at: Cursor) -> Option<(Parties, Cursor)>
 fn keep_inputs(table: &mut [u32], p: Parties) -> usize
     ensures { (result ≡ length (input_values p)) × Kept table.new (input_values p) }
 {
-    keep(table, 0, p.one);
+    put(table, 0, p.one);
     if p.two == 0 {
         return 1;
     }
-    keep(table, 1, p.two);
+    put(table, 1, p.two);
     2
 }
 
@@ -49,7 +50,7 @@ pub fn read_old_header(
     let line2 = at1.skip_blanks(text);
     let (p, at2) = parties_line(text, line2)?;
     let values = keep_inputs(inputs, p);
-    keep(outputs, 0, p.output);
+    put(outputs, 0, p.output);
     let numbers = HeaderNumbers {
         gates,
         wires,

@@ -1,5 +1,4 @@
 -- Laws of reading a whole text.
-pub mod OldKinds
 pub mod Marking
 pub mod Reading
 pub mod Wholes

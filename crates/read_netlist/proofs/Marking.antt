@@ -134,20 +134,3 @@ inputs-more {table₀} {table} {u} {n} {W} {i} s h l e = subst (λ (v : List ℕ
     room = rw length-set s.marks.room;
   };
 })
-
-pub inputs-all : {table₀ table : List ℕ} {n W i : ℕ} → Inputs table₀ table n W i → n ≤ i → Marks table n W []
-inputs-all {table₀} {table} {n} {W} {i} s h =
-    let e : i ≡ n = omega (arith, s.passed) in
-    subst (λ (k : ℕ). Marks table k W []) e s.marks
-
--- the two ways through an `&&`
-pub and_second : {p q r s : Bool} → r ≡ p → r ≡ true → s ≡ q → s ≡ (p && q)
-and_second {p} {q} e f h = let k : p ≡ true = sym e ∙ f in rw k h
-
-pub and_first : {p r : Bool} (q : Bool) → r ≡ p → r ≡ false → r ≡ (p && q)
-and_first {p} {r} q e f = let k : p ≡ false = sym e ∙ f in rw k f
-
--- past the table's end nothing is marked
-pub unmarked : (table : List ℕ) (x : ℕ) → length table ≤ x → false ≡ marked table x
-unfolding marked
-unmarked table x h = rw (get_or-eq_default table 0 h)

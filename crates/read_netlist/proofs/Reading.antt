@@ -67,9 +67,6 @@ module _ (d : Dialect) (t : List ℕ) (at n W : ℕ) (given : List ℕ) where
             next = l;
           }
 
-pub one-room : (n W c : ℕ) (given : List ℕ) → W ≤ length given → (leb n c && ltb c W && not (marked given c)) ≡ true → c < length given
-one-room n W c given h f = let q : c < W = free-below n c W _ f in omega arith
-
 -- ---- all lines
 
 -- gates, and those of what follows

@@ -4,7 +4,7 @@ ghost use Rattle.netlist.specs.Read.{operands_given};
 ghost use Rattle.gate_table.specs.Numbers.{gate_said};
 ghost use Rattle.read_netlist.specs.Marks.{marked, Marks};
 
-use gate_table::{GateNumbers, has_constant, second};
+use gate_table::{GateNumbers, Kind, second};
 
 // Whether a wire is marked. Past the table's end none is.
 #[tactic(auto, unfolding(crate::specs::Marks::marked))]
@@ -19,10 +19,10 @@ fn is_marked(table: &[u8], x: u32) -> bool
 pub fn operands_given(table: &[u8], g: GateNumbers) -> bool
     ensures { result ≡ operands_given (marked table.now) (gate_said g) }
 {
-    if has_constant(g) {
-        return g.left < 2;
+    match g.kind {
+        Kind::Eq(v) => v < 2,
+        _ => is_marked(table, g.left) && is_marked(table, second(g)),
     }
-    is_marked(table, g.left) && is_marked(table, second(g))
 }
 
 // Question 9: at least n, below w and not marked.

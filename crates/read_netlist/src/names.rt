@@ -4,14 +4,14 @@ ghost use Rattle.old_form.specs.OldWrite.{is_old_gate};
 ghost use Rattle.old_form.specs.Dialects.{has_gate};
 ghost use Rattle.gate_table.specs.Numbers.{gate_said};
 
-use gate_table::{GateNumbers, has_constant};
+use gate_table::{GateNumbers, Kind};
 use old_form::Dialect;
 
-// XOR, AND and INV: the first three kinds.
+// The gates of the older dialect: XOR, AND and INV.
 fn is_old_gate(g: GateNumbers) -> bool
     ensures { result ≡ is_old_gate (gate_said g) }
 {
-    !has_constant(g) && g.kind < gate_table::EQW
+    matches!(g.kind, Kind::Xor | Kind::And | Kind::Inv)
 }
 
 // Whether a dialect has a gate.

@@ -1,5 +1,5 @@
 // A whole text into lent tables: questions 1 to 9.
-ghost use Rattle.std.specs.Prelude.{◌≡◌, [], ◌∷◌, ◌≤◌, ◌<◌, ◌^◌, length, replicate};
+ghost use Rattle.std.specs.Prelude.{◌≡◌, ◌∷◌, ◌≤◌, ◌<◌, ◌^◌, length, replicate};
 ghost use Rattle.netlist.specs.Table.{tables};
 ghost use Rattle.read_netlist.specs.Gates.{GatesIs};
 ghost use Rattle.read_netlist.specs.Whole.{Readable, TextIs, ReadSays, ReadIs};

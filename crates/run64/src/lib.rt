@@ -5,9 +5,10 @@
 ghost use Rattle.std.specs.Prelude.{◌≤◌, length};
 ghost use Rattle.netlist.specs.Netlist.{Netlist};
 ghost use Rattle.netlist.specs.Services.{Answers};
-ghost use Rattle.netlist.specs.Table.{tables, Wired, Holds};
+ghost use Rattle.gate_table.specs.Gates.{WiredGates, HoldsGates};
 ghost use Rattle.run64.specs.Promise.{run64_outcome, call, Promise};
 
+use gate_table::Gates;
 use netlist::{Answer, Question, Sizes};
 use read_header::HeaderNumbers;
 
@@ -17,14 +18,12 @@ fn evaluate(
     out: &mut [u64],
     list: &[u64],
     h: HeaderNumbers,
-    operands: &[u64],
-    results: &[u64],
+    gates: Gates,
     words: &mut [u64],
 ) -> Answer
-    requires { Wired (tables operands.now results.now) h.wires h.gates × (h.input_bits ≤ h.wires) × (h.output_bits ≤ h.wires)
+    requires { WiredGates gates h.wires × (h.input_bits ≤ h.wires) × (h.output_bits ≤ h.wires)
         × (h.wires ≤ length words.old) }
-    ensures { (N : Netlist) → Holds (tables operands.now results.now) h.gates h.wires h.input_bits
-        h.output_bits N
+    ensures { (N : Netlist) → HoldsGates gates.entry h.wires h.input_bits h.output_bits N
         → Answers (run64_outcome list.now (length out.old) N) out.old out.new result }
 {
     let ins = h.input_bits as usize;
@@ -36,7 +35,7 @@ fn evaluate(
         return Err(Question::Room);
     }
     let words = &mut words[..h.wires as usize];
-    evaluate::wide::outputs(operands, results, h.gates as usize, outs, list, words, out);
+    evaluate::wide::outputs(gates, outs, list, words, out);
     Ok(outs)
 }
 
@@ -66,7 +65,12 @@ fn answer(
         &[words.len()],
         sizes.large(),
     )?;
-    evaluate(out, list, h, operands, results, words)
+    let gates = Gates {
+        operands,
+        results,
+        count: h.gates as usize,
+    };
+    evaluate(out, list, h, gates, words)
 }
 
 // The output words of the netlist in `text` on the words of `list`, at the front of `out`. The tables, of any content, are zero

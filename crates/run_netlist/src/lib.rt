@@ -4,25 +4,24 @@
 ghost use Rattle.std.specs.Prelude.{◌≤◌, length};
 ghost use Rattle.netlist.specs.Netlist.{Netlist};
 ghost use Rattle.netlist.specs.Services.{run_outcome, Answers};
-ghost use Rattle.netlist.specs.Table.{tables, Wired, Holds};
+ghost use Rattle.gate_table.specs.Gates.{WiredGates, HoldsGates};
 
+use gate_table::Gates;
 use netlist::{Answer, Question};
 use read_header::HeaderNumbers;
 
-// Questions 11 and 14 and the bits, from a header's numbers and tables that hold its netlist.
+// Questions 11 and 14 and the bits, from a header's numbers and its netlist's gates.
 pub fn evaluate(
     out: &mut [u8],
     list: &[u8],
     h: HeaderNumbers,
-    operands: &[u64],
-    results: &[u64],
+    gates: Gates,
     words: &mut [u64],
 ) -> Answer
-    requires { Wired (tables operands.now results.now) h.wires h.gates × (h.input_bits ≤ h.wires) × (h.output_bits ≤ h.wires)
+    requires { WiredGates gates h.wires × (h.input_bits ≤ h.wires) × (h.output_bits ≤ h.wires)
         × (h.wires ≤ length words.old) }
-    ensures { (N : Netlist) → Holds (tables operands.now results.now) h.gates h.wires h.input_bits
-        h.output_bits
-        N → Answers (run_outcome list.now (length out.old) N) out.old out.new result }
+    ensures { (N : Netlist) → HoldsGates gates.entry h.wires h.input_bits h.output_bits N
+        → Answers (run_outcome list.now (length out.old) N) out.old out.new result }
 {
     let ins = h.input_bits as usize;
     let outs = h.output_bits as usize;
@@ -33,6 +32,6 @@ pub fn evaluate(
         return Err(Question::Room);
     }
     let words = &mut words[..h.wires as usize];
-    evaluate::single::outputs(operands, results, h.gates as usize, outs, list, words, out);
+    evaluate::single::outputs(gates, outs, list, words, out);
     Ok(outs)
 }

@@ -20,7 +20,6 @@ use Rattle.netlist.specs.declared.Twin.{Twin}
 use Rattle.netlist.specs.Netlist.{small, result}
 use Rattle.netlist.specs.Outcome.{Outcome, refused, done, ask, and_then, given}
 use Rattle.netlist.specs.Read.{operands_given}
-use Rattle.netlist.specs.Table.{gate_of as table_gate}
 use Rattle.netlist.specs.Mask.{State, no_twin, twin, is_public, input_twin, input_twins, past_public, past_publics, emit, result_twin}
 use Rattle.netlist.proofs.Tests.{on_bool, both, true-T, clash}
 use Rattle.netlist.proofs.Questions.{ask-done, and_then-done, given-done}
@@ -29,11 +28,14 @@ use Rattle.netlist.proofs.PublicGates.{length-input_twins}
 use Rattle.gate_records.specs.declared.GateRecord.{GateRecord}
 use Rattle.gate_records.specs.declared.SourceRecord.{SourceRecord}
 use Rattle.gate_records.specs.Records.{record_of, gate_of, single, record4, source_record, blank_source, twin_in}
+use Rattle.gate_table.specs.declared.Kind.{Kind}
+use Rattle.gate_table.specs.declared.Kind.TheVariants as kind
+use Rattle.gate_table.specs.Kind.{gate_for}
 use Rattle.mask_rule.specs.Rule.{operands, steps_of, twin_of, Many}
 use Rattle.session.specs.declared.Session.{Session}
 use Rattle.session.specs.Asked.{gate_good, place_left}
 use Rattle.session.specs.Lists.{Lists, lists_of, session_of, present, steps, room_for, most_masked, asked}
-use Rattle.session_plan.specs.Plan.{NoIs, Yes, table_kind, first_asked, PlanIs}
+use Rattle.session_plan.specs.Plan.{NoIs, Yes, kind_in, first_asked, PlanIs}
 use Rattle.session_plan.proofs.Openings.{past-count}
 use Rattle.session_plan.proofs.Plans.{gate-one, gate-two, gate-three, gate-four, gate-five}
 
@@ -52,9 +54,6 @@ kinds r a b c d e f =
 single-named : (b : ℕ) (g h : Gate) → single b g ≡ some h → (g ≡ h) × (b ≡ 0)
 single-named b g h k = on_bool (eqb b 0) (λ t. let j : some g ≡ some h = rw t at k in
     (cc, eqb→eq b 0 (true-T (eqb b 0) t))) (λ t. let j : none ≡ some h = rw t at k in clash (cc))
-
-table_kind-other : (r : GateRecord) → (r.kind ≡ 5 → ⊥) → table_kind r ≡ r.kind
-table_kind-other r n = rw (ne_eqb r.kind 5 n)
 
 record_is : (r : GateRecord) {k b : ℕ} → k ≡ r.kind → b ≡ r.second → record4 k r.first b r.result ≡ r
 record_is r e f = rw (e, f)
@@ -99,53 +98,48 @@ module _ (codes : List ℕ) (source : List SourceRecord) (w : ℕ) where
   pub twin-record : n ≤ w → twin_in (get_or source (w - n) blank_source) ≡ found
   twin-record l = sym (record-is l ∙ get_or-map twin_in source (w - n) blank_source)
 
--- what a record's gate is by the gate table's kind
-module _ (codes : List ℕ) (L : Lists) (r : GateRecord) (g : Gate) (is : gate_of r ≡ some g) where
-  abbrev P : State
-  P = present codes L
+-- what a record's gate is by its kind
+pub record Is (r : GateRecord) (g : Gate) : Type 0 where
+  pub same : record_of g ≡ r
+  pub kind : g ≡ gate_for (kind_in r) r.first r.second r.result
 
-  abbrev A : Twin
-  A = twin P r.first
+pub is-by : (r : GateRecord) (g : Gate) → gate_of r ≡ some g → Is r g
+is-by r g is = kinds r
+    (λ e. let s : ◌≡◌ {A = Option Gate} (some (Xor r.first r.second r.result)) (some g) = sym (gate-one r e) ∙ is in
+    let i : Xor r.first r.second r.result ≡ g = cc in
+    record { same = rw (← i) (record_is r (sym e) refl); kind = rw (← i, e) refl })
+    (λ e. let s : ◌≡◌ {A = Option Gate} (some (And r.first r.second r.result)) (some g) = sym (gate-two r e) ∙ is in
+    let i : And r.first r.second r.result ≡ g = cc in
+    record { same = rw (← i) (record_is r (sym e) refl); kind = rw (← i, e) refl })
+    (λ e. single-is (Inv r.first r.result) e (gate-three r e) refl (rw e refl))
+    (λ e. single-is (Eqw r.first r.result) e (gate-four r e) refl (rw e refl))
+    (λ e. single-is (Eq r.first r.result) e (gate-five r e) refl (rw e refl))
+    (λ e. never g (sym e ∙ is))
+  where
+    single-is : (h : Gate) {k : ℕ} → r.kind ≡ k → gate_of r ≡ single r.second h → record_of h ≡ record4 k r.first 0 r.result
+        → h ≡ gate_for (kind_in r) r.first r.second r.result → Is r g
+    single-is h e f i k =
+        let q = single-named r.second h g (sym f ∙ is) in
+        record { same = rw (← q.0) (i ∙ record_is r (sym e) (sym q.1)); kind = rw (← q.0) k }
 
-  abbrev B : Twin
-  B = twin P r.second
+module _ (n : ℕ) (P : State) (a b c : ℕ) where
+  steps-by : (k : Kind) → emit n P (gate_for k a b c) ≡ steps_of n P.next k (twin P a) (twin P b)
+  steps-by kind.Xor = refl
+  steps-by kind.And = refl
+  steps-by kind.Inv = refl
+  steps-by kind.Eqw = refl
+  steps-by (kind.Eq v) = refl
 
-  pub record By : Type 0 where
-    pub same : record_of g ≡ r
-    pub kind : 1 ≤ table_kind r
-    pub steps : emit (length codes) P g ≡ steps_of (length codes) P.next (table_kind r) A B
-    pub twin : result_twin P g ≡ twin_of P.next (table_kind r) A B
-
-  pub by : By
-  by = kinds r
-      (λ e. let s : ◌≡◌ {A = Option Gate} (some (Xor r.first r.second r.result)) (some g) = sym (gate-one r e) ∙ is in
-      let i : Xor r.first r.second r.result ≡ g = cc in
-      let z = table_kind-other r (λ f. absurd (omega arith)) ∙ e in
-      record { same = rw (← i) (record_is r (sym e) refl); kind = omega (arith, z); steps = rw (← i, z) refl; twin = rw (← i, z) refl })
-      (λ e. let s : ◌≡◌ {A = Option Gate} (some (And r.first r.second r.result)) (some g) = sym (gate-two r e) ∙ is in
-      let i : And r.first r.second r.result ≡ g = cc in
-      let z = table_kind-other r (λ f. absurd (omega arith)) ∙ e in
-      record { same = rw (← i) (record_is r (sym e) refl); kind = omega (arith, z); steps = rw (← i, z) refl; twin = rw (← i, z) refl })
-      (λ e. let q = single-named r.second (Inv r.first r.result) g (sym (gate-three r e) ∙ is) in
-      let z = table_kind-other r (λ f. absurd (omega arith)) ∙ e in
-      record { same = rw (← q.0) (record_is r (sym e) (sym q.1)); kind = omega (arith, z); steps = rw (← q.0, z) refl; twin = rw (← q.0, z) refl })
-      (λ e. let q = single-named r.second (Eqw r.first r.result) g (sym (gate-four r e) ∙ is) in
-      let z = table_kind-other r (λ f. absurd (omega arith)) ∙ e in
-      record { same = rw (← q.0) (record_is r (sym e) (sym q.1)); kind = omega (arith, z); steps = rw (← q.0, z) refl; twin = rw (← q.0, z) refl })
-      (λ e. let q = single-named r.second (Eq r.first r.result) g (sym (gate-five r e) ∙ is) in
-      constant e q)
-      (λ e. never g (sym e ∙ is))
-    where
-      constant : r.kind ≡ 5 → (Eq r.first r.result ≡ g) × (r.second ≡ 0) → By
-      constant e q = on_bool (eqb r.first 0)
-          (λ y. let z : table_kind r ≡ 5 = rw (e, y) in
-          record { same = rw (← q.0) (record_is r (sym e) (sym q.1)); kind = omega (arith, z); steps = rw (← q.0, z, y) refl; twin = rw (← q.0, z) refl })
-          (λ y. let z : table_kind r ≡ 6 = rw (e, y) in
-          record { same = rw (← q.0) (record_is r (sym e) (sym q.1)); kind = omega (arith, z); steps = rw (← q.0, z, y) refl; twin = rw (← q.0, z) refl })
+  twin-by : (k : Kind) → result_twin P (gate_for k a b c) ≡ twin_of P.next k (twin P a) (twin P b)
+  twin-by kind.Xor = refl
+  twin-by kind.And = refl
+  twin-by kind.Inv = refl
+  twin-by kind.Eqw = refl
+  twin-by (kind.Eq v) = refl
 
 -- a source gate has at most eight masked gates
-pub many-most : (k : ℕ) (A B : Twin) {m : ℕ} → Many k A B m → m ≤ 8
-many-most k A B h = omega (arith, h 0 0, next-emit 0 (operands 0 A B) (table_gate k 0 1 2), next-most (operands 0 A B) (table_gate k 0 1 2 ∷ []))
+pub many-most : (k : Kind) (A B : Twin) {m : ℕ} → Many k A B m → m ≤ 8
+many-most k A B h = omega (arith, h 0 0, next-emit 0 (operands 0 A B) (gate_for k 0 1 2), next-most (operands 0 A B) (gate_for k 0 1 2 ∷ []))
 
 -- the plan, by the numbers that the code has
 module _ (z : Sizes) (codes : List ℕ) (s : Session) (source : List SourceRecord) (masked : List GateRecord) (r : GateRecord) where
@@ -209,13 +203,13 @@ module _ (z : Sizes) (codes : List ℕ) (s : Session) (source : List SourceRecor
     asks14 : asked z codes L r ≡ ask14 g
     asks14 = then-14 ∙ ap (λ (o : Outcome Gate). and_then o ask14) y.is
 
-    module _ {k many : ℕ} {A B : Twin} (ek : k ≡ table_kind r) (ea : A ≡ twin (present codes L) r.first) (eb : B ≡ twin (present codes L) r.second)
+    module _ {k : Kind} {many : ℕ} {A B : Twin} (ek : k ≡ kind_in r) (ea : A ≡ twin (present codes L) r.first) (eb : B ≡ twin (present codes L) r.second)
         (m : Many k A B many) where
-      Y : By codes L r g is-gate
-      Y = by codes L r g is-gate
+      Y : Is r g
+      Y = is-by r g is-gate
 
       steps-at : steps codes L g ≡ steps_of (length codes) (present codes L).next k A B
-      steps-at = Y.steps ∙ rw (← ek, ← ea, ← eb) refl
+      steps-at = rw (Y.kind, ek, ea, eb) (steps-by (length codes) (present codes L) r.first r.second r.result (kind_in r))
 
       count-is : length (steps codes L g) ≡ many
       count-is = ap length steps-at ∙ sym (m (length codes) (present codes L).next)
@@ -239,7 +233,7 @@ module _ (z : Sizes) (codes : List ℕ) (s : Session) (source : List SourceRecor
         next-is = omega (arith, ec)
 
         twin-is : result_twin (present codes L) g ≡ t
-        twin-is = Y.twin ∙ rw (← ek, ← ea, ← eb, ← next-is) (sym et)
+        twin-is = rw (Y.kind, et, ek, ea, eb, next-is) (twin-by (length codes) (present codes L) r.first r.second r.result (kind_in r))
 
         pub admits : PlanIs z codes L r (Ok (record {
           keep = source_record r t s.masked;

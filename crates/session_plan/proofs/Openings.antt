@@ -1,28 +1,25 @@
 -- The questions of an opening.
-use Prim.Native.Nat.{ℕ, zero, suc, ◌+◌, ◌≤◌, ◌<◌}
+use Prim.Native.Nat.{ℕ, zero, suc, ◌+◌, ◌≤◌}
 use mathlib.Core.Path.{◌≡◌, refl, ap, ◌∙◌}
-use mathlib.Core.Bool.{Bool, true, false, not}
+use mathlib.Core.Bool.{Bool, true, not}
 use mathlib.Core.List.{List, [], ◌∷◌}
 use native.Mathlib.Omega.{arith}
-use Rattle.std.specs.Prelude.{Err, Ok, cond, count_by}
+use Rattle.std.specs.Prelude.{cond, count_by}
 use Rattle.std.specs.List.{list_any}
 use Rattle.std.proofs.lemmas.List.Sums.{sum_by-cons}
 use lib.Dec.{eqb, leb, eqb→eq}
 use lib.ListN.{length, length-append}
-use borrow.Author.Tests.{ne_eqb, le-leb, lt-leb}
-use Rattle.netlist.specs.declared.Question.TheVariants as Q
+use borrow.Author.Tests.{ne_eqb, le-leb}
 use Rattle.netlist.specs.declared.Sizes.{Sizes}
 use Rattle.netlist.specs.declared.Sizes.TheVariants.{Old, Whole}
-use Rattle.netlist.specs.Lists.{every, sum}
+use Rattle.netlist.specs.Lists.{every}
 use Rattle.netlist.specs.Netlist.{small}
-use Rattle.netlist.specs.Outcome.{done, ask}
 use Rattle.netlist.specs.Mask.{is_input_code, is_public, mask_gates, public_gates, past_publics}
 use Rattle.netlist.specs.Services.{list_good}
 use Rattle.netlist.proofs.Tests.{on_bool, true-T, both_true}
 use Rattle.session.specs.Afresh.{open_gates}
-use Rattle.session.specs.Asked.{widths_good, opening}
+use Rattle.session.specs.Asked.{widths_good}
 use Rattle.session.proofs.More.{past-publics}
-use Rattle.session_plan.specs.Plan.{OpenedIs}
 
 few : (z : Sizes) → (small z).wires ≤ 100000
 few Old = omega arith
@@ -61,34 +58,3 @@ pub open-count : (codes : List ℕ) → 3 + count_by is_public codes ≡ length 
 open-count codes =
     let n = length codes in
     omega (arith, length-append (mask_gates n) (public_gates n (n + 5) 0 codes), past-publics n (n + 5) 0 codes, past-count (n + 5) codes)
-
-module _ (z : Sizes) (widths codes : List ℕ) (room : ℕ) where
-  pub no-four : widths_good widths ≡ false → OpenedIs z widths codes room (Err Q.Header)
-  unfolding opening
-  no-four e = rw e
-
-  module _ (four : widths_good widths ≡ true) where
-    pub no-five-values : (small z).inputs < length widths → OpenedIs z widths codes room (Err Q.Limits)
-    unfolding opening
-    no-five-values l = rw (four, lt-leb (length widths) (small z).inputs l)
-
-    module _ (few : length widths ≤ (small z).inputs) where
-      pub no-five-bits : (small z).wires < sum widths → OpenedIs z widths codes room (Err Q.Limits)
-      unfolding opening
-      no-five-bits l = rw (four, le-leb (length widths) (small z).inputs few, lt-leb (sum widths) (small z).wires l)
-
-      module _ (bits : sum widths ≤ (small z).wires) where
-        pub no-eleven : list_good is_input_code (sum widths) codes ≡ false → OpenedIs z widths codes room (Err Q.Inputs)
-        unfolding opening
-        no-eleven e = rw (four, le-leb (length widths) (small z).inputs few, le-leb (sum widths) (small z).wires bits, e)
-
-        module _ (eleven : list_good is_input_code (sum widths) codes ≡ true) {m : ℕ} (count : m ≡ length (open_gates codes)) where
-          asks14 : opening z widths codes room ≡ ask 14 (leb m room) (done [])
-          unfolding opening
-          asks14 = rw (four, le-leb (length widths) (small z).inputs few, le-leb (sum widths) (small z).wires bits, eleven, count)
-
-          pub no-fourteen : room < m → OpenedIs z widths codes room (Err Q.Room)
-          no-fourteen l = asks14 ∙ rw (lt-leb m room l)
-
-          pub opens : m ≤ room → OpenedIs z widths codes room (Ok m)
-          opens l = record { admitted = asks14 ∙ rw (le-leb m room l); count = count; fits = l; few = few-codes z codes eleven bits }

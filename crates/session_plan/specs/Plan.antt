@@ -10,6 +10,8 @@ use Rattle.netlist.specs.Read.{operands_given}
 use Rattle.netlist.specs.Mask.{result_twin}
 use Rattle.gate_records.specs.declared.GateRecord.{GateRecord}
 use Rattle.gate_records.specs.Records.{gate_of, record_of, source_record}
+use Rattle.gate_table.specs.declared.Kind.{Kind}
+use Rattle.gate_table.specs.declared.Kind.TheVariants.{Xor, And, Inv, Eqw, Eq}
 use Rattle.mask_rule.specs.Rule.{steps_of}
 use Rattle.session.specs.Afresh.{open_gates}
 use Rattle.session.specs.Asked.{opening, gate_good, place_left}
@@ -38,9 +40,9 @@ is_gate r = is_some (gate_of r)
 abbrev pub OperandsAre : ℕ → GateRecord → Bool → Type 0
 OperandsAre next r b = (g : Gate) → gate_of r ≡ some g → b ≡ operands_given (λ w. ltb w next) g
 
--- a gate table's kind
-abbrev pub table_kind : GateRecord → ℕ
-table_kind r = cond (eqb r.kind 5) (cond (eqb r.first 0) 5 6) r.kind
+-- the kind of a record that is a gate's
+abbrev pub kind_in : GateRecord → Kind
+kind_in r = cond (eqb r.kind 1) Xor (cond (eqb r.kind 2) And (cond (eqb r.kind 3) Inv (cond (eqb r.kind 4) Eqw (Eq r.first))))
 
 -- questions 24 and 7 to 9
 abbrev pub first_asked : Sizes → ℕ → ℕ → ℕ → GateRecord → Outcome Gate

@@ -5,17 +5,18 @@ ghost use Rattle.gate_records.specs.declared.GateRecord.{GateRecord as Record};
 ghost use Rattle.gate_records.specs.Records.{twin_in};
 ghost use Rattle.session.specs.Asked.{gate_good};
 ghost use Rattle.session.specs.Lists.{lists_of};
-ghost use Rattle.session_plan.specs.Plan.{NoIs, OperandsAre, is_gate, table_kind, first_asked, PlanIs};
+ghost use Rattle.session_plan.specs.Plan.{NoIs, OperandsAre, is_gate, kind_in, first_asked, PlanIs};
 
 use crate::{publics, record};
 use gate_records::{GateRecord, SourceRecord};
+use gate_table::Kind;
 use netlist::{Question, Sizes, Twin};
 use session::Session;
 
-// The masked gates of a source gate of a gate table's kind, whose operands have the twins a and b: so many, at the wires from c on.
+// The masked gates of a source gate of a kind, whose operands have the twins a and b: so many, at the wires from c on.
 #[derive(Clone, Copy)]
 pub struct Steps {
-    pub kind: u64,
+    pub kind: Kind,
     pub a: Twin,
     pub b: Twin,
     pub c: u32,
@@ -110,14 +111,16 @@ fn twin(codes: &[u8], source: &[SourceRecord], w: u32) -> Twin
     record(source, wire - inputs).twin()
 }
 
-// A gate table's kind: EQ is 5 or 6, by its constant.
-fn table_kind(g: GateRecord) -> u64
-    ensures { result ≡ table_kind g }
+// The kind of a record that is a gate's, which holds the constant of an EQ.
+pub fn kind_in(g: GateRecord) -> Kind
+    ensures { result ≡ kind_in g }
 {
-    if g.kind == 5 && g.first != 0 {
-        6
-    } else {
-        g.kind as u64
+    match g.kind {
+        1 => Kind::Xor,
+        2 => Kind::And,
+        3 => Kind::Inv,
+        4 => Kind::Eqw,
+        _ => Kind::Eq(g.first),
     }
 }
 
@@ -133,7 +136,7 @@ pub fn planned(
     ensures { (masked : List Record) → length masked ≡ room → PlanIs sizes codes.now (lists_of s source.now masked) g result }
 {
     questions(s, g, codes.len(), source.len(), sizes)?;
-    let kind = table_kind(g);
+    let kind = kind_in(g);
     let a = twin(codes, source, g.first);
     let b = twin(codes, source, g.second);
     let many = mask_rule::count(kind, a, b);

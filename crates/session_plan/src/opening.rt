@@ -23,6 +23,7 @@ pub fn total(widths: &[u32]) -> u64
 }
 
 // The first question that gets a no, or how many masked gates the opening has.
+#[tactic(auto, unfolding(session::specs::Asked::opening))]
 pub fn plan(widths: &[u32], codes: &[u8], room: usize, sizes: Sizes) -> Result<usize, Question>
     ensures { OpenedIs sizes widths.now codes.now room result }
 {

@@ -9,6 +9,7 @@ use netlist::Question;
 use session::Session;
 
 // The session without its last gate: the masked gates end where those of that gate start.
+#[tactic(auto, unfolding(session::specs::Lists::off_asked))]
 pub fn off(s: Session, source: &[SourceRecord]) -> Result<Session, Question>
     ensures { stands_for (λ t. t) result ≡ off_asked s source.now }
 {

@@ -1,40 +1,34 @@
 -- From the results of the parts to what is promised.
-use Rattle.std.specs.Prelude.{Err, Result}
-use Prim.Native.Nat.{ℕ, ◌+◌, ◌≤◌}
+use Rattle.std.specs.Prelude.{Result}
+use Prim.Native.Nat.{ℕ, ◌+◌}
 use mathlib.Core.Path.{◌≡◌, refl, sym, ap, ap₂, ◌∙◌, subst}
 use mathlib.Core.Bool.{Bool, true, false, ◌&&◌}
 use mathlib.Core.List.{List, [], ◌∷◌, ◌++◌}
-use native.Mathlib.Omega.{arith}
 use lib.Dec.{leb}
-use lib.ListN.{length, take, drop, replicate}
-use lib.Seq.{take_at}
+use lib.ListN.{length, take}
 use Rattle.netlist.specs.declared.Question.{Question}
 use Rattle.netlist.specs.declared.Limits.{Limits}
 use Rattle.netlist.specs.declared.Sizes.{Sizes}
-use Rattle.netlist.specs.Question.{number_of}
-use Rattle.netlist.specs.Lists.{sum}
 use Rattle.netlist.specs.Netlist.{Netlist, small}
-use Rattle.netlist.specs.Outcome.{Outcome, refused, done, and_then}
+use Rattle.netlist.specs.Outcome.{Outcome, done, and_then}
 use Rattle.netlist.specs.Read.{read_netlist}
 use Rattle.netlist.specs.Write.{write_netlist, gate_text}
 use Rattle.netlist.specs.Services.{tables_long, holds, rewrite_outcome, mask_outcome, mask_call, outcome_of, Answers, Delivers}
 use Rattle.netlist.specs.Table.{Tables}
 use Rattle.netlist.proofs.Questions.{ask-done, done-same, and_then-done}
-use Rattle.netlist.proofs.Answering.{answers-as, answers-refused, call-goes-on}
+use Rattle.netlist.proofs.Answering.{answers-as, call-goes-on}
 use Rattle.netlist.proofs.Puts.{length-gates}
 use Rattle.netlist.proofs.Size.{roomy-small, reads-back}
 use Rattle.gate_records.specs.declared.SourceRecord.{SourceRecord}
 use Rattle.write_header.specs.Header.{header_text}
 use Rattle.write_header.proofs.Headers.{header-gates}
 use Rattle.write_netlist.specs.Form.{form_text}
-use Rattle.read_header.specs.declared.HeaderNumbers.{HeaderNumbers}
-use Rattle.mask.specs.Fronts.{Fronts, Read}
-use Rattle.mask_text.specs.Whole.{text_in, MaskAnswers}
-use Rattle.mask.proofs.Promised.{mask-as, mask-refused, call-masks}
+use Rattle.mask_text.specs.Whole.{text_in}
+use Rattle.mask.proofs.Promised.{mask-as, call-masks}
 use Rattle.session.specs.declared.Session.{Session}
 use Rattle.session_text.specs.declared.asking.Shown.{Shown}
 use Rattle.session_text.specs.Shown.{netlist_shown, text_call, masked_call}
-use Rattle.session_text.specs.Parts.{NetlistAt, Fits, TextIs, MaskedIs}
+use Rattle.session_text.specs.Parts.{NetlistAt, TextIs, MaskedIs}
 use Rattle.session_text.specs.Promise.{Shows, TextPromise, MaskedPromise}
 use Rattle.session_text.proofs.Showing.{shown-made, shown-formed, shown-within}
 
@@ -54,59 +48,6 @@ pub text-written : {o : Outcome Netlist} {widths outputs : List ℕ} {q : Shown}
 text-written {o} {e = e} {x = x} {r = r} a d =
     let k : Delivers (write_netlist a.is) e x r = subst (λ (bs : List ℕ). Delivers bs e x r) (form-same a) d in
     answers-as (sym (ap (λ (o : Outcome Netlist). and_then o (rewrite_outcome (length e))) a.outcome)) k.answers
-
-pub text-refused : {o : Outcome Netlist} (e : List ℕ) {q : Question} → o ≡ refused (number_of q) → Answers (and_then o (rewrite_outcome (length e))) e e (Err q)
-text-refused {o} e p = answers-refused e (ap (λ (o : Outcome Netlist). and_then o (rewrite_outcome (length e))) p)
-
--- ---- the masked text of such tables
-
--- the numbers of its header
-abbrev pub header_of : List ℕ → List ℕ → Shown → HeaderNumbers
-header_of widths outputs q = record {
-  gates = q.count;
-  wires = q.inputs + q.count;
-  input_values = length widths;
-  input_bits = q.inputs;
-  output_values = length outputs;
-  output_bits = q.outputs;
-}
-
-pub masked-fronts : {widths outputs : List ℕ} {q : Shown} {t : Tables} (ws ms : List ℕ) → Fits widths outputs t q → q.inputs + q.count ≤ length ws → q.inputs
-    + q.count ≤ length ms
-    → Fronts (header_of widths outputs q) t ws ms
-masked-fronts ws ms f w m = record {
-  wired = f.wired;
-  few = f.few;
-  gates = omega arith;
-  ins = omega arith;
-  outs = f.bits;
-  inputs = omega (arith, f.inputs);
-  outputs = f.outputs;
-  wires = w;
-  marks = m;
-}
-
-masked-read : {o : Outcome Netlist} {widths outputs : List ℕ} {q : Shown} {t : Tables} {is os : List ℕ} (a : NetlistAt o widths outputs t q)
-    → is ≡ widths ++ drop (length widths) (replicate 17 0) → os ≡ outputs ++ drop (length outputs) (replicate 16 0) → Read (header_of widths outputs q) t is os a.is
-masked-read {o} {widths} {outputs} {q} {t} a e f = record {
-  holds = record { gates = a.gates; wires = a.wires; ins = ap sum a.inputs ∙ a.input_bits; outs = ap sum a.outputs ∙ a.output_bits };
-  inputs = ap (take (length widths)) e ∙ take_at widths _ (length widths) refl ∙ sym a.inputs;
-  outputs = ap (take (length outputs)) f ∙ take_at outputs _ (length outputs) refl ∙ sym a.outputs;
-  formed = a.formed;
-}
-
-pub masked-written : {o : Outcome Netlist} {widths outputs : List ℕ} {q : Shown} {t : Tables} {is os : List ℕ} (codes wanted : List ℕ)
-    {e x f y : List ℕ} {r : Result ℕ Question} → NetlistAt o widths outputs t q
-    → is ≡ widths ++ drop (length widths) (replicate 17 0) → os ≡ outputs ++ drop (length outputs) (replicate 16 0)
-    → ((N : Netlist) → Read (header_of widths outputs q) t is os N → MaskAnswers (mask_outcome codes wanted (length e) (length f) N) e x f y r)
-    → MaskAnswers (and_then o (mask_outcome codes wanted (length e) (length f))) e x f y r
-masked-written codes wanted {e = e} {f = f} a i j d =
-    mask-as (sym (ap (λ (o : Outcome Netlist). and_then o (mask_outcome codes wanted (length e) (length f))) a.outcome)) (d a.is (masked-read a i j))
-
-pub masked-refused : {o : Outcome Netlist} (codes wanted e f : List ℕ) {q : Question} → o ≡ refused (number_of q)
-    → MaskAnswers (and_then o (mask_outcome codes wanted (length e) (length f))) e e f f (Err q)
-masked-refused {o} codes wanted e f p =
-    mask-refused e f (ap (λ (o : Outcome Netlist). and_then o (mask_outcome codes wanted (length e) (length f))) p)
 
 -- ---- the text's call
 

@@ -1,9 +1,8 @@
 -- A record's gate, and its entries.
 use Rattle.std.specs.Prelude.{Ok}
 use Prim.Native.Nat.{ℕ, ◌<◌}
-use mathlib.Core.Path.{◌≡◌, subst}
-use mathlib.Core.Bool.{Bool, true, false, cond}
-use mathlib.Core.Option.{none, some}
+use mathlib.Core.Path.{◌≡◌, sym, subst}
+use mathlib.Core.Option.{some}
 use native.Mathlib.Omega.{arith}
 use lib.Dec.{T, eqb, ltb, ltb→lt, eqb→eq}
 use Rattle.netlist.specs.declared.Gate.{Gate}
@@ -12,18 +11,19 @@ use Rattle.netlist.specs.Netlist.{result}
 use Rattle.netlist.specs.Outcome.{done, ask, given}
 use Rattle.netlist.specs.Read.{operands_given}
 use Rattle.netlist.specs.Table.{half}
-use Rattle.netlist.proofs.Tests.{both, clash}
+use Rattle.netlist.proofs.Tests.{both}
 use Rattle.netlist.proofs.Questions.{ask-done, given-done, and_then-done, done-same}
 use Rattle.gate_records.specs.declared.GateRecord.{GateRecord}
 use Rattle.gate_records.specs.declared.SourceRecord.{SourceRecord}
-use Rattle.gate_records.specs.Records.{gate_of, single, gate_in}
+use Rattle.gate_records.specs.Records.{gate_of, gate_in}
 use Rattle.gate_table.specs.declared.GateNumbers.{GateNumbers}
 use Rattle.gate_table.specs.declared.Entry.{Entry}
 use Rattle.gate_table.specs.Numbers.{gate_said, Names}
 use Rattle.gate_table.specs.Entry.{entry_of, Entered}
 use Rattle.gate_table.proofs.Entries.{gate-entered}
 use Rattle.session.specs.Asked.{gate_good}
-use Rattle.session_plan.specs.Plan.{NoIs}
+use Rattle.session_plan.specs.Plan.{NoIs, kind_in}
+use Rattle.session_plan.proofs.Adds.{is-by}
 use Rattle.session_text.specs.Parts.{GateIs}
 
 -- what questions 7 to 9 say of a gate that they admit
@@ -47,26 +47,7 @@ admitted next r g e =
 
 -- the gate of the record's numbers
 abbrev pub numbers_of : SourceRecord → GateNumbers
-numbers_of r = record { kind = r.kind; left = r.first; right = r.second; result = r.result }
-
-module _ (a b c : ℕ) (g : Gate) where
-  only : (t : Bool) (h : Gate) → cond t (some h) none ≡ some g → h ≡ g
-  only true h e = cc
-  only false h e = clash (cc)
-
-  by_kind : (p q s t u : Bool)
-      → cond p (some (Xor a b c)) (cond q (some (And a b c)) (cond s (single b (Inv a c)) (cond t (single b (Eqw a c)) (cond u (single b (Eq a c)) none)))) ≡ some g
-      → cond p (Xor a b c) (cond q (And a b c) (cond s (Inv a c) (cond t (Eqw a c) (Eq a c)))) ≡ g
-  by_kind true q s t u e = cc
-  by_kind false true s t u e = cc
-  by_kind false false true t u e = only (eqb b 0) (Inv a c) e
-  by_kind false false false true u e = only (eqb b 0) (Eqw a c) e
-  by_kind false false false false true e = only (eqb b 0) (Eq a c) e
-  by_kind false false false false false e = clash (cc)
-
-said-record : (r : SourceRecord) (g : Gate) → gate_of (gate_in r) ≡ some g → gate_said (numbers_of r) ≡ g
-said-record r g =
-    by_kind r.first r.second r.result g (eqb r.kind 1) (eqb r.kind 2) (eqb r.kind 3) (eqb r.kind 4) (eqb r.kind 5)
+numbers_of r = record { kind = kind_in (gate_in r); left = r.first; right = r.second; result = r.result }
 
 -- its wires
 names : (W next : ℕ) (g : Gate) → T (operands_given (λ w. ltb w next) g) → result g ≡ next → next < W → Names W g
@@ -88,7 +69,7 @@ pub record-yes : (r : SourceRecord) (next : ℕ) {e : Entry} → NoIs (gate_good
 record-yes r next {e} h p fa fc =
     let g = h.value in
     let a = admitted next (gate_in r) g h.is in
-    let s = said-record r g a.gate in
+    let s = sym (is-by (gate_in r) g a.gate).kind in
     record {
       gate = g;
       admitted = h.is;

@@ -4,15 +4,16 @@ ghost use Rattle.session_text.specs.Parts.{RecordIs};
 use gate_records::{GateRecord, SourceRecord};
 use gate_table::{Entry, GateNumbers, entry_of};
 use netlist::Question;
-use session_plan::adding::gate_good;
+use session_plan::adding::{gate_good, kind_in};
 
 // Questions 7 to 9 of a record that is to give the next wire, and the entries of its gate.
 pub fn entry(r: SourceRecord, next: usize) -> Result<Entry, Question>
     ensures { RecordIs r next result }
 {
-    gate_good(GateRecord::from(r), next)?;
+    let g = GateRecord::from(r);
+    gate_good(g, next)?;
     Ok(entry_of(GateNumbers {
-        kind: r.kind as u64,
+        kind: kind_in(g),
         left: r.first,
         right: r.second,
         result: r.result,

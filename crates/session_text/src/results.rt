@@ -8,6 +8,7 @@ ghost use Rattle.mask_text.specs.Whole.{MaskAnswers};
 ghost use Rattle.session_text.specs.Parts.{Stands, Ready, Long, TextIs, MaskedIs};
 
 use crate::asking::Shown;
+use gate_table::Gates;
 use netlist::{Answer, Question};
 use read_header::HeaderNumbers;
 
@@ -26,8 +27,12 @@ fn write(
         → Answers (and_then o (rewrite_outcome (length out.old))) out.old out.new result }
 {
     let s = q?;
-    let wires = s.inputs + s.count;
-    write_netlist::deliver(out, s.count, wires, widths, outputs, operands, results)
+    let gates = Gates {
+        operands,
+        results,
+        count: s.count,
+    };
+    write_netlist::deliver(out, gates, s.inputs + s.count, widths, outputs)
 }
 
 // The text at the front of `out`, and zero in the tables.

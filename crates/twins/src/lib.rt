@@ -8,6 +8,7 @@ ghost use Rattle.netlist.specs.Netlist.{Netlist, small};
 ghost use Rattle.netlist.specs.Table.{tables, Wired, Holds};
 ghost use Rattle.twins.specs.Promise.{twin_lists, lists_outcome, twins_outcome, TwinsAnswers, call, Promise};
 
+use gate_table::Gates;
 use netlist::{Answer, Question, Sizes};
 use read_header::HeaderNumbers;
 use read_netlist::read::read;
@@ -35,14 +36,12 @@ fn place(
     if out_codes.len() < all {
         return Err(Question::Room);
     }
-    mask_twins::place::place_twins(
+    let gates = Gates {
         operands,
         results,
-        h.gates as usize,
-        codes,
-        &mut wires[..all],
-        &mut out_codes[..all],
-    );
+        count: h.gates as usize,
+    };
+    mask_twins::place::place_twins(gates, codes, &mut wires[..all], &mut out_codes[..all]);
     Ok(all)
 }
 

@@ -5,6 +5,7 @@ ghost use Rattle.std.specs.Prelude.{◌+◌, ◌≤◌, ◌<◌, length};
 ghost use Rattle.netlist.specs.Table.{half, tables};
 ghost use Rattle.verilog_copies.specs.Copies.{CopyIs, CopiesIs};
 
+use gate_table::Kind::Eqw;
 use verilog_gates::gates::put;
 use verilog_gates::wires::wire_of;
 use verilog_names::Names;
@@ -30,7 +31,7 @@ fn copy(
         return free;
     }
     let wire = wire_of(names, wires, w);
-    put(operands, results, n, gate_table::EQW, wire, wire, free);
+    put(operands, results, n, Eqw, wire, wire, free);
     free + 1
 }
 

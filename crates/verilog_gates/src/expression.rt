@@ -9,7 +9,7 @@ ghost use Rattle.verilog_gates.specs.Operands.{Ready, ExprIs, TermIs, FactorIs, 
 
 use crate::gates::put;
 use crate::wires::wire_of;
-use gate_table::{AND, INV, XOR};
+use gate_table::Kind::{And, Inv, Xor};
 use verilog_names::Names;
 use verilog_tokens::{Kind, Token, next as token_at};
 
@@ -40,7 +40,7 @@ pub fn expression(
     let mut left = term(names, wires, operands, results, n, from, next);
     while left.token.kind == Kind::Xor {
         let v = term(names, wires, operands, results, n, left.token.to, left.next);
-        put(operands, results, n, XOR, left.wire, v.wire, v.next);
+        put(operands, results, n, Xor, left.wire, v.wire, v.next);
         left = Value {
             wire: v.next,
             next: v.next + 1,
@@ -68,7 +68,7 @@ fn term(
     let mut left = factor(names, wires, operands, results, n, from, next);
     while left.token.kind == Kind::And {
         let v = factor(names, wires, operands, results, n, left.token.to, left.next);
-        put(operands, results, n, AND, left.wire, v.wire, v.next);
+        put(operands, results, n, And, left.wire, v.wire, v.next);
         left = Value {
             wire: v.next,
             next: v.next + 1,
@@ -106,7 +106,7 @@ fn finish(
 {
     let token = token_at(text, to);
     if negated {
-        put(operands, results, n, INV, wire, wire, next);
+        put(operands, results, n, Inv, wire, wire, next);
         return Value {
             wire: next,
             next: next + 1,

@@ -4,7 +4,6 @@ use mathlib.Core.Path.{◌≡◌, refl, sym, ap, ◌∙◌, subst}
 use mathlib.Core.List.{List, [], ◌∷◌}
 use mathlib.Core.Logic.{◌≢◌}
 use mathlib.Core.Bool.{Bool, true, false}
-use Rattle.std.proofs.lemmas.Bool.{both_ways}
 use native.Mathlib.Omega.{arith}
 use lib.Dec.{eqb, ltb}
 use lib.ListN.{length, get_or, set, length-set}
@@ -87,9 +86,6 @@ pub record Seeding (is ps ps' : List ℕ) (a : ℕ) : Type 0 where
   pub coloured : Coloured ps ps'
   pub each : Inputs is (length ps) → (b : ℕ) → b < a → colour_at is ps' b ≡ b + 1
 
-pub seeding-none : (is ps : List ℕ) → Seeding is ps ps 0
-seeding-none is ps = record { passed = omega arith; long = refl; coloured = coloured-none ps; each = λ I b l. absurd (omega arith) }
-
 pub seeding-more : {is ps qs : List ℕ} {a : ℕ} (i c : ℕ) → Seeding is ps qs a → a < length is → i ≡ get_or is a 0 → c ≡ a + 1 → c ≤ 12
     → Seeding is ps (repainted qs i c) (a + 1)
 seeding-more {is} {ps} {qs} {a} i c S l e d m = record {
@@ -101,9 +97,6 @@ seeding-more {is} {ps} {qs} {a} i c S l e d m = record {
       (let inside : i < length qs = omega (arith, I.inside a l, S.long) in
       ap (λ (j : ℕ). colour_of (get_or (repainted qs i c) j 0)) (sym e) ∙ colour-here qs i c inside ∙ d);
 }
-
-pub seeding-all : {is ps qs : List ℕ} {a : ℕ} → Seeding is ps qs a → length is ≤ a → Seeded is ps qs
-seeding-all S l = record { coloured = S.coloured; each = λ I b k. S.each I b (omega arith) }
 
 pub seeded-different : {is ps qs : List ℕ} → Seeded is ps qs → Inputs is (length ps) → Different is qs
 seeded-different S I = record {
@@ -119,37 +112,3 @@ pub record Telling (is ps : List ℕ) (seen : List Bool) (a : ℕ) : Type 0 wher
   pub some : (b : ℕ) → b < a → 0 < colour_at is ps b
   pub met : (b : ℕ) → b < a → get_or seen (colour_at is ps b) false ≡ true
   pub apart : (b d : ℕ) → b < a → d < a → colour_at is ps b ≡ colour_at is ps d → b ≡ d
-
-pub telling-none : (is ps : List ℕ) {seen : List Bool} → length seen ≡ 13 → Telling is ps seen 0
-telling-none is ps e = record {
-  passed = omega arith;
-  long = e;
-  some = λ b l. absurd (omega arith);
-  met = λ b l. absurd (omega arith);
-  apart = λ b d l. absurd (omega arith);
-}
-
-pub telling-more : {is ps : List ℕ} {seen : List Bool} {a : ℕ} (c : ℕ) → Telling is ps seen a → a < length is → c ≡ colour_at is ps a → c ≢ 0 → c ≤ 12
-    → get_or seen c false ≡ false → Telling is ps (set seen c true) (a + 1)
-telling-more {is} {ps} {seen} {a} c R l e n m z = record {
-  passed = omega arith;
-  long = length-set seen c true ∙ R.long;
-  some = below_more (λ b. 0 < colour_at is ps b) a R.some (omega arith);
-  met = below_more (λ b. get_or (set seen c true) (colour_at is ps b) false ≡ true) a
-      (λ b k. get_or-set_other seen c (colour_at is ps b) true false (fresh b k) ∙ R.met b k)
-      (ap (λ (d : ℕ). get_or (set seen c true) d false) (sym e) ∙ get_or-set_same seen c true false (omega (arith, R.long)));
-  apart = λ b d k j q. on_bool (ltb b a)
-      (λ t. let x = ltb-true b a t in
-      on_bool (ltb d a) (λ u. R.apart b d x (ltb-true d a u) q)
-      (λ u. let y = ltb-false d a u in let w : d ≡ a = omega arith in absurd (fresh b x (q ∙ ap (colour_at is ps) w ∙ sym e))))
-      (λ t. let x = ltb-false b a t in
-      let v : b ≡ a = omega arith in
-      on_bool (ltb d a) (λ u. absurd (fresh d (ltb-true d a u) (sym q ∙ ap (colour_at is ps) v ∙ sym e)))
-      (λ u. let y = ltb-false d a u in omega arith));
-}
-  where
-    fresh : (b : ℕ) → b < a → colour_at is ps b ≢ c
-    fresh b k q = both_ways _ z (ap (λ (d : ℕ). get_or seen d false) (sym q) ∙ R.met b k)
-
-pub telling-all : {is ps : List ℕ} {seen : List Bool} {a : ℕ} → Telling is ps seen a → length is ≤ a → Different is ps
-telling-all R l = record { some = λ b k. R.some b (omega arith); apart = λ b d k j. R.apart b d (omega arith) (omega arith) }

@@ -3,7 +3,6 @@
 
 ghost use Rattle.std.specs.Prelude.{◌≡◌, true, ℕ, ◌+◌, ◌*◌, ◌%◌, ◌≤◌, ◌<◌, length, get_or, set, take};
 ghost use Rattle.wide.specs.Rule.{Different};
-ghost use Rattle.wide_sets.specs.Packed.{Items};
 ghost use Rattle.wide_colours.specs.Colours.{Upto, Kept, Seeded};
 
 use wide_sets::members::Members;
@@ -30,7 +29,6 @@ fn put(paints: &mut [u8], i: usize, colour: u8)
 
 // Whether the members of a set have different colours from 1 to 12.
 fn different(m: Members, paints: &[u8]) -> bool
-    requires { (m.count ≤ 12) × Items m.items }
     ensures { result ≡ true → Different (take m.count m.items) paints.now }
 {
     let mut seen = [false; 13];
@@ -46,7 +44,6 @@ fn different(m: Members, paints: &[u8]) -> bool
 
 // The members of a set take the colours 1, 2, 3 and so on.
 pub fn seed(m: Members, paints: &mut [u8])
-    requires { (m.count ≤ 12) × Items m.items }
     ensures { Seeded (take m.count m.items) paints.old paints.new }
 {
     for (a, item) in m.items[..m.count].iter().enumerate() {
@@ -63,9 +60,7 @@ fn colour(paint: u8) -> usize
 }
 
 // How often the members of a set have each colour.
-fn taken(m: Members, paints: &[u8]) -> [u8; 13]
-    requires { m.count ≤ 12 }
-{
+fn taken(m: Members, paints: &[u8]) -> [u8; 13] {
     let mut times = [0u8; 13];
     for item in &m.items[..m.count] {
         let c = colour(at(paints, *item as usize));
@@ -101,7 +96,6 @@ fn next(paints: &mut [u8], i: usize, times: [u8; 13], from: usize) -> usize
 // The members of a set that have no colour get the lowest that the others have not, unless two members have the same. Whether the
 // set then has different colours is for `different` to say.
 fn give(m: Members, paints: &mut [u8])
-    requires { m.count ≤ 12 }
     ensures { Kept paints.old paints.new }
 {
     let times = taken(m, paints);
@@ -116,7 +110,6 @@ fn give(m: Members, paints: &mut [u8])
 
 // Whether the members of a set have different colours from 1 to 12; where they have not, those without a colour get one first.
 pub fn fit(m: Members, paints: &mut [u8]) -> bool
-    requires { (m.count ≤ 12) × Items m.items }
     ensures { Kept paints.old paints.new
         × (result ≡ true → Different (take m.count m.items) paints.new) }
 {

@@ -141,10 +141,10 @@ module _ {x y : List ℕ} (S : Sets) (ws : List ℕ) (j : ℕ) (p : x ≡ set_at
   pub pair-few : (r : Maybe Members) → is_some r ≡ true → Together x y r → length (pair_at S ws j) ≤ 12
   pair-few None e U = cc
   pair-few (Some m) e U =
-      let z : take m.count m.items ≡ pair_at S ws j = U.0 ∙ ap₂ merge p q in
+      let z : take m.count m.items ≡ pair_at S ws j = U ∙ ap₂ merge p q in
       let h : length (take m.count m.items) ≡ length (pair_at S ws j) = ap length z in
       let k = length-take-upto m.count m.items in
-      omega (arith, U.1)
+      omega (arith, m.few)
 
   pub pair-many : (r : Maybe Members) → is_some r ≡ false → Together x y r → 12 < length (pair_at S ws j)
   pair-many None e U = let h : length (merge x y) ≡ length (pair_at S ws j) = ap length (ap₂ merge p q) in omega (arith, U)

@@ -6,30 +6,32 @@ ghost use Rattle.netlist.specs.Lists.{sum};
 ghost use Rattle.netlist.specs.Netlist.{Netlist};
 ghost use Rattle.netlist.specs.Outcome.{done, ask};
 ghost use Rattle.netlist.specs.Read.{WellFormed};
-ghost use Rattle.netlist.specs.Table.{tables, Wired, Holds};
+ghost use Rattle.gate_table.specs.Gates.{WiredGates, HoldsGates};
 ghost use Rattle.wide.specs.Wide.{few_reach, wide_answers, wide_outcome};
-ghost use Rattle.wide_sets.specs.Packed.{sets, Sized};
+ghost use Rattle.wide_sets.specs.WireSets.{sets_of};
 ghost use Rattle.wide_search.specs.Items.{PairsFew};
 ghost use Rattle.wide_judge.specs.Judge.{outcome_of};
 
+use gate_table::Gates;
 use netlist::Question;
 use read_header::HeaderNumbers;
 use wide_search::item;
+use wide_search::items::Items;
 use wide_search::search::WideFound;
 use wide_sets::reach;
+use wide_sets::tables::WireSets;
 
 // Both answers; or the first question that gets a no.
 pub type CheckedWide = Result<WideFound, Question>;
 
 // Question 12 of the pairs: at most twelve inputs reach each.
-fn pairs_few(pairs: &[u32], set0: &[u64], set1: &[u64], set2: &[u64], set3: &[u64]) -> bool
-    requires { Sized (sets set0.now set1.now set2.now set3.now) (length set0.now)
-        × ((i : ℕ) → i < length pairs.now → get_or pairs.now i 0 < length set0.now) }
-    ensures { let S = sets set0.now set1.now set2.now set3.now in
-        (result ≡ true → PairsFew S pairs.now) × (result ≡ false → PairsFew S pairs.now → ⊥) }
+fn pairs_few(pairs: &[u32], sets: WireSets) -> bool
+    requires { (i : ℕ) → i < length pairs.now → get_or pairs.now i 0 < length sets.set0.now }
+    ensures { (result ≡ true → PairsFew (sets_of sets.entry) pairs.now)
+        × (result ≡ false → PairsFew (sets_of sets.entry) pairs.now → ⊥) }
 {
     for j in 0..pairs.len() / 2 {
-        if item::pair(pairs, set0, set1, set2, set3, j).is_none() {
+        if item::pair(pairs, sets, j).is_none() {
             return false;
         }
     }
@@ -38,9 +40,7 @@ fn pairs_few(pairs: &[u32], set0: &[u64], set1: &[u64], set2: &[u64], set3: &[u6
 
 // Question 12 and the verdicts. The tables of words and sets have one entry for each wire, the paints one for each code.
 fn within(
-    operands: &[u64],
-    results: &[u64],
-    count: usize,
+    gates: Gates,
     codes: &[u8],
     pairs: &[u32],
     marks: &mut [u8],
@@ -53,48 +53,41 @@ fn within(
     set3: &mut [u64],
     paints: &mut [u8],
 ) -> CheckedWide
-    requires wired { Wired (tables operands.now results.now) (length words.old) count
+    requires wired { WiredGates gates (length words.old)
         × ((i : ℕ) → i < length pairs.now → get_or pairs.now i 0 < length words.old) × (length codes.now ≤ 1048576) }
     requires paints_len { (length paints.old ≡ length codes.now) × (length codes.now + 2 ≤ length words.old)
         × (length bases.old ≡ length words.old) × (length base.old ≡ length words.old)
         × ((i : ℕ) → i < length codes.now → get_or codes.now i 0 < 4)
         × (length set0.old ≡ length words.old) × (length set1.old ≡ length words.old) × (length set2.old ≡ length words.old)
         × (length set3.old ≡ length words.old) }
-    ensures { (o : ℕ) (N : Netlist) → Holds (tables operands.now results.now) count (length words.old)
-        (length codes.now + 2) o N → WellFormed N
+    ensures { (o : ℕ) (N : Netlist) → HoldsGates gates.entry (length words.old) (length codes.now + 2) o N → WellFormed N
         → outcome_of result ≡ ask 12 (few_reach N (length codes.now) pairs.now)
         (done (wide_answers N codes.now pairs.now)) }
 {
-    if !reach::reach(
-        operands,
-        results,
-        count,
-        codes.len(),
+    if !reach::reach(gates, codes.len(), set0, set1, set2, set3) {
+        return Err(Question::Settings);
+    }
+    let sets = WireSets {
         set0,
         set1,
         set2,
         set3,
-    ) {
+    };
+    if !pairs_few(pairs, sets) {
         return Err(Question::Settings);
     }
-    if !pairs_few(pairs, set0, set1, set2, set3) {
-        return Err(Question::Settings);
-    }
-    let found = wide_search::search::search(
-        operands, results, count, codes, pairs, set0, set1, set2, set3, paints, marks, words, base,
-        bases,
-    );
+    let items = Items { sets, pairs };
+    let found = wide_search::search::search(gates, codes, items, paints, marks, words, base, bases);
     Ok(found)
 }
 
-// Questions 10, 11, 21 and 12 and both verdicts, from a header's numbers and tables that begin with its input widths and its gates.
+// Questions 10, 11, 21 and 12 and both verdicts, from a header's numbers, its input widths and its gates.
 pub fn judge(
     h: HeaderNumbers,
     widths: [u32; 17],
     codes: &[u8],
     pairs: &[u32],
-    operands: &[u64],
-    results: &[u64],
+    gates: Gates,
     marks: &mut [u8],
     words: &mut [u64],
     base: &mut [u64],
@@ -105,13 +98,12 @@ pub fn judge(
     set3: &mut [u64],
     paints: &mut [u8],
 ) -> CheckedWide
-    requires wired { Wired (tables operands.now results.now) h.wires h.gates }
+    requires wired { WiredGates gates h.wires }
     requires input_values_bound { (h.input_values ≤ 17) × (h.input_bits ≡ sum (take h.input_values widths)) × (h.input_bits ≤ h.wires)
         × (h.wires ≤ length words.old) × (h.wires ≤ length base.old) × (h.wires ≤ length bases.old)
         × (h.wires ≤ length set0.old) × (h.wires ≤ length set1.old) × (h.wires ≤ length set2.old)
         × (h.wires ≤ length set3.old) × (h.wires ≤ length paints.old) × (h.wires ≤ 1048576) }
-    ensures { (N : Netlist) → Holds (tables operands.now results.now) h.gates h.wires h.input_bits
-        h.output_bits N → WellFormed N
+    ensures { (N : Netlist) → HoldsGates gates.entry h.wires h.input_bits h.output_bits N → WellFormed N
         → take h.input_values widths ≡ N.inputs → outcome_of result ≡ wide_outcome codes.now pairs.now N }
 {
     check_netlist::ask_codes(h, widths, codes)?;
@@ -121,9 +113,7 @@ pub fn judge(
     }
     let n = codes.len();
     within(
-        operands,
-        results,
-        h.gates as usize,
+        gates,
         codes,
         pairs,
         marks,

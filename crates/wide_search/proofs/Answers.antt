@@ -1,15 +1,13 @@
 -- From the judged items to both answers.
-use Prim.Native.Nat.{ℕ, zero, suc, ◌+◌, ◌-◌, ◌*◌, ◌/◌, ◌%◌, ◌^◌, ◌≤◌, ◌<◌}
+use Prim.Native.Nat.{ℕ, zero, suc, ◌+◌, ◌-◌, ◌*◌, ◌/◌, ◌^◌, ◌≤◌, ◌<◌}
 use mathlib.Core.Path.{◌≡◌, refl, sym, ap, ◌∙◌, subst}
 use mathlib.Core.Bool.{Bool, true, false}
-use mathlib.Core.List.{List, [], ◌∷◌, ◌++◌, append_assoc, append-nil}
+use mathlib.Core.List.{List, ◌++◌}
 use mathlib.Core.Option.{none, some}
-use native.Mathlib.Numerals.{add-one}
 use native.Mathlib.Omega.{arith}
-use lib.Dec.{T, eqb, ltb}
-use lib.ListN.{length, get_or, set, take, drop, replicate, length-set, drop_of_length-le}
-use lib.Seq.{take-suc-set, drop-cons}
-use borrow.Author.Tests.{ltb-true, ltb-false, eqb-true, eqb-false}
+use lib.Dec.{T, ltb}
+use lib.ListN.{length, take, drop, replicate}
+use borrow.Author.Tests.{ltb-true, ltb-false}
 use Rattle.netlist.specs.Netlist.{Netlist}
 use Rattle.netlist.specs.Table.{Tables}
 use Rattle.netlist.specs.Leak.{leak}
@@ -32,7 +30,7 @@ use Rattle.wide.specs.Wide.{listed}
 use Rattle.wide.proofs.Painted.{level-painted}
 use Rattle.wide.proofs.Picked.{length-places}
 use Rattle.wide.proofs.Lowest.{level-clean, ranked-level, lowest-listed}
-use Rattle.wide_sets.specs.Packed.{Sets, set_at}
+use Rattle.wide_sets.specs.Packed.{Sets, set_at, Small}
 use Rattle.wide_colours.specs.Colours.{Inputs, Seeded}
 use Rattle.wide_search.proofs.Passes.{marked-inputs}
 use Rattle.wide_search.specs.Items.{is_marked}
@@ -181,41 +179,5 @@ pub record Picking (is : List ℕ) (t : ℕ) (out : List ℕ) (k rest a : ℕ) :
   pub passed : a ≤ length is
   pub under : k ≤ a
   pub long : length out ≡ 12
+  pub small : Small is → Small out
   pub value : picked is t ≡ take k out ++ picked (drop a is) rest
-
-pub picking-none : (is : List ℕ) (t : ℕ) {out : List ℕ} → length out ≡ 12 → Picking is t out 0 t 0
-picking-none is t e = record { passed = omega arith; under = omega arith; long = e; value = refl }
-
-take-set : (k : ℕ) (out : List ℕ) (v : ℕ) → take k (set out k v) ≡ take k out
-take-set zero out v = refl
-take-set (suc k) [] v = refl
-take-set (suc k) (x ∷ out) v = ap (λ (l : List ℕ). x ∷ l) (take-set k out v)
-
-pub picking-more : {is : List ℕ} {t : ℕ} {out : List ℕ} {k rest a : ℕ} (v : ℕ) → Picking is t out k rest a → a < length is → a < 12 → v ≡ get_or is a 0
-    → Picking is t (set out k v) (k + rest % 2) (rest / 2) (a + 1)
-picking-more {is} {t} {out} {k} {rest} {a} v P l m e = record {
-  passed = omega arith;
-  under = let z = P.under in omega arith;
-  long = length-set out k v ∙ P.long;
-  value = P.value ∙ ap (λ (js : List ℕ). take k out ++ picked js rest) from ∙ step;
-}
-  where
-    from : drop a is ≡ v ∷ drop (a + 1) is
-    from = drop-cons is a 0 l ∙ (λ i. sym e i ∷ drop (sym (add-one a) i) is)
-
-    step : take k out ++ picked (v ∷ drop (a + 1) is) rest ≡ take (k + rest % 2) (set out k v) ++ picked (drop (a + 1) is) (rest / 2)
-    step =
-        on_bool (eqb (rest % 2) 1)
-        (λ b. let o = eqb-true (rest % 2) 1 b in
-        let z = P.under in
-        let q : k + rest % 2 ≡ suc k = omega arith in
-        rw b (sym (append_assoc (take k out) (v ∷ []) (picked (drop (a + 1) is) (rest / 2)))
-        ∙ ap (λ (l : List ℕ). l ++ picked (drop (a + 1) is) (rest / 2)) (sym (ap (λ (j : ℕ). take j (set out k v)) q ∙ take-suc-set out k v (omega (arith, P.long))))))
-        (λ b. let o = eqb-false (rest % 2) 1 b in
-        let q : k + rest % 2 ≡ k = omega arith in
-        rw b (ap (λ (l : List ℕ). l ++ picked (drop (a + 1) is) (rest / 2)) (sym (ap (λ (j : ℕ). take j (set out k v)) q ∙ take-set k out v))))
-
-pub picking-all : {is : List ℕ} {t : ℕ} {out : List ℕ} {k rest a : ℕ} → Picking is t out k rest a → length is ≤ a → take k out ≡ picked is t
-picking-all {is} {t} {out} {k} {rest} {a} P l =
-    let e : drop a is ≡ [] = drop_of_length-le is {i = a} l in
-    sym (P.value ∙ ap (λ (js : List ℕ). take k out ++ picked js rest) e ∙ append-nil (take k out))

@@ -241,20 +241,6 @@ pub record Passing (t : Tables) (m W : ℕ) (S : Sets) (codes ws : List ℕ) (st
   pub judged : (o : ℕ) (N : Netlist) → Given t m W (length codes) S o N → Judging N codes ws marks₀ W start total total wire₀ pair₀
       → Judging N codes ws marks W start total x wire pair
 
-pub passing-none : (t : Tables) (m W : ℕ) (S : Sets) (codes ws : List ℕ) (start total : ℕ) (paints marks base bases : List ℕ) (wire pair : ℕ)
-    {words : List ℕ} → length words ≡ W → Passing t m W S codes ws start total paints marks base bases wire pair paints marks words base bases wire pair total
-passing-none t m W S codes ws start total paints marks base bases wire pair e = record {
-  passed = omega arith;
-  same-paints = refl;
-  same-marks = refl;
-  same-words = e;
-  same_base = refl;
-  same-bases = refl;
-  lower = omega arith;
-  fewer = omega arith;
-  judged = λ o N G J. J;
-}
-
 pub passing-more : {t : Tables} {m W : ℕ} {S : Sets} {codes ws : List ℕ} {start total : ℕ} {paints₀ marks₀ base₀ bases₀ : List ℕ} {wire₀ pair₀ : ℕ}
     {paints marks words base bases : List ℕ} {wire pair x : ℕ}
     → Passing t m W S codes ws start total paints₀ marks₀ base₀ bases₀ wire₀ pair₀ paints marks words base bases wire pair x → 0 < x

@@ -11,19 +11,12 @@ use borrow.Author.Tests.{eqb-true, eqb-false}
 use Rattle.netlist.proofs.Tests.{on_bool}
 use Rattle.wide.specs.Rule.{Different}
 use Rattle.wide_colours.specs.Colours.{Kept}
-use Rattle.wide_colours.proofs.Giving.{kept-none, kept_then, different-kept}
+use Rattle.wide_colours.proofs.Giving.{kept_then, different-kept}
 use Rattle.wide_sets.specs.Packed.{Sets}
 use Rattle.wide_search.specs.Items.{item_set, Serving}
 
 module _ {S : Sets} {ws : List ℕ} {W start : ℕ} where
-  pub serving-none : (marks ps : List ℕ) → Serving S ws W start marks marks ps ps
-  serving-none marks ps = record { kept = kept-none ps; each = λ x m. inl m }
-
-  -- colours alone
-  pub serving-kept : (marks : List ℕ) {ps qs : List ℕ} → Kept ps qs → Serving S ws W start marks marks ps qs
-  serving-kept marks k = record { kept = k; each = λ x m. inl m }
-
-  -- and a mark
+  -- an item got colours and a mark
   pub serving-mark : (marks : List ℕ) {ps qs : List ℕ} (x : ℕ) → Kept ps qs → Different (item_set S ws W (start + x)) qs
       → Serving S ws W start marks (set marks x 1) ps qs
   serving-mark marks {ps} {qs} x k D = record {

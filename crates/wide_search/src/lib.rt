@@ -3,5 +3,6 @@
 #![tactic(auto)]
 
 pub mod item;
+pub mod items;
 pub mod pass;
 pub mod search;

@@ -1,21 +1,21 @@
 // The verdicts on wires and pairs of a netlist with many inputs.
-ghost use Rattle.std.specs.Prelude.{◌≡◌, true, false, ℕ, ◌+◌, ◌*◌, ◌/◌, ◌≤◌, ◌<◌, length, get_or, take, List};
+ghost use Rattle.std.specs.Prelude.{◌≡◌, ℕ, ◌+◌, ◌/◌, ◌≤◌, ◌<◌, length, get_or, take, List};
 ghost use Rattle.netlist.specs.Netlist.{Netlist};
-ghost use Rattle.netlist.specs.Table.{tables, Wired};
-ghost use Rattle.netlist.specs.Leak.{leak as leakOf};
+ghost use Rattle.gate_table.specs.Gates.{WiredGates};
+ghost use Rattle.netlist.specs.Leak.{leak as leak_of};
 ghost use Rattle.pairs.specs.Pairs.{clean_pair, first_bad};
 ghost use Rattle.pairs_search.specs.Search.{bad_of};
 ghost use Rattle.wide.specs.Sets.{picked};
 ghost use Rattle.wide.specs.Wide.{listed};
-ghost use Rattle.wide_sets.specs.Packed.{sets, Sized, Items};
-ghost use Rattle.wide_search.specs.Items.{PairsFew};
-ghost use Rattle.wide_search.specs.Judging.{Given, Lowest};
+ghost use Rattle.wide_search.specs.Judging.{GivenGates, Lowest};
 ghost use Rattle.wide_search.specs.Told.{told_of};
 
+use crate::items::Items;
 use crate::pass;
 use crate::pass::Worst;
-use wide_sets::members;
+use gate_table::Gates;
 use wide_sets::members::Members;
+use wide_sets::tables::WireSets;
 
 // A leak: its wire, the input bits that are one in its setting, its base's count and its own.
 #[derive(Clone, Copy)]
@@ -35,8 +35,7 @@ pub struct WideFound {
 
 // Of the members of a set, those whose bit of a number is one. Each is written, and the next written over it where its bit is zero.
 fn pick(m: Members, number: u64) -> Members
-    requires { (m.count ≤ 12) × Items m.items }
-    ensures { (take result.count result.items ≡ picked (take m.count m.items) number) × (result.count ≤ 12) }
+    ensures { take result.count result.items ≡ picked (take m.count m.items) number }
 {
     let mut items = [0u32; 12];
     let mut count = 0;
@@ -51,46 +50,30 @@ fn pick(m: Members, number: u64) -> Members
 
 // The lowest wire and the first pair that do not meet the rule.
 fn lowest(
-    operands: &[u64],
-    results: &[u64],
-    count: usize,
+    gates: Gates,
     codes: &[u8],
-    pairs: &[u32],
-    set0: &[u64],
-    set1: &[u64],
-    set2: &[u64],
-    set3: &[u64],
+    items: Items,
     paints: &mut [u8],
     marks: &mut [u8],
     words: &mut [u64],
     base: &mut [u64],
     bases: &mut [u64],
 ) -> Worst
-    requires wired { Wired (tables operands.now results.now) (length words.old) count
-        × Sized (sets set0.now set1.now set2.now set3.now) (length set0.now)
-        × ((i : ℕ) → i < length pairs.now → get_or pairs.now i 0 < length set0.now)
-        × PairsFew (sets set0.now set1.now set2.now set3.now) pairs.now }
-    requires paints_len { (length paints.old ≡ length codes.now) × (length set0.now ≡ length words.old) × (length codes.now + 2 ≤ length words.old)
+    requires wired { WiredGates gates (length words.old) }
+    requires paints_len { (length paints.old ≡ length codes.now) × (length items.sets.set0.now ≡ length words.old) × (length codes.now + 2 ≤ length words.old)
         × (length bases.old ≡ length words.old) × (length base.old ≡ length words.old)
         × ((i : ℕ) → i < length codes.now → get_or codes.now i 0 < 4) }
-    ensures { (result.wire ≤ length words.old) × (result.pair ≤ length pairs.now / 2) × ((o : ℕ) (N : Netlist)
-        → Given (tables operands.now results.now) count (length words.old) (length codes.now)
-        (sets set0.now set1.now set2.now set3.now) o N
-        → Lowest N codes.now pairs.now (length words.old) result.wire result.pair) }
+    ensures { (result.wire ≤ length words.old) × (result.pair ≤ length items.entry.pairs.now / 2) × ((o : ℕ) (N : Netlist)
+        → GivenGates gates.entry (length words.old) (length codes.now) items.entry.sets o N
+        → Lowest N codes.now items.entry.pairs.now (length words.old) result.wire result.pair) }
 {
     let wires = words.len();
-    let listed = pairs.len() / 2;
+    let listed = items.pairs.len() / 2;
     marks.fill(0);
     let worst = pass::passes(
-        operands,
-        results,
-        count,
+        gates,
         codes,
-        pairs,
-        set0,
-        set1,
-        set2,
-        set3,
+        items,
         0,
         wires,
         Worst {
@@ -105,48 +88,38 @@ fn lowest(
     );
     marks.fill(0);
     pass::passes(
-        operands, results, count, codes, pairs, set0, set1, set2, set3, wires, listed, worst,
-        paints, marks, words, base, bases,
+        gates, codes, items, wires, listed, worst, paints, marks, words, base, bases,
     )
 }
 
 // The leak of the lowest wire that does not meet the rule: its inputs take the colours 1, 2, 3 and so on, so that the first number
 // whose counts differ is that of the smallest setting.
 fn tell(
-    operands: &[u64],
-    results: &[u64],
-    count: usize,
+    gates: Gates,
     codes: &[u8],
-    set0: &[u64],
-    set1: &[u64],
-    set2: &[u64],
-    set3: &[u64],
+    sets: WireSets,
     wire: usize,
     paints: &mut [u8],
     words: &mut [u64],
     base: &mut [u64],
     bases: &mut [u64],
 ) -> Option<WideLeak>
-    requires wired { Wired (tables operands.now results.now) (length words.old) count
-        × Sized (sets set0.now set1.now set2.now set3.now) (length set0.now) × (wire < length words.old) }
-    requires paints_len { (length paints.old ≡ length codes.now) × (length set0.now ≡ length words.old) × (length codes.now + 2 ≤ length words.old)
+    requires wired { WiredGates gates (length words.old)
+        × (wire < length words.old) }
+    requires paints_len { (length paints.old ≡ length codes.now) × (length sets.set0.now ≡ length words.old) × (length codes.now + 2 ≤ length words.old)
         × (length bases.old ≡ length words.old) × (length base.old ≡ length words.old)
         × ((i : ℕ) → i < length codes.now → get_or codes.now i 0 < 4) }
-    ensures { (o pair : ℕ) (ws : List ℕ) (N : Netlist) → Given (tables operands.now results.now) count
-        (length words.old) (length codes.now)
-        (sets set0.now set1.now set2.now set3.now) o N
+    ensures { (o pair : ℕ) (ws : List ℕ) (N : Netlist) → GivenGates gates.entry (length words.old) (length codes.now) sets.entry o N
         → Lowest N codes.now ws (length words.old) wire pair
-        → told_of result ≡ listed (length codes.now) (leakOf N codes.now) }
+        → told_of result ≡ listed (length codes.now) (leak_of N codes.now) }
 {
     wide_colours::lay(codes, paints);
-    let m = members::get(set0, set1, set2, set3, wire);
+    let m = sets.at(wire);
     wide_colours::seed(m, paints);
     let none = [0u32; 1];
     let blocks = check_leak::search::blocks_of(m.count);
     let found = pairs_search::search::find(
-        operands,
-        results,
-        count,
+        gates,
         paints,
         &none[..0],
         wire + 1,
@@ -166,48 +139,33 @@ fn tell(
 
 // Whether the tables' netlist is clean under the input codes, and each listed pair of its wires. The sets are those of its wires.
 pub fn search(
-    operands: &[u64],
-    results: &[u64],
-    count: usize,
+    gates: Gates,
     codes: &[u8],
-    pairs: &[u32],
-    set0: &[u64],
-    set1: &[u64],
-    set2: &[u64],
-    set3: &[u64],
+    items: Items,
     paints: &mut [u8],
     marks: &mut [u8],
     words: &mut [u64],
     base: &mut [u64],
     bases: &mut [u64],
 ) -> WideFound
-    requires wired { Wired (tables operands.now results.now) (length words.old) count
-        × Sized (sets set0.now set1.now set2.now set3.now) (length set0.now)
-        × ((i : ℕ) → i < length pairs.now → get_or pairs.now i 0 < length set0.now)
-        × PairsFew (sets set0.now set1.now set2.now set3.now) pairs.now }
-    requires paints_len { (length paints.old ≡ length codes.now) × (length set0.now ≡ length words.old) × (length codes.now + 2 ≤ length words.old)
+    requires wired { WiredGates gates (length words.old) }
+    requires paints_len { (length paints.old ≡ length codes.now) × (length items.sets.set0.now ≡ length words.old) × (length codes.now + 2 ≤ length words.old)
         × (length bases.old ≡ length words.old) × (length base.old ≡ length words.old)
         × ((i : ℕ) → i < length codes.now → get_or codes.now i 0 < 4) }
-    ensures { (o : ℕ) (N : Netlist) → Given (tables operands.now results.now) count
-        (length words.old) (length codes.now)
-        (sets set0.now set1.now set2.now set3.now) o N
-        → (told_of result.leak ≡ listed (length codes.now) (leakOf N codes.now))
-        × (bad_of result.pair ≡ first_bad (clean_pair N codes.now) pairs.now) }
+    ensures { (o : ℕ) (N : Netlist) → GivenGates gates.entry (length words.old) (length codes.now) items.entry.sets o N
+        → (told_of result.leak ≡ listed (length codes.now) (leak_of N codes.now))
+        × (bad_of result.pair ≡ first_bad (clean_pair N codes.now) items.entry.pairs.now) }
 {
-    let worst = lowest(
-        operands, results, count, codes, pairs, set0, set1, set2, set3, paints, marks, words, base,
-        bases,
-    );
+    let worst = lowest(gates, codes, items, paints, marks, words, base, bases);
     let leak = if worst.wire < words.len() {
         tell(
-            operands, results, count, codes, set0, set1, set2, set3, worst.wire, paints, words,
-            base, bases,
+            gates, codes, items.sets, worst.wire, paints, words, base, bases,
         )
     } else {
         None
     };
     WideFound {
         leak,
-        pair: (worst.pair < pairs.len() / 2).then_some(worst.pair),
+        pair: (worst.pair < items.pairs.len() / 2).then_some(worst.pair),
     }
 }

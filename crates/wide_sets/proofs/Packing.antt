@@ -1,14 +1,10 @@
 -- Sets in entries: packed and unpacked.
-use Prim.Native.Nat.{ℕ, zero, suc, ◌+◌, ◌*◌, ◌≤◌, ◌<◌}
-use mathlib.Core.Path.{◌≡◌, refl, ap, ap₂, ◌∙◌}
+use Prim.Native.Nat.{ℕ, zero, suc, ◌+◌, ◌*◌}
+use mathlib.Core.Path.{◌≡◌, refl, ap₂, ◌∙◌}
 use mathlib.Core.List.{List, [], ◌∷◌}
 use native.Mathlib.Omega.{arith}
-use lib.Dec.{eqb}
-use borrow.Author.Tests.{eqb-true, eqb-false}
-use Rattle.netlist.proofs.Tests.{on_bool}
-use lib.ListN.{length, get_or, take, set, length-set}
-use lib.Seq.{get_or-set_same, get_or-set_other}
-use Rattle.wide_sets.specs.Packed.{above, three_of, count_in, list_in, Sets, sets, set_at, Small, Holding, Put}
+use lib.ListN.{length, get_or, take}
+use Rattle.wide_sets.specs.Packed.{above, three_of, list_in, Small, Holding}
 
 pub small-none : Small []
 small-none a = omega arith
@@ -57,59 +53,3 @@ module _ (is : List ℕ) (long : length is ≡ 12) (k : ℕ) {a b c d : ℕ} (A 
   packed-list =
       ap₂ take A.count
       (three-held _ _ A (three-held _ _ B (three-held _ _ C (three-held [] [] D refl))) ∙ twelve is long)
-
--- no member, by the first entry
-pub none-listed : {a : ℕ} → a < above → (b c d : ℕ) → list_in a b c d ≡ []
-none-listed {a} l b c d =
-    let e : count_in a ≡ 0 = omega arith in
-    ap (λ (k : ℕ). take k (three_of a (three_of b (three_of c (three_of d []))))) e
-
--- the same entries
-pub same-listed : (S : Sets) (u v : ℕ) → get_or S.set0 u 0 ≡ get_or S.set0 v 0 → get_or S.set1 u 0 ≡ get_or S.set1 v 0
-    → get_or S.set2 u 0 ≡ get_or S.set2 v 0 → get_or S.set3 u 0 ≡ get_or S.set3 v 0 → set_at S u ≡ set_at S v
-same-listed S u v a b c d = λ i. list_in (a i) (b i) (c i) (d i)
-
--- ---- stores
-
--- an entry of each table was stored at wire c
-module _ (S : Sets) (c a b d e : ℕ) (in0 : c < length S.set0) (in1 : c < length S.set1) (in2 : c < length S.set2) (in3 : c < length S.set3)
-  where
-    abbrev after : Sets
-    after = sets (set S.set0 c a) (set S.set1 c b) (set S.set2 c d) (set S.set3 c e)
-
-    pub stored : {is : List ℕ} → list_in a b d e ≡ is → count_in a ≤ 12 → Put S after c is
-    stored {is} h few = record {
-      here =
-          (λ i. list_in (get_or-set_same S.set0 c a 0 in0 i) (get_or-set_same S.set1 c b 0 in1 i) (get_or-set_same S.set2 c d 0 in2 i)
-          (get_or-set_same S.set3 c e 0 in3 i))
-          ∙ h;
-      others = λ w n. λ i. list_in (get_or-set_other S.set0 c w a 0 n i) (get_or-set_other S.set1 c w b 0 n i) (get_or-set_other S.set2 c w d 0 n i)
-          (get_or-set_other S.set3 c w e 0 n i);
-      sized = λ W z. record {
-        long0 = rw length-set z.long0;
-        long1 = rw length-set z.long1;
-        long2 = rw length-set z.long2;
-        long3 = rw length-set z.long3;
-        few = λ w. on_bool (eqb w c)
-            (λ q. let k = eqb-true w c q in rw (k, get_or-set_same S.set0 c a 0 in0) few)
-            (λ q. rw (get_or-set_other S.set0 c w a 0 (eqb-false w c q)) (z.few w));
-      };
-    }
-
--- the first entry alone
-module _ (S : Sets) (c a : ℕ) (in0 : c < length S.set0) where
-  pub first-put : {is : List ℕ} → ((b d e : ℕ) → list_in a b d e ≡ is) → count_in a ≤ 12
-      → Put S (sets (set S.set0 c a) S.set1 S.set2 S.set3) c is
-  first-put {is} h few = record {
-    here = ap (λ (x : ℕ). list_in x (get_or S.set1 c 0) (get_or S.set2 c 0) (get_or S.set3 c 0)) (get_or-set_same S.set0 c a 0 in0) ∙ h _ _ _;
-    others = λ w n. ap (λ (x : ℕ). list_in x (get_or S.set1 w 0) (get_or S.set2 w 0) (get_or S.set3 w 0)) (get_or-set_other S.set0 c w a 0 n);
-    sized = λ W z. record {
-      long0 = rw length-set z.long0;
-      long1 = z.long1;
-      long2 = z.long2;
-      long3 = z.long3;
-      few = λ w. on_bool (eqb w c)
-          (λ q. let k = eqb-true w c q in rw (k, get_or-set_same S.set0 c a 0 in0) few)
-          (λ q. rw (get_or-set_other S.set0 c w a 0 (eqb-false w c q)) (z.few w));
-    };
-  }

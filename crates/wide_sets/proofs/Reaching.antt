@@ -7,49 +7,21 @@ use mathlib.Core.Logic.{◌≢◌}
 use native.Mathlib.Omega.{arith}
 use lib.Dec.{T, eqb, ltb}
 use lib.ListN.{length, get_or}
-use borrow.Author.Tests.{ltb-true, ltb-false, lt-ltb, ne_eqb}
+use borrow.Author.Tests.{ltb-true, ltb-false, lt-ltb}
 use Rattle.netlist.specs.declared.Gate.{Gate}
 use Rattle.netlist.specs.declared.Gate.TheVariants.{Xor, And, Inv, Eqw, Eq}
 use Rattle.netlist.specs.Netlist.{Netlist, input_bits, result}
 use Rattle.netlist.specs.Read.{operands_given, is_given, gates_good, WellFormed}
-use Rattle.netlist.specs.Table.{Tables, gate_of, gate_at, gates_of, Holds, Wired}
+use Rattle.netlist.specs.Table.{Tables, gate_of, gate_at, gates_of, Holds}
 use Rattle.netlist.proofs.Tests.{on_bool, both}
 use Rattle.netlist.proofs.Puts.{gates-more}
 use Rattle.netlist.proofs.GoodGates.{GoodGate, good_gate, fresh-ne, given-none, given-cases, results, every-wire-given}
 use Rattle.gate_table.specs.declared.Parts.{Parts}
-use Rattle.gate_table.specs.Parts.{parts_of, gate_by, Within}
+use Rattle.gate_table.specs.Parts.{parts_of, gate_by}
 use Rattle.wide.specs.Sets.{merge, gate_set, reach_set}
 use Rattle.wide.proofs.Merges.{reach-line, reach-own}
 use Rattle.wide_sets.specs.Packed.{Sets, set_at, start_set, Sized, Put}
 use Rattle.wide_sets.specs.Reached.{Lined, Reached}
-
--- ---- what a kind makes of sets
-
-pub set-none : (s : ℕ → List ℕ) (k a b c : ℕ) → 4 < k → gate_set s (gate_of k a b c) ≡ []
-set-none s k a b c l =
-    rw (ne_eqb k 1 (λ e. omega arith), ne_eqb k 2 (λ e. omega arith), ne_eqb k 3 (λ e. omega arith), ne_eqb k 4 (λ e. omega arith)) (go (eqb k 5))
-  where
-    go : (x : Bool) → gate_set s (cond x (Eq 0 c) (Eq 1 c)) ≡ []
-    go true = refl
-    go false = refl
-
-pub set-one : (s : ℕ → List ℕ) (k a b c : ℕ) → 2 < k → k ≤ 4 → gate_set s (gate_of k a b c) ≡ s a
-set-one s (suc (suc (suc zero))) a b c l m = refl
-set-one s (suc (suc (suc (suc zero)))) a b c l m = refl
-set-one s zero a b c l m = absurd (omega arith)
-set-one s (suc zero) a b c l m = absurd (omega arith)
-set-one s (suc (suc zero)) a b c l m = absurd (omega arith)
-set-one s (suc (suc (suc (suc (suc k))))) a b c l m = absurd (omega arith)
-
-pub set-two : (s : ℕ → List ℕ) (k a b c : ℕ) → 0 < k → k ≤ 2 → gate_set s (gate_of k a b c) ≡ merge (s a) (s b)
-set-two s (suc zero) a b c l m = refl
-set-two s (suc (suc zero)) a b c l m = refl
-set-two s zero a b c l m = absurd (omega arith)
-set-two s (suc (suc (suc k))) a b c l m = absurd (omega arith)
-
-pub set-zero : (s : ℕ → List ℕ) (k a b c : ℕ) → k ≤ 0 → gate_set s (gate_of k a b c) ≡ []
-set-zero s zero a b c l = refl
-set-zero s (suc k) a b c l = absurd (omega arith)
 
 -- ---- gates one after the other
 
@@ -157,11 +129,6 @@ reaching-all {t} {m} {W} {n} {S} {i} R l o N H F = record {
   many = λ e. absurd (subst T e tt);
 }
 
-pub line-within : {t : Tables} {W m i : ℕ} {p : Parts} → Wired t W m → i < m → p ≡ parts_of (get_or t.operands i 0) (get_or t.results i 0) → Within W p
-line-within {i = i} w l e =
-    let k = w.each i l in
-    rw e (record { kind = k.kind; left = k.left; right = k.right; result = k.result })
-
 -- ---- a line in the tables
 
 result-of : (k a b c : ℕ) → result (gate_of k a b c) ≡ c
@@ -189,5 +156,6 @@ module _ {t : Tables} {m W n : ℕ} {S S' : Sets} {i : ℕ} {p : Parts} {r : Boo
   pub line-full : r ≡ false → (o : ℕ) (N : Netlist) → Holds t m W (n + 2) o N → WellFormed N → Reached N n S' false
   line-full y = reaching-full R l (lined.many y)
 
-pub told-put : {S S' : Sets} {c : ℕ} {is js : List ℕ} → is ≡ js → Put S S' c is → Lined S S' c js true
-told-put {S} {S'} {c} e P = record { put = λ _. subst (Put S S' c) e P; many = λ x. absurd (subst T x tt) }
+-- the list became the set
+pub told : {S S' : Sets} {c : ℕ} {is : List ℕ} → Put S S' c is → Lined S S' c is true
+told P = record { put = λ _. P; many = λ e. absurd (subst T e tt) }

@@ -5,9 +5,7 @@ use mathlib.Core.Bool.{Bool, true, false, cond, ◌&&◌}
 use mathlib.Core.List.{List}
 use native.Mathlib.Omega.{arith}
 use lib.Dec.{ltb}
-use lib.ListN.{length, get_or, set, length-set, get_or-eq_default}
-use lib.Seq.{get_or-set_same, get_or-set_other}
-use borrow.Author.Count.{below_more}
+use lib.ListN.{length, get_or, get_or-eq_default}
 use borrow.Author.Tests.{ltb-true, ltb-false}
 use Rattle.netlist.proofs.Tests.{on_bool}
 use Rattle.wide_sets.specs.Packed.{above, count_in, list_in, sets, set_at, start_set, start_entry}
@@ -16,17 +14,6 @@ pub record Started (n : ℕ) (set₀ set₁ : List ℕ) (w : ℕ) : Type 0 where
   pub passed : w ≤ length set₀
   pub long : length set₁ ≡ length set₀
   pub done : (v : ℕ) → v < w → get_or set₁ v 0 ≡ start_entry n v
-
-pub started_none : (n : ℕ) (s : List ℕ) → Started n s s 0
-started_none n s = record { passed = omega arith; long = refl; done = λ v l. absurd (omega arith) }
-
-pub started-more : {n : ℕ} {s t : List ℕ} {w : ℕ} (x : ℕ) → Started n s t w → w < length s → x ≡ start_entry n w → Started n s (set t w x) (w + 1)
-started-more {n} {s} {t} {w} x h l e = record {
-  passed = omega arith;
-  long = length-set t w x ∙ h.long;
-  done = below_more (λ v. get_or (set t w x) v 0 ≡ start_entry n v) w (λ v m. get_or-set_other t w v x 0 (λ q. omega arith) ∙ h.done v m)
-      (get_or-set_same t w x 0 (omega (arith, h.long)) ∙ e);
-}
 
 module _ {n : ℕ} {s t : List ℕ} {w : ℕ} (h : Started n s t w) (all : length s ≤ w) (few : n ≤ 1048576) where
   entry : (v : ℕ) → v < length s → get_or t v 0 ≡ start_entry n v

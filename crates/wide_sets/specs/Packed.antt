@@ -58,11 +58,6 @@ start_entry n w = cond (ltb w n) (w + above) 0
 abbrev pub Small : List ℕ → Type 0
 Small is = (a : ℕ) → get_or is a 0 < second
 
--- so many items, which fit
-pub record Items (is : List ℕ) : Type 0 where
-  pub long : length is ≡ 12
-  pub small : Small is
-
 -- an entry holds three numbers, and a count above them
 pub record Holding (x y z k e : ℕ) : Type 0 where
   pub first : e % second ≡ x

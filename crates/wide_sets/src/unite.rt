@@ -1,6 +1,6 @@
 // Rising lists of input numbers, put together.
-ghost use Rattle.std.specs.Prelude.{◌≡◌, ◌+◌, ◌<◌, ◌≤◌, length, take};
-ghost use Rattle.wide_sets.specs.Packed.{Small, Items};
+ghost use Rattle.std.specs.Prelude.{◌+◌, ◌<◌, ◌≤◌, length, take};
+ghost use Rattle.wide_sets.specs.Packed.{Small};
 ghost use Rattle.wide_sets.specs.Together.{Next, Unites, Together};
 
 use crate::members::Members;
@@ -79,7 +79,6 @@ pub fn unite(x: &[u32], y: &[u32], out: &mut [u32]) -> Option<usize>
 
 // The members of two sets; none where they are more than twelve.
 pub fn both(x: Members, y: Members) -> Option<Members>
-    requires { (x.count ≤ 12) × (y.count ≤ 12) × Items x.items × Items y.items }
     ensures { Together (take x.count x.items) (take y.count y.items) result }
 {
     let mut items = [0u32; 12];

@@ -1,18 +1,17 @@
 -- Question 14 of a text, and the text in a buffer that can hold it: below the largest place the cap is not seen.
-use Rattle.std.specs.Prelude.{Err, Ok}
-use Prim.Native.Nat.{ℕ, ◌+◌, ◌-◌, ◌*◌, ◌/◌, ◌^◌, ◌≤◌, ◌<◌}
+use Rattle.std.specs.Prelude.{Ok}
+use Prim.Native.Nat.{ℕ, ◌+◌, ◌^◌, ◌≤◌, ◌<◌}
 use mathlib.Core.Path.{◌≡◌, sym, ◌∙◌}
-use mathlib.Core.Bool.{true, false}
+use mathlib.Core.Bool.{true}
 use mathlib.Core.List.{List, ◌++◌}
-use native.Mathlib.Nat.{lt_of_le_of_lt, div-lt_iff_lt-mul, le-div_iff_mul-le}
+use native.Mathlib.Nat.{lt_of_le_of_lt}
 use native.Mathlib.Omega.{arith}
 use lib.Dec.{leb, lit<}
 use lib.ListN.{length, length-append}
 use borrow.Author.Tests.{le-leb, lt-leb, leb-true, leb-false}
 use Rattle.netlist.specs.Number.{decimal}
-use Rattle.netlist.specs.declared.Question.TheVariants.{Room}
 use Rattle.netlist.specs.Services.{Delivers}
-use Rattle.netlist.proofs.Answering.{delivers-short, delivers-done}
+use Rattle.netlist.proofs.Answering.{delivers-done}
 use Rattle.netlist.proofs.Decimal.{decimal-of, decimal-length}
 use Rattle.netlist.proofs.Tests.{on_bool}
 use Rattle.write_buffer.specs.Wrote.{top, cap, Wrote}
@@ -36,26 +35,7 @@ digits-counted {W} {r} h e =
     let l = decimal-length 20 (lit< tt) small (decimal-of small) in
     (omega arith, omega arith)
 
--- room for no header, and for as many lines as there are
-pub header-over : {room header : ℕ} (most : ℕ) → room < header → leb header room ≡ leb (header + most) room
-header-over {room} {header} most l = lt-leb header room l ∙ sym (lt-leb (header + most) room (omega arith))
-
-pub lines-room : {room header longest : ℕ} (gates : ℕ) → 0 < longest → header ≤ room → leb gates ((room - header) / longest) ≡ leb (header + gates * longest) room
-lines-room {room} {header} {longest} gates some h = on_bool (leb gates q) fit over
-  where
-    q : ℕ
-    q = (room - header) / longest
-
-    fit : leb gates q ≡ true → leb gates q ≡ leb (header + gates * longest) room
-    fit t = t ∙ sym (le-leb (header + gates * longest) room (omega (arith, (le-div_iff_mul-le some).0 (leb-true gates q t))))
-
-    over : leb gates q ≡ false → leb gates q ≡ leb (header + gates * longest) room
-    over t = t ∙ sym (lt-leb (header + gates * longest) room (omega (arith, (div-lt_iff_lt-mul some).0 (leb-false gates q t))))
-
 module _ {bs e : List ℕ} where
-  pub deliver-short : leb (length bs) (length e) ≡ false → Delivers bs e e (Err Room)
-  deliver-short t = delivers-short bs e (leb-false (length bs) (length e) t)
-
   pub deliver-done : {x : List ℕ} {r : ℕ} → leb (length bs) (length e) ≡ true → length e < top → Wrote e 0 bs x r → Delivers bs e x (Ok r)
   deliver-done {x} {r} t k w =
       let l = leb-true (length bs) (length e) t in

@@ -5,12 +5,13 @@ ghost use Rattle.std.specs.Int.{to_le_bytes, w32};
 ghost use Rattle.netlist.specs.declared.Gate.TheVariants.{Xor, And, Inv, Eqw, Eq};
 ghost use Rattle.netlist.specs.Table.{gate_in};
 ghost use Rattle.write_buffer.specs.Wrote.{Wrote};
-ghost use Rattle.write_wires.specs.Packed.{WordTable};
 ghost use Rattle.write_parts.specs.Parts.{line_of};
 ghost use Rattle.write_gates.specs.Gates.{WroteGates};
 
+use gate_table::Kind;
 use write_buffer::store;
 use write_parts::LONGEST;
+use write_wires::table::Words;
 
 // The names of three letters, each with LF behind it, as numbers: the first letter is the lowest byte.
 const XOR: u32 = 0x0a524f58;
@@ -23,13 +24,12 @@ const EQW: u32 = 0x0a575145;
 
 // The line of a gate of one of these names. The name is a const parameter, so that each is stored as a constant.
 fn line<const N: usize, const NAME: u32>(
-    d: &[u64],
+    d: Words,
     out: &mut [u8],
     at: usize,
     operands: [u32; N],
     c: u32,
 ) -> usize
-    requires word_table { WordTable d.now }
     requires few { N ≤ 2 }
     ensures { Wrote out.old at (line_of operands.entry c (to_le_bytes w32 NAME)) out.new result }
 {
@@ -40,7 +40,7 @@ fn line<const N: usize, const NAME: u32>(
     if out.len() - at < LONGEST {
         return write_parts::near(out, at, operands, c, name);
     }
-    if !write_parts::packable(d.len(), operands, c) {
+    if !write_parts::packable(d.entries.len(), operands, c) {
         return write_parts::spell(out, at, operands, c, name);
     }
     let end = write_parts::front(d, out, at, operands, c);
@@ -48,32 +48,28 @@ fn line<const N: usize, const NAME: u32>(
 }
 
 // The line of an XOR.
-pub fn xor(d: &[u64], out: &mut [u8], at: usize, a: u32, b: u32, c: u32) -> usize
-    requires { WordTable d.now }
+pub fn xor(d: Words, out: &mut [u8], at: usize, a: u32, b: u32, c: u32) -> usize
     ensures { WroteGates out.old at (Xor a b c ∷ []) out.new result }
 {
     line::<2, XOR>(d, out, at, [a, b], c)
 }
 
 // The line of an AND.
-pub fn and(d: &[u64], out: &mut [u8], at: usize, a: u32, b: u32, c: u32) -> usize
-    requires { WordTable d.now }
+pub fn and(d: Words, out: &mut [u8], at: usize, a: u32, b: u32, c: u32) -> usize
     ensures { WroteGates out.old at (And a b c ∷ []) out.new result }
 {
     line::<2, AND>(d, out, at, [a, b], c)
 }
 
 // The line of an INV.
-pub fn inv(d: &[u64], out: &mut [u8], at: usize, a: u32, c: u32) -> usize
-    requires { WordTable d.now }
+pub fn inv(d: Words, out: &mut [u8], at: usize, a: u32, c: u32) -> usize
     ensures { WroteGates out.old at (Inv a c ∷ []) out.new result }
 {
     line::<1, INV>(d, out, at, [a], c)
 }
 
 // The line of an EQW.
-pub fn eqw(d: &[u64], out: &mut [u8], at: usize, a: u32, c: u32) -> usize
-    requires { WordTable d.now }
+pub fn eqw(d: Words, out: &mut [u8], at: usize, a: u32, c: u32) -> usize
     ensures { WroteGates out.old at (Eqw a c ∷ []) out.new result }
 {
     line::<1, EQW>(d, out, at, [a], c)
@@ -90,20 +86,18 @@ pub fn eq(out: &mut [u8], at: usize, v: u32, c: u32) -> usize
 }
 
 // The line of the gate that two table entries hold.
-pub fn entry(d: &[u64], out: &mut [u8], at: usize, operands: u64, results: u64) -> usize
-    requires { WordTable d.now }
+pub fn entry(d: Words, out: &mut [u8], at: usize, operands: u64, results: u64) -> usize
     ensures { WroteGates out.old at (gate_in operands results ∷ []) out.new result }
 {
     let g = gate_table::split(operands, results);
     let a = g.left as u32;
     let b = g.right as u32;
     let c = g.result as u32;
-    match g.kind as u64 {
-        gate_table::XOR => xor(d, out, at, a, b, c),
-        gate_table::AND => and(d, out, at, a, b, c),
-        gate_table::INV => inv(d, out, at, a, c),
-        gate_table::EQW => eqw(d, out, at, a, c),
-        gate_table::EQ => eq(out, at, 0, c),
-        _ => eq(out, at, 1, c),
+    match Kind::of(g.kind) {
+        Kind::Xor => xor(d, out, at, a, b, c),
+        Kind::And => and(d, out, at, a, b, c),
+        Kind::Inv => inv(d, out, at, a, c),
+        Kind::Eqw => eqw(d, out, at, a, c),
+        Kind::Eq(v) => eq(out, at, v, c),
     }
 }

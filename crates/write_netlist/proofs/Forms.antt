@@ -1,6 +1,6 @@
 -- The gate lines written so far, and a text that is not measured.
 use Prim.Native.Nat.{ℕ, ◌+◌, ◌*◌, ◌≤◌, ◌<◌}
-use mathlib.Core.Path.{◌≡◌, sym, ap}
+use mathlib.Core.Path.{◌≡◌, sym}
 use mathlib.Core.Bool.{true}
 use mathlib.Core.List.{List, [], ◌∷◌}
 use native.Mathlib.Nat.{lt_of_le_of_lt}
@@ -16,7 +16,7 @@ use Rattle.write_gates.specs.Gates.{WroteGates}
 use Rattle.write_header.specs.Header.{header_text_in}
 use Rattle.old_form.specs.declared.Dialect.{Dialect}
 use Rattle.write_gates.specs.Room.{longest_line}
-use Rattle.write_gates.proofs.GateLines.{gates-none, gates-then, gates-as}
+use Rattle.write_gates.proofs.GateLines.{gates-then, gates-as}
 use Rattle.write_gates.proofs.Delivering.{ample-holds}
 use Rattle.write_netlist.specs.Form.{form_text_in}
 
@@ -24,15 +24,9 @@ pub record Forming (e : List ℕ) (at : ℕ) (t : Tables) (n : ℕ) (x : List �
   pub passed : i ≤ n
   pub wrote : WroteGates e at (gates_of t i) x r
 
-pub forming-none : (e : List ℕ) (at : ℕ) (t : Tables) (n : ℕ) → length e ≤ top → at ≤ top → Forming e at t n e at 0
-forming-none e at t n h k = record { passed = omega arith; wrote = gates-none e at h k }
-
 pub forming-more : {e m x : List ℕ} {at r s n i : ℕ} {t : Tables} → Forming e at t n m r i → i < n → WroteGates m r (gate_at t i ∷ []) x s
     → Forming e at t n x s (i + 1)
 forming-more {i = i} {t = t} f h w = record { passed = omega arith; wrote = gates-as (sym (gates-more t i)) (gates-then f.wrote w) }
-
-pub forming-all : {e x : List ℕ} {at r n i : ℕ} {t : Tables} → Forming e at t n x r i → n ≤ i → WroteGates e at (gates_of t n) x r
-forming-all {n = n} {i = i} {t = t} f h = let z : i ≡ n = omega (arith, f.passed) in gates-as (ap (gates_of t) z) f.wrote
 
 -- question 14 without measuring: no line is longer than the longest
 pub form-ample : (dialect : Dialect) {t : Tables} (count W : ℕ) (ins outs : List ℕ) {e x : List ℕ} {header room : ℕ} → W ≤ top → Wired t W count

@@ -5,11 +5,12 @@
 ghost use Rattle.std.specs.Prelude.{ℕ, ◌+◌, ◌*◌, ◌≤◌, ◌<◌, ◌≡◌, true, length};
 ghost use Rattle.netlist.specs.Number.{decimal};
 ghost use Rattle.write_buffer.specs.Wrote.{Wrote, cap};
-ghost use Rattle.write_wires.specs.Packed.{WordTable, Worded};
+ghost use Rattle.write_wires.specs.Packed.{Worded};
 ghost use Rattle.write_wires.specs.Spilt.{Spilt};
 ghost use Rattle.write_parts.specs.Parts.{longest, parted, head_of, front_of, line_of, Packable};
 
 use write_buffer::{digits, store};
+use write_wires::table::Words;
 use write_wires::wire::wire;
 
 // The bytes of the longest line: `longest`.
@@ -33,6 +34,7 @@ fn reach(entries: usize) -> u32
 }
 
 // Whether a line may be written by words: the table has the word of each wire, and the word of the result ends within the line.
+#[inline(always)]
 pub fn packable<const N: usize>(entries: usize, operands: [u32; N], c: u32) -> bool
     ensures { result ≡ true → Packable entries operands.entry c }
 {
@@ -49,15 +51,16 @@ fn head(operands: usize) -> [u8; 4]
 }
 
 // What a line has before the gate's name, by words.
+#[inline(always)]
 pub fn front<const N: usize>(
-    d: &[u64],
+    d: Words,
     out: &mut [u8],
     at: usize,
     operands: [u32; N],
     c: u32,
 ) -> usize
     requires few { N ≤ 2 }
-    requires words { WordTable d.now × Packable (length d.now) operands c × (at + longest ≤ length out.old) }
+    requires words { Packable (length d.entries.now) operands c × (at + longest ≤ length out.old) }
     ensures { Spilt (11 + 7 * N) 4 out.old at (front_of operands.entry c) out.new result }
 {
     let mut next = store(out, at, head(N));

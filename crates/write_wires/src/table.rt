@@ -41,15 +41,25 @@ pub fn fill(d: &mut [u64], tens: usize)
     }
 }
 
-// The word of a number.
-pub fn look(d: &[u64], n: u32) -> u64
-    requires { WordTable d.now × Worded (length d.now) n }
-    ensures { result ≡ packed n }
-{
-    if n < 1000 {
-        return d[n as usize];
+// A filled table, to read.
+#[derive(Clone, Copy)]
+pub struct Words<'t> {
+    pub entries: &'t [u64],
+    ghost filled: { WordTable entries.now },
+}
+
+impl<'t> Words<'t> {
+    // The word of a number.
+    pub fn look(self, n: u32) -> u64
+        requires { Worded (length self.entries.now) n }
+        ensures { result ≡ packed n }
+    {
+        let d = self.entries;
+        if n < 1000 {
+            return d[n as usize];
+        }
+        let word = d[(n / 1000) as usize];
+        let added = d[(1000 + n % 1000) as usize];
+        word + (added << 8 * (word / TOP - 1)) + 3 * TOP
     }
-    let word = d[(n / 1000) as usize];
-    let added = d[(1000 + n % 1000) as usize];
-    word + (added << 8 * (word / TOP - 1)) + 3 * TOP
 }

@@ -2,15 +2,15 @@
 use Prim.Native.Nat.{◌+◌, ◌-◌}
 use mathlib.Core.Path.{◌≡◌}
 use native.Mathlib.Omega.{arith}
-use Rattle.netlist.specs.Table.{tables}
+use Rattle.gate_table.specs.Gates.{tables_of}
 use Rattle.evaluate.proofs.Steps.{ran-none, ran-all, ahead_within, ahead_step}
 use Rattle.evaluate.proofs.run.Goals as goal
 
-pub returns-then-count-eq0 : goal.returns-then-count-eq0
-returns-then-count-eq0 c = ran-all (ran-none (tables c.args.operands.now c.args.results.now) c.args.count c.args.words.now) (omega arith)
+pub returns-then-gates-eq0 : goal.returns-then-gates-eq0
+returns-then-gates-eq0 c = ran-all (ran-none (tables_of c.args.gates) c.args.gates.count c.args.words.now) (omega arith)
 
 pub loop-i-init : goal.loop-i-init
-loop-i-init c = record { ran = ran-none _ _ _; inside = omega arith; parts = c.split-next.ensures }
+loop-i-init c = record { ran = ran-none _ _ _; inside = omega arith; parts = c.at-next.ensures }
 
 pub step-requires : goal.step-requires
 step-requires c = ahead_within c.loop-i.invariant c.requires
@@ -24,7 +24,7 @@ loop-i-preserved c =
     rw here record {
       ran = rw behind at (ahead_step c.loop-i.invariant step.new.words step.auto.words step.ensures);
       inside = c.loop-i-test.true;
-      parts = c.split-next-in-loop-i.ensures;
+      parts = c.at-next-in-loop-i.ensures;
     }
 
 pub step-requires-2 : goal.step-requires-2

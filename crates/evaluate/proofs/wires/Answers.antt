@@ -2,7 +2,7 @@
 use Prim.Native.Nat.{◌-◌}
 use lib.ListN.{length}
 use borrow.Rule.Slice.PartMut.{same_len_mid}
-use Rattle.netlist.specs.Table.{tables}
+use Rattle.gate_table.specs.Gates.{tables_of}
 use Rattle.netlist.proofs.Puts.{wired-same}
 use Rattle.evaluate.proofs.Runs.{wires-law}
 use Rattle.evaluate.proofs.wires.Goals as goal
@@ -17,5 +17,5 @@ pub returns : goal.returns
 returns c j l =
     let clear = c.fill in
     let run = c.run in
-    wires-law (tables c.args.operands.now c.args.results.now) c.args.count c.args.ins c.args.words.now
+    wires-law (tables_of c.args.gates) c.args.gates.count c.args.ins c.args.words.now
     clear.new.self run.new.words c.requires.ins_in_bounds (clear.ensures.after (λ y e. e)) j (run.ensures j l)

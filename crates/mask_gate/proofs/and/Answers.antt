@@ -1,17 +1,6 @@
 -- `mask_gate::and` meets its contract.
 use Rattle.mask_gate.proofs.Emits.{and-made}
-use Rattle.mask_rule.proofs.Twins.{past-most}
-use native.Mathlib.Omega.{arith}
 use Rattle.mask_gate.proofs.and.Goals as goal
-
-pub steps-requires : goal.steps-requires
-steps-requires c =
-    let a = c.args in
-    record {
-      word_table = c.requires.word_table;
-      c_bound = omega
-          (arith, c.past-next.ensures, past-most a.c a.a a.b);
-    }
 
 pub returns : goal.returns
 returns c =

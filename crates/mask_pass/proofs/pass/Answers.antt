@@ -1,27 +1,18 @@
 -- `mask_pass::pass` meets its contract.
 use mathlib.Core.Path.{◌∙◌}
 use lib.ListN.{length}
-use Rattle.netlist.specs.Table.{tables}
 use Rattle.netlist.proofs.Puts.{wired-same}
 use Rattle.mask_twins.proofs.Starts.{started-most}
 use Rattle.mask_pass.proofs.Passes.{pass-made}
 use native.Mathlib.Omega.{arith}
+use Rattle.gate_table.specs.Gates.{tables_of}
 use Rattle.mask_pass.proofs.pass.Goals as goal
 
 pub gates-place-requires : goal.gates-place-requires
 gates-place-requires c =
     let p = c.requires in
     let s = c.start-first in
-    record { word_table = p.word_table; n_bound = omega (arith, p.ready.small, p.ready.ins, started-most s.ensures); wired = (wired-same s.auto.wire p.ready.wired, omega (arith, p.ready.codes, s.auto.wire, s.auto.code)) }
-
-pub overflow_sub-from : goal.overflow_sub-from
-overflow_sub-from c =
-    omega (
-      arith,
-      c.requires.ready.outs,
-      c.start-first.auto.wire,
-      c.gates-place.auto.wire,
-    )
+    record { n_bound = omega (arith, p.ready.small, p.ready.ins, started-most s.ensures); wired = (wired-same s.auto.wire p.ready.wired, omega (arith, p.ready.codes, s.auto.wire, s.auto.code)) }
 
 pub outs-end-requires : goal.outs-end-requires
 outs-end-requires c =
@@ -30,7 +21,6 @@ outs-end-requires c =
     let s = c.start-first in
     let g = c.gates-place in
     record {
-      word_table = c.requires.word_table;
       n_bound = omega (
         arith,
         p.small,
@@ -59,11 +49,6 @@ outs-end-requires c =
       );
     }
 
-pub overflow_cast-result : goal.overflow_cast-result
-overflow_cast-result c =
-    let p = c.requires.ready in
-    omega (arith, p.small, p.outs)
-
 pub overflow_add-result : goal.overflow_add-result
 overflow_add-result c =
     let p = c.requires.ready in
@@ -77,12 +62,6 @@ overflow_add-result c =
       c.gates-place.ensures.grown,
     )
 
-pub shape_of-wire : goal.shape_of-wire
-shape_of-wire c = c.gates-place.auto.wire ∙ c.start-first.auto.wire
-
-pub shape_of-code : goal.shape_of-code
-shape_of-code c = c.gates-place.auto.code ∙ c.start-first.auto.code
-
 pub returns : goal.returns
 returns c =
     let a = c.args in
@@ -91,7 +70,7 @@ returns c =
     let g = c.gates-place in
     let wires = g.auto.wire ∙ s.auto.wire in
     let codes = g.auto.code ∙ s.auto.code ∙ p.codes in
-    λ N h. pass-made (tables a.operands.now a.results.now) a.count (length a.wire.now) s.result a.codes.now a.wanted.now
+    λ N h. pass-made (tables_of a.gates) a.gates.count (length a.wire.now) s.result a.codes.now a.wanted.now
     s.new.wire s.new.code g.new.wire g.new.code N h g.result
     p.outs wires codes s.ensures
     c.masks-second.ensures

@@ -9,12 +9,12 @@ pub returns-then-out_codes-j : goal.returns-then-out_codes-j
 returns-then-out_codes-j c = λ N h z F. short-codes (masked c.args.j N) (omega (arith, z.codes, c.if-out_codes-j.true))
 
 pub holds-requires : goal.holds-requires
-holds-requires c = record { word_table = c.requires.word_table; ready = (c.requires.ready, omega arith) }
+holds-requires c = record { ready = (c.requires.ready, omega arith) }
 
 pub fill-requires : goal.fill-requires
 fill-requires c =
     let m = c.holds in
-    record { word_table = c.requires.word_table; ready = ready-same {ws' = m.new.wire} {es' = m.new.code} m.auto.wire m.auto.code c.requires.ready }
+    record { ready = ready-same {ws' = m.new.wire} {es' = m.new.code} m.auto.wire m.auto.code c.requires.ready }
 
 pub returns-then-holds : goal.returns-then-holds
 returns-then-holds c =

@@ -1,8 +1,6 @@
 -- `deliver`: the wires are counted, the table of words is filled where there are many, and question 14 is put.
 use native.Mathlib.Omega.{arith}
-use Rattle.write_wires.proofs.Filling.{empty-table, whole-table}
 use Rattle.mask_text.proofs.Wholes.{least-counted, numbers-counted, ready-same, source-same}
-use borrow.Author.Rules.{rules}
 use Rattle.mask_text.proofs.deliver.Goals as goal
 
 pub overflow_sub-gates : goal.overflow_sub-gates
@@ -14,7 +12,6 @@ pub answer-requires : goal.answer-requires
 answer-requires c =
     let m = c.count-wires in
     record {
-      word_table = empty-table (search rules);
       ready = ready-same {ws' = m.new.wire} {es' = m.new.code} m.auto.wire m.auto.code
           c.requires;
     }
@@ -29,7 +26,6 @@ pub answer-requires-2 : goal.answer-requires-2
 answer-requires-2 c =
     let m = c.count-wires in
     record {
-      word_table = whole-table c.fill.ensures;
       ready = ready-same {ws' = m.new.wire} {es' = m.new.code} m.auto.wire m.auto.code
           c.requires;
     }

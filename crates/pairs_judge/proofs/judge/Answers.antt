@@ -4,28 +4,10 @@ use mathlib.Core.Bool.{true}
 use lib.ListN.{take}
 use lib.Seq.{length-take-le}
 use native.Mathlib.Omega.{arith}
-use Rattle.std.proofs.lemmas.Result.{err_from_is_err_and}
 use Rattle.check_netlist.proofs.Judging.{asked-bits, asked-codes}
 use Rattle.pairs.specs.Call.{pairs_good}
-use Rattle.pairs_judge.proofs.Judging.{good-below, told, refused-asked, refused-twelve, refused-pairs, answered}
+use Rattle.pairs_judge.proofs.Judging.{good-below, told, answered}
 use Rattle.pairs_judge.proofs.judge.Goals as goal
-
-pub returns-in_err-ask_codes : goal.returns-in_err-ask_codes
-returns-in_err-ask_codes c N h e =
-    let a = c.args in
-    let p = err_from_is_err_and c.from_residual.result c.from_residual.ensures.1 in
-    rw (p.1, p.2) (refused-asked N a.codes.now a.pairs.now (take a.h.input_values a.widths) e c.in_err-ask_codes.ensures)
-
-pub returns-then-codes-gt-MOST_BITS : goal.returns-then-codes-gt-MOST_BITS
-returns-then-codes-gt-MOST_BITS c N h e =
-    let a = c.args in
-    refused-twelve N a.codes.now a.pairs.now (take a.h.input_values a.widths) e c.in_ok-ask_codes.ensures c.if-codes-gt-MOST_BITS.true
-
-pub returns-then-not-pairs_good : goal.returns-then-not-pairs_good
-returns-then-not-pairs_good c N h e =
-    let a = c.args in
-    refused-pairs N a.codes.now a.pairs.now (take a.h.input_values a.widths) e c.in_ok-ask_codes.ensures
-    c.if-codes-gt-MOST_BITS.false h.wires (sym c.pairs_good.ensures ∙ c.if-not-pairs_good.true)
 
 pub search-found-requires : goal.search-found-requires
 search-found-requires c =

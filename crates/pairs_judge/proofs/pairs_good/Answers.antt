@@ -2,7 +2,7 @@
 use Rattle.std.proofs.Common.{rules, ◌<◌, ◌↔◌, IsTrue, EachIndex, get_or, ltb}
 use borrow.Author.Tests.{lt-ltb, ltb-true}
 use Rattle.lists.proofs.Ranges.{every-from_iff}
-use Rattle.pairs_judge.proofs.Judging.{good-odd, good-even}
+use Rattle.pairs_judge.proofs.Judging.{good-even}
 use Rattle.pairs_judge.proofs.pairs_good.Goals as goal
 
 pub returns-then-pairs-eq0 : goal.returns-then-pairs-eq0
@@ -11,6 +11,3 @@ returns-then-pairs-eq0 c =
     let W = c.args.wires in
     let all : IsTrue c.all.result ↔ EachIndex ws (λ k. get_or ws k 0 < W) = search rules in
     good-even W ws c.if-pairs-eq0.true (every-from_iff (λ w. ltb w W) (λ w. w < W) (λ w. lt-ltb w W) (λ w. ltb-true w W) ws c.all.result all)
-
-pub returns-else-pairs-eq0 : goal.returns-else-pairs-eq0
-returns-else-pairs-eq0 c = good-odd c.args.wires c.args.pairs.now c.if-pairs-eq0.false

@@ -25,6 +25,6 @@ loop-next-smaller c =
 pub loop-next-preserved : goal.loop-next-preserved
 loop-next-preserved c =
     let h = c.loop-next in (
-      rw c.keep.ensures (widen-on _ _ _ _ _ _ h.invariant.0 _ _ c.if-width-eq0.false (omega arith) c.in_ok-width.ensures),
-      ap length c.keep.ensures ∙ simp length-set h.invariant.1,
+      rw c.put.ensures (widen-on _ _ _ _ _ _ h.invariant.0 _ _ c.if-width-eq0.false (omega arith) c.in_ok-width.ensures),
+      ap length c.put.ensures ∙ simp length-set h.invariant.1,
     )

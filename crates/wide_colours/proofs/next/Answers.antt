@@ -2,11 +2,8 @@
 use mathlib.Core.Path.{refl, sym, subst}
 use native.Mathlib.Omega.{arith}
 use Rattle.wide_colours.specs.Colours.{Kept}
-use Rattle.wide_colours.proofs.Giving.{kept-none, kept-one}
+use Rattle.wide_colours.proofs.Giving.{kept-one}
 use Rattle.wide_colours.proofs.next.Goals as goal
-
-pub returns-then-at-ge4 : goal.returns-then-at-ge4
-returns-then-at-ge4 c = (c.requires, kept-none _)
 
 pub returns-in-Some : goal.returns-in-Some
 returns-in-Some c =
@@ -15,6 +12,3 @@ returns-in-Some c =
       omega (arith, l),
       subst (Kept a.paints.now) (sym c.put.ensures) (kept-one a.paints.now a.i c.in-Some.c (omega (arith, c.if-at-ge4.false, c.at.ensures)) l),
     )
-
-pub returns-in-None : goal.returns-in-None
-returns-in-None c = (omega arith, kept-none _)

@@ -11,22 +11,22 @@ loop-a-init g c = spilt-most _ 6 (omega arith) (omega arith) (spilt-none (rw c.h
 pub wire-next-requires : goal.wire-next-requires
 wire-next-requires g c =
     let p = c.requires.words in
-    (p.0, p.1.operands c.loop-a.a-index (omega arith), omega (arith, p.2, c.requires.few, c.loop-a.invariant.few, c.loop-a.invariant.next, c.loop-a.auto.out, c.store-next.auto.out))
+    (p.0.operands c.loop-a.a-index (omega arith), omega (arith, p.1, c.requires.few, c.loop-a.invariant.few, c.loop-a.invariant.next, c.loop-a.auto.out, c.store-next.auto.out))
 
 pub loop-a-preserved : goal.loop-a-preserved
 loop-a-preserved g c =
     spilt-most _ 6 (omega arith) (omega arith)
     (spilt-as (spaced-more (head_of g.row.N) c.args.operands c.loop-a.a-index (omega arith))
-    (spilt-operand _ (c.requires.words.1.operands c.loop-a.a-index (omega arith)).six c.loop-a.invariant c.wire-next.ensures (omega arith)))
+    (spilt-operand _ (c.requires.words.0.operands c.loop-a.a-index (omega arith)).six c.loop-a.invariant c.wire-next.ensures (omega arith)))
 
 pub wire-requires : goal.wire-requires
 wire-requires g c =
     let p = c.requires.words in
-    (p.0, p.1.result, omega (arith, p.2, c.requires.few, c.loop-a.invariant.few, c.loop-a.invariant.next, c.loop-a.auto.out, c.store-next.auto.out))
+    (p.0.result, omega (arith, p.1, c.requires.few, c.loop-a.invariant.few, c.loop-a.invariant.next, c.loop-a.auto.out, c.store-next.auto.out))
 
 pub returns : goal.returns
 returns g c =
-    let p = c.requires.words.1 in
+    let p = c.requires.words.0 in
     spilt-most _ 4 (omega arith) (omega arith)
     (spilt-as (whole-front c.args.operands c.args.c (omega arith) (omega arith))
     (spilt-result _ p.least p.result.six c.loop-a.invariant c.wire.ensures (omega arith)))

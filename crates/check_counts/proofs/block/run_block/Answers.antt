@@ -5,9 +5,9 @@ use mathlib.Core.Bool.{Bool}
 use Prim.Native.Nat.{ℕ}
 use native.Mathlib.Omega.{arith}
 use Rattle.netlist.specs.Eval.{wire_bits}
-use Rattle.netlist.specs.Table.{tables}
 use Rattle.netlist.proofs.Puts.{wired-same}
 use Rattle.evaluate.specs.Bare.{bare}
+use Rattle.gate_table.specs.Gates.{tables_of}
 use Rattle.check_counts.proofs.block.run_block.Goals as goal
 
 pub wires-requires : goal.wires-requires
@@ -20,8 +20,8 @@ returns c =
     let s = c.args in
     let inputs = c.inputs in
     let wires = c.wires in
-    let t = tables s.operands.now s.results.now in
+    let t = tables_of s.gates in
     record {
       each = λ j l. wires.ensures j l
-          ∙ ap₂ (λ (W : ℕ) (v : List Bool). wire_bits (bare t s.count W) v) inputs.auto.words (inputs.ensures j l);
+          ∙ ap₂ (λ (W : ℕ) (v : List Bool). wire_bits (bare t s.gates.count W) v) inputs.auto.words (inputs.ensures j l);
     }

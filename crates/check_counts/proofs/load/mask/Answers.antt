@@ -1,5 +1,6 @@
--- `leak::load::mask` meets its contract.
+-- `check_counts::load::mask` meets its contract.
 use borrow.Author.Tests.{ne_eqb}
+use native.Mathlib.Omega.{arith}
 use Rattle.evaluate.proofs.Lanes.{lane-zero}
 use Rattle.check_counts.proofs.Numbers.{first-mask, second-mask, third-mask}
 use Rattle.check_counts.proofs.load.mask.Goals as goal
@@ -15,5 +16,4 @@ returns-in-3 c b j l = rw c.in-3.is (third-mask b j l)
 
 pub returns-in_default : goal.returns-in_default
 returns-in_default c b j l =
-    let r = c.in_default.in_default-own.rest in
-    simp (ne_eqb _ 1 r.0.0.1, ne_eqb _ 2 r.0.1, ne_eqb _ 3 r.1) (lane-zero j)
+    simp (ne_eqb c.args.code 1 (omega arith), ne_eqb c.args.code 2 (omega arith), ne_eqb c.args.code 3 (omega arith)) (lane-zero j)

@@ -2,12 +2,12 @@
 use mathlib.Core.Path.{refl, sym, ap, subst, ◌∙◌}
 use Prim.Native.Nat.{ℕ}
 use native.Mathlib.Omega.{arith}
-use Rattle.netlist.specs.Table.{tables}
 use Rattle.netlist.proofs.Puts.{wired-same}
 use Rattle.evaluate.specs.Bare.{bare}
 use Rattle.check_counts.specs.Block.{Ready}
 use Rattle.check_leak.specs.Difference.{wire_of}
 use Rattle.check_leak.proofs.Differences.{find_none, find-more, find-all, wire-within}
+use Rattle.gate_table.specs.Gates.{tables_of}
 use Rattle.check_leak.proofs.search.find.Goals as goal
 
 pub loop-block-init : goal.loop-block-init
@@ -16,7 +16,7 @@ loop-block-init c = find_none c.args.blocks refl c.requires.paints_in_bounds.1 (
 pub search_block-found-requires : goal.search_block-found-requires
 search_block-found-requires c =
     let at = c.loop-block in
-    let t = tables c.args.operands.now c.args.results.now in
+    let t = tables_of c.args.gates in
     let w = at.invariant.long-words in
     record {
       wired = wired-same w c.requires.wired;
@@ -25,7 +25,7 @@ search_block-found-requires c =
         at.invariant.long-base ∙ sym w,
         omega (arith, c.limit-limit.ensures, wire-within at.best at.invariant.lowest, ap (λ (W : ℕ). wire_of W at.best) w, w),
         subst
-            (λ (W : ℕ). Ready c.public-publics.result (bare t c.args.count W) c.args.paints.now at.base
+            (λ (W : ℕ). Ready c.public-publics.result (bare t c.args.gates.count W) c.args.paints.now at.base
             at.block)
             (sym w) at.invariant.ready,
       );

@@ -1,8 +1,8 @@
 -- `check_leak::search::find` meets its contract.
 use lib.ListN.{length}
-use Rattle.netlist.specs.Table.{tables}
 use Rattle.check_leak.proofs.Differences.{Finding}
+use Rattle.gate_table.specs.Gates.{tables_of}
 use Rattle.check_leak.proofs.search.find.Given as goal
 
 abbrev pub invariant-loop-block : goal.invariant-loop-block
-invariant-loop-block l = Finding (tables l.operands l.results) l.count (length l.initial.words) l.paints l.publics l.blocks l.words l.base l.best l.block
+invariant-loop-block l = Finding (tables_of l.gates) l.gates.count (length l.initial.words) l.paints l.publics l.blocks l.words l.base l.best l.block

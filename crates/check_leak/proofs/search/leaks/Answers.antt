@@ -4,13 +4,13 @@ use mathlib.Core.Bool.{true, false}
 use mathlib.Core.List.{List}
 use Prim.Native.Nat.{ℕ, ◌*◌}
 use lib.ListN.{length}
-use Rattle.netlist.specs.Table.{tables}
 use Rattle.evaluate.specs.Bare.{bare}
 use Rattle.check_counts.specs.Base.{count_in}
 use Rattle.check_counts.proofs.Paints.{length-each}
 use Rattle.check_leak.specs.Difference.{LowestDifference}
 use Rattle.check_leak.proofs.Answers.{tells-found}
 use native.Mathlib.Omega.{arith}
+use Rattle.gate_table.specs.Gates.{tables_of}
 use Rattle.check_leak.proofs.search.leaks.Goals as goal
 
 pub slice_bounds-find-end : goal.slice_bounds-find-end
@@ -25,7 +25,7 @@ pub returns : goal.returns
 returns c = λ n o N h. let a = c.args in
     let find = c.find in
     let blocks = c.blocks_of in
-    let N' = bare (tables a.operands.now a.results.now) a.count (length a.words.now) in
+    let N' = bare (tables_of a.gates) a.gates.count (length a.words.now) in
     tells-found h a.codes.now (blocks.result * 16) find.result blocks.ensures.0 c.requires.codes_len_bound.3
     (subst (λ (ps : List ℕ). LowestDifference (count_in N' false ps) (count_in N' true ps) (length a.words.now) (blocks.result * 16) find.result)
     c.each-paints.ensures find.ensures)

@@ -3,25 +3,25 @@ use mathlib.Core.Bool.{true, false}
 use mathlib.Core.Path.{sym, subst, ◌∙◌}
 use Prim.Native.Nat.{ℕ, ◌+◌}
 use native.Mathlib.Omega.{arith}
-use Rattle.netlist.specs.Table.{tables}
 use Rattle.netlist.proofs.Puts.{wired-same}
 use Rattle.evaluate.specs.Bare.{bare}
 use Rattle.check_counts.specs.Block.{ones_of, nibbles_of, Counted, Ready}
 use Rattle.check_counts.proofs.BlockRuns.{run-block-law}
 use Rattle.check_leak.proofs.Differences.{search-block-law}
+use Rattle.gate_table.specs.Gates.{tables_of}
 use Rattle.check_leak.proofs.search.search_block.Goals as goal
 
 pub refresh-requires : goal.refresh-requires
 refresh-requires c =
     let run-block = c.run_block in
-    let t = tables c.args.operands.now c.args.results.now in
+    let t = tables_of c.args.gates in
     let k = run-block.auto.words in
     record {
       wired = wired-same k c.requires.wired;
       paints_in_bounds = (omega (arith, c.requires.paints_in_bounds.0, k), c.requires.paints_in_bounds.1 ∙ sym k);
       fact = subst
-          (λ (W : ℕ). Counted (bare t c.args.count W) true c.args.paints.now (ones_of run-block.new.words) c.args.block
-          × Ready c.args.publics (bare t c.args.count W) c.args.paints.now c.args.base.now c.args.block)
+          (λ (W : ℕ). Counted (bare t c.args.gates.count W) true c.args.paints.now (ones_of run-block.new.words) c.args.block
+          × Ready c.args.publics (bare t c.args.gates.count W) c.args.paints.now c.args.base.now c.args.block)
           (sym k) (run-block-law run-block.ensures, c.requires.paints_in_bounds.3);
     }
 
@@ -30,9 +30,9 @@ returns c =
     let run-block = c.run_block in
     let refresh = c.refresh in
     let base = refresh.new.base in
-    let t = tables c.args.operands.now c.args.results.now in
+    let t = tables_of c.args.gates in
     let based = subst
-    (λ (W : ℕ). Counted (bare t c.args.count W) false c.args.paints.now (nibbles_of base) c.args.block
-    × Ready c.args.publics (bare t c.args.count W) c.args.paints.now base (c.args.block + 1))
+    (λ (W : ℕ). Counted (bare t c.args.gates.count W) false c.args.paints.now (nibbles_of base) c.args.block
+    × Ready c.args.publics (bare t c.args.gates.count W) c.args.paints.now base (c.args.block + 1))
     run-block.auto.words refresh.ensures in
     (search-block-law (run-block-law run-block.ensures) based.0 c.scan.ensures, based.1)

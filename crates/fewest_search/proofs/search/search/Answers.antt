@@ -2,15 +2,9 @@
 use Prim.Native.Nat.{◌+◌, ◌<◌}
 use mathlib.Core.Path.{refl, sym, ◌∙◌}
 use lib.ListN.{length}
-use Rattle.netlist.proofs.Puts.{wired-same}
 use Rattle.fewest_search.proofs.Standing.{left-some, standing-first, standing-turned, span-some, found-floor, found-short, found-end, found-spent, low-here}
 use native.Mathlib.Omega.{arith}
 use Rattle.fewest_search.proofs.search.search.Goals as goal
-
-pub start-least-requires : goal.start-least-requires
-start-least-requires c =
-    let p = c.requires.0 in
-    (p.fits, p.spanned)
 
 pub loop-least-init : goal.loop-least-init
 loop-least-init c =
@@ -20,11 +14,6 @@ loop-least-init c =
     (G.auto.code ∙ sym p.places) (omega (arith, p.some, p.places, p.lowest))
     (G.auto.lows ∙ p.lowest ∙ sym p.places)
 
-pub bounds-lows-0 : goal.bounds-lows-0
-bounds-lows-0 c =
-    let p =
-    c.requires.0.fits in omega (arith, c.loop-least.invariant.lows-long, p.some)
-
 pub returns-then-least-lows : goal.returns-then-least-lows
 returns-then-least-lows c =
     let p = c.requires.0.fits in
@@ -32,51 +21,11 @@ returns-then-least-lows c =
     c.start-least.ensures.spans
     c.loop-least.invariant (rw (sym p.places) at Q) _ c.if-least-lows.true refl refl
 
-pub overflow_add-span : goal.overflow_add-span
-overflow_add-span c =
-    let p = c.requires.0.fits in
-    omega (arith, p.small, p.places, c.loop-least.invariant.high)
-
-pub overflow_sub-span : goal.overflow_sub-span
-overflow_sub-span c = let p = c.requires.0.fits in omega (arith, p.some)
-
-pub offset_bounds-spans-n : goal.offset_bounds-spans-n
-offset_bounds-spans-n c =
-    let p = c.requires.0.fits in
-    omega (arith, p.small, p.places, c.loop-least.invariant.high)
-
-pub bounds-spans-n : goal.bounds-spans-n
-bounds-spans-n c =
-    let p = c.requires.0 in
-    omega (
-      arith,
-      p.fits.some,
-      p.fits.places,
-      p.spanned,
-      c.loop-least.invariant.high,
-      c.start-least.auto.spans,
-    )
-
-pub bounds-lows-0-then-left-span : goal.bounds-lows-0-then-left-span
-bounds-lows-0-then-left-span c =
-    let p =
-    c.requires.0.fits in
-    omega (arith, c.loop-least.invariant.lows-long, p.some)
-
 pub returns-then-left-span : goal.returns-then-left-span
 returns-then-left-span c =
     let p = c.requires.0.fits in
     λ N Q. found-short p.some (omega arith)
     c.start-least.ensures.spans c.loop-least.invariant (rw (sym p.places) at Q) _ c.if-left-span.true refl refl
-
-pub next-requires : goal.next-requires
-next-requires c =
-    let p =
-    c.requires.0.fits in (
-      omega (arith, c.loop-least.invariant.high, p.wired.results),
-      omega
-          (arith, c.loop-least.invariant.high, c.loop-least.invariant.ways-long),
-    )
 
 pub returns-in_default : goal.returns-in_default
 returns-in_default c =
@@ -85,11 +34,6 @@ returns-in_default c =
     λ N Q. found-end p.some (omega arith)
     c.start-least.ensures.spans c.loop-least.invariant
     (rw (sym p.places) at Q) c.if-left-span.false _ M refl refl
-
-pub bounds-lows-0-then-left-eq0 : goal.bounds-lows-0-then-left-eq0
-bounds-lows-0-then-left-eq0 c =
-    let p =
-    c.requires.0.fits in omega (arith, c.loop-least.invariant.lows-long, p.some)
 
 pub returns-then-left-eq0 : goal.returns-then-left-eq0
 returns-then-left-eq0 c =
@@ -101,31 +45,16 @@ returns-then-left-eq0 c =
     c.if-left-span.false c.in-Some.place M _
     c.if-left-eq0.true refl refl
 
-pub turn-t-requires : goal.turn-t-requires
-turn-t-requires c =
+pub turn-t-requires-clause-place_in_bounds : goal.turn-t-requires-clause-place_in_bounds
+turn-t-requires-clause-place_in_bounds c =
     let p = c.requires.0.fits in
     let I = c.loop-least.invariant in
     let M = c.in-Some.ensures in
     let Q = rw (sym p.places) at c.requires.0.source in
-    let b : c.in-Some.place < length c.args.codes.now + c.args.count = omega (arith, M.within, I.high) in
-    record {
-      fits = record {
-        wired = wired-same (I.codes-long ∙ p.places) p.wired;
-        places = sym I.codes-long;
-        some = p.some;
-        outs = omega (arith, p.outs, p.places, I.codes-long);
-        small = omega (arith, p.small, p.places, I.codes-long);
-        ways = M.size ∙ I.ways-long ∙ sym I.codes-long;
-        bests = I.bests-long ∙ sym I.codes-long;
-        lowest = I.lows-long ∙ sym I.codes-long;
-      };
-      place_in_bounds = (
-        b,
-        low-here p.some (omega arith)
-            c.start-least.ensures.spans I Q
-            c.if-left-span.false c.in-Some.place M b,
-      );
-    }
+    let b : c.in-Some.place < length c.args.job.codes.now + c.args.job.gates.count = omega (arith, M.within, I.high) in (
+      b,
+      low-here p.some (omega arith) c.start-least.ensures.spans I Q c.if-left-span.false c.in-Some.place M b,
+    )
 
 pub loop-least-smaller : goal.loop-least-smaller
 loop-least-smaller c =

@@ -8,5 +8,5 @@ use Rattle.fewest_search.proofs.turn.weigh.Goals as goal
 pub overflow_add-result : goal.overflow_add-result
 overflow_add-result c =
     let a = c.args in let h = ends-most
-    (drop (length a.code.now - length a.wanted.now) a.code.now) a.wanted.now in
+    (drop (length a.code.now - length a.job.wanted.now) a.code.now) a.job.wanted.now in
     omega (arith, c.outputs.ensures, c.requires.2, c.requires.3)

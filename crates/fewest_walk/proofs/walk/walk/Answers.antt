@@ -8,7 +8,7 @@ returns-then-bound-low c =
     let I = walking-more c.loop-i.invariant
     c.loop-i-test.true
     c.requires.count_in_bounds.1
-    c.step-low.ensures in
+    (rw c.at.ensures at c.step-low.ensures) in
     walked-cut I (omega (arith, c.loop-i.invariant.after)) (omega arith) c.if-bound-low.true
 
 pub loop-i-preserved : goal.loop-i-preserved
@@ -16,4 +16,4 @@ loop-i-preserved c =
     walking-more c.loop-i.invariant
     c.loop-i-test.true
     c.requires.count_in_bounds.1
-    c.step-low.ensures
+    (rw c.at.ensures at c.step-low.ensures)

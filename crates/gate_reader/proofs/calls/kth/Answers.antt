@@ -4,10 +4,10 @@ use Rattle.gate_reader.proofs.Calling.{reader-no, reader-on}
 use borrow.Author.Rules.{rules}
 use Rattle.gate_reader.proofs.calls.kth.Goals as goal
 
-pub returns-in_err-at : goal.returns-in_err-at
-returns-in_err-at c =
+pub returns-in_err-reader : goal.returns-in_err-reader
+returns-in_err-reader c =
     let p = err_from_is_err_and c.from_residual.result c.from_residual.ensures.1 in
-    rw (p.1, p.2) (reader-no (search rules) (search rules) c.in_err-at.ensures)
+    rw (p.1, p.2) (reader-no (search rules) (search rules) c.in_err-reader.ensures)
 
 pub returns : goal.returns
-returns c = reader-on c.in_ok-at.ensures c.call_at.ensures
+returns c = reader-on c.in_ok-reader.ensures c.call_at.ensures

@@ -1,7 +1,7 @@
 -- `open_at`: the head, the number of gate lines, the room for the widths, and then the widths.
 use Rattle.std.proofs.lemmas.Result.{err_from_is_err_and}
 use Rattle.netlist.proofs.Size.{large-fits}
-use Rattle.gate_reader.proofs.Openings.{head-under, open-not, open-6, open-14-in, open-14-out, open_at}
+use Rattle.gate_reader.proofs.Openings.{head-under, open-not, open-6, open-14-in, open-14-out, open_at, copied}
 use native.Mathlib.Omega.{arith}
 use Rattle.gate_reader.proofs.opening.open_at.Goals as goal
 
@@ -28,6 +28,10 @@ returns-then-outputs-h c =
 
 pub returns : goal.returns
 returns c =
-    open_at (head-under c.large.ensures c.in_ok-h.ensures) c.count_lines.ensures c.if-count_lines-h.false c.if-inputs-h.false
-    c.if-outputs-h.false (omega (arith, c.read_opening.auto.inputs)) (omega (arith, c.read_opening.auto.outputs)) c.copy.ensures
-    c.copy-2.ensures
+    let a = head-under c.large.ensures c.in_ok-h.ensures in
+    let i = c.if-inputs-h.false in
+    let o = c.if-outputs-h.false in
+    open_at a c.count_lines.ensures c.if-count_lines-h.false (rw c.new.ensures.0) c.new.ensures.1 i o
+    (omega (arith, c.read_opening.auto.inputs)) (omega (arith, c.read_opening.auto.outputs))
+    (rw c.copy_from_slice.ensures.after (copied _ _ _ (omega (arith, a.inside.inputs, c.read_opening.auto.inputs)) i))
+    (rw c.copy_from_slice-2.ensures.after (copied _ _ _ (omega (arith, a.inside.outputs, c.read_opening.auto.outputs)) o))

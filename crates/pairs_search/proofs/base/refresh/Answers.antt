@@ -1,31 +1,8 @@
 -- `refresh`: a run of the bases, or the first setting's words for all, or those that are held.
-use mathlib.Core.Path.{sym, subst, ◌∙◌}
-use mathlib.Core.Bool.{false}
-use Prim.Native.Nat.{ℕ, ◌+◌}
-use lib.Dec.{T}
-use Rattle.netlist.specs.Table.{tables}
-use Rattle.netlist.proofs.Puts.{wired-same}
-use Rattle.evaluate.specs.Bare.{bare}
-use Rattle.check_counts.specs.Block.{Evaluated}
+use mathlib.Core.Path.{◌∙◌}
+use Prim.Native.Nat.{◌+◌}
 use Rattle.pairs_search.proofs.Lanes.{same-words, first-words}
-use native.Mathlib.Omega.{arith}
 use Rattle.pairs_search.proofs.base.refresh.Goals as goal
-
-pub run_block-requires : goal.run_block-requires
-run_block-requires c =
-    let e = c.requires.paints_in_bounds.1 in
-    record { wired = wired-same e c.requires.wired; paints_in_bounds = omega (arith, c.requires.paints_in_bounds.0, e) }
-
-pub returns-then-publics : goal.returns-then-publics
-returns-then-publics c =
-    let run-block = c.run_block in
-    let t = tables c.args.operands.now c.args.results.now in
-    let ran = subst (λ (W : ℕ). Evaluated (bare t c.args.count W) false c.args.paints.now run-block.new.words c.args.block)
-    c.requires.paints_in_bounds.1 run-block.ensures in (
-      record { words = ran; counts = c.tally.ensures },
-      λ e. absurd
-          (subst T (sym c.if-publics.true ∙ e) tt),
-    )
 
 pub returns-then-block-eq0 : goal.returns-then-block-eq0
 returns-then-block-eq0 c =

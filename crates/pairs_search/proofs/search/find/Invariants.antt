@@ -1,8 +1,10 @@
 -- `find`: block by block.
 use lib.ListN.{length}
-use Rattle.netlist.specs.Table.{tables}
 use Rattle.pairs_search.proofs.Finds.{Finding}
+use Rattle.gate_table.specs.Gates.{tables_of}
 use Rattle.pairs_search.proofs.search.find.Given as goal
 
 abbrev pub invariant-loop-block : goal.invariant-loop-block
-invariant-loop-block l = Finding (tables l.operands l.results) l.count (length l.initial.words) l.limit l.paints l.pairs l.publics l.blocks l.words l.bases l.base l.best l.block
+invariant-loop-block l =
+    Finding (tables_of l.gates) l.gates.count (length l.initial.words) l.limit l.paints l.pairs l.publics
+    l.blocks l.words l.bases l.base l.best l.block

@@ -1,34 +1,22 @@
 -- `search`: both answers, from what was found with a colour for each input.
-use mathlib.Core.Path.{sym, ap, subst, ◌∙◌}
+use mathlib.Core.Path.{subst}
 use mathlib.Core.Bool.{true, false}
 use mathlib.Core.List.{List}
 use Prim.Native.Nat.{ℕ, ◌*◌, ◌/◌}
 use lib.ListN.{length}
-use Rattle.netlist.specs.Table.{tables}
 use Rattle.evaluate.specs.Bare.{bare}
-use Rattle.check_counts.proofs.Paints.{length-each}
 use Rattle.check_leak.proofs.Answers.{tells-found}
 use Rattle.pairs_search.specs.Level.{counts_of}
 use Rattle.pairs_search.specs.Search.{Found}
 use Rattle.pairs_search.proofs.Finds.{tells-pairs}
-use native.Mathlib.Omega.{arith}
+use Rattle.gate_table.specs.Gates.{tables_of}
 use Rattle.pairs_search.proofs.search.search.Goals as goal
-
-pub slice_bounds-find-end : goal.slice_bounds-find-end
-slice_bounds-find-end c =
-    sym (ap length c.each-paints.ensures ∙ length-each 0
-    c.args.codes.now)
-
-pub find-requires : goal.find-requires
-find-requires c =
-    let e = ap length c.each-paints.ensures ∙ length-each 0 c.args.codes.now in
-    record { wired = c.requires.wired; paints_in_bounds = (omega (arith, c.requires.codes_len_bound.1, e), c.requires.codes_len_bound.2, c.requires.codes_len_bound.3, c.blocks_of.ensures.1, omega arith, c.requires.codes_len_bound.4) }
 
 pub returns : goal.returns
 returns c = λ n o N h. let a = c.args in
     let find = c.find in
     let blocks = c.blocks_of in
-    let N' = bare (tables a.operands.now a.results.now) a.count (length a.words.now) in
+    let N' = bare (tables_of a.gates) a.gates.count (length a.words.now) in
     let W = length a.words.now in
     let S = blocks.result * 16 in
     let found = subst (λ (ps : List ℕ). Found (counts_of N' false ps) (counts_of N' true ps) a.pairs.now W (length a.pairs.now / 2) S find.result)

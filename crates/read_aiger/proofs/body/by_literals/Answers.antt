@@ -12,7 +12,7 @@ returns-in_err-count c =
     let H = head_said c.args.h in
     let l = lines_left c.args.lines in
     let q = c.keep_literals in
-    let L = kept-literals H l c.args.results.now q.new.kept c.requires.2 q.auto.kept c.in_ok-rest.ensures.kept.0 in
+    let L = kept-literals H l c.args.results.now q.new.kept c.requires.1 q.auto.kept c.in_ok-rest.ensures.kept.0 in
     rw c.from_residual-in_err-count.ensures (
       λ ls A. lines-no-ands H ls A L (c.in_err-count.ensures.ands.0 _ _ (wires-length H ls A) (standing-first H ls A _)),
       omega arith,
@@ -24,8 +24,8 @@ returns-then-not-outputs c =
     let l = lines_left c.args.lines in
     let r = c.args.results.now in
     let q = c.keep_literals in
-    let L = kept-literals H l r q.new.kept c.requires.2 q.auto.kept c.in_ok-rest.ensures.kept.0 in (
-      λ ls A. whole-no-outs H l r q.new.kept c.requires.2 q.auto.kept c.ands.new.results c.ands.auto.results ls A L
+    let L = kept-literals H l r q.new.kept c.requires.1 q.auto.kept c.in_ok-rest.ensures.kept.0 in (
+      λ ls A. whole-no-outs H l r q.new.kept c.requires.1 q.auto.kept c.ands.new.results c.ands.auto.results ls A L
           (c.in_ok-count.ensures.ands.0 _ _ (wires-length H ls A) (standing-first H ls A (tables c.args.operands.now _)))
           (rw c.if-not-outputs.true at c.outputs.ensures),
       omega arith,
@@ -37,8 +37,8 @@ returns c =
     let l = lines_left c.args.lines in
     let r = c.args.results.now in
     let q = c.keep_literals in
-    let L = kept-literals H l r q.new.kept c.requires.2 q.auto.kept c.in_ok-rest.ensures.kept.0 in (
-      λ ls A. whole-made H l r q.new.kept c.requires.2 q.auto.kept c.ands.new.results c.ands.auto.results ls A L
+    let L = kept-literals H l r q.new.kept c.requires.1 q.auto.kept c.in_ok-rest.ensures.kept.0 in (
+      λ ls A. whole-made H l r q.new.kept c.requires.1 q.auto.kept c.ands.new.results c.ands.auto.results ls A L
           (c.in_ok-count.ensures.ands.0 _ _ (wires-length H ls A) (standing-first H ls A (tables c.args.operands.now _)))
           (rw c.if-not-outputs.false at c.outputs.ensures),
       omega (arith, c.in_ok-count.ensures.ands.1),

@@ -2,7 +2,7 @@
 use mathlib.Core.Path.{◌≡◌, sym, ◌∙◌}
 use Rattle.std.proofs.lemmas.Result.{err_from_is_err_and}
 use Rattle.netlist.specs.declared.Question.TheVariants.{Aiger}
-use Rattle.read_aiger.proofs.Heads.{head-not, head-taken}
+use Rattle.read_aiger.proofs.Heads.{head-not, head-taken, counts-low}
 use Rattle.read_aiger.proofs.head.head.Goals as goal
 
 pub returns-in_err-next : goal.returns-in_err-next
@@ -13,8 +13,11 @@ returns-in_err-next c =
     let d : c.in_err-next.field-0.0 ≡ Aiger = cc (rw e.ok_part at e.value) in
     rw (p.1, p.2, d) (head-not c.args.l c.args.text.now o (rw e.ok_part at c.numbers.ensures.line))
 
+pub invariant_of-h : goal.invariant_of-h
+invariant_of-h c = record { low = counts-low _ _ _ (rw c.in_ok-next.ensures.ok_part at c.numbers.ensures.line) }
+
 pub returns : goal.returns
 returns c =
     let o = sym c.is_opening.ensures ∙ c.if-not-is_opening.false in
     head-taken c.args.l c.args.text.now o _ _ (rw c.in_ok-next.ensures.ok_part at c.numbers.ensures.behind).text
-    (rw c.in_ok-next.ensures.ok_part at c.numbers.ensures.line) c.in_ok-question.ensures
+    (rw c.in_ok-next.ensures.ok_part at c.numbers.ensures.line) _ c.in_ok-question.ensures

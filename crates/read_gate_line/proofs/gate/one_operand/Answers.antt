@@ -1,5 +1,7 @@
--- Two numbers and the end.
-use Rattle.read_gate_line.proofs.GateWords.{line-behind, line-no-number}
+-- Two numbers, the name and the line's end.
+use mathlib.Core.Path.{refl}
+use Rattle.read_gate_line.proofs.GateWords.{line-behind, line-no-number, line-named, named-gate, named-exact}
+use borrow.Author.Rules.{rules}
 use Rattle.read_gate_line.proofs.gate.one_operand.Goals as goal
 
 pub returns-in_err-a : goal.returns-in_err-a
@@ -9,5 +11,10 @@ pub returns-in_err-c : goal.returns-in_err-c
 returns-in_err-c c =
     rw c.from_residual-in_err-c.ensures (line-behind _ _ _ _ _ _ c.in_ok-a.ensures (line-no-number _ _ _ c.in_err-c.ensures))
 
+pub last_word-requires : goal.last_word-requires
+last_word-requires c = (search rules, named-exact _ _ c.gate1-named.ensures)
+
 pub returns : goal.returns
-returns c = line-behind _ _ _ _ _ _ c.in_ok-a.ensures (line-behind _ _ _ _ _ _ c.in_ok-c.ensures c.read_end1.ensures)
+returns c =
+    line-behind _ _ _ _ _ _ c.in_ok-a.ensures (line-behind _ _ _ _ _ _ c.in_ok-c.ensures
+    (line-named _ refl _ _ _ _ _ _ c.next_word-word.ensures (named-gate _ _ c.gate1-named.ensures) c.last_word.ensures))

@@ -13,4 +13,4 @@ returns-in_err-p c =
 pub returns : goal.returns
 returns c =
     an-old-header _ _ c.skip_blanks-line1.ensures _ _ _ c.in_ok-gates.ensures _ c.skip_blanks-line2.ensures _ _ c.in_ok-p.ensures
-    c.args.outputs.now c.keep_inputs-values.ensures c.keep.ensures
+    c.args.outputs.now c.keep_inputs-values.ensures c.put.ensures

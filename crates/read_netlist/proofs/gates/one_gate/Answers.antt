@@ -1,7 +1,7 @@
 -- `one_gate`: questions 7 to 9 in order, for every list of results that the table marks.
 use mathlib.Core.Path.{sym, ◌∙◌}
 use Rattle.gate_table.proofs.Entries.{said-result}
-use Rattle.read_netlist.proofs.Reading.{one-7, one-lacks, one-8, one-9, one_on, one-room}
+use Rattle.read_netlist.proofs.Reading.{one-7, one-lacks, one-8, one-9, one_on}
 use Rattle.read_netlist.proofs.gates.one_gate.Goals as goal
 
 pub returns-in_default : goal.returns-in_default
@@ -18,14 +18,11 @@ returns-then-not-operands_given c =
 pub returns-then-not-result_free : goal.returns-then-not-result_free
 returns-then-not-result_free c =
     one-9 _ _ _ _ _ _ _ c.in-Some.ensures.gate (sym c.has_gate.ensures ∙ c.if-not-has_gate.false)
-    (sym c.operands_given.ensures ∙ c.if-not-operands_given.false) _ (said-result c.in-Some.g)
+    (sym c.operands_given.ensures ∙ c.if-not-operands_given.false) _ (said-result c.in-Some.g.kind _ _ _)
     (sym c.result_free.ensures ∙ c.if-not-result_free.true)
-
-pub mark-requires : goal.mark-requires
-mark-requires c = one-room _ _ _ _ c.requires.1 (sym c.result_free.ensures ∙ c.if-not-result_free.false)
 
 pub returns : goal.returns
 returns c =
     one_on _ _ _ _ _ _ _ c.in-Some.ensures.gate (sym c.has_gate.ensures ∙ c.if-not-has_gate.false)
-    (sym c.operands_given.ensures ∙ c.if-not-operands_given.false) _ (said-result c.in-Some.g) _ _
+    (sym c.operands_given.ensures ∙ c.if-not-operands_given.false) _ (said-result c.in-Some.g.kind _ _ _) _ _
     (sym c.result_free.ensures ∙ c.if-not-result_free.false) c.in-Some.ensures.next c.mark.ensures

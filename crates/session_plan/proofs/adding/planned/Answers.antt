@@ -10,19 +10,19 @@ returns-in_err-questions c = λ masked lm. let a = c.args in
     rw (p.1, p.2) (first-refused a.sizes a.codes.now a.s a.source.now masked a.g _ c.in_err-questions.ensures)
 
 pub overflow_add-at : goal.overflow_add-at
-overflow_add-at c = omega (arith, many-most c.table_kind-kind.result c.twin-a.result c.twin-b.result c.count-many.ensures)
+overflow_add-at c = omega (arith, many-most c.kind_in-kind.result c.twin-a.result c.twin-b.result c.count-many.ensures)
 
 pub returns-then-room-at : goal.returns-then-room-at
 returns-then-room-at c = λ masked lm. let a = c.args in
-    list_full a.sizes a.codes.now a.s a.source.now masked a.g c.in_ok-questions.ensures c.table_kind-kind.ensures c.twin-a.ensures c.twin-b.ensures c.count-many.ensures
+    list_full a.sizes a.codes.now a.s a.source.now masked a.g c.in_ok-questions.ensures c.kind_in-kind.ensures c.twin-a.ensures c.twin-b.ensures c.count-many.ensures
     (omega (arith, lm))
 
 pub returns-then-at-many-gt-MOST : goal.returns-then-at-many-gt-MOST
 returns-then-at-many-gt-MOST c = λ masked lm. let a = c.args in
-    too_many a.sizes a.codes.now a.s a.source.now masked a.g c.in_ok-questions.ensures c.table_kind-kind.ensures c.twin-a.ensures c.twin-b.ensures c.count-many.ensures
+    too_many a.sizes a.codes.now a.s a.source.now masked a.g c.in_ok-questions.ensures c.kind_in-kind.ensures c.twin-a.ensures c.twin-b.ensures c.count-many.ensures
     (omega arith)
 
 pub returns : goal.returns
 returns c = λ masked lm. let a = c.args in
-    rw c.source.ensures (admits a.sizes a.codes.now a.s a.source.now masked a.g c.in_ok-questions.ensures c.table_kind-kind.ensures c.twin-a.ensures c.twin-b.ensures c.count-many.ensures
+    rw c.source.ensures (admits a.sizes a.codes.now a.s a.source.now masked a.g c.in_ok-questions.ensures c.kind_in-kind.ensures c.twin-a.ensures c.twin-b.ensures c.count-many.ensures
     refl c.twin.ensures (omega (arith, lm)) (omega arith))

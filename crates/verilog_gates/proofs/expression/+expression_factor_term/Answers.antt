@@ -2,7 +2,6 @@ use Rattle.std.proofs.Common.{arith, refl, ap, ◌∙◌}
 use Rattle.verilog_tokens.specs.declared.Kind.TheVariants.{Xor, And, Name, Open}
 use Rattle.verilog_tokens.specs.Kind.{number_of}
 use Rattle.verilog_tokens.proofs.KindTests.{this_number, other_number, not_number}
-use lib.Dec.{lit<}
 use Rattle.verilog_gates.proofs.Joins.{terms-start, terms-more, terms-end, factors-start, factors-more, factors-end, behind-on, behind-ready, sign-some, operand_behind, factor-name, factor-group, factor-none}
 use Rattle.verilog_gates.proofs.expression.+expression_factor_term.Goals as goal
 
@@ -17,7 +16,7 @@ expression-term-v-requires t c =
 pub expression-put-requires : goal.expression-put-requires
 expression-put-requires t c =
     let s = c.loop-names.invariant.onward _ (terms-start _ _ _ _ _ c.term-left.ensures) in
-    (omega (arith, c.term-v.ensures.more, s.more, c.requires.first), lit< tt)
+    omega (arith, c.term-v.ensures.more, s.more, c.requires.first)
 
 pub expression-overflow_add-left : goal.expression-overflow_add-left
 expression-overflow_add-left t c =
@@ -61,7 +60,7 @@ term-factor-v-requires t c =
 pub term-put-requires : goal.term-put-requires
 term-put-requires t c =
     let s = c.loop-names.invariant.onward _ (factors-start _ _ _ _ _ c.factor-left.ensures) in
-    (omega (arith, c.factor-v.ensures.more, s.more, c.requires.first), lit< tt)
+    omega (arith, c.factor-v.ensures.more, s.more, c.requires.first)
 
 pub term-overflow_add-left : goal.term-overflow_add-left
 term-overflow_add-left t c =

@@ -4,20 +4,17 @@ use mathlib.Core.List.{List}
 use Prim.Native.Nat.{ℕ, ◌+◌, ◌*◌, ◌≤◌, ◌<◌}
 use lib.ListN.{length, get_or}
 use lib.Seq.{length-take-le, get_or-take}
-use Rattle.netlist.specs.Table.{tables}
 use Rattle.check_counts.specs.Paint.{codes_of}
-use Rattle.wide_sets.specs.Packed.{sets}
 use Rattle.wide_colours.specs.Colours.{Upto, Seeded}
 use Rattle.wide_search.specs.Items.{item_set, Serving}
 use Rattle.wide_search.proofs.Passes.{codes-plain, codes-upto, skipped, passed, lower-wire, lower-pair}
 use native.Mathlib.Omega.{arith}
+use Rattle.gate_table.specs.Gates.{tables_of}
+use Rattle.wide_sets.specs.WireSets.{sets_of}
 use Rattle.wide_search.proofs.pass.pass.Goals as goal
 
 pub returns-then-marked : goal.returns-then-marked
 returns-then-marked c = (omega arith, omega arith, λ o n N G l k J. skipped (sym c.marked.ensures ∙ c.if-marked.true) J)
-
-pub serve_all-requires : goal.serve_all-requires
-serve_all-requires c = (omega (arith, c.requires.wired.1), c.requires.wired.2, c.requires.wired.3, c.requires.wired.4)
 
 pub most-requires : goal.most-requires
 most-requires c =
@@ -27,46 +24,30 @@ most-requires c =
     c.lay.ensures)
     (codes-upto c.args.codes.now c.requires.paints_len.5)))
 
-pub overflow_mul-limit : goal.overflow_mul-limit
-overflow_mul-limit c = omega (arith, c.requires.paints_len.7)
-
-pub slice_bounds-find-end : goal.slice_bounds-find-end
-slice_bounds-find-end c = sym (length-take-le _ _ (omega (arith, c.requires.paints_len.7)))
-
-pub find-found-requires : goal.find-found-requires
-find-found-requires c =
+pub find-found-requires-clause-paints_in_bounds : goal.find-found-requires-clause-paints_in_bounds
+find-found-requires-clause-paints_in_bounds c =
     let p = c.requires.paints_len in
     let a = c.args in
     let long = c.serve_all.auto.paints ∙
     c.seed.auto.paints ∙ c.lay.auto.paints ∙ p.0 in
-    let two : 2 * a.worst.pair ≤ length a.pairs.now = omega (arith, p.7) in
-    let e = length-take-le (2 * a.worst.pair) a.pairs.now two in
-    record {
-      wired = c.requires.wired.0;
-      paints_in_bounds = (
-        omega (arith, p.2, long),
-        p.3,
-        p.4,
-        c.blocks_of-blocks.ensures.1,
-        p.6,
-        λ i l. let g = get_or-take (2 * a.worst.pair) a.pairs.now i 0 (omega (arith, l, e)) in
-            omega (arith, g, c.requires.wired.3 i (omega (arith, l, e, two)), p.1),
-      );
-    }
-
-pub shape_of-paints : goal.shape_of-paints
-shape_of-paints c =
-    c.serve_all.auto.paints ∙
-    c.seed.auto.paints ∙
-    c.lay.auto.paints
+    let two : 2 * a.worst.pair ≤ length a.items.pairs.now = omega (arith, p.7) in
+    let e = length-take-le (2 * a.worst.pair) a.items.pairs.now two in (
+      omega (arith, p.2, long),
+      p.3,
+      p.4,
+      c.blocks_of-blocks.ensures.1,
+      p.6,
+      λ i l. let g = get_or-take (2 * a.worst.pair) a.items.pairs.now i 0 (omega (arith, l, e)) in
+          omega (arith, g, a.items.below i (omega (arith, l, e, two)), p.1),
+    )
 
 pub returns : goal.returns
 returns c =
     let p = c.requires.paints_len in
     let a = c.args in
-    let S = sets a.set0.now a.set1.now a.set2.now a.set3.now in
+    let S = sets_of a.items.sets in
     let W = length a.words.now in
-    let ws = a.pairs.now in
+    let ws = a.items.pairs.now in
     let lay = c.lay in
     let seed = c.seed in
     let serve = c.serve_all in
@@ -76,26 +57,26 @@ returns c =
     let ms = serve.new.marks in
     let plain : codes_of ps ≡ a.codes.now = serve.ensures.kept.coloured.codes ∙ seed.ensures.coloured.codes ∙ ap codes_of lay.ensures ∙ codes-plain
     a.codes.now p.5 in
-    let item = c.set-m.ensures.0 ∙ ap (λ (Y : ℕ). item_set S ws Y (a.start + a.x)) p.1 in
+    let item = c.set-m.ensures ∙ ap (λ (Y : ℕ). item_set S ws Y (a.start + a.x)) p.1 in
     let seeded = subst (λ (is : List ℕ). Seeded is ps₀ ps₁) item seed.ensures in
     let served = subst (λ (Y : ℕ). Serving S ws Y a.start a.marks.now ms ps₁ ps) p.1 serve.ensures in
-    let below : (i : ℕ) → i < length ws → get_or ws i 0 < W = λ i l. omega (arith, c.requires.wired.3 i l, p.1) in
-    let t = tables a.operands.now a.results.now in
+    let below : (i : ℕ) → i < length ws → get_or ws i 0 < W = λ i l. omega (arith, c.args.items.below i l, p.1) in
+    let t = tables_of a.gates in
     let most = c.most in
     let even : 2 * a.worst.pair ≤ length ws = omega (arith, p.7) in
     let find = c.find-found in
     rw (c.limit.ensures, c.unwrap_or.ensures) (
-      lower-wire t a.count W S a.codes.now ws below p.2 ps plain most.result
+      lower-wire t a.gates.count W S a.codes.now ws below p.2 ps plain most.result
           c.blocks_of-blocks.result a.worst.wire
           a.worst.pair most.ensures.1
           c.blocks_of-blocks.ensures.0 even find.result
           find.ensures,
-      lower-pair t a.count W S a.codes.now ws below p.2 ps plain most.result
+      lower-pair t a.gates.count W S a.codes.now ws below p.2 ps plain most.result
           c.blocks_of-blocks.result a.worst.wire
           a.worst.pair most.ensures.1
           c.blocks_of-blocks.ensures.0 even find.result
           find.ensures,
-      λ o n N G l k J. passed t a.count W S a.codes.now ws below p.2 ps plain most.result
+      λ o n N G l k J. passed t a.gates.count W S a.codes.now ws below p.2 ps plain most.result
           c.blocks_of-blocks.result a.worst.wire
           a.worst.pair most.ensures.1
           c.blocks_of-blocks.ensures.0 even find.result

@@ -2,11 +2,11 @@
 use mathlib.Core.Path.{◌≡◌}
 use Prim.Native.Nat.{◌≤◌}
 use lib.ListN.{length}
-use Rattle.wide_sets.specs.Packed.{sets}
+use Rattle.wide_sets.specs.WireSets.{sets_of}
 use Rattle.wide_search.specs.Items.{Serving}
 use Rattle.wide_search.proofs.pass.serve_all.Given as goal
 
 abbrev pub invariant-loop-x : goal.invariant-loop-x
 invariant-loop-x l =
     (l.x ≤ l.count) × (length l.paints ≡ length l.initial.paints) ×
-    (length l.marks ≡ length l.initial.marks) × Serving (sets l.set0 l.set1 l.set2 l.set3) l.pairs (length l.set0) l.start l.initial.marks l.marks l.initial.paints l.paints
+    (length l.marks ≡ length l.initial.marks) × Serving (sets_of l.items.sets) l.items.pairs.now (length l.items.sets.set0.now) l.start l.initial.marks l.marks l.initial.paints l.paints

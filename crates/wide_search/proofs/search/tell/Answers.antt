@@ -12,77 +12,35 @@ use Rattle.wide_search.proofs.Answers.{seeded-wire, not-higher, leak-told}
 use native.Mathlib.Omega.{arith}
 use Rattle.wide_search.proofs.search.tell.Goals as goal
 
-pub seed-requires : goal.seed-requires
-seed-requires c =
-    let g = c.get-m.ensures in
-    (omega (arith, g.1, c.requires.wired.1.few c.args.wire), g.2)
-
-pub blocks_of-blocks-requires : goal.blocks_of-blocks-requires
-blocks_of-blocks-requires c = omega (arith, c.get-m.ensures.1, c.requires.wired.1.few c.args.wire)
-
-pub overflow_add-wire : goal.overflow_add-wire
-overflow_add-wire c =
-    omega (
-      arith,
-      c.requires.wired.2,
-      c.well_formed,
-    )
-
-pub find-found-requires : goal.find-found-requires
-find-found-requires c =
-    let p = c.requires.paints_len in
-    let long = c.seed.auto.paints ∙
-    c.lay.auto.paints ∙ p.0 in
-    record {
-      wired = c.requires.wired.0;
-      paints_in_bounds = (
-        omega (arith, p.2, long),
-        p.3,
-        p.4,
-        c.blocks_of-blocks.ensures.1,
-        omega (arith, c.requires.wired.2),
-        λ i l.
-            absurd (omega (arith, l)),
-      );
-    }
-
-pub pick-requires : goal.pick-requires
-pick-requires c =
-    let g = c.get-m.ensures in
-    (omega (arith, g.1, c.requires.wired.1.few c.args.wire), g.2)
-
-pub shape_of-paints : goal.shape_of-paints
-shape_of-paints c = c.seed.auto.paints ∙ c.lay.auto.paints
-
 pub returns-in_err-leak : goal.returns-in_err-leak
 returns-in_err-leak c =
     let a = c.args in
     let p = c.requires.paints_len in
-    let m = c.get-m.result in
+    let m = c.at-m.result in
     let ps = c.seed.new.paints in
     let cs = a.codes.now in
     let B = c.blocks_of-blocks.result in
     let plain : codes_of ps ≡ cs = c.seed.ensures.coloured.codes ∙ ap codes_of c.lay.ensures ∙ codes-plain cs p.5 in
-    let count = length-take-le m.count m.items (omega (arith, c.get-m.ensures.1, c.requires.wired.1.few a.wire, c.get-m.ensures.2.long)) in
+    let count = length-take-le m.count m.items (omega (arith, m.few, m.long)) in
     λ o pair ws N G L.
-    let f = seeded-wire cs G a.wire c.requires.wired.2 (take m.count m.items) c.lay.new.paints ps c.get-m.ensures.0
+    let f = seeded-wire cs G a.wire c.requires.wired.1 (take m.count m.items) c.lay.new.paints ps c.at-m.ensures.0
     (c.seed.auto.paints ∙ c.lay.auto.paints ∙ p.0) c.seed.auto.paints c.seed.ensures B m.count count c.blocks_of-blocks.ensures.0 in
-    absurd (not-higher G L c.requires.wired.2 p.2 ps plain f.1 B f.2 c.find-found.result.leak c.find-found.ensures.lowest (rw c.in_err-leak.was (omega arith)))
+    absurd (not-higher G L c.requires.wired.1 p.2 ps plain f.1 B f.2 c.find-found.result.leak c.find-found.ensures.lowest (rw c.in_err-leak.was (omega arith)))
 
 pub returns : goal.returns
 returns c =
     let a = c.args in
     let p = c.requires.paints_len in
-    let m = c.get-m.result in
+    let m = c.at-m.result in
     let ps = c.seed.new.paints in
     let cs = a.codes.now in
     let B = c.blocks_of-blocks.result in
     let leak = c.in_ok-leak.leak in
     let plain : codes_of ps ≡ cs = c.seed.ensures.coloured.codes ∙ ap codes_of c.lay.ensures ∙ codes-plain cs p.5 in
-    let count = length-take-le m.count m.items (omega (arith, c.get-m.ensures.1, c.requires.wired.1.few a.wire, c.get-m.ensures.2.long)) in
+    let count = length-take-le m.count m.items (omega (arith, m.few, m.long)) in
     λ o pair ws N G L.
-    let f = seeded-wire cs G a.wire c.requires.wired.2 (take m.count m.items) c.lay.new.paints ps c.get-m.ensures.0
+    let f = seeded-wire cs G a.wire c.requires.wired.1 (take m.count m.items) c.lay.new.paints ps c.at-m.ensures.0
     (c.seed.auto.paints ∙ c.lay.auto.paints ∙ p.0) c.seed.auto.paints c.seed.ensures B m.count count c.blocks_of-blocks.ensures.0 in
     ap (λ (js : List ℕ). some (record { wire = a.wire; ones = js; base = leak.base; own = leak.own }))
-    (c.pick.ensures.0 ∙ ap (λ (js : List ℕ). picked js leak.setting) f.0)
-    ∙ sym (leak-told G L c.requires.wired.2 p.2 ps plain f.1 B f.2 c.find-found.result.leak c.find-found.ensures.lowest leak c.in_ok-leak.was)
+    (c.pick.ensures ∙ ap (λ (js : List ℕ). picked js leak.setting) f.0)
+    ∙ sym (leak-told G L c.requires.wired.1 p.2 ps plain f.1 B f.2 c.find-found.result.leak c.find-found.ensures.lowest leak c.in_ok-leak.was)

@@ -5,4 +5,4 @@ use Rattle.write_wires.proofs.wire.wire.Goals as goal
 pub returns : goal.returns
 returns c =
     let p = c.requires in
-    stored _ p.1.six p.2 c.look-w.ensures (rw c.to_le_bytes.ensures at c.store.ensures)
+    stored _ p.0.six p.1 c.look-w.ensures (rw c.to_le_bytes.ensures at c.store.ensures)

@@ -1,7 +1,0 @@
--- Past the table's end nothing is stored.
-use mathlib.Core.Path.{sym}
-use lib.Seq.{set_out}
-use Rattle.verilog_gates.proofs.gates.keep.Goals as goal
-
-pub returns-else-at-table : goal.returns-else-at-table
-returns-else-at-table c = sym (set_out _ _ _ c.if-at-table.false)

@@ -1,0 +1,15 @@
+// What is to be served.
+ghost use Rattle.std.specs.Prelude.{ℕ, ◌<◌, length, get_or};
+ghost use Rattle.wide_sets.specs.WireSets.{sets_of};
+ghost use Rattle.wide_search.specs.Items.{PairsFew};
+
+use wide_sets::tables::WireSets;
+
+// The wires, by their sets, and the listed pairs of them; at most twelve inputs reach each.
+#[derive(Clone, Copy)]
+pub struct Items<'s, 'p> {
+    pub sets: WireSets<'s>,
+    pub pairs: &'p [u32],
+    ghost below: { (i : ℕ) → i < length pairs.now → get_or pairs.now i 0 < length sets.set0.now },
+    ghost few: { PairsFew (sets_of sets) pairs.now },
+}
