@@ -3,7 +3,7 @@ use mathlib.Core.Path.{sym, ◌∙◌}
 use Rattle.read_text.proofs.DigitByDigit as R
 use borrow.Author.Rules.{rules}
 use native.Mathlib.Omega.{arith}
-use Rattle.read_text.proofs.cursor.Cursor.take_number.Goals as goal
+use Rattle.read_text.proofs.number.take_number.Goals as goal
 
 pub returns-then-text-start : goal.returns-then-text-start
 returns-then-text-start c = R.first-none _ _ c.if-text-start.true
@@ -11,7 +11,7 @@ returns-then-text-start c = R.first-none _ _ c.if-text-start.true
 pub returns-then-not-is_digit : goal.returns-then-not-is_digit
 returns-then-not-is_digit c =
     let s = c.args in
-    R.first-other s.text.now s.self.at (search rules) (sym c.is_digit.ensures ∙ c.if-not-is_digit.true)
+    R.first-other s.text.now s.start (search rules) (sym c.is_digit.ensures ∙ c.if-not-is_digit.true)
 
 pub digit_value-v-requires : goal.digit_value-v-requires
 digit_value-v-requires c = sym c.is_digit.ensures ∙ c.if-not-is_digit.false
