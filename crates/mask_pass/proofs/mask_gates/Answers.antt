@@ -1,6 +1,6 @@
--- `mask_pass::masks` meets its contract.
+-- `mask_pass::mask_gates` meets its contract.
 use Rattle.write_gates.proofs.GateLines.{gates-then}
-use Rattle.mask_pass.proofs.masks.Goals as goal
+use Rattle.mask_pass.proofs.mask_gates.Goals as goal
 
 pub returns : goal.returns
 returns c =
