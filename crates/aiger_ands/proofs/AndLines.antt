@@ -87,7 +87,8 @@ module _ {ls left : List (List (List ℕ))} {xs : List ℕ} (L : LineAt ls 3 xs 
       let m = both_true r r' k.0 in
       (m.0, m.1, ap (can_give M given) (variable-plain (literal x) p.0 p.1) ∙ k.1)
 
-  pub and_no : ((readable given (literal (get_or xs 1 0)) ≡ true) × (readable given (literal (get_or xs 2 0)) ≡ true) × (can_give M given (literal (get_or xs 0 0)) ≡ true) → ⊥)
+  pub and_no : ((readable given (literal (get_or xs 1 0)) ≡ true) × (readable given (literal (get_or xs 2 0)) ≡ true)
+      × (can_give M given (literal (get_or xs 0 0)) ≡ true) → ⊥)
       → (a : AndLine) → at_front and_form ls ≡ some a → and_good M given a ≡ true → ⊥
   unfolding x y z
   and_no bad a e g = bad (admitted a e g)

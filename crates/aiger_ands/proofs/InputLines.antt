@@ -1,23 +1,22 @@
 -- The input lines, one after another.
 use Prim.Native.Nat.{ℕ, zero, suc, ◌+◌, ◌/◌, ◌%◌, ◌<◌}
 use mathlib.Core.Path.{◌≡◌, refl, sym, ap, ◌∙◌}
-use mathlib.Core.Bool.{true, false, not}
+use mathlib.Core.Bool.{true}
 use mathlib.Core.List.{List, [], ◌∷◌, ◌++◌}
 use mathlib.Core.Option.{Option, none, some}
 use native.Mathlib.Omega.{arith}
-use lib.Dec.{eqb, leb, ltb}
+use lib.Dec.{eqb, ltb}
 use lib.Seq.{drop-drop}
 use lib.ListN.{length, drop, get_or, set, replicate, length-append, length-set, length-replicate}
-use borrow.Author.Tests.{eqb-true, eqb-false, ltb-true, ltb-false, leb-true}
-use Rattle.netlist.specs.Lists.{member}
-use Rattle.netlist.proofs.Tests.{on_bool, both_true}
+use borrow.Author.Tests.{eqb-true, eqb-false, ltb-true, ltb-false}
+use Rattle.netlist.proofs.Tests.{on_bool}
 use Rattle.netlist.proofs.Questions.{none-some, some_same}
 use Rattle.aiger.specs.File.{Literal, constant, plain, inverse, literal}
 use Rattle.aiger.specs.Lines.{if_some, one_literal, variable, formed, input_line}
 use Rattle.aiger.specs.Rules.{fresh, can_give, giving, fresh_all}
 use Rattle.aiger.specs.Outputs.{enter}
 use Rattle.aiger.specs.Made.{up_from}
-use Rattle.aiger_lines.specs.LineAnswers.{LineNot, at_front, first_numbers, OneAt}
+use Rattle.aiger_lines.specs.LineAnswers.{LineNot, at_front, first_numbers}
 use Rattle.aiger_gates.specs.Places.{Places}
 use Rattle.aiger_ands.specs.StepAnswers.{InputAt}
 use Rattle.aiger.proofs.Making.{length-enter}
@@ -53,27 +52,6 @@ given-plain M given x e = on_bool (ltb x 2)
 pub input_none : {ls : List (List (List ℕ))} (M : ℕ) (given : List ℕ) → LineNot ls 1
     → (v : ℕ) → at_front input_line ls ≡ some v → fresh M given v ≡ true → ⊥
 input_none {ls} M given n v e f = let p = one_number (first_numbers ls) v (sym (front-input ls) ∙ e) in n.none (p.0 ∷ []) p.1 refl
-
-module _ {ls left : List (List (List ℕ))} {x : ℕ} (O : OneAt ls x left) (M : ℕ) (given : List ℕ) where
-  -- its number cannot be given
-  pub input-no : can_give M given (literal x) ≡ false → (v : ℕ) → at_front input_line ls ≡ some v → fresh M given v ≡ true → ⊥
-  input-no c v e f =
-      let p : variable (literal x) ≡ some v = sym (ap (λ (o : Option (List ℕ)). if_some (one_literal o) variable) O.line) ∙ sym (front-input ls) ∙ e in
-      not_so (sym c ∙ ap (can_give M given) (variable-plain (literal x) v p) ∙ f)
-
-  pub input-on : (wire : ℕ) (before after : List ℕ) → can_give M given (literal x) ≡ true → after ≡ set before (x / 2) (wire + 1)
-      → InputAt ls wire M given before after left
-  input-on wire before after c s =
-      let p : literal x ≡ plain (x / 2) = given-plain M given x c in
-      let f : fresh M given (x / 2) ≡ true = sym (ap (can_give M given) p) ∙ c in
-      record {
-        is = x / 2;
-        line = front-input ls ∙ ap (λ (o : Option (List ℕ)). if_some (one_literal o) variable) O.line ∙ ap variable p;
-        new = f;
-        low = leb-true (x / 2) M (both_true (leb (x / 2) M) (not (member (x / 2) given)) f).0;
-        table = s;
-        next = O.next;
-      }
 
 -- ---- line by line
 

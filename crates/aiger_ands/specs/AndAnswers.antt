@@ -32,7 +32,8 @@ gates_said (Some (k, l)) = k
 gates_said None = 0
 
 -- the first of some lines are so many AND lines that the rules admit, and the tables hold what is built of them
-pub record AndsAt (ls : List (List (List ℕ))) (lines M n : ℕ) (given wires table : List ℕ) (tabs : Tables) (many : ℕ) (left : List (List (List ℕ))) : Type 0 where
+pub record AndsAt (ls : List (List (List ℕ))) (lines M n : ℕ) (given wires table : List ℕ) (tabs : Tables) (many : ℕ)
+    (left : List (List (List ℕ))) : Type 0 where
   pub are : List AndLine
   pub form : formed and_form lines ls ≡ some are
   pub good : ands_good M given are ≡ true

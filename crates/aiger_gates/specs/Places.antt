@@ -50,7 +50,8 @@ OperandIs table t u n count x wire next = (given wires : List ℕ) (gs : List Ga
 abbrev pub AndIs : List ℕ → Tables → Tables → ℕ → ℕ → ℕ → ℕ → ℕ → ℕ → Type 0
 AndIs table t u n count x y wire next = (given wires : List ℕ) (gs : List Gate) → Standing table t n count given wires gs
     → readable given (literal x) ≡ true → readable given (literal y) ≡ true → (v : ℕ)
-    → (wire ≡ (and_made (wire_at wires) (line_of v x y) (n + count)).wire) × Added table u n next given wires gs (and_made (wire_at wires) (line_of v x y) (n + count))
+    → (wire ≡ (and_made (wire_at wires) (line_of v x y) (n + count)).wire)
+    × Added table u n next given wires gs (and_made (wire_at wires) (line_of v x y) (n + count))
 
 -- the kind of an output that is no constant
 abbrev pub out_kind : ℕ → Kind

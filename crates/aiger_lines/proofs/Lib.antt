@@ -1,3 +1,4 @@
 -- Laws of lines.
 pub mod Strays
 pub mod NumberLines
+pub mod Places

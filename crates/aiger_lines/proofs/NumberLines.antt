@@ -6,7 +6,7 @@ use mathlib.Core.List.{List, [], ◌∷◌, ◌++◌}
 use mathlib.Core.Option.{Option, none, some}
 use native.Mathlib.Omega.{arith}
 use lib.Dec.{eqb}
-use lib.ListN.{length, take, drop, set, get_or, length-set, length-append, length-drop}
+use lib.ListN.{length, take, drop, set, length-set, length-append, length-drop}
 use borrow.Author.Tests.{eqb-true}
 use Rattle.netlist.specs.Text.{space, lf, cr, at_lf, is_line_end, is_space}
 use Rattle.netlist.specs.Number.{number}
@@ -16,9 +16,8 @@ use Rattle.netlist.proofs.Questions.{none-some, some_same}
 use Rattle.netlist.proofs.LineEnds.{NoCR}
 use Rattle.read_text.specs.Line.{in_word, take_while, drop_while, past_space, line_words, next_word, past_word, after_line, is_empty, Scanned, EndAt, LineTaken}
 use Rattle.read_text.specs.Answers.{word_from, behind_word, WholeAt, NumberAt}
-use Rattle.read_text.specs.declared.cursor.Cursor.{Cursor}
 use Rattle.std.specs.Prelude as P
-use Rattle.read_text.proofs.Answering.{number-line, number_word, no_number}
+use Rattle.read_text.proofs.Answering.{number-front, number-after, no_number}
 use Rattle.read_text.proofs.DigitByDigit.{whole-next}
 use Rattle.read_text.proofs.Scans.{dropped-head}
 use Rattle.read_text.proofs.Splitting.{add_line, add_word, words_step, skip-words, skip-after}
@@ -99,7 +98,7 @@ joined_length ns none xs e = absurd (none-some xs e)
 joined_length ns (some ms) xs e = (ms, refl, ap length (sym (some_same (ns ++ ms) xs e)) ∙ length-append ns ms)
 
 numbers_on : (t : List ℕ) (at v to : ℕ) → NumberAt t at v to → numbers (line_words (drop at t)) ≡ cons_option (some v) (numbers (line_words (drop to t)))
-numbers_on t at v to a = ap numbers (number_word t at v to a) ∙ rw a.value
+numbers_on t at v to a = ap numbers (number-front (drop at t) v (drop to t) a.value a.left) ∙ rw a.value
 
 -- ---- past spaces
 
@@ -192,10 +191,9 @@ whole_before t q v to h w =
     omega arith
 
 module _ (t : List ℕ) (p q : ℕ) (s : Scanned is_plain t p q) where
-  number_at : (v : ℕ) (c : Cursor) → WholeAt t q v c.at → NumberAt t p v c.at
+  number_at : (v c : ℕ) → WholeAt t q v c → NumberAt t p v c
   number_at v c w =
-      whole-next t p q (P.Some (v, c))
-      (record { left = word-still (drop q t) v w.value ∙ ap (drop_while is_space) s.left ∙ plain-space (drop p t); on = s.on; within = s.within }) w
+      whole-next t p q (record { left = word-still (drop q t) v w.value ∙ ap (drop_while is_space) s.left ∙ plain-space (drop p t); on = s.on; within = s.within }) v c w
 
   -- no number stands behind them, and no CR but before LF
   number-none : is_stray (drop q t) ≡ false → number (word_from t q) ≡ none → number (next_word (drop p t)) ≡ none
@@ -304,18 +302,18 @@ module _ {t : List ℕ} {at n : ℕ} {into : List ℕ} {p i : ℕ} (N : Numberin
   front = take-length into i (omega (arith, N.few, N.size))
 
   -- one more number
-  pub numbering-more : (v : ℕ) (c : Cursor) → i < n → WholeAt t q v c.at → Numbering t at n (set into i v) c.at (i + 1)
+  pub numbering-more : (v c : ℕ) → i < n → WholeAt t q v c → Numbering t at n (set into i v) c (i + 1)
   numbering-more v c h w =
       let a = number_at t p q s v c w in
       record {
-        line = N.line ∙ ap (joined (take i into)) (numbers_on t p v c.at a) ∙ joined-more (take i into) v (numbers (line_words (drop c.at t)))
-            ∙ ap (λ (ns : List ℕ). joined ns (numbers (line_words (drop c.at t)))) (sym (take-set into i v (omega (arith, N.size))));
-        after = number-line t p v c.at a ∙ N.after;
+        line = N.line ∙ ap (joined (take i into)) (numbers_on t p v c a) ∙ joined-more (take i into) v (numbers (line_words (drop c t)))
+            ∙ ap (λ (ns : List ℕ). joined ns (numbers (line_words (drop c t)))) (sym (take-set into i v (omega (arith, N.size))));
+        after = number-after (drop p t) v (drop c t) a.value a.left ∙ N.after;
         size = length-set into i v ∙ N.size;
         few = omega arith;
         on = omega (arith, N.on, a.on);
         within = a.within;
-        before = whole_before t q v c.at (plain-before t p q s N.before) w;
+        before = whole_before t q v c (plain-before t p q s N.before) w;
       }
 
   -- a CR that does not stand before LF
@@ -400,9 +398,3 @@ module _ (t : List ℕ) (at a : ℕ) (w : ToWord t at a) where
       ∙ ap (λ (r : List ℕ). file_line (drop a t) ∷ file_lines r) (sym h.next) in
       record { line = ap first_numbers l ∙ h.line; size = h.size; next = sym (ap (drop 1) l) }
   next-line n xs P.None one h = record { none = λ ys e z. h ys (word_first (drop a t) ys w.still (ap first_numbers w.lines ∙ e)) z }
-
--- a line of one number
-pub one_entry : (xs : List ℕ) → length xs ≡ 1 → xs ≡ get_or xs 0 0 ∷ []
-one_entry [] e = absurd (omega arith)
-one_entry (x ∷ []) e = refl
-one_entry (x ∷ (y ∷ ys)) e = absurd (omega arith)

@@ -62,9 +62,6 @@ stray-here (x ∷ xs) e = (rw e, go (is_line_end x) refl (after-shorter xs))
 
 -- ---- a line without such a CR
 
-end-no-cr : (x : ℕ) → is_line_end x ≡ true → eqb x cr ≡ false
-end-no-cr x e = ap (λ (y : ℕ). eqb y cr) (eqb-true x lf e)
-
 cr-no-end : (x : ℕ) → eqb x cr ≡ true → is_line_end x ≡ false
 cr-no-end x e = ap is_line_end (eqb-true x cr e)
 
@@ -129,7 +126,8 @@ after-ends (x ∷ xs) = go (eqb x cr) (at_lf xs) (is_line_end x) refl refl (afte
 pub file-step : (s : List ℕ) → file_lines s ≡ add_line (file_line s) (file_lines (after_line s))
 unfolding file_line file_lines
 file-step s =
-    first_step space_words refl (lf_ends s) ∙ ap (λ (u : List ℕ). add_line (space_words (first_line (lf_ends s))) (filled (map space_words (split is_line_end u)))) (after-ends s)
+    first_step space_words refl (lf_ends s) ∙ ap (λ (u : List ℕ). add_line (space_words (first_line (lf_ends s)))
+    (filled (map space_words (split is_line_end u)))) (after-ends s)
 
 add_same : (a b : List (List ℕ)) (ls : List (List (List ℕ))) → add_line a ls ≡ add_line b ls → a ≡ b
 add_same [] [] ls e = refl

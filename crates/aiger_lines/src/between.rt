@@ -1,10 +1,11 @@
 // What stands between words and lines.
 ghost use Rattle.std.specs.Prelude.{◌≡◌, ◌<◌, ◌≤◌, length, drop};
-ghost use Rattle.read_text.specs.Line.{Scanned};
+ghost use Rattle.read_text.specs.Cursors.{Scanned};
 ghost use Rattle.aiger_lines.specs.Stray.{is_plain, is_stray, is_between, stray_at, ToWord};
 
-use read_text::cursor::{Cursor, is_blank};
+use read_text::cursor::Cursor;
 use read_text::ends::{is_cr, is_line_end};
+use read_text::words::is_blank;
 
 // Whether a CR stands at a place, and no LF behind it.
 pub fn is_stray(text: &[u8], i: usize) -> bool
@@ -22,22 +23,21 @@ fn is_between(text: &[u8], i: usize) -> bool
 }
 
 // Past spaces and line ends.
-pub fn to_word(text: &[u8], at: Cursor) -> Cursor
-    requires { at.at ≤ stray_at text.now }
-    ensures { ToWord text.now at.at result.at }
+pub fn to_word(text: &[u8], at: usize) -> usize
+    requires { at ≤ stray_at text.now }
+    ensures { ToWord text.now at result }
 {
-    for i in at.at..text.len() {
+    for i in at..text.len() {
         if !is_between(text, i) {
-            return Cursor { at: i };
+            return i;
         }
     }
-    Cursor { at: text.len() }
+    text.len()
 }
 
 // Past spaces.
-pub fn past_spaces(text: &[u8], at: Cursor) -> Cursor
-    requires { at.at ≤ length text.now }
-    ensures { Scanned is_plain text.now at.at result.at }
+pub fn past_spaces(at: Cursor) -> Cursor
+    ensures { Scanned is_plain at.entry result }
 {
-    at.pass(text, |b| b == b' ')
+    at.pass(|b| b == b' ')
 }

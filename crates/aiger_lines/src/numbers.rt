@@ -13,17 +13,18 @@ impl Lines<'_> {
         ensures line { FileLineIs (drop self.entry.at self.entry.text.now) (length into.old) into.new result }
         ensures behind { BehindIs self.entry result }
     {
-        let mut p = Cursor { at: self.at };
+        let text = self.text;
+        let mut at = self.at;
         for entry in into.iter_mut() {
-            let (v, next) = past_spaces(self.text, p).take_number(self.text)?;
+            let (v, next) = past_spaces(Cursor { text, at }).take_number()?;
             *entry = v;
-            p = next;
+            at = next.at;
         }
-        let end = past_spaces(self.text, p);
-        if is_stray(self.text, end.at) {
+        let end = past_spaces(Cursor { text, at });
+        if is_stray(text, end.at) {
             return None;
         }
-        let next = end.line_end(self.text)?;
+        let next = end.line_end()?;
         Some(Lines {
             text: self.text,
             at: next.at,
@@ -36,10 +37,10 @@ impl Lines<'_> {
         ensures line { LineIs (lines_left self.entry) (length into.old) into.new result }
         ensures behind { BehindIs self.entry result }
     {
-        let word = to_word(self.text, Cursor { at: self.at });
+        let at = to_word(self.text, self.at);
         let lines = Lines {
             text: self.text,
-            at: word.at,
+            at,
         };
         lines.numbers(into)
     }

@@ -1,12 +1,12 @@
 -- Marks on the variables that output lines put out.
 use Prim.Native.Nat.{ℕ, ◌+◌, ◌/◌, ◌<◌, ◌≤◌}
-use mathlib.Core.Path.{◌≡◌, refl, sym, ap, ◌∙◌}
+use mathlib.Core.Path.{◌≡◌, sym, ap, ◌∙◌}
 use mathlib.Core.Bool.{true}
 use mathlib.Core.List.{List, [], ◌∷◌, ◌++◌}
 use mathlib.Core.Option.{some}
 use native.Mathlib.Omega.{arith}
 use lib.Dec.{eqb, ltb}
-use lib.ListN.{length, get_or, set, replicate}
+use lib.ListN.{length, get_or, set}
 use lib.Seq.{get_or-set_same, get_or-set_other}
 use borrow.Author.Count.{below_more}
 use borrow.Author.Tests.{eqb-true, eqb-false, ltb-true, ltb-false}
@@ -20,14 +20,10 @@ use Rattle.aiger_lines.specs.LineAnswers.{at_front, LineNot, OneAt}
 use Rattle.aiger_gates.specs.Places.{Places}
 use Rattle.aiger_gates.proofs.Placing.{literal-low, literal-readable}
 use Rattle.aiger_ands.proofs.LineByLine.{Split, formed-split}
-use Rattle.aiger_ands.proofs.InputLines.{zeros-at}
 use Rattle.aiger_outputs.specs.OutAnswers.{marked, PutOut, UpTo, MarksAt}
 use Rattle.aiger_outputs.proofs.OutLines.{output-line, literals-more, literals-no, every-snoc, every_front, every_here}
 
 -- ---- marks
-
-out_none : (M n : ℕ) → PutOut M (replicate n 0) []
-out_none M n = record { needed = λ given e v l m. let z = zeros-at n v in absurd (omega arith); enough = λ given a. refl }
 
 module _ {M : ℕ} {marks : List ℕ} {are : List Literal} (P : PutOut M marks are) (x : ℕ) (up : x / 2 ≤ M) (inside : x / 2 < length marks) where
   out-constant : x < 2 → PutOut M marks (are ++ (literal x ∷ []))

@@ -17,7 +17,7 @@ use Rattle.netlist.proofs.Accepted.{accepted}
 use Rattle.netlist.proofs.Answering.{call-refused, call-goes-on}
 use Rattle.netlist.proofs.Questions.{done-same}
 use Rattle.netlist.proofs.Tests.{clash}
-use Rattle.read_header.specs.declared.HeaderNumbers.{HeaderNumbers}
+use Rattle.read_header.specs.declared.header.Header.{Header}
 use Rattle.read_netlist.specs.Whole.{ReadAt}
 use Rattle.check_netlist.specs.Judge.{codes_asked}
 use Rattle.certify_netlist.specs.declared.Verdict.{Verdict}
@@ -54,7 +54,7 @@ module _ (s : Sizes) (text codes o r g w b t : List ℕ) where
       record { refused = λ k f. (ap {B = Outcome Verdict} refused (same-question (sym e ∙ f)), refl, refl); judged = λ N f. no-netlist (sym e ∙ f) }
 
   -- or the netlist is judged
-  pub answer-read : {ins outs : List ℕ} {tabs : Tables} {h : HeaderNumbers} {leak leak' ones ones' : List ℕ} {a : Result Verdict Question}
+  pub answer-read : {ins outs : List ℕ} {tabs : Tables} {h : Header} {leak leak' ones ones' : List ℕ} {a : Result Verdict Question}
       → (tables_long (large s) lengths ≡ true) × ReadAt (large s) text ins outs tabs h
       → ((N : Netlist) → Holds tabs h.gates h.wires h.input_bits h.output_bits N → take h.input_values ins ≡ N.inputs → WellFormed N
       → JudgedAs N codes leak leak' ones ones' a)

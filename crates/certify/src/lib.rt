@@ -45,8 +45,9 @@ fn answer(
         results,
         count: h.gates as usize,
     };
+    let widths = &inputs[..h.input_values];
     certify_netlist::judge(
-        h, inputs, codes, leak, ones, gates, marks, words, base, records,
+        h, widths, codes, leak, ones, gates, marks, words, base, records,
     )
 }
 

@@ -17,7 +17,7 @@ ghost use Rattle.certify_netlist.specs.Judge.{Judged, JudgedAs};
 use check_leak::difference::Leak;
 use gate_table::Gates;
 use netlist::Question;
-use read_header::HeaderNumbers;
+use read_header::header::Header;
 
 // What the certifier says of a netlist: every wire is clean; or a leak, whose numbers and input bits are told; or the lowest wire not
 // known to be clean is told.
@@ -126,8 +126,8 @@ fn decide(
 
 // Questions 10 and 11 and the verdict, from a header's numbers, its input widths and its gates.
 pub fn judge(
-    h: HeaderNumbers,
-    widths: [u32; 17],
+    h: Header,
+    widths: &[u32],
     codes: &[u8],
     leak: &mut [u64],
     ones: &mut [u64],
@@ -138,14 +138,13 @@ pub fn judge(
     records: &mut [u64],
 ) -> Certified
     requires wired { WiredGates gates h.wires }
-    requires input_values_bound { (h.input_values ≤ 17) × (h.input_bits ≡ sum (take h.input_values widths)) × (h.input_bits ≤ h.wires)
-        × (h.wires ≤ length marks.old) × (h.wires ≤ length words.old) × (h.wires ≤ length base.old)
-        × (15 * h.wires ≤ length records.old) }
+    requires input_bits_sum { (h.input_bits ≡ sum widths.now) × (h.wires ≤ length marks.old) × (h.wires ≤ length words.old)
+        × (h.wires ≤ length base.old) × (15 * h.wires ≤ length records.old) }
     ensures { (N : Netlist) → HoldsGates gates.entry h.wires h.input_bits h.output_bits N
-        → take h.input_values widths ≡ N.inputs → WellFormed N
+        → widths.now ≡ N.inputs → WellFormed N
         → JudgedAs N codes.now leak.old leak.new ones.old ones.new result }
 {
-    check_netlist::ask_codes(h, widths, codes)?;
+    check_netlist::ask_codes(h.input_bits, widths, codes)?;
     decide(
         h.wires as usize,
         codes,

@@ -8,7 +8,7 @@ use lib.ListN.{length, get_or, set, take, drop, length-set, length-map}
 use lib.Seq.{take_at}
 use Rattle.netlist.specs.Eval.{differs}
 use Rattle.netlist.specs.Leak.{mask_of}
-use Rattle.netlist.proofs.Laid.{Laid, laid_none, laid_more, laid-all}
+use Rattle.netlist.proofs.Laid.{Laid, laid_more, laid-all}
 use Rattle.evaluate.specs.Lane.{lane, lanes}
 use Rattle.evaluate.proofs.Steps.{set-lanes}
 use Rattle.check_counts.specs.Paint.{code_of, colour_of, shade}
@@ -31,9 +31,6 @@ module _ (ps : List ℕ) (secrets : Bool) (block : ℕ) where
     pub passed : i ≤ length ps + 2
     pub long : length ws ≡ length ws₀
     pub each : (j : ℕ) → j < 64 → Laid false (source j) (lanes j ws₀) (lanes j ws) i
-
-  pub loaded-none : (ws : List ℕ) → Loaded ws ws 0
-  loaded-none ws = record { passed = omega arith; long = refl; each = λ j l. laid_none false (source j) (lanes j ws) }
 
   module _ (ws₀ ws : List ℕ) (room : length ps + 2 ≤ length ws₀) where
     put : (i w : ℕ) → Loaded ws₀ ws i → i < length ps + 2 → ((j : ℕ) → j < 64 → lane j w ≡ get_or (source j) i false)

@@ -30,9 +30,6 @@ xor-nibble a b s =
 pub same-counts : {x a b : ℕ} → eqb x 0 ≡ eqb a b → x ≡ 0 → a ≡ b
 same-counts {x} {a} {b} e z = eqb-true a b (sym e ∙ eq-eqb x 0 z)
 
-pub other-counts : {x a b : ℕ} → eqb x 0 ≡ eqb a b → x ≢ 0 → a ≢ b
-other-counts {x} {a} {b} e n z = n (eqb-true x 0 (e ∙ eq-eqb a b z))
-
 pub no-nibble : {d : ℕ} (s : ℕ) → d ≡ 0 → nibble d s ≡ 0
 no-nibble s e = ap (λ (x : ℕ). nibble x s) e ∙ ap (λ (x : ℕ). x % 16) (zero-div (2 ^ (4 * s)))
 

@@ -1,7 +1,6 @@
 -- The search, block by block.
 use mathlib.Core.Path.{◌≡◌, refl, sym, ◌∙◌, subst}
 use Rattle.std.specs.Prelude.{Option, Some, None}
-use Rattle.std.specs.Option.{is_some}
 use mathlib.Core.Bool.{Bool, true, false}
 use mathlib.Core.List.{List}
 use Prim.Native.Nat.{ℕ, ◌+◌, ◌-◌, ◌*◌, ◌≤◌, ◌<◌}
@@ -18,10 +17,6 @@ use Rattle.check_counts.specs.Base.{count_in}
 use Rattle.check_counts.specs.Block.{Counted, Ready, Agree}
 use Rattle.check_leak.specs.Difference.{LowestDifference, Differing, wire_of, from}
 
--- no wire differs
-pub difference-none : (f g : ℕ → ℕ → ℕ) (W S : ℕ) → Agree f g W S → LowestDifference f g W S None
-difference-none f g W S h = record { lower = h; inside = λ p e. cc; differs = λ p e. cc }
-
 -- a wire that does
 pub difference-some : {f g : ℕ → ℕ → ℕ} {W S : ℕ} (p : Leak) → p.wire < W → Agree f g p.wire S → Differing f g S p → LowestDifference f g W S (Some p)
 difference-some {f} {g} {W} {S} p l a d = record {
@@ -29,11 +24,6 @@ difference-some {f} {g} {W} {S} p l a d = record {
   inside = λ q e. let same : p ≡ q = cc in subst (λ (r : Leak). r.wire < W) same l;
   differs = λ q e. let same : p ≡ q = cc in subst (Differing f g S) same d;
 }
-
--- where none is found, no wire differs
-pub none-agree : {f g : ℕ → ℕ → ℕ} {W S : ℕ} (found : Option Leak) → is_some found ≡ false → LowestDifference f g W S found → Agree f g W S
-none-agree None e h = h.lower
-none-agree (Some p) e h = cc
 
 -- a leak stands on one of the wires
 pub wire-within : {f g : ℕ → ℕ → ℕ} {W S : ℕ} (found : Option Leak) → LowestDifference f g W S found → wire_of W found ≤ W
@@ -116,17 +106,6 @@ pub record Finding (t : Tables) (n W : ℕ) (ps : List ℕ) (publics : Bool) (bl
   pub ready : Ready publics (bare t n W) ps base block
   pub lowest : LowestDifference (count_in (bare t n W) false ps) (count_in (bare t n W) true ps) W (block * 16) best
 
-pub find_none : {t : Tables} {n W : ℕ} {ps : List ℕ} {publics : Bool} (blocks : ℕ) {words base : List ℕ} → length words ≡ W
-    → length base ≡ W → Ready publics (bare t n W) ps base 0
-    → Finding t n W ps publics blocks words base None 0
-find_none {t} {n} {W} {ps} blocks e d r = record {
-  passed = omega arith;
-  long-words = e;
-  long-base = d;
-  ready = r;
-  lowest = difference-none (count_in (bare t n W) false ps) (count_in (bare t n W) true ps) W 0 (λ w l s m. absurd (omega arith));
-}
-
 -- a block is searched, and the better of two spots kept
 pub find-more : {t : Tables} {n W : ℕ} {ps : List ℕ} {publics : Bool} {blocks : ℕ} {words base : List ℕ} {best : Option Leak} {block : ℕ}
     → Finding t n W ps publics blocks words base best block → block < blocks
@@ -151,10 +130,3 @@ find-more {t} {n} {W} {ps} {publics} {best = best} {block} r l us vs found next 
       ready = subst (λ (k : ℕ). Ready publics (bare t n k) ps vs (block + 1)) r.long-words ready;
       lowest = subst (λ (S : ℕ). LowestDifference f g W S next) q (better f g W r.lowest turned');
     }
-
-pub find-all : {t : Tables} {n W : ℕ} {ps : List ℕ} {publics : Bool} {blocks : ℕ} {words base : List ℕ} {best : Option Leak} {block : ℕ}
-    → Finding t n W ps publics blocks words base best block → blocks ≤ block
-    → LowestDifference (count_in (bare t n W) false ps) (count_in (bare t n W) true ps) W (blocks * 16) best
-find-all {t} {n} {W} {ps} {blocks = blocks} {best = best} {block} r l =
-    let e : block ≡ blocks = omega (arith, r.passed) in
-    subst (λ (k : ℕ). LowestDifference (count_in (bare t n W) false ps) (count_in (bare t n W) true ps) W (k * 16) best) e r.lowest

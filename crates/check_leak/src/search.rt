@@ -1,5 +1,5 @@
 // The search for a leak, block by block.
-ghost use Rattle.std.specs.Prelude.{◌≡◌, true, false, ℕ, ◌+◌, ◌*◌, ◌^◌, ◌<◌, ◌≤◌, length, get_or};
+ghost use Rattle.std.specs.Prelude.{◌≡◌, true, false, ℕ, ◌+◌, ◌*◌, ◌^◌, ◌<◌, ◌≤◌, length};
 ghost use Rattle.netlist.specs.Netlist.{Netlist};
 ghost use Rattle.netlist.specs.Leak.{leak};
 ghost use Rattle.netlist.specs.Services.{max_checked};
@@ -14,6 +14,7 @@ use crate::difference;
 use crate::difference::Leak;
 use check_counts::{block, paint};
 use gate_table::Gates;
+use lists::codes::Codes;
 
 // A block is run and searched, for wires below a limit.
 fn search_block(
@@ -71,16 +72,16 @@ pub fn blocks_of(k: usize) -> u64
     if k < 4 { 1 } else { 1 << (k - 4) }
 }
 
-// The leak of the tables' netlist under the input codes, or none: then it is clean. The words and
+// The leak of the gates' netlist under the input codes, or none: then it is clean. The words and
 // the base, one entry for each wire, are working store.
-pub fn leaks(gates: Gates, codes: &[u8], words: &mut [u64], base: &mut [u64]) -> Option<Leak>
+pub fn leaks(gates: Gates, codes: Codes, words: &mut [u64], base: &mut [u64]) -> Option<Leak>
     requires wired { WiredGates gates (length words.old) }
-    requires codes_len_bound { (length codes.now ≤ max_checked) × (length codes.now + 2 ≤ length words.old) × (length base.old ≡ length words.old)
-        × ((i : ℕ) → i < length codes.now → get_or codes.now i 0 < 4) }
+    requires codes_len_bound { (length codes.list.now ≤ max_checked) × (length codes.list.now + 2 ≤ length words.old)
+        × (length base.old ≡ length words.old) }
     ensures { (n o : ℕ) (N : Netlist) → HoldsGates gates.entry
-        (length words.old) n o N → found_of result ≡ leak N codes.now }
+        (length words.old) n o N → found_of result ≡ leak N codes.entry.list.now }
 {
     let paints = paint::each(codes);
-    let n = codes.len();
+    let n = codes.list.len();
     find(gates, &paints[..n], blocks_of(n), words, base)
 }

@@ -1,20 +1,20 @@
 -- Questions 10 to 12 of a netlist, and the core's verdict on it.
-use Prim.Native.Nat.{ℕ, zero, suc, ◌+◌, ◌-◌, ◌≤◌, ◌<◌}
-use mathlib.Core.Path.{◌≡◌, refl, sym, ◌∙◌}
-use mathlib.Core.Bool.{Bool, true, false}
+use Prim.Native.Nat.{ℕ, zero, suc, ◌+◌, ◌-◌, ◌≤◌}
+use mathlib.Core.Path.{◌≡◌, sym, ◌∙◌}
+use mathlib.Core.Bool.{true}
 use mathlib.Core.List.{List, [], ◌∷◌}
 use mathlib.Core.Option.{Option}
 use native.Mathlib.Omega.{arith}
-use lib.Dec.{eqb, leb, eqb→eq, leb→le}
+use lib.Dec.{eqb, leb, eqb→eq}
 use lib.ListN.{length, get_or}
-use borrow.Author.Tests.{le-leb, lt-leb}
+use borrow.Author.Tests.{le-leb}
 use Rattle.netlist.specs.Lists.{every, sum}
 use Rattle.netlist.specs.Netlist.{Netlist}
-use Rattle.netlist.specs.Outcome.{Outcome, refused, done, ask}
+use Rattle.netlist.specs.Outcome.{Outcome, done}
 use Rattle.netlist.specs.Mask.{is_input_code}
 use Rattle.netlist.specs.Leak.{Found, leak}
 use Rattle.netlist.specs.Services.{list_good, ends_in_masks, max_checked, check_outcome}
-use Rattle.netlist.proofs.Tests.{both, is_true, true-T, every-at, clash}
+use Rattle.netlist.proofs.Tests.{both, is_true, true-T}
 use Rattle.netlist.proofs.Questions.{ask-done}
 use Rattle.check_netlist.specs.Judge.{codes_asked}
 
@@ -56,30 +56,7 @@ module _ (ws codes : List ℕ) where
       let l = codes-length (sum ws - 2) codes p.1 in
       omega arith
 
-  -- and each is one of the four codes
-  pub asked-codes : codes_asked ws codes ≡ done tt → (i : ℕ) → i < length codes → get_or codes i 0 < 4
-  asked-codes e i l =
-      let g = both (eqb (length codes) (sum ws - 2)) (every is_input_code codes) (true-T (list_good is_input_code (sum ws - 2) codes) (asked-passed e).1) in
-      let h = leb→le (get_or codes i 0) 3 (every-at is_input_code codes g.1 i l) in
-      omega arith
-
-  -- one of them refuses, whatever would follow
-  pub asked-refused : {A : Type 0} {q : ℕ} (o : Outcome A) → codes_asked ws codes ≡ refused q
-      → refused q ≡ ask 10 (ends_in_masks ws) (ask 11 (list_good is_input_code (sum ws - 2) codes) o)
-  asked-refused {A} {q} o = go (ends_in_masks ws) (list_good is_input_code (sum ws - 2) codes)
-    where
-      go : (a b : Bool) → ask 10 a (ask 11 b (done (tt {0}))) ≡ refused q → refused q ≡ ask 10 a (ask 11 b o)
-      go false b e = let z : 10 ≡ q = cc in cc
-      go true false e = let z : 11 ≡ q = cc in cc
-      go true true e = clash (cc)
-
 module _ (N : Netlist) (codes ws : List ℕ) (widths : ws ≡ N.inputs) where
-  pub outcome-refused : {q : ℕ} → refused q ≡ codes_asked ws codes → refused q ≡ check_outcome codes N
-  outcome-refused e = asked-refused ws codes (ask 12 (leb (length codes) max_checked) (done (leak N codes))) (sym e) ∙ rw widths refl
-
-  pub outcome-twelve : done tt ≡ codes_asked ws codes → max_checked < length codes → refused 12 ≡ check_outcome codes N
-  outcome-twelve e l = let p = asked-passed ws codes (sym e) in sym (rw (← widths, p.1, p.0, lt-leb (length codes) 12 l))
-
   pub outcome-told : {a : Outcome (Option Found)} → done tt ≡ codes_asked ws codes → length codes ≤ max_checked
       → a ≡ done (leak N codes) → a ≡ check_outcome codes N
   outcome-told e l p = let q = asked-passed ws codes (sym e) in p ∙ sym (rw (← widths, q.1, q.0, le-leb (length codes) 12 l))

@@ -9,6 +9,7 @@ use Rattle.netlist.specs.Outcome.{Outcome, refused, done, ask}
 use Rattle.netlist.specs.Mask.{is_input_code}
 use Rattle.netlist.specs.Services.{list_good, ends_in_masks, stands_for}
 use Rattle.netlist.specs.Leak.{Found, LowestLeak, Clean}
+use Rattle.lists.specs.declared.codes.Codes.{Codes}
 use Rattle.check_leak.specs.declared.difference.Leak.{Leak}
 use Rattle.check_leak.specs.Search.{found, found_of}
 
@@ -17,8 +18,8 @@ abbrev pub codes_asked : List ℕ → List ℕ → Outcome Unit
 codes_asked widths codes = ask 10 (ends_in_masks widths) (ask 11 (list_good is_input_code (sum widths - 2) codes) (done tt))
 
 -- what the answer to them stands for
-abbrev pub asked_of : Result Unit Question → Outcome Unit
-asked_of (Ok u) = done tt
+abbrev pub asked_of : Result Codes Question → Outcome Unit
+asked_of (Ok admitted) = done tt
 asked_of (Err q) = refused (number_of q)
 
 -- the outcome that an answer stands for

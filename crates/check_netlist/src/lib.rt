@@ -1,7 +1,7 @@
 // Questions 10 to 12 of a netlist that was read, and the verdict on it.
 #![tactic(auto)]
 
-ghost use Rattle.std.specs.Prelude.{◌≡◌, ◌≤◌, length, take};
+ghost use Rattle.std.specs.Prelude.{◌≡◌, ◌≤◌, length, IfOk};
 ghost use Rattle.netlist.specs.Lists.{sum};
 ghost use Rattle.netlist.specs.Netlist.{Netlist};
 ghost use Rattle.netlist.specs.Services.{ends_in_masks, check_outcome};
@@ -10,8 +10,9 @@ ghost use Rattle.check_netlist.specs.Judge.{asked_of, codes_asked, outcome_of};
 
 use check_leak::difference::Leak;
 use gate_table::Gates;
+use lists::codes::Codes;
 use netlist::Question;
-use read_header::HeaderNumbers;
+use read_header::header::Header;
 
 // The lowest leak, or none where the netlist is clean; or the first question that gets a no.
 pub type Checked = Result<Option<Leak>, Question>;
@@ -26,40 +27,40 @@ pub fn ends_in_masks(widths: &[u32]) -> bool
     matches!(widths, [_, .., 2])
 }
 
-// Questions 10 and 11, of the widths of the input values and the input codes.
-pub fn ask_codes(h: HeaderNumbers, widths: [u32; 17], codes: &[u8]) -> Result<(), Question>
-    requires { (h.input_values ≤ 17) × (h.input_bits ≡ sum (take h.input_values widths)) }
-    ensures { asked_of result ≡ codes_asked (take h.input_values widths) codes.now }
+// Questions 10 and 11, of the number of input bits, the widths of the input values and the input codes, which are then admitted.
+pub fn ask_codes<'a>(bits: u64, widths: &[u32], codes: &'a [u8]) -> Result<Codes<'a>, Question>
+    requires { bits ≡ sum widths.now }
+    ensures asked { asked_of result ≡ codes_asked widths.now codes.now }
+    ensures given { IfOk result (λ admitted. admitted.list.now ≡ codes.now) }
 {
-    if !ends_in_masks(&widths[..h.input_values]) {
+    if !ends_in_masks(widths) {
         return Err(Question::Masks);
     }
-    if !lists::valid_codes(codes, h.input_bits as usize - 2) {
+    if !lists::valid_codes(codes, bits as usize - 2) {
         return Err(Question::Inputs);
     }
-    Ok(())
+    Ok(Codes { list: codes })
 }
 
 // Questions 10 to 12 and the verdict, from a header's numbers, its input widths and its gates.
 pub fn judge(
-    h: HeaderNumbers,
-    widths: [u32; 17],
+    h: Header,
+    widths: &[u32],
     codes: &[u8],
     gates: Gates,
     words: &mut [u64],
     base: &mut [u64],
 ) -> Checked
     requires wired { WiredGates gates h.wires }
-    requires input_values_bound { (h.input_values ≤ 17) × (h.input_bits ≡ sum (take h.input_values widths)) × (h.input_bits ≤ h.wires)
-        × (h.wires ≤ length words.old) × (h.wires ≤ length base.old) }
+    requires input_bits_sum { (h.input_bits ≡ sum widths.now) × (h.wires ≤ length words.old) × (h.wires ≤ length base.old) }
     ensures { (N : Netlist) → HoldsGates gates.entry h.wires h.input_bits h.output_bits N
-        → take h.input_values widths ≡ N.inputs → outcome_of result ≡ check_outcome codes.now N }
+        → widths.now ≡ N.inputs → outcome_of result ≡ check_outcome codes.now N }
 {
-    ask_codes(h, widths, codes)?;
+    let admitted = ask_codes(h.input_bits, widths, codes)?;
     if MOST_BITS < codes.len() {
         return Err(Question::Settings);
     }
     let wires = h.wires as usize;
-    let found = check_leak::search::leaks(gates, codes, &mut words[..wires], &mut base[..wires]);
+    let found = check_leak::search::leaks(gates, admitted, &mut words[..wires], &mut base[..wires]);
     Ok(found)
 }

@@ -17,7 +17,7 @@ use Rattle.netlist.specs.Table.{Tables, Holds}
 use Rattle.netlist.proofs.Answering.{call-refused, call-goes-on}
 use Rattle.netlist.proofs.Questions.{done-same, ask-done, and_then-done}
 use Rattle.netlist.proofs.LeakSearch.{none-clean, found-lowest}
-use Rattle.read_header.specs.declared.HeaderNumbers.{HeaderNumbers}
+use Rattle.read_header.specs.declared.header.Header.{Header}
 use Rattle.read_netlist.specs.Whole.{ReadAt}
 use Rattle.check_leak.specs.declared.difference.Leak.{Leak}
 use Rattle.check_leak.specs.Search.{found, found_of}
@@ -40,7 +40,7 @@ module _ (s : Sizes) (text codes ws o r g w b z : List ℕ) where
   unfolding pairs_call
   call-not p = sym (call-refused (tables_long (large s) lengths) (read_netlist (large s) text) (pairs_outcome codes ws) p)
 
-  pub call-read : {ins outs : List ℕ} {tabs : Tables} {h : HeaderNumbers} {a : Outcome (BothAnswers Found)}
+  pub call-read : {ins outs : List ℕ} {tabs : Tables} {h : Header} {a : Outcome (BothAnswers Found)}
       → (tables_long (large s) lengths ≡ true) × ReadAt (large s) text ins outs tabs h
       → ((N : Netlist) → Holds tabs h.gates h.wires h.input_bits h.output_bits N → take h.input_values ins ≡ N.inputs → a ≡ pairs_outcome codes ws N)
       → a ≡ call s text codes ws o r g w b z

@@ -45,7 +45,8 @@ fn answer(
         results,
         count: h.gates as usize,
     };
-    pairs_judge::judge(h, inputs, codes, pairs, gates, words, base, bases)
+    let widths = &inputs[..h.input_values];
+    pairs_judge::judge(h, widths, codes, pairs, gates, words, base, bases)
 }
 
 // Whether the netlist in `text` is clean under the input codes, and each pair of wires: pair j is entries 2j and 2j + 1 of `pairs`.

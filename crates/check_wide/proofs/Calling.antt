@@ -23,7 +23,7 @@ use Rattle.netlist.proofs.Answering.{call-refused, call-goes-on}
 use Rattle.netlist.proofs.Questions.{done-same, ask-done, and_then-done}
 use Rattle.netlist.proofs.LeakSearch.{none-clean, found-lowest}
 use Rattle.netlist.proofs.Tests.{clash}
-use Rattle.read_header.specs.declared.HeaderNumbers.{HeaderNumbers}
+use Rattle.read_header.specs.declared.header.Header.{Header}
 use Rattle.read_netlist.specs.Whole.{ReadAt}
 use Rattle.pairs.specs.Call.{BothAnswers, pairs_good}
 use Rattle.pairs.proofs.PairCheck.{pairs-judged}
@@ -49,7 +49,7 @@ module _ (s : Sizes) (text codes ws o r g w b z s0 s1 s2 s3 p : List ℕ) where
   unfolding wide_call
   call-not e = sym (call-refused (tables_long (large s) lengths) (read_netlist (large s) text) (wide_outcome codes ws) e)
 
-  pub call-read : {ins outs : List ℕ} {tabs : Tables} {h : HeaderNumbers} {a : Outcome (BothAnswers WideLeak)}
+  pub call-read : {ins outs : List ℕ} {tabs : Tables} {h : Header} {a : Outcome (BothAnswers WideLeak)}
       → (tables_long (large s) lengths ≡ true) × ReadAt (large s) text ins outs tabs h
       → ((N : Netlist) → Holds tabs h.gates h.wires h.input_bits h.output_bits N → WellFormed N → take h.input_values ins ≡ N.inputs
       → a ≡ wide_outcome codes ws N)

@@ -35,7 +35,8 @@ Judged N codes ws (Ok f) = WiresJudged N codes f.leak × PairsJudged N codes ws 
 Judged N codes ws (Err q) = Unit
 
 -- the sizes, the text, the input codes and the pairs, then each table before and after the call
-pub record Promise (s : Sizes) (text codes pairs o o' r r' g g' w w' b b' z z' s0 s0' s1 s1' s2 s2' s3 s3' p p' : List ℕ) (a : Result WideFound Question) : Type 0 where
+pub record Promise (s : Sizes) (text codes pairs o o' r r' g g' w w' b b' z z' s0 s0' s1 s1' s2 s2' s3 s3' p p' : List ℕ)
+    (a : Result WideFound Question) : Type 0 where
   -- the answers are those of the check over all settings of all inputs
   pub outcome : outcome_of a ≡ call s text codes pairs o r g w b z s0 s1 s2 s3 p
   -- they judge the netlist that the text reads as

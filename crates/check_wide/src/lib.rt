@@ -60,8 +60,9 @@ fn answer(
         results,
         count: h.gates as usize,
     };
+    let widths = &inputs[..h.input_values];
     wide_judge::judge(
-        h, inputs, codes, pairs, gates, marks, words, base, bases, set0, set1, set2, set3, paints,
+        h, widths, codes, pairs, gates, marks, words, base, bases, set0, set1, set2, set3, paints,
     )
 }
 

@@ -9,9 +9,7 @@ use mathlib.Core.Option.{Option, none, some}
 use lib.Dec.{leb}
 use lib.ListN.{length, take}
 use Rattle.netlist.specs.declared.Question.{Question}
-use Rattle.netlist.specs.declared.Limits.{Limits}
 use Rattle.netlist.specs.declared.Sizes.{Sizes}
-use Rattle.netlist.specs.Lists.{sum}
 use Rattle.netlist.specs.Netlist.{Netlist, input_bits, large}
 use Rattle.netlist.specs.Outcome.{Outcome, refused, done, ask, and_then}
 use Rattle.netlist.specs.Read.{read_netlist}
@@ -22,16 +20,12 @@ use Rattle.netlist.specs.Table.{Tables, Holds}
 use Rattle.netlist.proofs.Answering.{call-refused, call-goes-on}
 use Rattle.netlist.proofs.Questions.{done-same, ask-done}
 use Rattle.netlist.proofs.LeakSearch.{none-clean, found-lowest}
-use Rattle.read_header.specs.declared.HeaderNumbers.{HeaderNumbers}
+use Rattle.read_header.specs.declared.header.Header.{Header}
 use Rattle.read_netlist.specs.Whole.{ReadAt}
 use Rattle.check_leak.specs.declared.difference.Leak.{Leak}
 use Rattle.check_leak.specs.Search.{found}
 use Rattle.check_netlist.specs.Judge.{outcome_of, Judged}
 use Rattle.checker.specs.Promise.{call}
-
--- the input bits are those of the widths read
-pub read-bits : {L : Limits} {t ins outs : List ℕ} {tabs : Tables} {h : HeaderNumbers} → ReadAt L t ins outs tabs h → h.input_bits ≡ sum (take h.input_values ins)
-read-bits r = sym r.holds.ins ∙ ap sum (sym r.inputs)
 
 -- questions 10 to 12 are passed: the answer is that of the search
 pub outcome-leak : (N : Netlist) (codes : List ℕ) (f : Option Found) → check_outcome codes N ≡ done f → leak N codes ≡ f
@@ -50,7 +44,7 @@ module _ (s : Sizes) (text codes o r g w b : List ℕ) where
   unfolding check_call
   call-not p = sym (call-refused (tables_long (large s) lengths) (read_netlist (large s) text) (check_outcome codes) p)
 
-  pub call-read : {ins outs : List ℕ} {tabs : Tables} {h : HeaderNumbers} {a : Outcome (Option Found)}
+  pub call-read : {ins outs : List ℕ} {tabs : Tables} {h : Header} {a : Outcome (Option Found)}
       → (tables_long (large s) lengths ≡ true) × ReadAt (large s) text ins outs tabs h
       → ((N : Netlist) → Holds tabs h.gates h.wires h.input_bits h.output_bits N → take h.input_values ins ≡ N.inputs → a ≡ check_outcome codes N)
       → a ≡ call s text codes o r g w b
@@ -67,7 +61,8 @@ module _ (s : Sizes) (text codes o r g w b : List ℕ) where
       outcome-leak N codes f (sym (ap (λ (u : Outcome Netlist). and_then u (check_outcome codes)) read) ∙ one)
 
   -- the answer follows the equal-count rule
-  pub call-judged : (a : Result (std.Option Leak) Question) → outcome_of a ≡ call s text codes o r g w b → (N : Netlist) → read_netlist (large s) text ≡ done N → Judged N codes a
+  pub call-judged : (a : Result (std.Option Leak) Question) → outcome_of a ≡ call s text codes o r g w b → (N : Netlist)
+      → read_netlist (large s) text ≡ done N → Judged N codes a
   call-judged (Ok std.None) e N read = none-clean N codes (answer-leak N none read e)
   call-judged (Ok (std.Some p)) e N read =
       let f = found-lowest N codes (found p) (answer-leak N (some (found p)) read e) in

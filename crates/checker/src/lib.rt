@@ -42,7 +42,8 @@ fn answer(
         results,
         count: h.gates as usize,
     };
-    check_netlist::judge(h, inputs, codes, gates, words, base)
+    let widths = &inputs[..h.input_values];
+    check_netlist::judge(h, widths, codes, gates, words, base)
 }
 
 // Whether the netlist in `text` is clean under the input codes. The tables, of any content, are zero on return.

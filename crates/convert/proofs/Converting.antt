@@ -1,23 +1,20 @@
 -- From a text that was read to the outcome of a conversion.
-use Rattle.std.specs.Prelude.{Err, Ok, Result}
-use Prim.Native.Nat.{ℕ, ◌≤◌}
+use Rattle.std.specs.Prelude.{Ok, Result}
+use Prim.Native.Nat.{ℕ}
 use mathlib.Core.Path.{◌≡◌, refl, sym, ap, ap₂, ◌∙◌}
 use mathlib.Core.Bool.{Bool, true, false}
 use mathlib.Core.List.{List, [], ◌∷◌, ◌++◌}
 use lib.Dec.{leb}
 use lib.ListN.{length, take}
-use lib.Seq.{length-take-le}
-use Rattle.netlist.specs.declared.Gate.{Gate}
 use Rattle.netlist.specs.declared.Limits.{Limits}
 use Rattle.netlist.specs.declared.Sizes.{Sizes}
 use Rattle.netlist.specs.declared.Question.{Question}
-use Rattle.netlist.specs.declared.Question.TheVariants as Q
 use Rattle.netlist.specs.Netlist.{Netlist, large}
 use Rattle.netlist.specs.Outcome.{Outcome, done, ask, and_then}
 use Rattle.netlist.specs.Write.{write_netlist, gate_text}
-use Rattle.netlist.specs.Services.{tables_long, delivered, outcome_of, Answers, Delivers}
+use Rattle.netlist.specs.Services.{tables_long, delivered, outcome_of, Answers}
 use Rattle.netlist.specs.Table.{Tables, gates_of}
-use Rattle.netlist.proofs.Answering.{answers-as, answers-refused, call-goes-on}
+use Rattle.netlist.proofs.Answering.{answers-as, call-goes-on}
 use Rattle.netlist.proofs.Questions.{done-same, refused-done}
 use Rattle.netlist.proofs.Puts.{length-gates}
 use Rattle.old_form.specs.declared.Dialect.{Dialect}
@@ -26,7 +23,7 @@ use Rattle.old_form.specs.OldWrite.{write_old}
 use Rattle.old_form.specs.Dialects.{read_in}
 use Rattle.write_header.specs.Header.{header_text_in}
 use Rattle.write_header.proofs.Headers.{header-gates, old-header-gates}
-use Rattle.read_header.specs.declared.HeaderNumbers.{HeaderNumbers}
+use Rattle.read_header.specs.declared.header.Header.{Header}
 use Rattle.read_netlist.specs.Whole.{ReadOf}
 use Rattle.write_netlist.specs.Form.{form_text_in}
 use Rattle.convert.specs.Convert.{has_form, form_outcome, call}
@@ -45,7 +42,7 @@ outcome-of : (to : Dialect) (room : ℕ) (N : Netlist)
 outcome-of Fashion room N = refl
 outcome-of Old room N = refl
 
-module _ {from : Dialect} {L : Limits} {t ins outs : List ℕ} {tabs : Tables} {h : HeaderNumbers} (to : Dialect) (a : ReadOf from L t ins outs tabs h) where
+module _ {from : Dialect} {L : Limits} {t ins outs : List ℕ} {tabs : Tables} {h : Header} (to : Dialect) (a : ReadOf from L t ins outs tabs h) where
   -- the tables' written form is that of the netlist read
   text_same : form_text_in to h.gates h.wires (take h.input_values ins) (take h.output_values outs) tabs ≡ text_in to a.is
   text_same =
@@ -68,23 +65,9 @@ module _ {from : Dialect} {L : Limits} {t ins outs : List ℕ} {tabs : Tables} {
       = rw (a.inputs, a.outputs, a.holds.gates) refl in
       ap₂ (λ (b : Bool) (bs : List ℕ). ask 15 b (delivered room bs)) f text_same ∙ outcome-of to room N
 
--- question 15, and then 14, of the fronts of two tables of widths
-module _ (to : Dialect) (gs : List Gate) (ins outs : List ℕ) {i o : ℕ} {r : Bool} (p : i ≤ length ins) (q : o ≤ length outs) (f : r ≡ has_form to gs i o)
-  where
-    fronts : has_form to gs (length (take i ins)) (length (take o outs)) ≡ r
-    fronts = ap₂ (has_form to gs) (length-take-le i ins p) (length-take-le o outs q) ∙ sym f
-
-    pub form-not : (rest : Outcome (List ℕ)) (e : List ℕ) → r ≡ false
-        → Answers (ask 15 (has_form to gs (length (take i ins)) (length (take o outs))) rest) e e (Err Q.OldForm)
-    form-not rest e n = answers-refused e (ap (λ (b : Bool). ask 15 b rest) (fronts ∙ n))
-
-    pub form-yes : {e x bs : List ℕ} {a : Result ℕ Question} → r ≡ true → Delivers bs e x a
-        → Answers (ask 15 (has_form to gs (length (take i ins)) (length (take o outs))) (delivered (length e) bs)) e x a
-    form-yes {e} {x} {bs} y d = answers-as (sym (ap (λ (b : Bool). ask 15 b (delivered (length e) bs)) (fronts ∙ y))) d.answers
-
 module _ (from to : Dialect) (s : Sizes) (text out o r g : List ℕ) where
   -- questions 1 to 9, and then 15 and 14
-  pub call-read : {ins outs x : List ℕ} {tabs : Tables} {h : HeaderNumbers} {a : Result ℕ Question}
+  pub call-read : {ins outs x : List ℕ} {tabs : Tables} {h : Header} {a : Result ℕ Question}
       → (tables_long (large s) (length o ∷ length r ∷ length g ∷ []) ≡ true) × ReadOf from (large s) text ins outs tabs h
       → Answers (ask 15 (has_form to (gates_of tabs h.gates) (length (take h.input_values ins)) (length (take h.output_values outs)))
       (delivered (length out) (form_text_in to h.gates h.wires (take h.input_values ins) (take h.output_values outs) tabs))) out x a

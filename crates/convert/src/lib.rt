@@ -4,9 +4,9 @@
 
 mod question;
 
-ghost use Rattle.std.specs.Prelude.{◌≤◌, length, take};
+ghost use Rattle.std.specs.Prelude.{length};
 ghost use Rattle.netlist.specs.Outcome.{ask};
-ghost use Rattle.netlist.specs.Services.{delivered, Answers, Delivers};
+ghost use Rattle.netlist.specs.Services.{delivered, Answers};
 ghost use Rattle.gate_table.specs.Gates.{tables_of, gates_in, WiredGates};
 ghost use Rattle.write_netlist.specs.Form.{form_text_in};
 ghost use Rattle.convert.specs.Convert.{call, has_form, Converts};
@@ -15,58 +15,25 @@ use crate::question::has_form;
 use gate_table::Gates;
 use netlist::{Answer, Question, Sizes};
 use old_form::Dialect;
-use read_header::HeaderNumbers;
-
-// Question 14 and the text in a dialect, from a header's numbers and gates, and tables that begin with its widths.
-pub fn deliver(
-    out: &mut [u8],
-    h: HeaderNumbers,
-    inputs: [u32; 17],
-    outputs: [u32; 16],
-    gates: Gates,
-    to: Dialect,
-) -> Answer
-    requires { (h.input_values ≤ 17) × (h.output_values ≤ 16) × WiredGates gates h.wires }
-    ensures { Delivers (form_text_in to gates.entry.count h.wires (take h.input_values inputs)
-        (take h.output_values outputs) (tables_of gates.entry)) out.old out.new result }
-{
-    let ins = h.input_values;
-    let outs = h.output_values;
-    write_netlist::deliver_in(
-        out,
-        gates,
-        h.wires as usize,
-        &inputs[..ins],
-        &outputs[..outs],
-        to,
-    )
-}
 
 // Question 15, and then 14 and the text.
 fn write(
     out: &mut [u8],
-    h: HeaderNumbers,
-    inputs: [u32; 17],
-    outputs: [u32; 16],
     gates: Gates,
+    wires: usize,
+    ins: &[u32],
+    outs: &[u32],
     to: Dialect,
 ) -> Answer
-    requires { (h.input_values ≤ 17) × (h.output_values ≤ 16) × WiredGates gates h.wires }
-    ensures { Answers (ask 15 (has_form to (gates_in gates.entry) (length (take h.input_values inputs))
-        (length (take h.output_values outputs))) (delivered (length out.old)
-        (form_text_in to gates.entry.count h.wires (take h.input_values inputs) (take h.output_values outputs)
+    requires { WiredGates gates wires }
+    ensures { Answers (ask 15 (has_form to (gates_in gates.entry) (length ins.now) (length outs.now))
+        (delivered (length out.old) (form_text_in to gates.entry.count wires ins.now outs.now
         (tables_of gates.entry)))) out.old out.new result }
 {
-    if !has_form(
-        gates.results,
-        gates.count,
-        h.input_values,
-        h.output_values,
-        to,
-    ) {
+    if !has_form(gates, ins.len(), outs.len(), to) {
         return Err(Question::OldForm);
     }
-    deliver(out, h, inputs, outputs, gates, to)
+    write_netlist::deliver_in(out, gates, wires, ins, outs, to)
 }
 
 // The answer, with tables that are still to be cleared. None is lent but the reader's own.
@@ -101,7 +68,9 @@ fn answer(
         results,
         count: h.gates as usize,
     };
-    write(out, h, inputs, outputs, gates, to)
+    let ins = &inputs[..h.input_values];
+    let outs = &outputs[..h.output_values];
+    write(out, gates, h.wires as usize, ins, outs, to)
 }
 
 // The netlist of a text in one dialect, written in the other at the front of `out`. The tables, of any content, are zero on return.

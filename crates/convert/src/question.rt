@@ -1,17 +1,17 @@
 // Question 15: whether a netlist has a form in a dialect.
-ghost use Rattle.std.specs.Prelude.{List, ℕ, ◌≤◌, ◌≡◌, length};
+ghost use Rattle.std.specs.Prelude.{◌≤◌, ◌≡◌, length};
 ghost use Rattle.netlist.specs.Lists.{every};
-ghost use Rattle.netlist.specs.Table.{tables, gates_of};
+ghost use Rattle.gate_table.specs.Gates.{gates_in};
 ghost use Rattle.convert.specs.Convert.{old_entry, has_form};
 
-use gate_table::Kind;
+use gate_table::{Gates, HALF, Kind};
 use old_form::Dialect;
 
 // Whether an entry is that of XOR, AND or INV.
 fn is_old_entry(res: u64) -> bool
     ensures { result ≡ old_entry res }
 {
-    match Kind::of(gate_table::split(0, res).kind) {
+    match Kind::of((res / HALF) as usize) {
         Kind::Xor | Kind::And | Kind::Inv => true,
         _ => false,
     }
@@ -24,14 +24,14 @@ fn old_entries(results: &[u64]) -> bool
     results.iter().all(|r| is_old_entry(*r))
 }
 
-// The question as a dialect puts it, of the first gates in tables and of so many values. In the older dialect there is no EQ or EQW, and there
-// are at most two input values and at most one output value.
-pub fn has_form(results: &[u64], count: usize, inputs: usize, outputs: usize, to: Dialect) -> bool
-    requires { count ≤ length results.now }
-    ensures { (operands : List ℕ) → result ≡ has_form to (gates_of (tables operands results.now) count) inputs outputs }
+// The question as a dialect puts it, of gates and so many values. In the older dialect there is no EQ or EQW, and there are at most two
+// input values and at most one output value.
+pub fn has_form(gates: Gates, inputs: usize, outputs: usize, to: Dialect) -> bool
+    requires { gates.count ≤ length gates.results.now }
+    ensures { result ≡ has_form to (gates_in gates.entry) inputs outputs }
 {
     match to {
         Dialect::Fashion => true,
-        Dialect::Old => inputs <= 2 && outputs <= 1 && old_entries(&results[..count]),
+        Dialect::Old => inputs <= 2 && outputs <= 1 && old_entries(&gates.results[..gates.count]),
     }
 }

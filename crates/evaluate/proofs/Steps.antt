@@ -10,11 +10,11 @@ use Rattle.netlist.specs.declared.Gate.{Gate}
 use Rattle.netlist.specs.declared.Gate.TheVariants.{Xor, And, Inv, Eqw, Eq}
 use Rattle.netlist.specs.Netlist.{result}
 use Rattle.netlist.specs.Eval.{differs, made, bits_at, run_gates}
-use Rattle.netlist.specs.Table.{gate_of, made_of, gate_at, gates_of, Tables, Wired}
+use Rattle.netlist.specs.Table.{gate_of, made_of, gate_at, gates_of, Tables}
 use Rattle.netlist.proofs.Puts.{gates-more}
 use Rattle.gate_table.specs.declared.Parts.{Parts}
 use Rattle.evaluate.specs.Lane.{lane, lanes}
-use Rattle.gate_table.specs.Parts.{parts_of, gate_by, Within}
+use Rattle.gate_table.specs.Parts.{parts_of, gate_by}
 use Rattle.evaluate.proofs.Lanes.{lane-zero}
 
 pub get_d-lanes : (j : ℕ) (ws : List ℕ) (a : ℕ) → get_or (lanes j ws) a false ≡ lane j (get_or ws a 0)
@@ -84,11 +84,6 @@ pub record Ahead (t : Tables) (n : ℕ) (ws₀ ws : List ℕ) (i : ℕ) (p : Par
   pub parts : p ≡ parts_of (get_or t.operands i 0) (get_or t.results i 0)
 
 module _ {t : Tables} {n : ℕ} {ws₀ ws : List ℕ} {i : ℕ} {p : Parts} (a : Ahead t n ws₀ ws i p) where
-  pub ahead_within : Wired t (length ws₀) n → Within (length ws) p
-  ahead_within w =
-      let k = w.each i a.inside in
-      rw (a.parts, a.ran.long) (record { kind = k.kind; left = k.left; right = k.right; result = k.result })
-
   pub ahead_step : (us : List ℕ) → length us ≡ length ws → ((j : ℕ) → j < 64 → lanes j us ≡ run_gates (lanes j ws) (gate_by p ∷ []))
       → Ran t n ws₀ us (i + 1)
   ahead_step us k h = ran-more us a.ran a.inside k (λ j l. h j l ∙ ap (λ (q : Parts). run_gates (lanes j ws) (gate_by q ∷ [])) a.parts)

@@ -15,7 +15,7 @@ ghost use Rattle.evaluate.specs.Bare.{bare_of};
 
 use gate_table::Gates;
 
-// Runs the tables' first gates on the wires' words, each lane for itself. A gate's entries are taken
+// Runs the gates on the wires' words, each lane for itself. A gate's entries are taken
 // apart a turn before its step: so it is compiled to fewer instructions.
 fn run(gates: Gates, words: &mut [u64])
     requires { WiredGates gates (length words.old) }

@@ -8,7 +8,7 @@ ghost use Rattle.gate_table.specs.Gates.{WiredGates, HoldsGates};
 use crate::lay;
 use gate_table::Gates;
 
-// The output bits of the tables' netlist, over the front of `out`. The words, one for each wire,
+// The output bits of the gates' netlist, over the front of `out`. The words, one for each wire,
 // are working store.
 pub fn outputs(gates: Gates, outs: usize, bits: &[u8], words: &mut [u64], out: &mut [u8])
     requires wired { WiredGates gates (length words.old) }

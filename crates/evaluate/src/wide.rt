@@ -7,7 +7,7 @@ ghost use Rattle.evaluate.specs.Lane.{output_words};
 
 use gate_table::Gates;
 
-// The output words of the tables' netlist, over the front of `out`. The words, one for each wire,
+// The output words of the gates' netlist, over the front of `out`. The words, one for each wire,
 // are working store.
 pub fn outputs(gates: Gates, outs: usize, list: &[u64], words: &mut [u64], out: &mut [u64])
     requires wired { WiredGates gates (length words.old) }

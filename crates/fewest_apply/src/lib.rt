@@ -2,7 +2,6 @@
 #![tactic(auto)]
 
 ghost use Rattle.std.specs.Prelude.{◌+◌, ◌≤◌, length};
-ghost use Rattle.netlist.specs.Table.{tables};
 ghost use Rattle.fewest_apply.specs.Apply.{SwapsEntry, Swapped, Chosen};
 
 use fewest_walk::inputs;

@@ -53,7 +53,7 @@ fn step(code: &mut [u8], way: u8, g: Parts) -> u32
     added(kind, g.left, g.right, e, f)
 }
 
-// The tables' gates from one on, behind n inputs, until there are as many changes as `bound`: how many are done. `code` has the codes
+// The gates from one on, behind n inputs, until there are as many changes as `bound`: how many are done. `code` has the codes
 // of the wires given before the first, `lows` the least changes before it.
 pub fn walk(
     gates: Gates,

@@ -4,7 +4,6 @@ use Prim.Native.Nat.{ℕ}
 use mathlib.Core.Path.{◌≡◌, refl, sym, ap, ap₂, ◌∙◌, subst}
 use mathlib.Core.Bool.{Bool, true, false}
 use mathlib.Core.List.{List, [], ◌∷◌, ◌++◌}
-use native.Mathlib.Omega.{arith}
 use lib.ListN.{length, take}
 use Rattle.netlist.specs.declared.Limits.{Limits}
 use Rattle.netlist.specs.declared.Sizes.{Sizes}
@@ -23,7 +22,7 @@ use Rattle.write_netlist.specs.Form.{form_text}
 use Rattle.aiger.specs.Call.{read_aiger, aiger_call}
 use Rattle.aiger.specs.Delivered.{Delivered}
 use Rattle.aiger.proofs.Reading.{aiger-delivered}
-use Rattle.read_aiger.specs.WholeAnswers.{OneValue, asked_aiger, NetlistAt}
+use Rattle.read_aiger.specs.WholeAnswers.{asked_aiger, NetlistAt}
 use Rattle.read_aiger.specs.declared.read.NetlistNumbers.{NetlistNumbers}
 use Rattle.netlist.specs.Question.{number_of}
 use Rattle.from_aiger.specs.Promise.{call}
@@ -55,10 +54,6 @@ file-not o e q n = answers-refused e (ap (λ (o : Outcome Netlist). and_then o (
 -- a refusal of the reader, which was handed the limits of the sizes
 pub asked-not : {l L : Limits} (lengths t : List ℕ) {q : ℕ} → l ≡ L → asked_aiger l lengths t ≡ refused q → asked_aiger L lengths t ≡ refused q
 asked-not lengths t {q} is e = subst (λ (k : Limits). asked_aiger k lengths t ≡ refused q) is e
-
--- what the reader requires of the limits of the sizes
-pub one_value : (s : Sizes) → OneValue (small s)
-one_value s = record { inputs = omega arith; outputs = omega arith; wires = omega arith }
 
 -- the call
 module _ (s : Sizes) (text out o r v : List ℕ) where

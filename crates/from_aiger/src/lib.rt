@@ -12,7 +12,7 @@ use gate_table::Gates;
 use netlist::{Answer, Sizes};
 use read_aiger::read::NetlistNumbers;
 
-// Question 14 and the text of a netlist whose gates the tables begin with.
+// Question 14 and the text of a netlist whose gates the tables begin with. The numbers have their count, so the tables come without one.
 pub fn write(out: &mut [u8], m: NetlistNumbers, operands: &[u64], results: &[u64]) -> Answer
     requires { Wired (tables operands.now results.now) m.wires m.gates }
     ensures { Delivers (form_text m.gates m.wires (m.inputs ∷ []) (m.outputs ∷ [])

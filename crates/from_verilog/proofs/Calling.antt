@@ -27,12 +27,10 @@ pub record Fits (L : Limits) : Type 0 where
   pub tables : 8 * L.table < half
   pub places : L.wires + L.text + 1 < half
   pub gates : L.wires ≤ L.table
-  pub inputs : 1 ≤ L.inputs
-  pub outputs : 1 ≤ L.outputs
 
 pub small-fits : (s : Sizes) → Fits (small s)
-small-fits Old = record { names = omega arith; tables = omega arith; places = omega arith; gates = omega arith; inputs = omega arith; outputs = omega arith }
-small-fits Whole = record { names = omega arith; tables = omega arith; places = omega arith; gates = omega arith; inputs = omega arith; outputs = omega arith }
+small-fits Old = record { names = omega arith; tables = omega arith; places = omega arith; gates = omega arith }
+small-fits Whole = record { names = omega arith; tables = omega arith; places = omega arith; gates = omega arith }
 
 -- so many numbers are in so many entries
 pub entries-long : (n least : ℕ) → least ≤ entries_of n → 8 * least ≤ n

@@ -1,5 +1,5 @@
 -- The calls of a reader counted.
-use Prim.Native.Nat.{ℕ, zero, suc, ◌+◌, ◌-◌, ◌<◌, ◌≤◌}
+use Prim.Native.Nat.{ℕ, zero, suc, ◌+◌, ◌-◌, ◌≤◌}
 use Rattle.std.specs.Prelude.{Option as Maybe, Some, None, Result, Ok, Err}
 use mathlib.Core.Path.{◌≡◌, refl, sym, ap, ◌∙◌, subst}
 use mathlib.Core.Bool.{◌&&◌}
@@ -25,11 +25,9 @@ use Rattle.netlist.proofs.Accepted.{opened}
 use Rattle.netlist.proofs.ReaderCalls.{end-again, no-again, reader-in-order}
 use Rattle.read_text.specs.Line.{behind_lines}
 use Rattle.read_text.proofs.Lines.{behind-line, behind-lines}
-use Rattle.read_header.specs.declared.HeaderNumbers.{HeaderNumbers}
 use Rattle.gate_reader.specs.Steps.{step_said, place_after, StepIs}
 use Rattle.gate_reader.specs.Opens.{numbers_of, opening_call, OpeningIs}
 use Rattle.gate_reader.specs.Calls.{left_after, left_at, AtCall, Behind, ReaderIs, CurrentIs, AdvanceIs, Called, CallIs}
-use Rattle.gate_reader.specs.declared.GateReader.{GateReader}
 use Rattle.gate_reader.specs.declared.calls.Call.{Call}
 
 -- ---- what is left of the gate lines
@@ -120,14 +118,7 @@ pub record Calling (t : List ℕ) (from k at i : ℕ) : Type 0 where
   pub reached : (L : Limits) → AtCall L t 0 from → AtCall L t i at
   pub few : i ≤ k
 
-pub calling-start : (t : List ℕ) (from k : ℕ) → Calling t from k from 0
-calling-start t from k = record { reached = λ L a. a; few = omega arith }
-
 module _ {t : List ℕ} {from k at i : ℕ} (c : Calling t from k at i) {a : Call} (s : Called t at a) where
-  -- one call more
-  pub calling-on : i < k → Calling t from k a.at (i + 1)
-  calling-on h = record { reached = λ L o. let p = c.reached L o in s.on.call L i p (s.says.call L i p); few = omega arith }
-
   -- the reader stayed: what it said is said at every later call
   pub calling-stays : a.at ≡ at → CallIs t from k a.step
   calling-stays m = record { call = λ L o. go L a.step s.on.place s.says.step (s.says.call L i (c.reached L o)) }
@@ -164,7 +155,3 @@ module _ {L : Limits} {t ins ins' outs outs' : List ℕ} where
           let h = opened L t H w in
           let f = rw (le-leb (length H.inputs) (length ins) (omega (arith, h.inputs)), le-leb (length H.outputs) (length outs) (omega (arith, h.outputs))) at e in
           clash (cc)
-
-  pub reader-on : {h : HeaderNumbers} {from : GateReader} {k : ℕ} {r : Result (Maybe (Gate × ℕ)) Question} → OpeningIs L t ins ins' outs outs' (Ok (h, from))
-      → CallIs t from.at k r → ReaderIs L t k r
-  reader-on o c = c.call L o.place.1

@@ -16,9 +16,12 @@ use Rattle.netlist.specs.declared.Question.TheVariants as Q
 use Rattle.netlist.specs.Question.{number_of}
 use Rattle.netlist.specs.Text.{word_lines}
 use Rattle.netlist.specs.Read.{opening}
+use Rattle.read_text.specs.Cursors.{left}
+use Rattle.read_text.specs.declared.cursor.Cursor.{Cursor}
 use Rattle.read_header.specs.HeaderAnswers.{HeaderAt}
 use Rattle.read_header.specs.HeadAnswers.{HeadAt, HeadNot}
 use Rattle.read_header.specs.declared.HeaderNumbers.{HeaderNumbers}
+use Rattle.read_header.specs.declared.header.Header.{Header as Admitted}
 use Rattle.read_header.proofs.Heads.{inputs-front, outputs-front}
 use Rattle.gate_reader.specs.Calls.{left_at}
 use Rattle.gate_reader.specs.Opens.{numbers_of, opening_call, OpeningIs}
@@ -37,10 +40,10 @@ copied ws table n h k = sym (front (take n ws) table n (length-take-le n ws h) k
 -- ---- the answer
 
 -- a head under limits that are L
-pub head-under : {l L : Limits} {t ws vs : List ℕ} {h : HeaderNumbers} {to : ℕ} → l ≡ L → HeadAt l t ws vs h to → HeadAt L t ws vs h to
+pub head-under : {l L : Limits} {t ws vs : List ℕ} {h : Admitted} {to : Cursor} → l ≡ L → HeadAt l t ws vs h to → HeadAt L t ws vs h to
 head-under e a = rw e at a
 
-numbers-same : {t ws vs : List ℕ} {h : HeaderNumbers} {to : ℕ} (a : HeaderAt t ws vs h to) → h ≡ numbers_of a.is
+numbers-same : {t ws vs : List ℕ} {h : HeaderNumbers} {to : Cursor} (a : HeaderAt t ws vs h to) → h ≡ numbers_of a.is
 numbers-same a =
     λ i. record {
       gates = sym a.gates i;
@@ -64,7 +67,7 @@ not_opened e = refuses (rw e)
 pub open-not : {L : Limits} {t ins outs : List ℕ} {q : Question} → HeadNot L t (number_of q) → OpeningIs L t ins ins outs outs (Err q)
 open-not a = not_opened a.refuses
 
-module _ {L : Limits} {t ws vs : List ℕ} {h : HeaderNumbers} {to n : ℕ} (a : HeadAt L t ws vs h to) (lines : n ≡ length (word_lines (drop to t))) where
+module _ {L : Limits} {t ws vs : List ℕ} {h : Admitted} {to : Cursor} {n : ℕ} (a : HeadAt L t ws vs h to) (lines : n ≡ length (word_lines (left to))) where
   -- there are more gate lines, or fewer
   pub open-6 : {ins outs : List ℕ} → (n ≡ h.gates → ⊥) → OpeningIs L t ins ins outs outs (Err Q.Count)
   open-6 e = not_opened (a.opens ∙ rw (← lines) (rw (ne_eqb _ _ e)))
@@ -88,7 +91,8 @@ module _ {L : Limits} {t ws vs : List ℕ} {h : HeaderNumbers} {to n : ℕ} (a :
     open-14-out {ins} {outs} i k = refuses (called (length ins) (length outs) ∙ rw (le-leb _ _ i, lt-leb _ _ k))
 
     -- both have room
-    pub open_at : {ins ins' outs outs' : List ℕ} {r : GateReader} → r.text.now ≡ t → r.at ≡ to → h.input_values ≤ length ins → h.output_values ≤ length outs → L.inputs ≤ length ws
+    pub open_at : {ins ins' outs outs' : List ℕ} {r : GateReader} → r.text.now ≡ t → r.at ≡ to.at → h.input_values ≤ length ins
+        → h.output_values ≤ length outs → L.inputs ≤ length ws
         → L.outputs ≤ length vs → ins' ≡ sets ins 0 (take h.input_values ws) → outs' ≡ sets outs 0 (take h.output_values vs)
         → OpeningIs L t ins ins' outs outs' (Ok (h, r))
     unfolding left_at
@@ -99,5 +103,5 @@ module _ {L : Limits} {t ws vs : List ℕ} {h : HeaderNumbers} {to n : ℕ} (a :
           said = rw c (ap done (numbers-same H));
           inputs = p ∙ rw c (ap (sets ins 0) (inputs-front a room));
           outputs = q ∙ rw c (ap (sets outs 0) (outputs-front a room'));
-          place = (x, rw y (record { head = H.is; opens = opens; left = H.place; within = H.within }));
+          place = (x, rw y (record { head = H.is; opens = opens; left = ap (drop to.at) (sym H.same) ∙ H.place; within = (let w = to.within in rw (sym H.same) w) }));
         }

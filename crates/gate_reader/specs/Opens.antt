@@ -9,6 +9,8 @@ use Rattle.netlist.specs.Outcome.{Outcome, refused, done, ask, and_then}
 use Rattle.netlist.specs.Header.{Header}
 use Rattle.netlist.specs.Read.{opening}
 use Rattle.read_header.specs.declared.HeaderNumbers.{HeaderNumbers}
+use Rattle.read_header.specs.declared.header.Header.{Header as Admitted}
+use Rattle.read_header.specs.HeadAnswers.{header_numbers}
 use Rattle.gate_reader.specs.Calls.{AtCall}
 use Rattle.gate_reader.specs.declared.GateReader.{GateReader}
 
@@ -28,8 +30,8 @@ unfoldable pub opening_call : Limits → List ℕ → ℕ → ℕ → Outcome He
 opening_call L t i o = and_then (opening L t) λ H. ask 14 (leb (length H.inputs) i && leb (length H.outputs) o) (done H)
 
 -- what an answer stands for
-abbrev pub opening_said : Result (HeaderNumbers × GateReader) Question → Outcome HeaderNumbers
-opening_said (Ok (h, r)) = done h
+abbrev pub opening_said : Result (Admitted × GateReader) Question → Outcome HeaderNumbers
+opening_said (Ok (h, r)) = done (header_numbers h)
 opening_said (Err q) = refused (number_of q)
 
 -- the widths that an opening gives: none on a refusal
@@ -38,12 +40,12 @@ widths side (refused q) = []
 widths side (done H) = side H
 
 -- an accepted opening gives a reader of the text, before its first call
-abbrev pub Placed : Limits → List ℕ → Result (HeaderNumbers × GateReader) Question → Type 0
+abbrev pub Placed : Limits → List ℕ → Result (Admitted × GateReader) Question → Type 0
 Placed L t (Ok (h, r)) = (r.text.now ≡ t) × AtCall L t 0 r.at
 Placed L t (Err q) = Unit {0}
 
 -- the answer and the two buffers, each before and after, are those of opening t
-pub record OpeningIs (L : Limits) (t ins ins' outs outs' : List ℕ) (r : Result (HeaderNumbers × GateReader) Question) : Type 0 where
+pub record OpeningIs (L : Limits) (t ins ins' outs outs' : List ℕ) (r : Result (Admitted × GateReader) Question) : Type 0 where
   pub said : opening_said r ≡ (and_then (opening_call L t (length ins) (length outs)) λ H. done (numbers_of H))
   pub inputs : ins' ≡ sets ins 0 (widths (λ H. H.inputs) (opening_call L t (length ins) (length outs)))
   pub outputs : outs' ≡ sets outs 0 (widths (λ H. H.outputs) (opening_call L t (length ins) (length outs)))

@@ -4,8 +4,8 @@ ghost use Rattle.gate_reader.specs.Opens.{OpeningIs};
 
 use crate::GateReader;
 use netlist::{Question, Sizes};
-use read_header::HeaderNumbers;
 use read_header::head::read_opening;
+use read_header::header::Header;
 use read_text::count::count_lines;
 
 // Questions 2 to 6, and 14 of the two buffers: the header's numbers, with the reader before its first call. The widths of the values go
@@ -15,14 +15,14 @@ pub fn open_at<'a>(
     inputs: &mut [u32],
     outputs: &mut [u32],
     sizes: Sizes,
-) -> Result<(HeaderNumbers, GateReader<'a>), Question>
+) -> Result<(Header, GateReader<'a>), Question>
     ensures { OpeningIs (large_limits sizes) text.now inputs.old inputs.new outputs.old
         outputs.new result }
 {
     let mut ins = [0u32; 17];
     let mut outs = [0u32; 16];
     let (h, at) = read_opening(text, sizes.large(), &mut ins, &mut outs)?;
-    if count_lines(text, at) != h.gates as usize {
+    if count_lines(at) != h.gates as usize {
         return Err(Question::Count);
     }
     if inputs.len() < h.input_values {

@@ -17,11 +17,11 @@ pub fn step_at(text: &[u8], at: usize) -> Step
     if text.len() <= at {
         return Ok(None);
     }
-    let line = (Cursor { at }).skip_blanks(text);
+    let line = (Cursor { text, at }).skip_blanks();
     if text.len() <= line.at {
         return Ok(None);
     }
-    let Some((g, next)) = gate_line(text, line) else {
+    let Some((g, next)) = gate_line(line) else {
         return Err(Question::Line);
     };
     Ok(Some((gate_of(g), next.at)))

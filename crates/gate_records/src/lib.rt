@@ -1,5 +1,6 @@
 // Gates as records, in lists that a caller lends: a gate alone, and a source gate with where its result stands in the masked netlist.
-// The kinds are those of `gate_table`; a gate of one operand has 0 as its second, and the operand of EQ is its constant.
+// A kind has its number of `gate_table`, but EQ 1, which has 6 there, has 5 here as EQ 0 has: the operand of an EQ is its constant. A gate of
+// one operand has 0 as its second.
 #![tactic(auto)]
 
 ghost use Rattle.std.specs.Prelude.{◌≡◌};

@@ -1,3 +1,2 @@
 -- Laws of gates as numbers and of their entries.
 pub mod Entries
-pub mod Splitting

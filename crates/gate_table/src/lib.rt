@@ -1,4 +1,5 @@
-// Gates as numbers: the kinds, a gate on its way between text and tables, and its entries in the two lent tables.
+// Gates on their way between text and tables: the kinds, a gate with its kind apart from its wires, its entries in the two lent tables, and tables
+// that are only read.
 #![tactic(auto)]
 
 ghost use Rattle.std.specs.Prelude.{◌≡◌, ℕ, ◌<◌, length};
@@ -52,8 +53,8 @@ impl Kind {
     }
 }
 
-// A gate with its kind apart from its wires: its way into the tables needs no jump on its kind. A gate of one operand has 0 on the
-// right, and an EQ on the left too.
+// A gate with its kind apart from its wires, as its line gives it: a gate of one operand has 0 on the right, and an EQ on the left too.
+// `second` and `entry_of` choose by the kind.
 #[derive(Clone, Copy)]
 pub struct GateNumbers {
     pub kind: Kind,

@@ -28,7 +28,7 @@ use Rattle.netlist.proofs.Puts.{length-gates}
 use Rattle.netlist.proofs.Answering.{answers-as, answers-refused, call-refused, call-goes-on}
 use Rattle.write_header.specs.Header.{header_text}
 use Rattle.write_header.proofs.Headers.{header-gates}
-use Rattle.read_header.specs.declared.HeaderNumbers.{HeaderNumbers}
+use Rattle.read_header.specs.declared.header.Header.{Header}
 use Rattle.read_netlist.specs.Whole.{ReadAt}
 use Rattle.write_netlist.specs.Form.{form_text}
 use Rattle.joined.specs.Join.{joined_wire, renumbered, join}
@@ -36,15 +36,17 @@ use Rattle.joined.specs.Call.{block_outcome, read_block, is_secret, seam_good, j
 use Rattle.joined.specs.Delivered.{Delivered}
 use Rattle.joined.proofs.Calls.{has-pair, read-block}
 use Rattle.joined.proofs.Delivering.{call-delivers}
-use Rattle.join_gates.specs.Appended.{wires_of, goes_to, Meeting, Appended}
+use Rattle.join_gates.specs.declared.seam.SeamNumbers.{SeamNumbers}
+use Rattle.join_gates.specs.Seams.{joined_wires, Meeting}
+use Rattle.join_gates.specs.Appended.{goes_to, Appended}
 use Rattle.check_netlist.specs.Judge.{codes_asked}
-use Rattle.join.specs.Blocks.{BlockAt, BlockIs, Numbers, First, Second, seam_holds, seam_of}
+use Rattle.join.specs.Blocks.{BlockAt, BlockIs, Numbers, First, Second, seam_holds}
 use Rattle.join.specs.Promise.{lengths, call}
 
 -- ---- a text with its input codes
 
 module _ (L : Limits) (ls text codes ins outs : List ℕ) (t : Tables) where
-  module _ {h : HeaderNumbers} (k : (tables_long L ls ≡ true) × ReadAt L text ins outs t h) where
+  module _ {h : Header} (k : (tables_long L ls ≡ true) × ReadAt L text ins outs t h) where
     abbrev N : Netlist
     N = k.1.is
 
@@ -61,22 +63,22 @@ module _ (L : Limits) (ls text codes ins outs : List ℕ) (t : Tables) where
         go true false = refl
         go false y = refl
 
-    pub block-is : done tt ≡ codes_asked (take h.input_values ins) codes → BlockIs L ls text codes ins outs t (Ok h)
-    block-is e =
+    pub block-is : {M : Limits} → L ≡ M → done tt ≡ codes_asked (take h.input_values ins) codes → BlockIs M ls text codes ins outs t (Ok h)
+    block-is same e =
         let d : block_outcome codes N ≡ done N = sym asked-same ∙ ap (λ (o : Outcome (Unit {0})). and_then o (λ u. done N)) (sym e) in
         let k₁₀ = ask-done 10 (ends_in_masks N.inputs) (ask 11 (list_good is_input_code (input_bits N - 2) codes) (done N)) N d in
         let k₁₁ = ask-done 11 (list_good is_input_code (input_bits N - 2) codes) (done N) N k₁₀.1 in
-        (k.0, record { at = k.1; masks = k₁₀.0; list = k₁₁.0 })
+        subst (λ (l : Limits). BlockIs l ls text codes ins outs t (Ok h)) same (k.0, record { at = k.1; masks = k₁₀.0; list = k₁₁.0 })
 
 -- the numbers of a block that was read
-module _ {L : Limits} {text codes ins outs : List ℕ} {t : Tables} {h : HeaderNumbers} (a : BlockAt L text codes ins outs t h) where
+module _ {L : Limits} {text codes ins outs : List ℕ} {t : Tables} {h : Header} (a : BlockAt L text codes ins outs t h) where
   pub block_read : read_block L text codes ≡ done a.at.is
   block_read = read-block {codes = codes} (record { read = a.at.read; masks = a.masks; list = a.list })
 
   pub block-numbers : Numbers h t
   block-numbers =
       let i : input_bits a.at.is ≡ h.input_bits = a.at.holds.ins in
-      record { wired = a.at.wired; pair = omega (arith, has-pair a.at.is a.masks); ins = a.at.in_bits; outs = a.at.out_bits; gates = a.at.gates }
+      record { wired = a.at.wired; pair = omega (arith, has-pair a.at.is a.masks); outs = a.at.out_bits; gates = a.at.gates }
 
   pub block-codes : length codes ≡ h.input_bits - 2
   block-codes =
@@ -85,10 +87,10 @@ module _ {L : Limits} {text codes ins outs : List ℕ} {t : Tables} {h : HeaderN
       let e : length codes ≡ n = eqb→eq (length codes) n (both (eqb (length codes) n) (every is_input_code codes) a.list).0 in
       omega arith
 
-  pub block-first : First h ins t a.at.is
+  pub block-first : First h (take h.input_values ins) t a.at.is
   block-first = record { holds = a.at.holds; inputs = a.at.inputs }
 
-  pub block-second : Second h outs t a.at.is
+  pub block-second : Second h (take h.output_values outs) t a.at.is
   block-second = record { holds = a.at.holds; outputs = a.at.outputs }
 
 -- ---- question 25
@@ -97,10 +99,10 @@ pub no_zero : (codes : List ℕ) → not (list_any (λ e. eqb e 0) codes) ≡ ev
 no_zero [] = refl
 no_zero (e ∷ codes) = on_bool (eqb e 0) (λ t. rw t) (λ t. rw t (no_zero codes))
 
-module _ (a : HeaderNumbers) (out_codes : List ℕ) (b : HeaderNumbers) (codes : List ℕ) where
+module _ (a : Header) (out_codes : List ℕ) (b : Header) (codes : List ℕ) where
   -- the numbers then meet, where the joined W is below 2^32
   pub seam-meets : {t v : Tables} → Numbers a t → Numbers b v → length codes ≡ b.input_bits - 2 → seam_holds a out_codes b codes ≡ true
-      → wires_of (seam_of a b) < half → Meeting (seam_of a b)
+      → joined_wires a.wires b.wires b.input_bits < half → Meeting a.wires a.output_bits a.input_bits b.wires b.input_bits
   seam-meets A B l e f =
       let x = eqb (length out_codes) a.output_bits in
       let y = same_bytes out_codes codes in
@@ -111,45 +113,47 @@ module _ (a : HeaderNumbers) (out_codes : List ℕ) (b : HeaderNumbers) (codes :
       let n : length out_codes ≡ a.output_bits = eqb→eq (length out_codes) a.output_bits q.0 in
       let m : length out_codes ≡ length codes = ap length (same-equal out_codes codes (is_true y q.1)) in
       let i : 2 ≤ b.input_bits = B.pair in
-      record { outs = A.outs; pair = A.pair; ins = A.ins; meets = omega arith; inner = B.ins; fits = f }
+      record { outs = A.outs; pair = A.pair; ins = a.inputs_are_wires; meets = omega arith; inner = b.inputs_are_wires; fits = f }
 
 -- ---- questions 25, 5 and 14
 
-module _ {a b : HeaderNumbers} {ins outs : List ℕ} {t v : Tables} {A B : Netlist} (F : First a ins t A) (S : Second b outs v B) where
+module _ {a b : Header} {ins outs : List ℕ} {t v : Tables} {A B : Netlist} (F : First a ins t A) (S : Second b outs v B) where
   gates-second : length B.gates ≡ b.gates
   gates-second = ap length S.holds.gates ∙ length-gates v b.gates
 
   seam-same : (out_codes codes : List ℕ) → seam_good A out_codes B codes ≡ seam_holds a out_codes b codes
   seam-same out_codes codes = rw (F.holds.outs, S.holds.outs, gates-second) refl
 
-  wires-same : (join A B).wires ≡ wires_of (seam_of a b)
+  wires-same : (join A B).wires ≡ joined_wires a.wires b.wires b.input_bits
   wires-same = rw (F.holds.wires, S.holds.wires, S.holds.ins) refl
 
   module _ (L : Limits) (out_codes codes out : List ℕ) where
     pub join-25 : seam_holds a out_codes b codes ≡ false → Answers (join_outcome L out_codes codes (length out) A B) out out (Err Q.Seam)
     join-25 e = answers-refused out (rw (seam-same out_codes codes ∙ e))
 
-    pub join-5 : seam_holds a out_codes b codes ≡ true → L.wires < wires_of (seam_of a b) → Answers (join_outcome L out_codes codes (length out) A B) out out (Err Q.Limits)
+    pub join-5 : seam_holds a out_codes b codes ≡ true → L.wires < joined_wires a.wires b.wires b.input_bits
+        → Answers (join_outcome L out_codes codes (length out) A B) out out (Err Q.Limits)
     join-5 e h = answers-refused out (rw (seam-same out_codes codes ∙ e, lt-leb (join A B).wires L.wires (rw wires-same h)))
 
-    pub join-14 : {x : List ℕ} {r : Result ℕ Question} → seam_holds a out_codes b codes ≡ true → wires_of (seam_of a b) ≤ L.wires
+    pub join-14 : {x : List ℕ} {r : Result ℕ Question} → seam_holds a out_codes b codes ≡ true → joined_wires a.wires b.wires b.input_bits ≤ L.wires
         → Delivers (write_netlist (join A B)) out x r → Answers (join_outcome L out_codes codes (length out) A B) out x r
     join-14 e h d = answers-as (sym (rw (seam-same out_codes codes ∙ e, le-leb (join A B).wires L.wires (rw wires-same h)))) d.answers
 
   -- the written form of the tables with the second's gates behind the first's
-  pub joined-form : {u : Tables} {W : ℕ} → W ≡ wires_of (seam_of a b) → Appended (seam_of a b) t a.gates v b.gates u
-      → form_text (a.gates + b.gates) W (take a.input_values ins) (take b.output_values outs) u ≡ write_netlist (join A B)
-  joined-form {u} {W} e P =
+  pub joined-form : {u : Tables} (s : SeamNumbers) → (s.wires ≡ a.wires) × (s.outs ≡ a.output_bits) × (s.ins ≡ a.input_bits) × (s.inner ≡ b.input_bits)
+      → Appended s t a.gates v b.gates u
+      → form_text (a.gates + b.gates) (joined_wires a.wires b.wires b.input_bits) ins outs u ≡ write_netlist (join A B)
+  joined-form {u} s (e, f, g, h) P =
       let J = join A B in
-      let f : joined_wire A B ≡ goes_to (seam_of a b) = rw (F.holds.wires, F.holds.outs, F.holds.ins, S.holds.ins) refl in
-      let g : J.gates ≡ gates_of u (a.gates + b.gates)
-      = ap₂ (λ (gs hs : List Gate). gs ++ hs) F.holds.gates (ap₂ (λ (k : ℕ → ℕ) (hs : List Gate). map (renumbered k) hs) f S.holds.gates)
+      let moved : joined_wire A B ≡ goes_to s = rw (F.holds.wires, F.holds.outs, F.holds.ins, S.holds.ins, e, f, g, h) refl in
+      let gates : J.gates ≡ gates_of u (a.gates + b.gates)
+      = ap₂ (λ (gs hs : List Gate). gs ++ hs) F.holds.gates (ap₂ (λ (k : ℕ → ℕ) (hs : List Gate). map (renumbered k) hs) moved S.holds.gates)
       ∙ sym P.gates in
-      let n : length J.gates ≡ a.gates + b.gates = ap length g ∙ length-gates u (a.gates + b.gates) in
-      let p : header_text (a.gates + b.gates) W (take a.input_values ins) (take b.output_values outs)
+      let n : length J.gates ≡ a.gates + b.gates = ap length gates ∙ length-gates u (a.gates + b.gates) in
+      let p : header_text (a.gates + b.gates) (joined_wires a.wires b.wires b.input_bits) ins outs
       ≡ header_text (length J.gates) J.wires J.inputs J.outputs
-      = rw (n, wires-same, F.inputs, S.outputs, e) refl in
-      ap₂ ◌++◌ p (ap gate_text (sym g)) ∙ header-gates J
+      = rw (n, wires-same) (ap₂ (header_text (a.gates + b.gates) (joined_wires a.wires b.wires b.input_bits)) F.inputs S.outputs) in
+      ap₂ ◌++◌ p (ap gate_text (sym gates)) ∙ header-gates J
 
 -- ---- the second text, and the whole call
 
@@ -186,14 +190,3 @@ module _ (s : Sizes) (first second codes out_codes inner out o r g w b : List �
 
 pub delivers-as : {bs cs e x : List ℕ} {r : Result ℕ Question} → bs ≡ cs → Delivers bs e x r → Delivers cs e x r
 delivers-as p d = rw p at d
-
--- the joined W without going past it
-pub wires-of : (a b : HeaderNumbers) → Meeting (seam_of a b) → a.wires + (b.wires - b.input_bits) ≡ wires_of (seam_of a b)
-wires-of a b M = let i : b.input_bits ≤ b.wires = M.inner in omega arith
-
--- what follows the first text, under limits that are known
-pub rest-as : {l L : Limits} (second inner out_codes out : List ℕ) (A : Netlist) {x : List ℕ} {r : Result ℕ Question} → l ≡ L
-    → Answers (and_then (read_block l second inner) (join_outcome l out_codes inner (length out) A)) out x r
-    → Answers (and_then (read_block L second inner) (join_outcome L out_codes inner (length out) A)) out x r
-rest-as second inner out_codes out A {x} {r} e =
-    subst (λ (l : Limits). Answers (and_then (read_block l second inner) (join_outcome l out_codes inner (length out) A)) out x r) e

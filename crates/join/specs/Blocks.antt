@@ -1,5 +1,5 @@
 -- A text with its input codes, read into tables: questions 1 to 11; and question 25 of two of them.
-use Rattle.std.specs.Prelude.{ℕ, ◌-◌, ◌≤◌, ◌≡◌, Result, Ok, Err, Bool, true, ◌&&◌, List, T, eqb, leb, length, take}
+use Rattle.std.specs.Prelude.{ℕ, ◌-◌, ◌≤◌, ◌≡◌, Result, Ok, Err, Bool, true, ◌&&◌, List, T, eqb, leb, length}
 use Rattle.netlist.specs.declared.Limits.{Limits}
 use Rattle.netlist.specs.declared.Question.{Question}
 use Rattle.netlist.specs.Question.{number_of}
@@ -9,43 +9,37 @@ use Rattle.netlist.specs.Outcome.{refused, ask}
 use Rattle.netlist.specs.Mask.{is_input_code}
 use Rattle.netlist.specs.Services.{tables_long, list_good, ends_in_masks}
 use Rattle.netlist.specs.Table.{Tables, Wired, Holds}
-use Rattle.read_header.specs.declared.HeaderNumbers.{HeaderNumbers}
+use Rattle.read_header.specs.declared.header.Header.{Header}
 use Rattle.read_netlist.specs.Whole.{ReadAt}
 use Rattle.joined.specs.Call.{read_block, is_secret}
-use Rattle.join_gates.specs.declared.SeamNumbers.{SeamNumbers}
 
 -- the text reads as a netlist that the tables hold, and questions 10 and 11 get a yes
-pub record BlockAt (L : Limits) (text codes ins outs : List ℕ) (t : Tables) (h : HeaderNumbers) : Type 0 where
+pub record BlockAt (L : Limits) (text codes ins outs : List ℕ) (t : Tables) (h : Header) : Type 0 where
   pub at : ReadAt L text ins outs t h
   pub masks : T (ends_in_masks at.is.inputs)
   pub list : T (list_good is_input_code (input_bits at.is - 2) codes)
 
 -- what an answer to questions 1 to 11 stands for, with lent tables of these lengths
-abbrev pub BlockIs : Limits → List ℕ → List ℕ → List ℕ → List ℕ → List ℕ → Tables → Result HeaderNumbers Question → Type 0
+abbrev pub BlockIs : Limits → List ℕ → List ℕ → List ℕ → List ℕ → List ℕ → Tables → Result Header Question → Type 0
 BlockIs L lengths text codes ins outs t (Ok h) = (tables_long L lengths ≡ true) × BlockAt L text codes ins outs t h
 BlockIs L lengths text codes ins outs t (Err q) = ask 1 (tables_long L lengths) (read_block L text codes) ≡ refused (number_of q)
 
--- the numbers of a block and its gates in tables
-pub record Numbers (h : HeaderNumbers) (t : Tables) : Type 0 where
+-- the numbers of a block, besides its header's law, and its gates in tables
+pub record Numbers (h : Header) (t : Tables) : Type 0 where
   pub wired : Wired t h.wires h.gates
   pub pair : 2 ≤ h.input_bits
-  pub ins : h.input_bits ≤ h.wires
   pub outs : h.output_bits ≤ h.wires
   pub gates : h.gates ≡ h.wires - h.input_bits
 
--- the tables hold N, of which the first has its input widths, and the second its output widths, at the front of a table
-pub record First (h : HeaderNumbers) (ins : List ℕ) (t : Tables) (N : Netlist) : Type 0 where
+-- the tables hold N, of which the first has its input widths, and the second its output widths
+pub record First (h : Header) (ins : List ℕ) (t : Tables) (N : Netlist) : Type 0 where
   pub holds : Holds t h.gates h.wires h.input_bits h.output_bits N
-  pub inputs : take h.input_values ins ≡ N.inputs
+  pub inputs : ins ≡ N.inputs
 
-pub record Second (h : HeaderNumbers) (outs : List ℕ) (t : Tables) (N : Netlist) : Type 0 where
+pub record Second (h : Header) (outs : List ℕ) (t : Tables) (N : Netlist) : Type 0 where
   pub holds : Holds t h.gates h.wires h.input_bits h.output_bits N
-  pub outputs : take h.output_values outs ≡ N.outputs
+  pub outputs : outs ≡ N.outputs
 
 -- question 25, from the headers' numbers
-abbrev pub seam_holds : HeaderNumbers → List ℕ → HeaderNumbers → List ℕ → Bool
+abbrev pub seam_holds : Header → List ℕ → Header → List ℕ → Bool
 seam_holds a out_codes b codes = eqb (length out_codes) a.output_bits && same_bytes out_codes codes && every is_secret codes && leb b.output_bits b.gates
-
--- the numbers of the seam
-abbrev pub seam_of : HeaderNumbers → HeaderNumbers → SeamNumbers
-seam_of a b = record { wires = a.wires; outs = a.output_bits; ins = a.input_bits; second = b.wires; inner = b.input_bits }

@@ -2,25 +2,20 @@
 // with the large limits to the first text and then to the second, 25, 5 of the joined netlist, and 14.
 #![tactic(auto)]
 
-ghost use Rattle.std.specs.Prelude.{◌≡◌, [], ◌∷◌, ◌+◌, ◌-◌, ◌≤◌, length};
+ghost use Rattle.std.specs.Prelude.{◌≡◌, true, [], ◌∷◌, ◌-◌, ◌≤◌, length};
 ghost use Rattle.netlist.specs.Lists.{every};
-ghost use Rattle.netlist.specs.Netlist.{Netlist};
+ghost use Rattle.netlist.specs.Netlist.{Netlist, large};
 ghost use Rattle.netlist.specs.Outcome.{and_then};
-ghost use Rattle.netlist.specs.Services.{Answers, Delivers};
-ghost use Rattle.netlist.specs.Table.{tables, Wired};
-ghost use Rattle.netlist.specs.Write.{write_netlist};
-ghost use Rattle.read_netlist.specs.Whole.{Readable};
-ghost use Rattle.joined.specs.Join.{join as join_of};
+ghost use Rattle.netlist.specs.Services.{tables_long, Answers};
+ghost use Rattle.netlist.specs.Table.{tables};
 ghost use Rattle.joined.specs.Call.{is_secret, read_block, join_outcome};
-ghost use Rattle.join_gates.specs.Appended.{wires_of, Meeting};
-ghost use Rattle.join.specs.Blocks.{BlockIs, Numbers, First, Second, seam_holds, seam_of};
+ghost use Rattle.join.specs.Blocks.{BlockIs, Numbers, First, Second, seam_holds};
 ghost use Rattle.join.specs.Promise.{call, Promise};
 
 use gate_table::Gates;
-use join_gates::SeamNumbers;
-use netlist::{Answer, Limits, Question, Sizes};
-use old_form::Dialect;
-use read_header::HeaderNumbers;
+use join_gates::seam::SeamNumbers;
+use netlist::{Answer, Question, Sizes};
+use read_header::header::Header;
 
 // Questions 1 to 11 of a text with its input codes, as `read_netlist::read::read` puts 1 to 9.
 fn read_block(
@@ -32,15 +27,15 @@ fn read_block(
     results: &mut [u64],
     marks: &mut [u8],
     others: &[usize],
-    l: Limits,
-) -> Result<HeaderNumbers, Question>
-    requires { Readable l }
-    ensures { BlockIs l (length operands.old ∷ length results.old ∷ length marks.old ∷ others.now)
+    sizes: Sizes,
+) -> Result<Header, Question>
+    ensures { BlockIs (large sizes) (length operands.old ∷ length results.old ∷ length marks.old ∷ others.now)
         text.now codes.now inputs.new outputs.new
         (tables operands.new results.new) result }
 {
+    let l = sizes.large();
     let h = read_netlist::read::read(text, inputs, outputs, operands, results, marks, others, l)?;
-    check_netlist::ask_codes(h, *inputs, codes)?;
+    check_netlist::ask_codes(h.input_bits, &inputs[..h.input_values], codes)?;
     Ok(h)
 }
 
@@ -52,7 +47,7 @@ fn all_secret(codes: &[u8]) -> bool
 }
 
 // Question 25.
-fn seam_holds(a: HeaderNumbers, out_codes: &[u8], b: HeaderNumbers, codes: &[u8]) -> bool
+fn seam_holds(a: Header, out_codes: &[u8], b: Header, codes: &[u8]) -> bool
     ensures { result ≡ seam_holds a out_codes.now b codes.now }
 {
     out_codes.len() as u64 == a.output_bits
@@ -61,87 +56,55 @@ fn seam_holds(a: HeaderNumbers, out_codes: &[u8], b: HeaderNumbers, codes: &[u8]
         && b.output_bits <= b.gates as u64
 }
 
-// Question 14 and the joined text: the second's gates go behind the first's.
-fn write(
-    out: &mut [u8],
-    a: HeaderNumbers,
-    b: HeaderNumbers,
-    inputs: [u32; 17],
-    outputs: [u32; 16],
-    operands: &mut [u64],
-    results: &mut [u64],
-    words: &[u64],
-    base: &[u64],
-) -> Answer
-    requires meeting { Meeting (seam_of a b) × (a.input_values ≤ 17) × (b.output_values ≤ 16)
-        × Wired (tables operands.old results.old) a.wires a.gates
-        × Wired (tables words.now base.now) b.wires b.gates }
-    requires gates_bound { (a.gates + b.gates ≤ wires_of (seam_of a b)) × (a.gates + b.gates ≤ length operands.old)
-        × (a.gates + b.gates ≤ length results.old) }
-    ensures { (A B : Netlist) → First a inputs (tables operands.old results.old) A
-        → Second b outputs (tables words.now base.now) B
-        → Delivers (write_netlist (join_of A B)) out.old out.new result }
-{
-    let inner = b.input_bits as u32;
-    let s = SeamNumbers {
-        wires: a.wires,
-        outs: a.output_bits as u32,
-        ins: a.input_bits as u32,
-        second: b.wires,
-        inner,
-    };
-    let second = Gates {
-        operands: words,
-        results: base,
-        count: b.gates as usize,
-    };
-    join_gates::append(operands, results, a.gates as usize, second, s);
-    let h = HeaderNumbers {
-        gates: a.gates + b.gates,
-        wires: a.wires + (b.wires - inner),
-        input_values: a.input_values,
-        input_bits: a.input_bits,
-        output_values: b.output_values,
-        output_bits: b.output_bits,
-    };
-    let gates = Gates {
-        operands,
-        results,
-        count: h.gates as usize,
-    };
-    convert::deliver(out, h, inputs, outputs, gates, Dialect::Fashion)
-}
-
-// Questions 25, 5 and 14 and the joined text, of two blocks that were read.
+// Questions 25, 5 and 14 and the joined text, of two blocks that were read: the second's gates go behind the first's.
 fn deliver(
     out_codes: &[u8],
     codes: &[u8],
     out: &mut [u8],
-    a: HeaderNumbers,
-    b: HeaderNumbers,
-    inputs: [u32; 17],
-    outputs: [u32; 16],
+    a: Header,
+    b: Header,
+    inputs: &[u32],
+    outputs: &[u32],
     operands: &mut [u64],
     results: &mut [u64],
     words: &[u64],
     base: &[u64],
-    l: Limits,
+    sizes: Sizes,
 ) -> Answer
-    requires { Numbers a (tables operands.old results.old) × Numbers b (tables words.now base.now) × (a.input_values ≤ 17)
-        × (b.output_values ≤ 16)
-        × (length codes.now ≡ b.input_bits - 2) × (l.wires ≤ length operands.old) × (l.wires ≤ length results.old) }
-    ensures { (A B : Netlist) → First a inputs (tables operands.old results.old) A
-        → Second b outputs (tables words.now base.now) B
-        → Answers (join_outcome l out_codes.now codes.now (length out.old) A B) out.old out.new result }
+    requires blocks { Numbers a (tables operands.old results.old) × Numbers b (tables words.now base.now)
+        × (length codes.now ≡ b.input_bits - 2) }
+    requires wires_in_bounds { ((large sizes).wires ≤ length operands.old) × ((large sizes).wires ≤ length results.old) }
+    ensures { (A B : Netlist) → First a inputs.now (tables operands.old results.old) A
+        → Second b outputs.now (tables words.now base.now) B
+        → Answers (join_outcome (large sizes) out_codes.now codes.now (length out.old) A B) out.old out.new result }
 {
     if !seam_holds(a, out_codes, b, codes) {
         return Err(Question::Seam);
     }
     let wires = a.wires as u64 + b.wires as u64 - b.input_bits;
-    if (l.wires as u64) < wires {
+    if (sizes.large().wires as u64) < wires {
         return Err(Question::Limits);
     }
-    write(out, a, b, inputs, outputs, operands, results, words, base)
+    let seam = SeamNumbers {
+        wires: a.wires,
+        outs: a.output_bits as u32,
+        ins: a.input_bits as u32,
+        second: b.wires,
+        inner: b.input_bits as u32,
+    };
+    let count = a.gates as usize;
+    let second = Gates {
+        operands: words,
+        results: base,
+        count: b.gates as usize,
+    };
+    join_gates::append(operands, results, count, second, seam);
+    let gates = Gates {
+        operands,
+        results,
+        count: count + second.count,
+    };
+    write_netlist::deliver(out, gates, wires as usize, inputs, outputs)
 }
 
 // The answer once the first text is read: questions 2 to 11 of the second, and then 25, 5 and 14.
@@ -150,22 +113,21 @@ fn read_second(
     out_codes: &[u8],
     codes: &[u8],
     out: &mut [u8],
-    a: HeaderNumbers,
-    inputs: [u32; 17],
+    a: Header,
+    inputs: &[u32],
     operands: &mut [u64],
     results: &mut [u64],
     marks: &mut [u8],
     words: &mut [u64],
     base: &mut [u64],
-    l: Limits,
+    sizes: Sizes,
 ) -> Answer
-    requires readable { Readable l × Numbers a (tables operands.old results.old) × (a.input_values ≤ 17) }
-    requires table_in_bounds { (l.table ≤ length operands.old) × (l.table ≤ length results.old) × (l.table ≤ length marks.old)
-        × (l.table ≤ length words.old)
-        × (l.table ≤ length base.old) }
-    ensures { (A : Netlist) → First a inputs (tables operands.old results.old) A
-        → Answers (and_then (read_block l second.now codes.now)
-        (join_outcome l out_codes.now codes.now (length out.old) A)) out.old out.new result }
+    requires first { Numbers a (tables operands.old results.old) }
+    requires tables_long { tables_long (large sizes) (length operands.old ∷ length results.old ∷ length marks.old
+        ∷ length words.old ∷ length base.old ∷ []) ≡ true }
+    ensures { (A : Netlist) → First a inputs.now (tables operands.old results.old) A
+        → Answers (and_then (read_block (large sizes) second.now codes.now)
+        (join_outcome (large sizes) out_codes.now codes.now (length out.old) A)) out.old out.new result }
 {
     let mut inner = [0u32; 17];
     let mut outputs = [0u32; 16];
@@ -178,10 +140,11 @@ fn read_second(
         base,
         marks,
         &[],
-        l,
+        sizes,
     )?;
+    let outputs = &outputs[..b.output_values];
     deliver(
-        out_codes, codes, out, a, b, inputs, outputs, operands, results, words, base, l,
+        out_codes, codes, out, a, b, inputs, outputs, operands, results, words, base, sizes,
     )
 }
 
@@ -204,7 +167,6 @@ fn answer(
         out.old operands.old results.old marks.old words.old base.old)
         out.old out.new result }
 {
-    let l = sizes.large();
     let mut inputs = [0u32; 17];
     let mut outputs = [0u32; 16];
     let a = read_block(
@@ -216,10 +178,11 @@ fn answer(
         results,
         marks,
         &[words.len(), base.len()],
-        l,
+        sizes,
     )?;
+    let inputs = &inputs[..a.input_values];
     read_second(
-        second, out_codes, inner, out, a, inputs, operands, results, marks, words, base, l,
+        second, out_codes, inner, out, a, inputs, operands, results, marks, words, base, sizes,
     )
 }
 

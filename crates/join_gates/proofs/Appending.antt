@@ -12,12 +12,13 @@ use Rattle.netlist.specs.Table.{Tables, half, gate_of, gate_in, gate_at, gates_o
 use Rattle.netlist.proofs.Puts.{entry-low, entry-high, gates-more, Room, gates-put, wired-put}
 use Rattle.joined.specs.Join.{renumbered}
 use Rattle.joined.proofs.Wires.{moved-input, moved-pair, moved-further, on-wire}
-use Rattle.join_gates.specs.declared.SeamNumbers.{SeamNumbers}
-use Rattle.join_gates.specs.Appended.{wires_of, Meeting, goes_to, Appended}
+use Rattle.join_gates.specs.declared.seam.SeamNumbers.{SeamNumbers}
+use Rattle.join_gates.specs.Appended.{wires_of, goes_to, Appended}
 
 -- a joined wire is below the joined W
-pub goes-below : {s : SeamNumbers} → Meeting s → (w : ℕ) → w < s.second → goes_to s w < wires_of s
-goes-below {s} M w h =
+pub goes-below : (s : SeamNumbers) (w : ℕ) → w < s.second → goes_to s w < wires_of s
+goes-below s w h =
+    let M = s.meeting in
     let W = s.wires in
     let o = s.outs in
     let i = s.ins in
@@ -33,10 +34,10 @@ goes-below {s} M w h =
     (λ l. rw (moved-further W o i n w l) (omega arith))
 
 -- and fits half an entry
-pub goes-fits : {s : SeamNumbers} → Meeting s → (w : ℕ) → w < s.second → goes_to s w < half
-goes-fits {s} M w h =
-    let b : goes_to s w < wires_of s = goes-below M w h in
-    let f : wires_of s < half = M.fits in
+pub goes-fits : (s : SeamNumbers) (w : ℕ) → w < s.second → goes_to s w < half
+goes-fits s w h =
+    let b : goes_to s w < wires_of s = goes-below s w h in
+    let f : wires_of s < half = s.meeting.fits in
     omega arith
 
 -- the gate of renumbered entries: an operand that the kind does not read does not matter
@@ -60,7 +61,7 @@ module _ (f : ℕ → ℕ) where
       ∙ renumbered-test (eqb k 1) (Xor a b c) g₂
 
 -- the entries of a gate of the second, renumbered
-module _ {s : SeamNumbers} (M : Meeting s) {o r : ℕ} (N : Named s.second o r) where
+module _ (s : SeamNumbers) {o r : ℕ} (N : Named s.second o r) where
   abbrev f : ℕ → ℕ
   f = goes_to s
 
@@ -71,10 +72,10 @@ module _ {s : SeamNumbers} (M : Meeting s) {o r : ℕ} (N : Named s.second o r) 
   r' = f (r % half) + r / half * half
 
   left-fits : f (o % half) < half
-  left-fits = goes-fits M (o % half) N.left
+  left-fits = goes-fits s (o % half) N.left
 
   result_fits : f (r % half) < half
-  result_fits = goes-fits M (r % half) N.result
+  result_fits = goes-fits s (r % half) N.result
 
   pub entry-gate : gate_in o' r' ≡ renumbered f (gate_in o r)
   entry-gate =
@@ -89,18 +90,18 @@ module _ {s : SeamNumbers} (M : Meeting s) {o r : ℕ} (N : Named s.second o r) 
   pub entry_named : Named (wires_of s) o' r'
   entry_named = record {
     kind = rw (entry-high (f (r % half)) (r / half) result_fits) N.kind;
-    left = rw (entry-low (f (o % half)) (f (o / half)) left-fits) (goes-below M (o % half) N.left);
-    right = rw (entry-high (f (o % half)) (f (o / half)) left-fits) (goes-below M (o / half) N.right);
-    result = rw (entry-low (f (r % half)) (r / half) result_fits) (goes-below M (r % half) N.result);
+    left = rw (entry-low (f (o % half)) (f (o / half)) left-fits) (goes-below s (o % half) N.left);
+    right = rw (entry-high (f (o % half)) (f (o / half)) left-fits) (goes-below s (o / half) N.right);
+    result = rw (entry-low (f (r % half)) (r / half) result_fits) (goes-below s (r % half) N.result);
   }
 
 -- one more
-pub appending-more : {s : SeamNumbers} {t v u : Tables} {m k i : ℕ} {o r : ℕ} → Meeting s → Wired v s.second k → m + k ≤ length t.operands
+pub appending-more : {s : SeamNumbers} {t v u : Tables} {m k i : ℕ} {o r : ℕ} → Wired v s.second k → m + k ≤ length t.operands
     → m + k ≤ length t.results → Appended s t m v i u → i < k
     → o ≡ goes_to s (get_or v.operands i 0 % half) + goes_to s (get_or v.operands i 0 / half) * half
     → r ≡ goes_to s (get_or v.results i 0 % half) + get_or v.results i 0 / half * half
     → Appended s t m v (i + 1) (put_entry u (m + i) o r)
-appending-more {s} {t} {v} {u} {m} {k} {i} {o} {r} M w p q a h d e =
+appending-more {s} {t} {v} {u} {m} {k} {i} {o} {r} w p q a h d e =
     let f = renumbered (goes_to s) in
     let N = w.each i h in
     let x = get_or v.operands i 0 in
@@ -108,8 +109,8 @@ appending-more {s} {t} {v} {u} {m} {k} {i} {o} {r} M w p q a h d e =
     let lo : length u.operands ≡ length t.operands = a.operands in
     let lr : length u.results ≡ length t.results = a.results in
     let room : Room u (m + i) = record { operands = omega arith; results = omega arith } in
-    let n : Named (wires_of s) o r = rw (d, e) (entry_named M N) in
-    let g : gate_in o r ≡ f (gate_at v i) = ap₂ gate_in d e ∙ entry-gate M N in
+    let n : Named (wires_of s) o r = rw (d, e) (entry_named s N) in
+    let g : gate_in o r ≡ f (gate_at v i) = ap₂ gate_in d e ∙ entry-gate s N in
     let next : m + i + 1 ≡ m + (i + 1) = omega arith in
     let all : gates_of (put_entry u (m + i) o r) (m + (i + 1)) ≡ gates_of t m ++ map f (gates_of v (i + 1))
     = ap (gates_of (put_entry u (m + i) o r)) (sym next)

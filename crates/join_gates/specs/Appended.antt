@@ -1,21 +1,13 @@
 -- Gates in tables, behind those of a first netlist and on their joined wires.
-use Rattle.std.specs.Prelude.{ℕ, ◌+◌, ◌-◌, ◌≤◌, ◌<◌, ◌++◌, map, ◌≡◌, length}
-use Rattle.netlist.specs.Table.{Tables, half, gates_of, Wired}
+use Rattle.std.specs.Prelude.{ℕ, ◌+◌, ◌++◌, map, ◌≡◌, length}
+use Rattle.netlist.specs.Table.{Tables, gates_of, Wired}
 use Rattle.joined.specs.Join.{moved_wire, renumbered}
-use Rattle.join_gates.specs.declared.SeamNumbers.{SeamNumbers}
+use Rattle.join_gates.specs.Seams.{joined_wires}
+use Rattle.join_gates.specs.declared.seam.SeamNumbers.{SeamNumbers}
 
 -- the joined W
 abbrev pub wires_of : SeamNumbers → ℕ
-wires_of s = s.wires + s.second - s.inner
-
--- the numbers of a seam that question 25 admits, where wire numbers fit half an entry
-pub record Meeting (s : SeamNumbers) : Type 0 where
-  pub outs : s.outs ≤ s.wires
-  pub pair : 2 ≤ s.ins
-  pub ins : s.ins ≤ s.wires
-  pub meets : s.outs + 2 ≡ s.inner
-  pub inner : s.inner ≤ s.second
-  pub fits : wires_of s < half
+wires_of s = joined_wires s.wires s.second s.inner
 
 -- where a wire of the second goes
 abbrev pub goes_to : SeamNumbers → ℕ → ℕ

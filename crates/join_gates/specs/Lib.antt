@@ -1,2 +1,3 @@
 -- What the contracts of joined gates cite.
+pub mod Seams
 pub mod Appended

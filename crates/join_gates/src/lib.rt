@@ -1,28 +1,19 @@
 // The gates of a second netlist put behind those of a first, on their joined wires.
 #![tactic(auto)]
 
+pub mod seam;
+
 ghost use Rattle.std.specs.Prelude.{◌≡◌, ◌+◌, ◌*◌, ◌/◌, ◌%◌, ◌≤◌, ◌<◌, length};
 ghost use Rattle.netlist.specs.Table.{tables, half, Wired};
 ghost use Rattle.gate_table.specs.Gates.{tables_of, WiredGates};
-ghost use Rattle.join_gates.specs.Appended.{Meeting, goes_to, Appended};
+ghost use Rattle.join_gates.specs.Appended.{goes_to, Appended};
 
+use crate::seam::SeamNumbers;
 use gate_table::{Gates, HALF};
-
-// The numbers of a seam; input bits include the mask pair.
-#[derive(Clone, Copy)]
-pub struct SeamNumbers {
-    // the first's wires, output bits and input bits
-    pub wires: u32,
-    pub outs: u32,
-    pub ins: u32,
-    // the second's wires and input bits
-    pub second: u32,
-    pub inner: u32,
-}
 
 // The joined wire of wire w of the second.
 fn wire(s: SeamNumbers, w: u32) -> u32
-    requires { Meeting s × (w < s.second) }
+    requires { w < s.second }
     ensures { result ≡ goes_to s w }
 {
     let pair = s.inner - 2;
@@ -37,7 +28,7 @@ fn wire(s: SeamNumbers, w: u32) -> u32
 
 // The entry of two operands.
 fn operands_entry(s: SeamNumbers, entry: u64) -> u64
-    requires { Meeting s × (entry % half < s.second) × (entry / half < s.second) }
+    requires { (entry % half < s.second) × (entry / half < s.second) }
     ensures { result ≡ goes_to s (entry % half) + goes_to s (entry / half) * half }
 {
     let a = wire(s, (entry % HALF) as u32);
@@ -47,14 +38,15 @@ fn operands_entry(s: SeamNumbers, entry: u64) -> u64
 
 // The entry of a result and its kind.
 fn result_entry(s: SeamNumbers, entry: u64) -> u64
-    requires { Meeting s × (entry % half < s.second) }
+    requires { entry % half < s.second }
     ensures { result ≡ goes_to s (entry % half) + entry / half * half }
 {
     let c = wire(s, (entry % HALF) as u32);
     c as u64 + entry / HALF * HALF
 }
 
-// Behind the first `count` gates of two tables, a second's. EQ has no case of its own: the operands of its entry are never read.
+// Puts the gates of a second netlist behind the first `count` gates of two tables. EQ has no case of its own: the operands of its entry are
+// never read.
 pub fn append(
     operands: &mut [u64],
     results: &mut [u64],
@@ -62,7 +54,7 @@ pub fn append(
     second: Gates,
     s: SeamNumbers,
 )
-    requires meeting { Meeting s × Wired (tables operands.old results.old) s.wires count × WiredGates second s.second }
+    requires wired { Wired (tables operands.old results.old) s.wires count × WiredGates second s.second }
     requires second_in_bounds { (count + second.count ≤ length operands.old) × (count + second.count ≤ length results.old) }
     ensures { Appended s (tables operands.old results.old) count (tables_of second.entry) second.entry.count
         (tables operands.new results.new) }

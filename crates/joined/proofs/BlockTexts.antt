@@ -37,7 +37,8 @@ made-text s N tables source codes wanted text_room code_room R r e =
     let e₂ : mask_outcome codes wanted text_room code_room N ≡ done R
     = sym (ap (λ (o : Outcome Netlist). and_then o (mask_outcome codes wanted text_room code_room)) r) ∙ k₁.1 in
     let T₀ = masked_text (mask_netlist N codes wanted) in
-    let k₁₁ = ask-done 11 (list_good is_input_code (input_bits N) codes) (ask 13 (list_good is_wanted (output_bits N) wanted) (deliver_outcome text_room code_room T₀)) R e₂ in
+    let k₁₁ = ask-done 11 (list_good is_input_code (input_bits N) codes)
+    (ask 13 (list_good is_wanted (output_bits N) wanted) (deliver_outcome text_room code_room T₀)) R e₂ in
     let k₁₃ = ask-done 13 (list_good is_wanted (output_bits N) wanted) (deliver_outcome text_room code_room T₀) R k₁₁.1 in
     let k₁₄ = ask-done 14 (holds text_room T₀.text && holds code_room T₀.codes) (done T₀) R k₁₃.1 in
     (mask-inputs (accepted (small s) source N r).formed k₁₁.0 k₁₃.0, done-same T₀ R k₁₄.1)

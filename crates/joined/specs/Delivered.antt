@@ -41,7 +41,8 @@ pub record Delivered (s : Sizes) (tables first codes out_codes second inner : Li
       → BlockText s (λ x. g (f x)) codes text out_codes'
   -- three blocks: where the first text is itself one and two joined, the call that joins two with this call's second text is accepted, and
   -- the call that joins one with what comes of it delivers the very same text
-  pub later_seam : (f g : List Bool → List Bool) (one one_out_codes two two_codes : List ℕ) (p : ℕ) → BlockText s f codes one one_out_codes → BlockText s g two_codes
+  pub later_seam : (f g : List Bool → List Bool) (one one_out_codes two two_codes : List ℕ) (p : ℕ) → BlockText s f codes one one_out_codes
+      → BlockText s g two_codes
       two out_codes
       → join_call (large s) tables one codes one_out_codes two two_codes p ≡ done first
       → (x : List ℕ) × (join_call (large s) tables two two_codes out_codes second inner (large_text s) ≡ done x)

@@ -1,6 +1,8 @@
 // Lent lists: questions 11 and 13, that one has an entry for each bit, each in its range; and an entry stored where there is room.
 #![tactic(auto)]
 
+pub mod codes;
+
 ghost use Rattle.std.specs.Prelude.{◌≡◌, set};
 ghost use Rattle.netlist.specs.Lists.{every};
 ghost use Rattle.netlist.specs.Mask.{is_input_code, is_wanted};
@@ -49,7 +51,7 @@ pub fn valid_wanted(list: &[u8], n: usize) -> bool
     good(list, n, 3)
 }
 
-// One entry of a list, where the list is long enough.
+// Stores an entry in a list, where the list is long enough.
 pub fn put<T: Copy>(list: &mut [T], at: usize, entry: T)
     ensures { list.new ≡ set list.old at entry }
 {

@@ -1,22 +1,19 @@
 -- The walk over the table of the masked AND's steps.
 use Prim.Native.Nat.{ℕ, zero, suc, ◌+◌, ◌≤◌, ◌<◌}
-use mathlib.Core.Path.{◌≡◌, refl, sym, ap, ◌∙◌}
+use mathlib.Core.Path.{◌≡◌, sym, ap, ◌∙◌}
 use mathlib.Core.Bool.{Bool, true, ◌&&◌}
-use mathlib.Core.List.{List, [], ◌∷◌, ◌++◌, map, append_assoc, append-nil}
+use mathlib.Core.List.{List, [], ◌∷◌, ◌++◌, map, append_assoc}
 use native.Mathlib.Nat.{not-suc-le-zero, le_of_suc-le-suc}
-use native.Mathlib.Numerals.{add-one, towards_numerals}
+use native.Mathlib.Numerals.{add-one}
 use native.Mathlib.Omega.{arith}
 use lib.Dec.{T, eqb, ltb, ltb→lt}
 use lib.ListN.{length, get_or, set, take, drop, length-set, length-map, get_or-map}
 use lib.Seq.{get_or-take, take-suc-set, drop-cons}
 use Rattle.netlist.specs.declared.Gate.{Gate}
-use Rattle.netlist.specs.Lists.{every}
 use Rattle.netlist.specs.Mask.{Row, row, rows, row_gate, row_gates}
 use Rattle.netlist.proofs.Tests.{both}
-use Rattle.gate_records.specs.Records.{record4, blank, record_of}
-use Rattle.write_buffer.specs.Wrote.{top}
 use Rattle.write_gates.specs.Gates.{WroteGates}
-use Rattle.write_gates.proofs.GateLines.{gates-none, gates-then, gates-as}
+use Rattle.write_gates.proofs.GateLines.{gates-then}
 use Rattle.mask_and.specs.Row.{row_of}
 
 -- entry j of row i
@@ -75,17 +72,6 @@ pub record Walked (t : List (List ℕ)) (e : List ℕ) (at : ℕ) (ps : List ℕ
   pub wrote : WroteGates e at done x r
   pub left : row_gates rows ps c ≡ done ++ row_gates (drop i rows) (take (5 + i) places) (c + i)
 
-pub walked_none : (t : List (List ℕ)) (e : List ℕ) (at a b p q o c : ℕ) (zs : List ℕ) → Steps t → length zs ≡ 7 → length e ≤ top → at ≤ top
-    → Walked t e at (a ∷ b ∷ p ∷ q ∷ o ∷ []) c e (a ∷ b ∷ p ∷ q ∷ o ∷ zs) at 0
-walked_none t e at a b p q o c zs s z h k = record {
-  steps = s;
-  passed = omega arith;
-  long = omega arith;
-  done = [];
-  wrote = gates-none e at h k;
-  left = ap (row_gates rows (a ∷ b ∷ p ∷ q ∷ o ∷ [])) (omega arith);
-}
-
 pub walked_more : {t : List (List ℕ)} {e ps m x places : List ℕ} {at c r i s : ℕ} → Walked t e at ps c m places r i → i < 7
     → WroteGates m r (row_of (cell t i 0) (get_or places (cell t i 1) 0) (get_or places (cell t i 2) 0) (c + i) ∷ []) x s
     → Walked t e at ps c x (set places (5 + i) (c + i)) s (i + 1)
@@ -111,54 +97,3 @@ walked_more {t} {ps = ps} {places = places} {c = c} {i = i} h l a =
           h.left ∙ ap (λ (l : List Gate). h.done ++ l) next
           ∙ sym (append_assoc h.done (g ∷ []) (row_gates (drop (i + 1) rows) (take (5 + (i + 1)) (set places (5 + i) w)) (c + (i + 1))));
     }
-
-pub walked_all : {t : List (List ℕ)} {e ps x places : List ℕ} {at c r i : ℕ} → Walked t e at ps c x places r i → 7 ≤ i → WroteGates e at (row_gates rows ps c) x r
-walked_all {places = places} {c = c} {i = i} h l =
-    let seven : i ≡ 7 = omega (arith, h.passed) in
-    let none : row_gates (drop i rows) (take (5 + i) places) (c + i) ≡ [] = rw seven in
-    gates-as (sym (h.left ∙ ap (λ (l : List Gate). h.done ++ l) none ∙ append-nil h.done)) h.wrote
-
--- a step's record, by its operation
-record-row : (k a b c : ℕ) → k < 2 → record4 (k + 1) a b c ≡ record_of (row_of k a b c)
-record-row zero a b c h = refl
-record-row (suc zero) a b c h = refl
-record-row (suc (suc k)) a b c h = absurd (omega (arith, h))
-
--- the places of the operands and of the seven steps
-abbrev pub places_at : ℕ → ℕ → ℕ → ℕ → ℕ → ℕ → List ℕ
-places_at a b p q o c = a ∷ b ∷ p ∷ q ∷ o ∷ c ∷ (c + 1) ∷ (c + 2) ∷ (c + 3) ∷ (c + 4) ∷ (c + 5) ∷ (c + 6) ∷ []
-
--- one of the seven
-seven : (P : ℕ → Type 0) → P 0 → P 1 → P 2 → P 3 → P 4 → P 5 → P 6 → (k : ℕ) → k < 7 → P k
-seven P p₀ p₁ p₂ p₃ p₄ p₅ p₆ zero h = p₀
-seven P p₀ p₁ p₂ p₃ p₄ p₅ p₆ (suc zero) h = p₁
-seven P p₀ p₁ p₂ p₃ p₄ p₅ p₆ (suc (suc zero)) h = p₂
-seven P p₀ p₁ p₂ p₃ p₄ p₅ p₆ (suc (suc (suc zero))) h = p₃
-seven P p₀ p₁ p₂ p₃ p₄ p₅ p₆ (suc (suc (suc (suc zero)))) h = p₄
-seven P p₀ p₁ p₂ p₃ p₄ p₅ p₆ (suc (suc (suc (suc (suc zero))))) h = p₅
-seven P p₀ p₁ p₂ p₃ p₄ p₅ p₆ (suc (suc (suc (suc (suc (suc zero)))))) h = p₆
-seven P p₀ p₁ p₂ p₃ p₄ p₅ p₆ (suc (suc (suc (suc (suc (suc (suc k))))))) h = absurd (omega (arith, h))
-
-module _ (a b p q o c : ℕ) where
-  gate-at : (k : ℕ) → k < 7 → get_or (map record_of (row_gates rows (a ∷ b ∷ p ∷ q ∷ o ∷ []) c)) k blank
-      ≡ record_of (row_gate (get_or rows k (step_of [])) (places_at a b p q o c) (c + k))
-  gate-at = seven (λ k. get_or (map record_of (row_gates rows (a ∷ b ∷ p ∷ q ∷ o ∷ []) c)) k blank
-      ≡ record_of (row_gate (get_or rows k (step_of [])) (places_at a b p q o c) (c + k)))
-      (simp towards_numerals) refl (simp towards_numerals) (simp towards_numerals)
-      (simp towards_numerals) (simp towards_numerals) (simp towards_numerals)
-
-  -- step k, from row k of a table
-  pub step-at : {t : List (List ℕ)} {k : ℕ} → Steps t → k < 7 → cell t k 0 < 2
-      → record4 (cell t k 0 + 1) (get_or (places_at a b p q o c) (cell t k 1) 0) (get_or (places_at a b p q o c) (cell t k 2) 0) (c + k)
-      ≡ get_or (map record_of (row_gates rows (a ∷ b ∷ p ∷ q ∷ o ∷ []) c)) k blank
-  step-at {t} {k} s h l =
-      record-row (cell t k 0) (get_or (places_at a b p q o c) (cell t k 1) 0) (get_or (places_at a b p q o c) (cell t k 2) 0) (c + k) l
-      ∙ ap (λ (r : Row). record_of (row_gate r (places_at a b p q o c) (c + k)))
-      (sym (ap (λ (l : List Row). get_or l k (step_of [])) (sym s.same) ∙ get_or-map step_of t k []))
-      ∙ sym (gate-at k h)
-
--- an operation of a table whose operations are 0 and 1
-pub operation-at : (t : List (List ℕ)) (k : ℕ) → k < length t → T (every (λ r. ltb (get_or r 0 0) 2) t) → cell t k 0 < 2
-operation-at [] k h e = absurd (not-suc-le-zero h)
-operation-at (r ∷ t) zero h e = ltb→lt (get_or r 0 0) 2 (both (ltb (get_or r 0 0) 2) (every (λ r. ltb (get_or r 0 0) 2) t) e).0
-operation-at (r ∷ t) (suc k) h e = operation-at t k (le_of_suc-le-suc h) (both (ltb (get_or r 0 0) 2) (every (λ r. ltb (get_or r 0 0) 2) t) e).1

@@ -1,4 +1,5 @@
-// Mask codes: the third code, the code after a code, and the wire that carries a code's mask.
+// Mask codes: the third code, the code after a code, and the wire that carries a code's mask. The masks' wires and the next wire are
+// values of their own, whose laws say that the numbers counted on from them stay small; where nothing asks that, a wire is a number.
 #![tactic(auto)]
 
 ghost use Rattle.std.specs.Prelude.{◌≡◌, ◌<◌, ◌^◌};
@@ -18,10 +19,25 @@ pub fn code_after(e: u8) -> u8
     e % 3 + 1
 }
 
-// The mask wire of a code, with n input bits; wire n for what is no code.
-pub fn mask_wire(n: u32, e: u8) -> u32
-    requires { n < 2 ^ 31 }
-    ensures { result ≡ mask_wire n e }
-{
-    n + u32::from(e.saturating_sub(1))
+// The wires of the masks, from that of m0 on, whose number is how many input bits there are. It is below 2^31.
+#[derive(Clone, Copy)]
+pub struct Masks {
+    pub first: u32,
+    ghost low: { first < 2 ^ 31 },
+}
+
+impl Masks {
+    // The mask wire of a code; the first for what is no code.
+    pub fn wire(self, e: u8) -> u32
+        ensures { result ≡ mask_wire self.first e }
+    {
+        self.first + u32::from(e.saturating_sub(1))
+    }
+}
+
+// The next wire, which no gate has given yet. Its number is below 2^31.
+#[derive(Clone, Copy)]
+pub struct Next {
+    pub wire: u32,
+    ghost low: { wire < 2 ^ 31 },
 }

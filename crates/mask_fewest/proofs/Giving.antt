@@ -121,7 +121,8 @@ room-is true b true d p q = rw (p, q) refl
 room-is true b false d p q = rw p refl
 room-is false b c d p q = refl
 
-module _ (N : Netlist) (codes wanted : List ℕ) (r : Tally) (is ts : List ℕ) {e x f y : List ℕ} {w : std.Result ℕ Question} (hi : length codes ≤ length is) (ht : 2 ≤ length ts)
+module _ (N : Netlist) (codes wanted : List ℕ) (r : Tally) (is ts : List ℕ) {e x f y : List ℕ} {w : std.Result ℕ Question}
+    (hi : length codes ≤ length is) (ht : 2 ≤ length ts)
     (A : MaskAnswers (deliver_outcome (length e) (length f) (masked_text (mask_netlist N codes wanted))) e x f y w) where
   same-room : room_for (room e is f ts) (given N codes wanted r) ≡ (holds (length e) (write_netlist (mask_netlist N codes wanted).netlist) && holds (length f)
       (mask_netlist N codes wanted).codes)

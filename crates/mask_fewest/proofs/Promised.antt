@@ -6,7 +6,7 @@ use mathlib.Core.Path.{◌≡◌, refl, sym, ap, ap₂, ◌∙◌}
 use mathlib.Core.Bool.{Bool, true, false, ◌&&◌}
 use mathlib.Core.List.{List, [], ◌∷◌}
 use native.Mathlib.Omega.{arith}
-use lib.Dec.{T, eqb, leb, leb→le}
+use lib.Dec.{T, eqb, leb→le}
 use borrow.Author.Tests.{le-leb, lt-leb, eq-eqb}
 use lib.ListN.{length, take, set}
 use lib.Seq.{sets}
@@ -24,7 +24,7 @@ use Rattle.netlist.specs.Table.{Tables}
 use Rattle.netlist.proofs.Tests.{is_true, true-T, both, pair}
 use Rattle.netlist.proofs.Questions.{done-same, and_then-done}
 use Rattle.netlist.proofs.Answering.{answers-refused, take-sets, call-refused, call-goes-on}
-use Rattle.read_header.specs.declared.HeaderNumbers.{HeaderNumbers}
+use Rattle.read_header.specs.declared.header.Header.{Header}
 use Rattle.read_netlist.specs.Whole.{ReadAt}
 use Rattle.mask_twins.proofs.Made.{codes-length}
 use Rattle.mask_text.specs.Whole.{Source as MaskSource}
@@ -53,7 +53,7 @@ fewest-refused out is es ts p = record { text = answers-refused out (rw p); inpu
 
 -- ---- questions 11, 13, 22 and 14
 
-module _ {h : HeaderNumbers} {t : Tables} {is os : List ℕ} {N : Netlist} (a : Read h t is os N) (codes wanted : List ℕ) (budget : ℕ) (out ins ends tal : List ℕ) where
+module _ {h : Header} {t : Tables} {is os : List ℕ} {N : Netlist} (a : Read h t is os N) (codes wanted : List ℕ) (budget : ℕ) (out ins ends tal : List ℕ) where
   codes-good : (b : Bool) → list_good is_call_code h.input_bits codes ≡ b → list_good is_call_code (input_bits N) codes ≡ b
   codes-good b e = ap (λ (n : ℕ). list_good is_call_code n codes) a.holds.ins ∙ e
 
@@ -63,134 +63,112 @@ module _ {h : HeaderNumbers} {t : Tables} {is os : List ℕ} {N : Netlist} (a : 
   abbrev Answered : Question → Type 0
   Answered q = FewestAnswers (fewest_outcome codes wanted budget (room out ins ends tal) N) out out ins ins ends ends tal tal (Err q)
 
-  pub fewest-11 : list_good is_call_code h.input_bits codes ≡ false → Answered Q.Inputs
-  fewest-11 p = fewest-refused out ins ends tal (rw (codes-good false p))
+  module _ (p : list_good is_call_code h.input_bits codes ≡ true) (q : list_good is_wanted h.output_bits wanted ≡ true) where
+    lengths : length codes ≡ h.input_bits
+    lengths = codes-length is_call_code h.input_bits codes p
 
-  module _ (p : list_good is_call_code h.input_bits codes ≡ true) where
-    pub fewest-13 : list_good is_wanted h.output_bits wanted ≡ false → Answered Q.Wanted
-    fewest-13 q = fewest-refused out ins ends tal (rw (codes-good true p, wanted-good false q))
+    pub wanted-length : length wanted ≡ h.output_bits
+    wanted-length = codes-length is_wanted h.output_bits wanted q
 
-    module _ (q : list_good is_wanted h.output_bits wanted ≡ true) where
-      pub fewest-22 : budget ≡ 0 → Answered Q.Budget
-      fewest-22 z = fewest-refused out ins ends tal (rw (codes-good true p, wanted-good true q, z) refl)
+    -- the netlist with codes for its inputs and its outputs
+    pub source-read : Source t h.gates codes wanted h.wires N
+    source-read = record {
+      formed = a.formed;
+      holds = record { gates = a.holds.gates; wires = a.holds.wires; ins = a.holds.ins ∙ sym lengths; outs = a.holds.outs ∙ sym wanted-length };
+    }
 
-      lengths : length codes ≡ h.input_bits
-      lengths = codes-length is_call_code h.input_bits codes p
+    inputs-good : CallInputs N codes wanted
+    inputs-good =
+        let c = both (eqb (length codes) h.input_bits) (every is_call_code codes) (true-T _ p) in
+        let v = both (eqb (length wanted) h.output_bits) (every is_wanted wanted) (true-T _ q) in
+        record {
+          source = a.formed;
+          codes_length = lengths ∙ sym a.holds.ins;
+          codes_good = c.1;
+          wanted_length = wanted-length ∙ sym a.holds.outs;
+          wanted_good = v.1;
+        }
 
-      pub wanted-length : length wanted ≡ h.output_bits
-      wanted-length = codes-length is_wanted h.output_bits wanted q
+    module _ (one : 1 ≤ budget) where
+      abbrev d : Choice
+      d = choice N codes (given_number N codes wanted budget)
 
-      -- the netlist with codes for its inputs and its outputs
-      pub source-read : Source t h.gates codes wanted h.wires N
-      source-read = record {
-        formed = a.formed;
-        holds = record { gates = a.holds.gates; wires = a.holds.wires; ins = a.holds.ins ∙ sym lengths; outs = a.holds.outs ∙ sym wanted-length };
-      }
+      its-number : length codes ≡ input_bits N
+      its-number = lengths ∙ sym a.holds.ins
 
-      inputs-good : CallInputs N codes wanted
-      inputs-good =
-          let c = both (eqb (length codes) h.input_bits) (every is_call_code codes) (true-T _ p) in
-          let v = both (eqb (length wanted) h.output_bits) (every is_wanted wanted) (true-T _ q) in
-          record {
-            source = a.formed;
-            codes_length = lengths ∙ sym a.holds.ins;
-            codes_good = c.1;
-            wanted_length = wanted-length ∙ sym a.holds.outs;
-            wanted_good = v.1;
-          }
+      taken : Takes (ways codes N.gates) (choice N codes (given_number N codes wanted budget))
+      taken = given-takes N codes wanted its-number budget one
 
-      module _ (one : 1 ≤ budget) where
-        abbrev d : Choice
-        d = choice N codes (given_number N codes wanted budget)
+      abbrev its-result : Result
+      its-result = result_of N codes wanted budget d
 
-        its-number : length codes ≡ input_bits N
-        its-number = lengths ∙ sym a.holds.ins
+      accepted : fewest_outcome codes wanted budget (room out ins ends tal) N ≡ deliver (room out ins ends tal) its-result
+      accepted = rw (codes-good true p, wanted-good true q, le-leb 1 budget one) refl
 
-        taken : Takes (ways codes N.gates) (choice N codes (given_number N codes wanted budget))
-        taken = given-takes N codes wanted its-number budget one
+      -- a buffer is too short for the input codes
+      chosen-length : length (chosen_inputs codes d) ≡ length codes
+      chosen-length = Rattle.fewest.proofs.Chosen.length-chosen_codes d 0 codes
 
-        abbrev its-result : Result
-        its-result = result_of N codes wanted budget d
+      false-one : (x y z v : Bool) → y ≡ false → x && y && z && v ≡ false
+      false-one true y z v e = rw e refl
+      false-one false y z v e = refl
 
-        accepted : fewest_outcome codes wanted budget (room out ins ends tal) N ≡ deliver (room out ins ends tal) its-result
-        accepted = rw (codes-good true p, wanted-good true q, le-leb 1 budget one) refl
+      pub fewest-14-inputs : length ins < length codes → Answered Q.Room
+      fewest-14-inputs k =
+          let l = chosen-length in
+          let b : holds (length ins) (chosen_inputs codes d) ≡ false = lt-leb (length (chosen_inputs codes d)) (length ins) (omega arith) in
+          let e = false-one (holds (length out) its-result.text) _ (holds (length ends) its-result.outputs) (holds (length tal) its-result.tally) b in
+          fewest-refused out ins ends tal (accepted ∙ rw e refl)
 
-        -- a buffer is too short for the input codes, or for the tally
-        chosen-length : length (chosen_inputs codes d) ≡ length codes
-        chosen-length = Rattle.fewest.proofs.Chosen.length-chosen_codes d 0 codes
+      -- the source under the choice that is given, in the tables t' and with the codes at the front of ys
+      module _ {t' : Tables} {ys : List ℕ} {r : Tally} (C : Chose N codes wanted budget t' h.gates ys r) where
+        its-codes : take (length codes) ys ≡ chosen_inputs codes d
+        its-codes = C.inputs
 
-        false-one : (x y z v : Bool) → y ≡ false → x && y && z && v ≡ false
-        false-one true y z v e = rw e refl
-        false-one false y z v e = refl
+        read-chosen : Read h t' is os (chosen_source N (choice N codes (given_number N codes wanted budget)))
+        read-chosen = record {
+          holds = record {
+            gates = sym (C.gates ∙ ap (λ (n : ℕ). Rattle.fewest.specs.Choice.chosen_gates d n N.gates) its-number);
+            wires = a.holds.wires;
+            ins = a.holds.ins;
+            outs = a.holds.outs;
+          };
+          inputs = a.inputs;
+          outputs = a.outputs;
+          formed = chosen-formed N d a.formed;
+        }
 
-        false-last : (x y z v : Bool) → v ≡ false → x && y && z && v ≡ false
-        false-last true true true v e = e
-        false-last true true false v e = refl
-        false-last true false z v e = refl
-        false-last false y z v e = refl
+        good-codes : list_good is_input_code h.input_bits (take (length codes) ys) ≡ true
+        good-codes =
+            let I = chosen-inputs inputs-good d taken in
+            ap (list_good is_input_code h.input_bits) its-codes
+            ∙ is_true _ (pair (eqb (length (chosen_inputs codes d)) h.input_bits) (every is_input_code (chosen_inputs codes d))
+            (true-T _ (eq-eqb (length (chosen_inputs codes d)) h.input_bits (chosen-length ∙ lengths))) I.codes_good)
 
-        pub fewest-14-inputs : length ins < length codes → Answered Q.Room
-        fewest-14-inputs k =
-            let l = chosen-length in
-            let b : holds (length ins) (chosen_inputs codes d) ≡ false = lt-leb (length (chosen_inputs codes d)) (length ins) (omega arith) in
-            let e = false-one (holds (length out) its-result.text) _ (holds (length ends) its-result.outputs) (holds (length tal) its-result.tally) b in
-            fewest-refused out ins ends tal (accepted ∙ rw e refl)
+        pub chosen-source : (is' : List ℕ) → is' ≡ set is h.input_values 2 → h.input_values < length is
+            → MaskSource t' h.gates h.wires (length codes) (length wanted) (take (h.input_values + 1) is') (take h.output_values os)
+            (chosen_source N (choice N codes (given_number N codes wanted budget)))
+        chosen-source is' w l =
+            let n : length (take (length codes) ys) ≡ length codes = ap length its-codes ∙ chosen-length in
+            rw n at (source_of read-chosen (take (length codes) ys) wanted good-codes q is' w l)
 
-        pub fewest-14-tally : length tal < 2 → Answered Q.Room
-        fewest-14-tally k =
-            let b : leb 2 (length tal) ≡ false = lt-leb 2 (length tal) k in
-            let e = false-last (holds (length out) its-result.text) (holds (length ins) its-result.inputs) (holds (length ends) its-result.outputs) _ b in
-            fewest-refused out ins ends tal (accepted ∙ rw e refl)
+        pub chosen-masked : WellFormed (mask_netlist (chosen_source N (choice N codes (given_number N codes wanted budget))) (take (length codes) ys) wanted).netlist
+        chosen-masked = masked-formed read-chosen (take (length codes) ys) wanted good-codes q
 
-        -- the source under the choice that is given, in the tables t' and with the codes at the front of ys
-        module _ {t' : Tables} {ys : List ℕ} {r : Tally} (C : Chose N codes wanted budget t' h.gates ys r) where
-          its-codes : take (length codes) ys ≡ chosen_inputs codes d
-          its-codes = C.inputs
-
-          read-chosen : Read h t' is os (chosen_source N (choice N codes (given_number N codes wanted budget)))
-          read-chosen = record {
-            holds = record {
-              gates = sym (C.gates ∙ ap (λ (n : ℕ). Rattle.fewest.specs.Choice.chosen_gates d n N.gates) its-number);
-              wires = a.holds.wires;
-              ins = a.holds.ins;
-              outs = a.holds.outs;
-            };
-            inputs = a.inputs;
-            outputs = a.outputs;
-            formed = chosen-formed N d a.formed;
-          }
-
-          good-codes : list_good is_input_code h.input_bits (take (length codes) ys) ≡ true
-          good-codes =
-              let I = chosen-inputs inputs-good d taken in
-              ap (list_good is_input_code h.input_bits) its-codes
-              ∙ is_true _ (pair (eqb (length (chosen_inputs codes d)) h.input_bits) (every is_input_code (chosen_inputs codes d))
-              (true-T _ (eq-eqb (length (chosen_inputs codes d)) h.input_bits (chosen-length ∙ lengths))) I.codes_good)
-
-          pub chosen-source : (is' : List ℕ) → is' ≡ set is h.input_values 2 → h.input_values < length is
-              → MaskSource t' h.gates h.wires (length codes) (length wanted) (take (h.input_values + 1) is') (take h.output_values os)
-              (chosen_source N (choice N codes (given_number N codes wanted budget)))
-          chosen-source is' w l =
-              let n : length (take (length codes) ys) ≡ length codes = ap length its-codes ∙ chosen-length in
-              rw n at (source_of read-chosen (take (length codes) ys) wanted good-codes q is' w l)
-
-          pub chosen-masked : WellFormed (mask_netlist (chosen_source N (choice N codes (given_number N codes wanted budget))) (take (length codes) ys) wanted).netlist
-          chosen-masked = masked-formed read-chosen (take (length codes) ys) wanted good-codes q
-
-          pub fewest-14 : {out' ins' ends' tal' : List ℕ} {x : std.Result ℕ Question}
-              → FewestAnswers (deliver (room out ins ends tal) (given (chosen_source N (choice N codes (given_number N codes wanted budget)))
-              (take (length codes) ys) wanted r))
-              out out' ins ins' ends ends' tal tal' x
-              → FewestAnswers (fewest_outcome codes wanted budget (room out ins ends tal) N) out out' ins ins' ends ends' tal tal' x
-          fewest-14 A =
-              let e : given (chosen_source N d) (take (length codes) ys) wanted r ≡ its-result =
-              ap₂ (λ (cs tl : List ℕ). record {
-                text = Rattle.netlist.specs.Write.write_netlist (mask_netlist (chosen_source N d) cs wanted).netlist;
-                inputs = cs;
-                outputs = (mask_netlist (chosen_source N d) cs wanted).codes;
-                tally = tl;
-              }) its-codes (ap₂ (λ (x y : ℕ). x ∷ y ∷ []) C.changes C.floor) in
-              fewest-as (sym (accepted ∙ ap (deliver (room out ins ends tal)) (sym e))) A
+        pub fewest-14 : {out' ins' ends' tal' : List ℕ} {x : std.Result ℕ Question}
+            → FewestAnswers (deliver (room out ins ends tal) (given (chosen_source N (choice N codes (given_number N codes wanted budget)))
+            (take (length codes) ys) wanted r))
+            out out' ins ins' ends ends' tal tal' x
+            → FewestAnswers (fewest_outcome codes wanted budget (room out ins ends tal) N) out out' ins ins' ends ends' tal tal' x
+        fewest-14 A =
+            let e : given (chosen_source N d) (take (length codes) ys) wanted r ≡ its-result =
+            ap₂ (λ (cs tl : List ℕ). record {
+              text = Rattle.netlist.specs.Write.write_netlist (mask_netlist (chosen_source N d) cs wanted).netlist;
+              inputs = cs;
+              outputs = (mask_netlist (chosen_source N d) cs wanted).codes;
+              tally = tl;
+            }) its-codes (ap₂ (λ (x y : ℕ). x ∷ y ∷ []) C.changes C.floor) in
+            fewest-as (sym (accepted ∙ ap (deliver (room out ins ends tal)) (sym e))) A
 
 -- ---- questions 1 to 9
 
@@ -208,7 +186,7 @@ module _ (s : Sizes) (text codes wanted : List ℕ) (budget : ℕ) (out ins ends
       fewest-refused out ins ends tal
       (call-refused (tables_long (small s) lengths') (read_netlist (small s) text) (fewest_outcome codes wanted budget rooms) h)
 
-  pub call-read : {out' ins' ends' tal' is os : List ℕ} {t : Tables} {h : HeaderNumbers} {a : std.Result ℕ Question}
+  pub call-read : {out' ins' ends' tal' is os : List ℕ} {t : Tables} {h : Header} {a : std.Result ℕ Question}
       → (tables_long (small s) lengths' ≡ true) × ReadAt (small s) text is os t h
       → ((N : Netlist) → Read h t is os N → FewestAnswers (fewest_outcome codes wanted budget (room out ins ends tal) N) out out' ins ins' ends ends' tal tal' a)
       → FewestAnswers (call s text codes wanted budget (room out ins ends tal) o r w m y b z) out out' ins ins' ends ends' tal tal' a

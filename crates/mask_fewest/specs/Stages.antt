@@ -9,7 +9,7 @@ use Rattle.netlist.specs.Write.{write_netlist}
 use Rattle.netlist.specs.Mask.{mask_netlist}
 use Rattle.netlist.specs.Services.{Answers, written}
 use Rattle.netlist.specs.Table.{Tables, gates_of}
-use Rattle.read_header.specs.declared.HeaderNumbers.{HeaderNumbers}
+use Rattle.read_header.specs.declared.header.Header.{Header}
 use Rattle.mask.specs.Fronts.{Fronts, Read}
 use Rattle.fewest.specs.Choice.{choice, chosen_gates, chosen_inputs}
 use Rattle.fewest.specs.Fewest.{changes_at, given as given_number, floor as floor_of}
@@ -18,7 +18,7 @@ use Rattle.fewest_search.specs.declared.search.Tally.{Tally}
 use Rattle.fewest_search.specs.Search.{Source}
 
 -- the tables of a netlist that was read: Mask's, with room for the width of the mask pair, and those of ways, best ways and spans
-pub record Room (h : HeaderNumbers) (t : Tables) (is os ws ms ys bs ss : List ℕ) : Type 0 where
+pub record Room (h : Header) (t : Tables) (is os ws ms ys bs ss : List ℕ) : Type 0 where
   pub fronts : Fronts h t ws ms
   pub widths : h.input_values ≤ 16
   pub ways : h.wires ≤ length ys
@@ -28,7 +28,7 @@ pub record Room (h : HeaderNumbers) (t : Tables) (is os ws ms ys bs ss : List �
   pub read : Read h t is os netlist
 
 -- .. with codes for its inputs and its outputs
-pub record Choosable (h : HeaderNumbers) (t : Tables) (codes wanted ws ms ys bs ss : List ℕ) : Type 0 where
+pub record Choosable (h : Header) (t : Tables) (codes wanted ws ms ys bs ss : List ℕ) : Type 0 where
   pub fronts : Fronts h t ws ms
   pub ways : h.wires ≤ length ys
   pub best : h.wires ≤ length bs
@@ -44,7 +44,7 @@ pub record Chose (N : Netlist) (codes wanted : List ℕ) (budget : ℕ) (t : Tab
   pub floor : r.floor ≡ floor_of N codes wanted budget
 
 -- .. and the buffers of the input codes and of the tally have room
-pub record Givable (h : HeaderNumbers) (t : Tables) (n : ℕ) (wanted ws ms ys is ts : List ℕ) : Type 0 where
+pub record Givable (h : Header) (t : Tables) (n : ℕ) (wanted ws ms ys is ts : List ℕ) : Type 0 where
   pub fronts : Fronts h t ws ms
   pub codes : n ≤ h.wires
   pub outs : length wanted ≤ h.wires

@@ -18,7 +18,7 @@ use fewest_search::Job;
 use fewest_search::search::Tally;
 use gate_table::Gates;
 use netlist::{Answer, Question, Sizes};
-use read_header::HeaderNumbers;
+use read_header::header::Header;
 use read_netlist::read::read;
 
 // The choice that is given: its ANDs are swapped in the table of operands, its input codes stand at the front of `ways`; its changes and
@@ -27,7 +27,7 @@ fn choose<'a>(
     codes: &'a [u8],
     wanted: &'a [u8],
     budget: u64,
-    h: HeaderNumbers,
+    h: Header,
     operands: &mut [u64],
     results: &'a [u64],
     wires: &mut [u32],
@@ -75,7 +75,7 @@ fn give(
     ins: &mut [u8],
     ends: &mut [u8],
     tally: &mut [u64],
-    h: HeaderNumbers,
+    h: Header,
     r: Tally,
     n: usize,
     wanted: &[u8],
@@ -121,7 +121,7 @@ fn deliver(
     ins: &mut [u8],
     ends: &mut [u8],
     tally: &mut [u64],
-    h: HeaderNumbers,
+    h: Header,
     codes: &[u8],
     wanted: &[u8],
     budget: u64,

@@ -11,7 +11,8 @@ use Rattle.gate_table.specs.declared.Kind.{Kind}
 use Rattle.mask_rule.proofs.Twins.{twin-small}
 use Rattle.mask_gate.specs.Emitted.{WroteKind}
 
-module _ (n c : ℕ) (A B : Twin) {e m x : List ℕ} {at f s r : ℕ} {S : Twin} (h : WroteGates e at (change_gates n c A B) m f) (a : S ≡ changed c A B) (b : s ≡ past c A B) where
+module _ (n c : ℕ) (A B : Twin) {e m x : List ℕ} {at f s r : ℕ} {S : Twin} (h : WroteGates e at (change_gates n c A B) m f) (a : S ≡ changed c A B)
+    (b : s ≡ past c A B) where
   pub xor-made : WroteGates m f (Xor A.wire S.wire s ∷ []) x r → WroteGates e at (xor_gates n c A B) x r
   xor-made w = gates-then h (gates-as (λ i. Xor A.wire (a i).wire (b i) ∷ []) w)
 

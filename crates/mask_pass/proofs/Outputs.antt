@@ -7,15 +7,13 @@ use native.Mathlib.Numerals.{add-one}
 use native.Mathlib.Omega.{arith}
 use lib.ListN.{length, get_or, drop, drop_of_length-le}
 use lib.Seq.{drop-cons}
-use borrow.Author.Tests.{ne_eqb}
 use Rattle.netlist.specs.declared.Gate.{Gate}
-use Rattle.netlist.specs.declared.Gate.TheVariants.{Xor}
 use Rattle.netlist.specs.declared.Twin.{Twin}
-use Rattle.netlist.specs.Mask.{third, mask_wire, out_gate, out_gates, out_code, out_codes, no_twin}
+use Rattle.netlist.specs.Mask.{out_gate, out_gates, out_code, out_codes, no_twin}
 use Rattle.write_buffer.specs.Wrote.{Wrote, top}
 use Rattle.write_gates.specs.Gates.{WroteGates}
-use Rattle.write_buffer.proofs.Writing.{wrote_none, wrote_then, wrote_as}
-use Rattle.write_gates.proofs.GateLines.{gates-none, gates-then, gates-as}
+use Rattle.write_buffer.proofs.Writing.{wrote_then}
+use Rattle.write_gates.proofs.GateLines.{gates-then, gates-as}
 use Rattle.mask_twins.specs.State.{twins_of}
 use Rattle.mask_twins.proofs.States.{twins-length}
 use Rattle.mask_pass.specs.State.{codes_of}
@@ -24,28 +22,12 @@ out-end : (n c : ℕ) (ts : List Twin) → out_gates n c ts [] ≡ []
 out-end n c [] = refl
 out-end n c (t ∷ ts) = refl
 
--- a code other than the present one is wanted: the gate adds the mask of the third
-pub out-changed : {e x : List ℕ} {at c f m r : ℕ} (n : ℕ) (t : Twin) (want : ℕ) → (want ≡ 0 → ⊥) → (want ≡ t.code → ⊥) → f ≡ third t.code want → m ≡ mask_wire n f
-    → WroteGates e at (Xor t.wire m c ∷ []) x r → WroteGates e at (out_gate n c t want ∷ []) x r
-out-changed {c = c} n t want z y a b w = rw (ne_eqb want 0 z, ne_eqb want t.code y) (gates-as (ap (λ (k : ℕ). Xor t.wire k c ∷ []) (b ∙ ap (mask_wire n) a)) w)
-
 -- the first i output gates were written
 pub record Outed (e : List ℕ) (at n c : ℕ) (ws es : List ℕ) (from : ℕ) (vs x : List ℕ) (r i : ℕ) : Type 0 where
   pub passed : i ≤ length vs
   pub done : List Gate
   pub wrote : WroteGates e at done x r
   pub left : out_gates n c (drop from (twins_of ws es)) vs ≡ done ++ out_gates n (c + i) (drop (from + i) (twins_of ws es)) (drop i vs)
-
-pub outed-none : (e : List ℕ) (at n c : ℕ) (ws es : List ℕ) (from : ℕ) (vs : List ℕ) → length e ≤ top → at ≤ top → Outed e at n c ws es from vs e at 0
-outed-none e at n c ws es from vs h k =
-    let z : from ≡ from + 0 = omega arith in
-    let w : c ≡ c + 0 = omega arith in
-    record {
-      passed = omega arith;
-      done = [];
-      wrote = gates-none e at h k;
-      left = ap₂ (λ (k j : ℕ). out_gates n k (drop j (twins_of ws es)) vs) w z;
-    }
 
 pub outed-more : {e ws es vs m x : List ℕ} {at n c from r i s : ℕ} {t : Twin} → Outed e at n c ws es from vs m r i → i < length vs → from + length vs ≡
     length ws → length es ≡ length ws
@@ -88,21 +70,12 @@ out-codes (w ∷ ws) (e ∷ es) [] zero l = refl
 out-codes (w ∷ ws) (e ∷ es) (v ∷ vs) zero l = ap (λ (k : List ℕ). out_code e v ∷ k) (out-codes ws es vs zero (suc_inj l))
 out-codes (w ∷ ws) (e ∷ es) vs (suc j) l = out-codes ws es vs j (suc_inj l)
 
-codes-end : (es : List ℕ) → codes_of es [] ≡ []
-codes-end [] = refl
-codes-end (e ∷ es) = refl
-
 -- the first i output codes were written
 pub record Picked (e es : List ℕ) (from : ℕ) (vs x : List ℕ) (i : ℕ) : Type 0 where
   pub passed : i ≤ length vs
   pub done : List ℕ
   pub wrote : Wrote e 0 done x i
   pub left : codes_of (drop from es) vs ≡ done ++ codes_of (drop (from + i) es) (drop i vs)
-
-pub picked_none : (e es : List ℕ) (from : ℕ) (vs : List ℕ) → length e ≤ top → Picked e es from vs e 0
-picked_none e es from vs h =
-    let z : from ≡ from + 0 = omega arith in
-    record { passed = omega arith; done = []; wrote = wrote_none e 0 h (omega arith); left = ap (λ (j : ℕ). codes_of (drop j es) vs) z }
 
 pub picked_more : {e es vs m x : List ℕ} {from i t b : ℕ} → Picked e es from vs m i → i < length vs → length vs ≤ top → from + length vs ≡ length es
     → b ≡ out_code (get_or es (from + i) 0) (get_or vs i 0) → Wrote m i (b ∷ []) x t → Picked e es from vs x t
@@ -119,10 +92,3 @@ picked_more {es = es} {vs = vs} {from = from} {i = i} {t = t} {b = b} h l s f c 
       wrote = wrote_then h.wrote w;
       left = h.left ∙ ap (λ (l : List ℕ). h.done ++ l) on ∙ sym (append_assoc h.done (b ∷ []) (codes_of (drop (from + t) es) (drop t vs)));
     }
-
-pub picked_all : {e es vs x : List ℕ} {from i : ℕ} → Picked e es from vs x i → length vs ≤ i → Wrote e 0 (codes_of (drop from es) vs) x (length vs)
-picked_all {e} {es} {vs} {x} {from} {i} h l =
-    let q : i ≡ length vs = omega (arith, h.passed) in
-    let none : codes_of (drop (from + i) es) (drop i vs) ≡ [] = rw (drop_of_length-le vs {i = i} l) (codes-end (drop (from + i) es)) in
-    let w : Wrote e 0 (codes_of (drop from es) vs) x i = wrote_as (sym (h.left ∙ ap (λ (l : List ℕ). h.done ++ l) none ∙ append-nil h.done)) h.wrote in
-    rw q at w

@@ -1,19 +1,17 @@
 -- The gates of the public bits.
-use Prim.Native.Nat.{ℕ, zero, suc, ◌+◌, ◌≤◌, ◌<◌}
+use Prim.Native.Nat.{ℕ, zero, suc, ◌+◌, ◌<◌}
 use mathlib.Core.Path.{◌≡◌, sym, ap, ap₂, ◌∙◌}
 use mathlib.Core.List.{List, [], ◌∷◌, ◌++◌, append_assoc, append-nil}
 use native.Mathlib.Nat.{not-suc-le-zero, le_of_suc-le-suc}
 use native.Mathlib.Numerals.{add-one}
 use native.Mathlib.Omega.{arith}
 use lib.ListN.{length, get_or, take}
-use lib.Seq.{take_all}
 use Rattle.netlist.specs.declared.Gate.{Gate}
 use Rattle.netlist.specs.Mask.{is_public, public_gate, public_gates, past_public, past_publics}
 use Rattle.netlist.proofs.Tests.{on_bool}
-use Rattle.write_buffer.specs.Wrote.{top}
 use Rattle.write_gates.specs.Gates.{WroteGates}
-use Rattle.write_gates.proofs.GateLines.{gates-none, gates-then, gates-as}
-use Rattle.mask_twins.proofs.PublicWires.{Passed, passed_none, passed-more}
+use Rattle.write_gates.proofs.GateLines.{gates-then, gates-as}
+use Rattle.mask_twins.proofs.PublicWires.{Passed, passed-more}
 
 publics-more : (n c k : ℕ) (es : List ℕ) (i : ℕ) → i < length es
     → public_gates n c k (take i es) ++ public_gate n (past_publics c (take i es)) (k + i) (get_or es i 0) ≡ public_gates n c k (take (suc i) es)
@@ -42,9 +40,6 @@ pub record Opened (e : List ℕ) (at n c : ℕ) (cs x : List ℕ) (r v i : ℕ) 
   pub inputs : Passed c cs v i
   pub wrote : WroteGates e at (public_gates n c 0 (take i cs)) x r
 
-pub opened-none : (e : List ℕ) (at n c : ℕ) (cs : List ℕ) → length e ≤ top → at ≤ top → Opened e at n c cs e at c 0
-opened-none e at n c cs h k = record { inputs = passed_none c cs; wrote = gates-none e at h k }
-
 pub opened-more : {e cs m x : List ℕ} {at n c r s v v' i : ℕ} → Opened e at n c cs m r v i → i < length cs
     → WroteGates m r (public_gate n v i (get_or cs i 0)) x s → v' ≡ past_public v (get_or cs i 0) → Opened e at n c cs x s v' (i + 1)
 opened-more {cs = cs} {n = n} {c = c} {v = v} {i = i} h l g p =
@@ -55,6 +50,3 @@ opened-more {cs = cs} {n = n} {c = c} {v = v} {i = i} h l g p =
       inputs = passed-more h.inputs l p;
       wrote = gates-as (ap (λ (l : List Gate). public_gates n c 0 (take i cs) ++ l) here ∙ rw add-one (publics-more n c 0 cs i l)) (gates-then h.wrote g);
     }
-
-pub opened-all : {e cs x : List ℕ} {at n c r v i : ℕ} → Opened e at n c cs x r v i → length cs ≤ i → WroteGates e at (public_gates n c 0 cs) x r
-opened-all {cs = cs} {n = n} {c = c} {i = i} h l = gates-as (ap (public_gates n c 0) (take_all i cs l)) h.wrote

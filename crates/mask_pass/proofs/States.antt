@@ -1,6 +1,6 @@
 -- What a source gate makes of the state.
-use Prim.Native.Nat.{ℕ, ◌+◌, ◌≤◌}
-use mathlib.Core.Path.{◌≡◌, refl, sym, ap, ap₂, ◌∙◌}
+use Prim.Native.Nat.{ℕ, ◌+◌}
+use mathlib.Core.Path.{◌≡◌, sym, ap, ap₂, ◌∙◌}
 use mathlib.Core.List.{List, [], ◌∷◌, ◌++◌, append_assoc, append-nil}
 use native.Mathlib.Omega.{arith}
 use lib.ListN.{length, set}
@@ -13,8 +13,7 @@ use Rattle.gate_table.specs.Kind.{gate_for}
 use Rattle.netlist.specs.Table.{Tables, gate_of, gate_at, gates_of}
 use Rattle.netlist.specs.Mask.{State, twin, emit, result_twin, advance, emit_all, advance_all}
 use Rattle.netlist.proofs.Puts.{gates-more}
-use Rattle.write_buffer.specs.Wrote.{top}
-use Rattle.write_gates.proofs.GateLines.{gates-none, gates-then, gates-as}
+use Rattle.write_gates.proofs.GateLines.{gates-then, gates-as}
 use Rattle.mask_rule.specs.Rule.{steps_of, twin_of}
 use Rattle.mask_gate.specs.Emitted.{WroteKind}
 use Rattle.mask_rule.proofs.ByKind.{emit-of, twin-of, result-of}
@@ -50,15 +49,6 @@ pub record Emitting (e : List ℕ) (at n : ℕ) (t : Tables) (S₀ : State) (x :
   pub wires : length ws ≡ W
   pub codes : length es ≡ W
   pub made : WroteAll e at n S₀ t i x (r, c) (state_of c ws es)
-
-pub emitting-none : (e : List ℕ) (at n : ℕ) (t : Tables) (c : ℕ) (ws es : List ℕ) → length es ≡ length ws → length e ≤ top → at ≤ top
-    → Emitting e at n t (state_of c ws es) e at c (length ws) ws es 0
-emitting-none e at n t c ws es l h k = record {
-  wires = refl;
-  codes = l;
-  made =
-      record { wrote = gates-none e at h k; state = refl; grown = omega arith };
-}
 
 pub emitting-more : {e x y : List ℕ} {at n r c W i : ℕ} {t : Tables} {S₀ : State} {ws es ws' es' : List ℕ} {R : ℕ × ℕ} → Emitting e at n t S₀ x r c W ws es i
     → length ws' ≡ length ws → length es' ≡ length es

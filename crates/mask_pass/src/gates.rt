@@ -6,6 +6,7 @@ ghost use Rattle.mask_twins.specs.State.{state_of};
 ghost use Rattle.mask_pass.specs.State.{WroteStep, WroteAll};
 
 use gate_table::{Gates, Kind, Parts};
+use mask_codes::{Masks, Next};
 use write_wires::table::Words;
 
 // A source gate of these parts, at the wires from c: the next place, and the next wire. Its result's twin is the one that changes.
@@ -13,47 +14,47 @@ fn step(
     d: Words,
     out: &mut [u8],
     at: usize,
-    n: u32,
-    c: u32,
+    masks: Masks,
+    c: Next,
     g: Parts,
     wire: &mut [u32],
     code: &mut [u8],
 ) -> (usize, u32)
-    requires n_bound { (n < 2 ^ 31) × (c < 2 ^ 31) }
-    requires within { Within (length wire.old) g × (length code.old ≡ length wire.old) }
-    ensures { WroteStep out.old at n (state_of c wire.old code.old) (gate_by g)
+    requires { Within (length wire.old) g × (length code.old ≡ length wire.old) }
+    ensures { WroteStep out.old at masks.first (state_of c.wire wire.old code.old) (gate_by g)
         out.new result (state_of result.1 wire.new code.new) }
 {
     let result = g.result;
     let a = mask_twins::twin(wire, code, g.left);
     let b = mask_twins::twin(wire, code, g.right);
-    let (end, t) = mask_gate::emit(d, out, at, n, c, Kind::of(g.kind), a, b);
+    let (end, t) = mask_gate::emit(d, out, at, masks, c, Kind::of(g.kind), a, b);
     wire[result] = t.wire;
     code[result] = t.code;
     (end, t.wire + 1)
 }
 
-// The tables' first gates, at the wires from c, likewise.
-pub fn gates(
+// All the gates, at the wires from c, likewise.
+pub fn write_all(
     d: Words,
     out: &mut [u8],
     at: usize,
-    n: u32,
+    masks: Masks,
     c: u32,
     gates: Gates,
     wire: &mut [u32],
     code: &mut [u8],
 ) -> (usize, u32)
-    requires n_bound { (n < 2 ^ 31) × (c + 8 * gates.count < 2 ^ 31) }
+    requires c_bound { c + 8 * gates.count < 2 ^ 31 }
     requires wired { WiredGates gates (length wire.old) × (length code.old ≡ length wire.old) }
-    ensures { WroteAll out.old at n (state_of c wire.old code.old)
+    ensures { WroteAll out.old at masks.first (state_of c wire.old code.old)
         (tables_of gates.entry) gates.entry.count out.new result
         (state_of result.1 wire.new code.new) }
 {
     let mut place = at;
     let mut next = c;
     for i in 0..gates.count {
-        (place, next) = step(d, out, place, n, next, gates.at(i), wire, code);
+        let from = Next { wire: next };
+        (place, next) = step(d, out, place, masks, from, gates.at(i), wire, code);
     }
     (place, next)
 }

@@ -6,7 +6,7 @@ pub mod gates;
 pub mod outs;
 mod publics;
 
-ghost use Rattle.std.specs.Prelude.{◌<◌, ◌^◌, length};
+ghost use Rattle.std.specs.Prelude.{length};
 ghost use Rattle.netlist.specs.Netlist.{Netlist};
 ghost use Rattle.netlist.specs.Mask.{mask_gates, mask_netlist};
 ghost use Rattle.gate_table.specs.Gates.{HoldsGates, tables_of};
@@ -15,13 +15,14 @@ ghost use Rattle.mask_twins.specs.Place.{Ready};
 ghost use Rattle.mask_pass.specs.Pass.{WrotePass};
 
 use gate_table::Gates;
+use mask_codes::Masks;
 use write_wires::table::Words;
 
 // The three gates that always follow the inputs: the sum, the product and the OR of the masks.
-fn masks(d: Words, out: &mut [u8], at: usize, n: u32) -> usize
-    requires n_bound { n < 2 ^ 31 }
-    ensures { WroteGates out.old at (mask_gates n) out.new result }
+fn mask_gates(d: Words, out: &mut [u8], at: usize, masks: Masks) -> usize
+    ensures { WroteGates out.old at (mask_gates masks.first) out.new result }
 {
+    let n = masks.first;
     let second = write_gates::gate::xor(d, out, at, n, n + 1, n + 2);
     let third = write_gates::gate::and(d, out, second, n, n + 1, n + 3);
     write_gates::gate::xor(d, out, third, n + 2, n + 3, n + 4)
@@ -47,10 +48,11 @@ pub fn pass(
 {
     let n = codes.len() as u32;
     let first = mask_twins::inputs::start(n + 5, codes, wire, code);
-    let second = masks(d, out, at, n);
+    let masks = Masks { first: n };
+    let second = mask_gates(d, out, at, masks);
     let third = crate::publics::publics(d, out, second, n, n + 5, codes);
-    let (place, next) = crate::gates::gates(d, out, third, n, first, gates, wire, code);
+    let (place, next) = crate::gates::write_all(d, out, third, masks, first, gates, wire, code);
     let from = wire.len() - wanted.len();
-    let end = crate::outs::outs(d, out, place, n, next, wire, code, from, wanted);
+    let end = crate::outs::outs(d, out, place, masks, next, wire, code, from, wanted);
     (end, next + wanted.len() as u32)
 }

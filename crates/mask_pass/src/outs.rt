@@ -6,20 +6,19 @@ ghost use Rattle.write_gates.specs.Gates.{WroteGates};
 ghost use Rattle.mask_twins.specs.State.{twins_of};
 ghost use Rattle.mask_pass.specs.State.{codes_of};
 
-use mask_codes::{mask_wire, third_code};
+use mask_codes::{Masks, third_code};
 use netlist::Twin;
 use write_wires::table::Words;
 
 // One output bit's gate, at wire c.
-fn one(d: Words, out: &mut [u8], at: usize, n: u32, c: u32, t: Twin, want: u8) -> usize
-    requires n_bound { n < 2 ^ 31 }
-    ensures { WroteGates out.old at (out_gate n c t want ∷ []) out.new result }
+fn one(d: Words, out: &mut [u8], at: usize, masks: Masks, c: u32, t: Twin, want: u8) -> usize
+    ensures { WroteGates out.old at (out_gate masks.first c t want ∷ []) out.new result }
 {
     if want == 0 || want == t.code {
         return write_gates::gate::eqw(d, out, at, t.wire, c);
     }
     let f = third_code(t.code, want);
-    let m = mask_wire(n, f);
+    let m = masks.wire(f);
     write_gates::gate::xor(d, out, at, t.wire, m, c)
 }
 
@@ -28,22 +27,22 @@ pub fn outs(
     d: Words,
     out: &mut [u8],
     at: usize,
-    n: u32,
+    masks: Masks,
     c: u32,
     wire: &[u32],
     code: &[u8],
     from: usize,
     wanted: &[u8],
 ) -> usize
-    requires n_bound { (n < 2 ^ 31) × (c + length wanted.now < 2 ^ 31) }
+    requires c_bound { c + length wanted.now < 2 ^ 31 }
     requires wanted_value { (from + length wanted.now ≡ length wire.now) × (length code.now ≡ length wire.now) }
-    ensures { WroteGates out.old at (out_gates n c (drop from (twins_of wire.now code.now))
+    ensures { WroteGates out.old at (out_gates masks.first c (drop from (twins_of wire.now code.now))
         wanted.now) out.new result }
 {
     let mut place = at;
     for (i, want) in wanted.iter().enumerate() {
         let t = mask_twins::twin(wire, code, from + i);
-        place = one(d, out, place, n, c + i as u32, t, *want);
+        place = one(d, out, place, masks, c + i as u32, t, *want);
     }
     place
 }

@@ -2,7 +2,7 @@
 // result. Mask writes by it, Mask and Twins count by it, and a session stores what it gives.
 #![tactic(auto)]
 
-ghost use Rattle.std.specs.Prelude.{◌≡◌, map, ◌+◌, ◌<◌, ◌^◌, length, get_or};
+ghost use Rattle.std.specs.Prelude.{◌≡◌, map, ◌+◌, ◌<◌, length, get_or};
 ghost use Rattle.netlist.specs.declared.Gate.TheVariants.{Xor};
 ghost use Rattle.netlist.specs.Leak.{bit};
 ghost use Rattle.netlist.specs.Mask.{after, mask_wire, changes, changed as changed_twin, past as past_wire, xor_gates, xor_twin, and_gates, and_twin};
@@ -11,7 +11,7 @@ ghost use Rattle.mask_rule.specs.Rule.{steps_of, twin_of, At, Many};
 
 use gate_records::GateRecord;
 use gate_table::Kind;
-use mask_codes::{code_after, mask_wire, third_code};
+use mask_codes::{Masks, Next, code_after, third_code};
 use netlist::Twin;
 
 // The second operand behind its mask change, if there is one. It holds for this gate alone: the caller's twin of the operand stays
@@ -29,20 +29,18 @@ pub fn changed(c: u32, a: Twin, b: Twin) -> Twin
     }
 }
 
-// The next wire behind it.
-pub fn past(c: u32, a: Twin, b: Twin) -> u32
-    requires { c < 2 ^ 31 }
-    ensures { result ≡ past_wire c a b }
+// The next wire behind it. It may be 2^31, and so is no `Next`.
+pub fn past(c: Next, a: Twin, b: Twin) -> u32
+    ensures { result ≡ past_wire c.wire a b }
 {
-    if a.code == b.code { c + 1 } else { c }
+    if a.code == b.code { c.wire + 1 } else { c.wire }
 }
 
 // The twin of an XOR's result.
-pub fn xor_twin(c: u32, a: Twin, b: Twin) -> Twin
-    requires { c < 2 ^ 31 }
-    ensures { result ≡ xor_twin c a b }
+pub fn xor_twin(c: Next, a: Twin, b: Twin) -> Twin
+    ensures { result ≡ xor_twin c.wire a b }
 {
-    let second = changed(c, a, b);
+    let second = changed(c.wire, a, b);
     Twin {
         wire: past(c, a, b),
         code: third_code(a.code, second.code),
@@ -50,9 +48,8 @@ pub fn xor_twin(c: u32, a: Twin, b: Twin) -> Twin
 }
 
 // The twin of an AND's result.
-pub fn and_twin(c: u32, a: Twin, b: Twin) -> Twin
-    requires { c < 2 ^ 31 }
-    ensures { result ≡ and_twin c a b }
+pub fn and_twin(c: Next, a: Twin, b: Twin) -> Twin
+    ensures { result ≡ and_twin c.wire a b }
 {
     Twin {
         wire: past(c, a, b) + 6,
@@ -61,11 +58,10 @@ pub fn and_twin(c: u32, a: Twin, b: Twin) -> Twin
 }
 
 // The twin of a source gate's result, by the gate's kind; its operands have the twins a and b, and its masked gates start at wire c.
-pub fn twin(c: u32, kind: Kind, a: Twin, b: Twin) -> Twin
-    requires { c < 2 ^ 31 }
-    ensures { result ≡ twin_of c kind a b }
+pub fn twin(c: Next, kind: Kind, a: Twin, b: Twin) -> Twin
+    ensures { result ≡ twin_of c.wire kind a b }
 {
-    // apart from the kinds of two operands: four arms in one match are a jump through a table, which is slower where kinds are mixed
+    // Apart from the kinds of two operands: four arms in one match are a jump through a table, which is slower where kinds are mixed
     let single = match kind {
         Kind::Eq(_) => 1,
         _ => a.code,
@@ -74,7 +70,7 @@ pub fn twin(c: u32, kind: Kind, a: Twin, b: Twin) -> Twin
         Kind::Xor => xor_twin(c, a, b),
         Kind::And => and_twin(c, a, b),
         _ => Twin {
-            wire: c,
+            wire: c.wire,
             code: single,
         },
     }
@@ -100,29 +96,27 @@ pub fn count(kind: Kind, a: Twin, b: Twin) -> usize
 }
 
 // The gate of an operand's mask change, at wire c.
-fn change(n: u32, c: u32, b: Twin) -> GateRecord
-    requires { n < 2 ^ 31 }
-    ensures { result ≡ record_of (Xor b.wire (mask_wire n (after b.code)) c) }
+fn change(masks: Masks, c: u32, b: Twin) -> GateRecord
+    ensures { result ≡ record_of (Xor b.wire (mask_wire masks.first (after b.code)) c) }
 {
     let f = code_after(b.code);
     GateRecord {
         kind: 1,
         first: b.wire,
-        second: mask_wire(n, f),
+        second: masks.wire(f),
         result: c,
     }
 }
 
 // Gate k of XOR's.
-fn xor(n: u32, c: u32, a: Twin, b: Twin, k: usize) -> GateRecord
-    requires { (n < 2 ^ 31) × (c < 2 ^ 31) }
-    ensures { At (map record_of (xor_gates n c a b)) k result }
+fn xor(masks: Masks, c: Next, a: Twin, b: Twin, k: usize) -> GateRecord
+    ensures { At (map record_of (xor_gates masks.first c.wire a b)) k result }
 {
     let from = extra(a, b);
     if k < from {
-        return change(n, c, b);
+        return change(masks, c.wire, b);
     }
-    let second = changed(c, a, b);
+    let second = changed(c.wire, a, b);
     GateRecord {
         kind: 1,
         first: a.wire,
@@ -132,19 +126,20 @@ fn xor(n: u32, c: u32, a: Twin, b: Twin, k: usize) -> GateRecord
 }
 
 // Gate k of AND's: the steps follow the mask change.
-fn and(n: u32, c: u32, a: Twin, b: Twin, k: usize) -> GateRecord
-    requires { (n < 2 ^ 31) × (c < 2 ^ 31) × (k < bit (changes a b) + 7) }
-    ensures { At (map record_of (and_gates n c a b)) k result }
+fn and(masks: Masks, c: Next, a: Twin, b: Twin, k: usize) -> GateRecord
+    requires { k < bit (changes a b) + 7 }
+    ensures { At (map record_of (and_gates masks.first c.wire a b)) k result }
 {
     let from = extra(a, b);
     if k < from {
-        return change(n, c, b);
+        return change(masks, c.wire, b);
     }
-    let second = changed(c, a, b);
+    let second = changed(c.wire, a, b);
     let next = past(c, a, b);
-    let p = mask_wire(n, a.code);
-    let q = mask_wire(n, second.code);
-    mask_and::step(a.wire, second.wire, p, q, n + 4, next, k - from)
+    let p = masks.wire(a.code);
+    let q = masks.wire(second.code);
+    let or = masks.first + 4;
+    mask_and::step(a.wire, second.wire, p, q, or, next, k - from)
 }
 
 // A gate of one operand.
@@ -159,17 +154,17 @@ fn one(kind: u32, a: u32, c: u32) -> GateRecord
     }
 }
 
-// Masked gate k of a source gate, with n input bits.
-pub fn gate(n: u32, c: u32, kind: Kind, a: Twin, b: Twin, k: usize) -> GateRecord
-    requires { (n < 2 ^ 31) × (c < 2 ^ 31) × (k < length (steps_of n c kind a b)) }
-    ensures { result ≡ get_or (map record_of (steps_of n c kind a b)) k blank }
+// Masked gate k of a source gate.
+pub fn gate(masks: Masks, c: Next, kind: Kind, a: Twin, b: Twin, k: usize) -> GateRecord
+    requires { k < length (steps_of masks.first c.wire kind a b) }
+    ensures { result ≡ get_or (map record_of (steps_of masks.first c.wire kind a b)) k blank }
 {
     match kind {
-        Kind::Xor => xor(n, c, a, b, k),
-        Kind::And => and(n, c, a, b, k),
-        Kind::Inv => one(3, a.wire, c),
-        Kind::Eqw => one(4, a.wire, c),
-        Kind::Eq(0) => one(4, n, c),
-        Kind::Eq(_) => one(3, n, c),
+        Kind::Xor => xor(masks, c, a, b, k),
+        Kind::And => and(masks, c, a, b, k),
+        Kind::Inv => one(3, a.wire, c.wire),
+        Kind::Eqw => one(4, a.wire, c.wire),
+        Kind::Eq(0) => one(4, masks.first, c.wire),
+        Kind::Eq(_) => one(3, masks.first, c.wire),
     }
 }

@@ -1,16 +1,14 @@
 -- Header and gates put together to the whole text, and question 14.
-use Rattle.std.specs.Prelude.{Err, Ok}
-use Prim.Native.Nat.{ℕ, ◌+◌, ◌*◌, ◌-◌, ◌≤◌, ◌<◌}
+use Rattle.std.specs.Prelude.{Ok}
+use Prim.Native.Nat.{ℕ, ◌+◌, ◌*◌, ◌≤◌, ◌<◌}
 use mathlib.Core.Path.{◌≡◌, refl, sym, ap, ◌∙◌}
-use mathlib.Core.Bool.{true, false}
+use mathlib.Core.Bool.{true}
 use mathlib.Core.List.{List, [], ◌∷◌, ◌++◌}
 use native.Mathlib.Nat.{lt_of_le_of_lt}
 use native.Mathlib.Omega.{arith}
 use lib.Dec.{leb, lit<}
-use lib.ListN.{length, drop, take}
-use lib.Seq.{sets}
-use borrow.Author.Tests.{le-leb, lt-leb, leb-true}
-use Rattle.netlist.specs.declared.Question.TheVariants.{Room}
+use lib.ListN.{length, take}
+use borrow.Author.Tests.{le-leb, leb-true}
 use Rattle.netlist.specs.Netlist.{Netlist}
 use Rattle.netlist.specs.Table.{Tables, gates_of, Holds}
 use Rattle.netlist.specs.Mask.{Masked, mask_netlist}
@@ -18,18 +16,14 @@ use Rattle.netlist.specs.Outcome.{done}
 use Rattle.netlist.specs.Read.{WellFormed}
 use Rattle.netlist.specs.Write.{write_netlist, gate_text}
 use Rattle.netlist.specs.Services.{masked_text, deliver_outcome}
-use Rattle.netlist.proofs.Answering.{answers-refused, take-sets}
-use Rattle.netlist.proofs.Puts.{wired-same}
+use Rattle.netlist.proofs.Answering.{take-sets}
 use Rattle.netlist.proofs.Size.{formed-lines}
-use Rattle.netlist.proofs.Tests.{on_bool}
 use Rattle.write_buffer.specs.Wrote.{Wrote, top}
 use Rattle.write_header.specs.Header.{header_text}
 use Rattle.write_buffer.proofs.Writing.{wrote_then, wrote_as}
 use Rattle.write_gates.specs.Room.{longest_line}
 use Rattle.write_gates.proofs.Delivering.{ample-holds}
 use Rattle.write_header.proofs.Headers.{header-gates}
-use Rattle.mask_pass.specs.State.{codes_of}
-use Rattle.mask_twins.specs.Place.{Ready}
 use Rattle.mask_pass.specs.Pass.{WrotePass, Counted}
 use Rattle.mask_text.specs.Whole.{Source, Numbers, WroteText, Filled, MaskAnswers}
 
@@ -69,14 +63,6 @@ module _ {t : Tables} {count W n m : ℕ} {ins outs : List ℕ} {N : Netlist} (h
 bare : Tables → ℕ → ℕ → ℕ → ℕ → Netlist
 bare t count W n m = record { wires = W; inputs = n ∷ []; outputs = m ∷ []; gates = gates_of t count }
 
-pub fill-made : {M : Masked} {e x f y vs es : List ℕ} {r s : ℕ} → WroteText e M vs x es s
-    → Wrote f 0 (codes_of (drop (length es - length vs) es) vs) y r → Filled M e x f y s
-fill-made {f = f} w c = record { wrote = w.wrote; codes = c.list ∙ ap (sets f 0) w.codes }
-
--- the numbers of line one, from the wire count
-pub numbers-counted : {M : Masked} {n m w : ℕ} → Counted M n m w → Numbers M m (w - (n + 2)) w
-numbers-counted h = record { gates = omega (arith, h.wires, h.count); wires = h.wires; codes = h.many }
-
 -- the tables hold some netlist, so there are no fewer wires than the inputs and the masks have
 pub least-counted : (cs vs : List ℕ) {t : Tables} {count W n m w : ℕ}
     → ((N : Netlist) → Holds t count W n m N → Counted (mask_netlist N cs vs) n m w) → n + 2 ≤ w
@@ -87,15 +73,6 @@ least-counted cs vs {t = t} {count = count} {W = W} {n = n} {m = m} h =
 
 -- question 14
 module _ (M : Masked) {e f : List ℕ} where
-  pub short-text : leb (length (write_netlist M.netlist)) (length e) ≡ false
-      → MaskAnswers (deliver_outcome (length e) (length f) (masked_text M)) e e f f (Err Room)
-  short-text t = record { text = answers-refused e (rw t); codes = rw t }
-
-  pub short-codes : length f < length M.codes → MaskAnswers (deliver_outcome (length e) (length f) (masked_text M)) e e f f (Err Room)
-  short-codes l =
-      let u = lt-leb (length M.codes) (length f) l in
-      on_bool (leb (length (write_netlist M.netlist)) (length e)) (λ t. record { text = answers-refused e (rw (t, u)); codes = rw (t, u) }) short-text
-
   pub delivered : {x y : List ℕ} {s : ℕ} → leb (length (write_netlist M.netlist)) (length e) ≡ true → length e < top → length M.codes ≤ length f
       → Filled M e x f y s → MaskAnswers (deliver_outcome (length e) (length f) (masked_text M)) e x f y (Ok s)
   delivered {s = s} t small l d =
@@ -110,17 +87,6 @@ module _ (M : Masked) {e f : List ℕ} where
         });
         codes = rw (t, u) d.codes;
       }
-
--- a call that keeps the tables' lengths leaves the next one what it relies on
-pub ready-same : {t : Tables} {count : ℕ} {cs vs ws es ws' es' : List ℕ} → length ws' ≡ length ws → length es' ≡ length es
-    → Ready t count cs vs ws es → Ready t count cs vs ws' es'
-ready-same a b r = record {
-  wired = wired-same a r.wired;
-  codes = b ∙ r.codes ∙ sym a;
-  ins = rw a r.ins;
-  outs = rw a r.outs;
-  small = rw a r.small;
-}
 
 pub source-same : {t : Tables} {count W W' n m : ℕ} {ins outs : List ℕ} {N : Netlist} → W' ≡ W → Source t count W n m ins outs N
     → Source t count W' n m ins outs N

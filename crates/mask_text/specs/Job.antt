@@ -17,7 +17,7 @@ masked j N = mask_netlist N j.codes.now j.wanted.now
 
 -- the source N of W wires is what the tables hold, and the numbers of line one are those of its masked netlist
 abbrev pub SourceOf : Job → ℕ → Netlist → Type 0
-SourceOf j W N = Source (tables_of j.source) j.source.count W (length j.codes.now) (length j.wanted.now) j.ins.now j.outs.now N
+SourceOf j W N = Source (tables_of j.source) j.source.count W (length j.codes.now) (length j.wanted.now) j.shape.ins.now j.shape.outs.now N
 
 abbrev pub NumbersOf : Job → Netlist → Type 0
-NumbersOf j N = Numbers (masked j N) (length j.wanted.now) j.gates j.wires
+NumbersOf j N = Numbers (masked j N) (length j.wanted.now) j.shape.gates j.shape.wires

@@ -16,19 +16,17 @@ ghost use Rattle.mask_text.specs.Job.{ReadyFor, masked, SourceOf, NumbersOf};
 
 use gate_table::Gates;
 use netlist::{Answer, Question};
+use write_header::Shape;
 use write_wires::table::Words;
 
-// What a source is masked by: its gates, the codes of its inputs and the wanted ones of its outputs, the widths of the
-// masked values, and the numbers of the masked text's line one.
+// What a source is masked by: its gates, the codes of its inputs and the wanted ones of its outputs, and what the masked text's
+// header says.
 #[derive(Clone, Copy)]
 struct Job<'a> {
     source: Gates<'a>,
     codes: &'a [u8],
     wanted: &'a [u8],
-    ins: &'a [u32],
-    outs: &'a [u32],
-    gates: usize,
-    wires: usize,
+    shape: Shape<'a>,
 }
 
 // The masked text.
@@ -37,7 +35,7 @@ fn write<'a>(d: Words, out: &mut [u8], j: Job<'a>, wire: &mut [u32], code: &mut 
     ensures { (N : Netlist) → SourceOf j.entry (length wire.old) N → NumbersOf j.entry N
         → WroteText out.old (masked j.entry N) j.entry.wanted.now out.new code.new result }
 {
-    let at = write_header::header(out, 0, j.gates, j.wires, j.ins, j.outs);
+    let at = write_header::header(out, 0, j.shape);
     let (end, _) = mask_pass::pass(d, out, at, j.source, j.codes, j.wanted, wire, code);
     end
 }
@@ -69,8 +67,8 @@ fn holds<'a>(d: Words, room: usize, j: Job<'a>, wire: &mut [u32], code: &mut [u8
         → result ≡ leb (length (write_netlist (masked j.entry N).netlist)) room }
 {
     let mut none = [0u8; 1];
-    let header = write_header::header(&mut none, 0, j.gates, j.wires, j.ins, j.outs);
-    if write_gates::room::ample(room, header, j.gates, j.wires) {
+    let header = write_header::header(&mut none, 0, j.shape);
+    if write_gates::room::ample(room, header, j.shape.gates, j.shape.wires) {
         return true;
     }
     let size = write(d, &mut none, j, wire, code);
@@ -126,15 +124,18 @@ pub fn deliver(
         out_codes.new result }
 {
     let wires = mask_pass::count::count(source, codes, wanted, wire, code) as usize;
-    let gates = wires - (codes.len() + 2);
+    let gate_count = wires - (codes.len() + 2);
+    let shape = Shape {
+        gates: gate_count,
+        wires,
+        ins,
+        outs,
+    };
     let j = Job {
         source,
         codes,
         wanted,
-        ins,
-        outs,
-        gates,
-        wires,
+        shape,
     };
     if wires <= 100 {
         return answer(Words { entries: &[] }, out, out_codes, j, wire, code);

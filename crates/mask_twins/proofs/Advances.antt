@@ -1,6 +1,6 @@
 -- The state advanced without its gates.
 use Prim.Native.Nat.{ℕ, ◌+◌}
-use mathlib.Core.Path.{◌≡◌, refl, sym, ap, ap₂, ◌∙◌}
+use mathlib.Core.Path.{◌≡◌, sym, ap, ap₂, ◌∙◌}
 use mathlib.Core.List.{List}
 use native.Mathlib.Omega.{arith}
 use lib.ListN.{length, set}
@@ -38,9 +38,6 @@ pub record Advancing (t : Tables) (S₀ : State) (c W : ℕ) (ws es : List ℕ) 
   pub wires : length ws ≡ W
   pub codes : length es ≡ W
   pub made : AdvancedAll S₀ t i (state_of c ws es)
-
-pub advancing-none : (t : Tables) (c : ℕ) (ws es : List ℕ) → length es ≡ length ws → Advancing t (state_of c ws es) c (length ws) ws es 0
-advancing-none t c ws es l = record { wires = refl; codes = l; made = record { state = refl; grown = omega arith } }
 
 pub advancing-more : {c r W i : ℕ} {t : Tables} {S₀ : State} {ws es ws' es' : List ℕ} → Advancing t S₀ c W ws es i → length ws' ≡ length ws
     → length es' ≡ length es → Advanced (state_of c ws es) (gate_at t i) (state_of r ws' es') → Advancing t S₀ r W ws' es' (i + 1)

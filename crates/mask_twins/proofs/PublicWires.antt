@@ -32,9 +32,6 @@ pub record Passed (c : ℕ) (cs : List ℕ) (v i : ℕ) : Type 0 where
   pub next : v ≡ past_publics c (take i cs)
   pub most : v ≤ c + i
 
-pub passed_none : (c : ℕ) (cs : List ℕ) → Passed c cs c 0
-passed_none c cs = record { passed = omega arith; next = refl; most = omega arith }
-
 pub passed-more : {c v v' i : ℕ} {cs : List ℕ} → Passed c cs v i → i < length cs → v' ≡ past_public v (get_or cs i 0) → Passed c cs v' (i + 1)
 passed-more {c} {v} {i = i} {cs = cs} h l p =
     let e : ℕ = get_or cs i 0 in

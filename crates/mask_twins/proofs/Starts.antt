@@ -7,10 +7,10 @@ use lib.ListN.{length, get_or, set, drop, replicate, length-set}
 use Rattle.netlist.specs.declared.Twin.{Twin}
 use Rattle.netlist.specs.Mask.{input_twin, input_twins, past_public, past_publics, no_twin}
 use Rattle.netlist.proofs.PublicGates.{length-input_twins, past-within}
-use Rattle.netlist.proofs.Laid.{Laid, laid_none, laid_more, laid-all, drop-replicate}
+use Rattle.netlist.proofs.Laid.{Laid, laid_more, laid-all, drop-replicate}
 use Rattle.mask_twins.specs.State.{twins_of, Started}
 use Rattle.mask_twins.proofs.States.{twins-set, twins-length}
-use Rattle.mask_twins.proofs.PublicWires.{Passed, passed_none, passed-more, passed-all, input-at}
+use Rattle.mask_twins.proofs.PublicWires.{Passed, passed-more, passed-all, input-at}
 
 -- the twins of the first i inputs are laid; the tables have kept their length
 pub record Entered (c : ℕ) (cs ws₀ es₀ ws es : List ℕ) (v i : ℕ) : Type 0 where
@@ -18,14 +18,6 @@ pub record Entered (c : ℕ) (cs ws₀ es₀ ws es : List ℕ) (v i : ℕ) : Typ
   pub wires : length ws ≡ length ws₀
   pub codes : length es ≡ length ws₀
   pub laid : Laid no_twin (input_twins c 0 cs) (twins_of ws₀ es₀) (twins_of ws es) i
-
-pub entered-none : (c : ℕ) (cs ws es : List ℕ) → length es ≡ length ws → Entered c cs ws es ws es c 0
-entered-none c cs ws es l = record {
-  inputs = passed_none c cs;
-  wires = refl;
-  codes = l;
-  laid = laid_none no_twin (input_twins c 0 cs) (twins_of ws es);
-}
 
 pub entered-more : {cs ws₀ es₀ ws es : List ℕ} {c v v' i : ℕ} {t : Twin} → Entered c cs ws₀ es₀ ws es v i → i < length cs → length cs ≤ length ws₀
     → t ≡ input_twin v i (get_or cs i 0) → v' ≡ past_public v (get_or cs i 0) → Entered c cs ws₀ es₀ (set ws i t.wire) (set es i t.code) v' (i + 1)

@@ -3,14 +3,14 @@ ghost use Rattle.std.specs.Prelude.{◌≡◌, ◌++◌, ◌+◌, ◌≤◌, ◌
 ghost use Rattle.netlist.specs.Mask.{input_twin, input_twins, past_public, past_publics};
 ghost use Rattle.mask_twins.specs.State.{twins_of, Started};
 
+use mask_codes::Next;
 use netlist::Twin;
 
-// The next wire behind an input.
-pub fn past(c: u32, e: u8) -> u32
-    requires { c < 2 ^ 31 }
-    ensures { result ≡ past_public c e }
+// The next wire behind an input. It may be 2^31, and so is no `Next`.
+pub fn past(c: Next, e: u8) -> u32
+    ensures { result ≡ past_public c.wire e }
 {
-    if e == 0 { c + 1 } else { c }
+    if e == 0 { c.wire + 1 } else { c.wire }
 }
 
 // The twin of input w: where it is public the wire c of its gate, with code 1, and otherwise its own wire, with its code.
@@ -36,7 +36,7 @@ fn inputs(c: u32, codes: &[u8], wire: &mut [u32], code: &mut [u8]) -> u32
         let t = input(next, i as u32, *e);
         wire[i] = t.wire;
         code[i] = t.code;
-        next = past(next, *e);
+        next = past(Next { wire: next }, *e);
     }
     next
 }

@@ -1,11 +1,11 @@
 -- The questions of a call with pairs.
 use Prim.Native.Nat.{ℕ}
 use mathlib.Core.Path.{◌≡◌, sym, ap, ◌∙◌}
-use mathlib.Core.Bool.{Bool, true, false}
+use mathlib.Core.Bool.{Bool, true}
 use mathlib.Core.List.{List}
 use mathlib.Core.Option.{Option}
 use Rattle.netlist.specs.Netlist.{Netlist}
-use Rattle.netlist.specs.Outcome.{Outcome, refused, done, ask, and_then}
+use Rattle.netlist.specs.Outcome.{Outcome, done, ask, and_then}
 use Rattle.netlist.specs.Leak.{Found}
 use Rattle.netlist.specs.Services.{check_outcome}
 use Rattle.netlist.proofs.Questions.{done-same, ask-done, and_then-done}
@@ -13,15 +13,6 @@ use Rattle.pairs.specs.Pairs.{clean_pair, first_bad}
 use Rattle.pairs.specs.Call.{BothAnswers, pairs_good, with_pairs, pairs_outcome}
 
 module _ (codes ws : List ℕ) (N : Netlist) where
-  -- one of questions 10 to 12 refuses
-  pub pairs-refused : {q : ℕ} → refused q ≡ check_outcome codes N → refused q ≡ pairs_outcome codes ws N
-  pairs-refused e = ap (λ (o : Outcome (Option Found)). and_then o (with_pairs codes ws N)) e
-
-  -- question 21 refuses
-  pub pairs-bad : {f : Option Found} → done f ≡ check_outcome codes N → pairs_good N.wires ws ≡ false → refused 21 ≡ pairs_outcome codes ws N
-  pairs-bad {f} e b = sym (ap (λ (g : Bool). ask 21 g (done (record { leak = f; pairs = first_bad (clean_pair N codes) ws }))) b)
-      ∙ ap (λ (o : Outcome (Option Found)). and_then o (with_pairs codes ws N)) e
-
   -- both answers come
   pub pairs-told : {f : Option Found} {k : Option ℕ} → done f ≡ check_outcome codes N → pairs_good N.wires ws ≡ true → k ≡ first_bad (clean_pair N codes) ws
       → done (record { leak = f; pairs = k }) ≡ pairs_outcome codes ws N

@@ -1,7 +1,7 @@
 -- Questions 10 to 12 and 21 of a netlist, and the core's verdicts on it.
 use Prim.Native.Nat.{ℕ, ◌%◌, ◌≤◌, ◌<◌}
 use mathlib.Core.Path.{◌≡◌, refl, sym, ap₂, ◌∙◌}
-use mathlib.Core.Bool.{Bool, true, false}
+use mathlib.Core.Bool.{Bool, true}
 use mathlib.Core.List.{List}
 use mathlib.Core.Option.{Option}
 use lib.Dec.{eqb, ltb, ltb→lt}
@@ -9,16 +9,16 @@ use lib.ListN.{length, get_or}
 use borrow.Author.Tests.{eq-eqb}
 use Rattle.netlist.specs.Lists.{every}
 use Rattle.netlist.specs.Netlist.{Netlist}
-use Rattle.netlist.specs.Outcome.{Outcome, refused, done}
+use Rattle.netlist.specs.Outcome.{Outcome, done}
 use Rattle.netlist.specs.Leak.{Found, leak}
 use Rattle.netlist.specs.Services.{max_checked, check_outcome}
 use Rattle.netlist.proofs.Tests.{both, true-T, every-at}
 use Rattle.check_leak.specs.Search.{found_of}
 use Rattle.check_netlist.specs.Judge.{codes_asked}
-use Rattle.check_netlist.proofs.Judging.{outcome-refused, outcome-told}
+use Rattle.check_netlist.proofs.Judging.{outcome-told}
 use Rattle.pairs.specs.Pairs.{clean_pair, first_bad}
 use Rattle.pairs.specs.Call.{BothAnswers, pairs_good, pairs_outcome}
-use Rattle.pairs.proofs.PairCalls.{pairs-refused, pairs-bad, pairs-told}
+use Rattle.pairs.proofs.PairCalls.{pairs-told}
 use Rattle.pairs_search.specs.declared.search.PairsFound.{PairsFound}
 use Rattle.pairs_search.specs.Search.{bad_of}
 use Rattle.pairs_judge.specs.Judge.{both_of}
@@ -45,15 +45,9 @@ told N codes ws f g = ap₂ (λ (l : Option Found) (b : Option ℕ). done (recor
 -- ---- the questions in order
 
 module _ (N : Netlist) (codes ws vs : List ℕ) (widths : vs ≡ N.inputs) where
-  pub refused-asked : {q : ℕ} → refused q ≡ codes_asked vs codes → refused q ≡ pairs_outcome codes ws N
-  refused-asked e = pairs-refused codes ws N (outcome-refused N codes vs widths e)
-
   module _ (asked : done tt ≡ codes_asked vs codes) (few : length codes ≤ max_checked) where
     checked : done (leak N codes) ≡ check_outcome codes N
     checked = outcome-told N codes vs widths asked few refl
-
-    pub refused-pairs : {W : ℕ} → N.wires ≡ W → pairs_good W ws ≡ false → refused 21 ≡ pairs_outcome codes ws N
-    refused-pairs e b = pairs-bad codes ws N checked (rw e b)
 
     pub answered : {W : ℕ} {a : Outcome (BothAnswers Found)} → N.wires ≡ W → pairs_good W ws ≡ true → a ≡ done (answers_of N codes ws)
         → a ≡ pairs_outcome codes ws N

@@ -1,7 +1,7 @@
 // Questions 10 to 12 and 21 of a netlist that was read, and the verdicts on its wires and on pairs of them.
 #![tactic(auto)]
 
-ghost use Rattle.std.specs.Prelude.{◌≡◌, ◌<◌, ◌≤◌, length, take};
+ghost use Rattle.std.specs.Prelude.{◌≡◌, ◌<◌, ◌≤◌, length};
 ghost use Rattle.netlist.specs.Lists.{sum};
 ghost use Rattle.netlist.specs.Netlist.{Netlist};
 ghost use Rattle.gate_table.specs.Gates.{WiredGates, HoldsGates};
@@ -11,7 +11,7 @@ ghost use Rattle.pairs_judge.specs.Judge.{outcome_of};
 use gate_table::Gates;
 use netlist::Question;
 use pairs_search::search::PairsFound;
-use read_header::HeaderNumbers;
+use read_header::header::Header;
 
 // Both answers; or the first question that gets a no.
 pub type CheckedPairs = Result<PairsFound, Question>;
@@ -23,10 +23,10 @@ pub fn pairs_good(pairs: &[u32], wires: usize) -> bool
     pairs.len() % 2 == 0 && pairs.iter().all(|w| (*w as usize) < wires)
 }
 
-// Questions 10 to 12 and 21 and both verdicts, from a header's numbers, its input widths and its gates.
+// Questions 10 to 12 and 21 and both verdicts, from a header, its input widths and its gates.
 pub fn judge(
-    h: HeaderNumbers,
-    widths: [u32; 17],
+    h: Header,
+    widths: &[u32],
     codes: &[u8],
     pairs: &[u32],
     gates: Gates,
@@ -35,12 +35,11 @@ pub fn judge(
     bases: &mut [u64],
 ) -> CheckedPairs
     requires wired { WiredGates gates h.wires }
-    requires input_values_bound { (h.input_values ≤ 17) × (h.input_bits ≡ sum (take h.input_values widths)) × (h.input_bits ≤ h.wires)
-        × (h.wires ≤ length words.old) × (h.wires ≤ length base.old) × (h.wires ≤ length bases.old) }
+    requires input_bits_sum { (h.input_bits ≡ sum widths.now) × (h.wires ≤ length words.old) × (h.wires ≤ length base.old) × (h.wires ≤ length bases.old) }
     ensures { (N : Netlist) → HoldsGates gates.entry h.wires h.input_bits h.output_bits N
-        → take h.input_values widths ≡ N.inputs → outcome_of result ≡ pairs_outcome codes.now pairs.now N }
+        → widths.now ≡ N.inputs → outcome_of result ≡ pairs_outcome codes.now pairs.now N }
 {
-    check_netlist::ask_codes(h, widths, codes)?;
+    let admitted = check_netlist::ask_codes(h.input_bits, widths, codes)?;
     if check_netlist::MOST_BITS < codes.len() {
         return Err(Question::Settings);
     }
@@ -50,7 +49,7 @@ pub fn judge(
     }
     let found = pairs_search::search::search(
         gates,
-        codes,
+        admitted,
         pairs,
         &mut words[..wires],
         &mut bases[..wires],

@@ -24,7 +24,7 @@ use Rattle.check_counts.proofs.Paints.{codes-each, paint-each, each-count}
 use Rattle.check_counts.specs.Block.{ones_of, nibbles_of, Evaluated}
 use Rattle.check_leak.specs.declared.difference.Leak.{Leak}
 use Rattle.check_leak.specs.Difference.{LowestDifference, wire_of, from}
-use Rattle.check_leak.proofs.Differences.{difference-none, difference-same}
+use Rattle.check_leak.proofs.Differences.{difference-same}
 use Rattle.pairs.specs.Pairs.{both_count, clean_pair, first_bad}
 use Rattle.pairs.proofs.PairCheck.{ThreeAsBase, passes-three, three-passes, first-is}
 use Rattle.pairs_search.specs.declared.search.PairsFound.{PairsFound}
@@ -32,7 +32,7 @@ use Rattle.pairs_search.specs.Level.{Counts, counts_of, held_in, held_base, on_f
 use Rattle.pairs_search.specs.Bases.{Based, HeldOn}
 use Rattle.pairs_search.specs.Search.{bad_of, Found}
 use Rattle.pairs_search.proofs.Levels.{alike-setting, alike-base, level-as, level-back, level-on, level-off}
-use Rattle.pairs_search.proofs.Uneven.{uneven-none, uneven-as, uneven-more}
+use Rattle.pairs_search.proofs.Uneven.{uneven-as, uneven-more}
 
 -- ---- what one block shows
 
@@ -75,21 +75,6 @@ pub record Finding (t : Tables) (n W limit : ℕ) (ps ws : List ℕ) (publics : 
   pub held : HeldOn publics (bare t n W) ps bases base block
   pub found : Found (base_counts t n W ps) (setting_counts t n W ps) ws limit (length ws / 2) (block * 16) best
 
-pub find_none : {t : Tables} {n W limit : ℕ} {ps : List ℕ} (ws : List ℕ) {publics : Bool} (blocks : ℕ) {words bases base : List ℕ}
-    → length words ≡ W → length bases ≡ W → length base ≡ W → HeldOn publics (bare t n W) ps bases base 0
-    → Finding t n W limit ps ws publics blocks words bases base (record { leak = None; pair = None }) 0
-find_none {t} {n} {W} {limit} {ps} ws blocks a b c h = record {
-  passed = omega arith;
-  long_words = a;
-  long_bases = b;
-  long_base = c;
-  held = h;
-  found = record {
-    lowest = difference-none (base_counts t n W ps).one (setting_counts t n W ps).one limit 0 (λ w l s m. absurd (omega arith));
-    uneven = uneven-none (LevelAt (base_counts t n W ps) (setting_counts t n W ps) ws) (length ws / 2) 0 (λ j l s m. absurd (omega arith));
-  };
-}
-
 -- a block is run and looked at
 pub find-more : {t : Tables} {n W limit : ℕ} {ps ws : List ℕ} {publics : Bool} {blocks : ℕ} {words bases base : List ℕ} {best : PairsFound} {block : ℕ}
     → Finding t n W limit ps ws publics blocks words bases base best block → block < blocks
@@ -113,13 +98,6 @@ find-more {t} {n} {W} {limit} {ps} {ws} {publics} {best = best} {block} r l us v
       found = subst (λ (S : ℕ). Found (base_counts t n W ps) (setting_counts t n W ps) ws limit (length ws / 2) S next) q
           (looked (base_counts t n W ps) (setting_counts t n W ps) (alike-base ran'.1) (alike-setting ran'.0) r.found);
     }
-
-pub find-all : {t : Tables} {n W limit : ℕ} {ps ws : List ℕ} {publics : Bool} {blocks : ℕ} {words bases base : List ℕ} {best : PairsFound} {block : ℕ}
-    → Finding t n W limit ps ws publics blocks words bases base best block → blocks ≤ block
-    → Found (base_counts t n W ps) (setting_counts t n W ps) ws limit (length ws / 2) (blocks * 16) best
-find-all {t} {n} {W} {limit} {ps} {ws} {blocks = blocks} {best = best} {block} r l =
-    let e : block ≡ blocks = omega (arith, r.passed) in
-    subst (λ (k : ℕ). Found (base_counts t n W ps) (setting_counts t n W ps) ws limit (length ws / 2) (k * 16) best) e r.found
 
 -- ---- the pairs' answer
 

@@ -9,10 +9,6 @@ use Rattle.std.specs.Option.{unwrap_or, option_or}
 use Rattle.netlist.proofs.Tests.{on_bool}
 use Rattle.pairs_search.specs.Level.{FirstUneven}
 
--- all pairs are level
-pub uneven-none : (level : ℕ → ℕ → Type 0) (n S : ℕ) → ((j : ℕ) → j < n → (s : ℕ) → s < S → level j s) → FirstUneven level n S None
-uneven-none level n S h = record { before = h; inside = λ k e. cc; bad = λ k e. cc }
-
 -- pair k is not
 pub uneven-some : {level : ℕ → ℕ → Type 0} {n S : ℕ} (k : ℕ) → k < n → ((j : ℕ) → j < k → (s : ℕ) → s < S → level j s)
     → (((s : ℕ) → s < S → level k s) → ⊥) → FirstUneven level n S (Some k)

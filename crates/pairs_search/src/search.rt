@@ -19,6 +19,7 @@ use check_counts::{block, paint};
 use check_leak::difference;
 use check_leak::difference::Leak;
 use gate_table::Gates;
+use lists::codes::Codes;
 
 // The lowest leak, and how many pairs stand before the first bad one; none where all are clean.
 #[derive(Clone, Copy, Debug, PartialEq, Eq)]
@@ -112,26 +113,25 @@ pub fn find(
     best
 }
 
-// Whether the tables' netlist is clean under the input codes, and each listed pair of its wires. The three tables of words, one
+// Whether the gates' netlist is clean under the input codes, and each listed pair of its wires. The three tables of words, one
 // entry for each wire, are working store.
 pub fn search(
     gates: Gates,
-    codes: &[u8],
+    codes: Codes,
     pairs: &[u32],
     words: &mut [u64],
     bases: &mut [u64],
     base: &mut [u64],
 ) -> PairsFound
     requires wired { WiredGates gates (length words.old) }
-    requires codes_len_bound { (length codes.now ≤ max_checked) × (length codes.now + 2 ≤ length words.old) × (length bases.old ≡ length words.old)
-        × (length base.old ≡ length words.old) × ((i : ℕ) → i < length pairs.now → get_or pairs.now i 0 < length words.old)
-        × ((i : ℕ) → i < length codes.now → get_or codes.now i 0 < 4) }
+    requires codes_len_bound { (length codes.list.now ≤ max_checked) × (length codes.list.now + 2 ≤ length words.old) × (length bases.old ≡ length words.old)
+        × (length base.old ≡ length words.old) × ((i : ℕ) → i < length pairs.now → get_or pairs.now i 0 < length words.old) }
     ensures { (n o : ℕ) (N : Netlist) → HoldsGates gates.entry (length words.old) n o N
-        → (found_of result.leak ≡ leak_of N codes.now) ×
-        (bad_of result.pair ≡ first_bad (clean_pair N codes.now) pairs.now) }
+        → (found_of result.leak ≡ leak_of N codes.entry.list.now) ×
+        (bad_of result.pair ≡ first_bad (clean_pair N codes.entry.list.now) pairs.now) }
 {
     let paints = paint::each(codes);
-    let n = codes.len();
+    let n = codes.list.len();
     let wires = words.len();
     find(
         gates,

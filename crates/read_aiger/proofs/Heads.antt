@@ -1,5 +1,5 @@
 -- The opening and the header.
-use Prim.Native.Nat.{ℕ, zero, suc, ◌^◌, ◌≤◌, ◌<◌}
+use Prim.Native.Nat.{ℕ, zero, suc, ◌^◌, ◌<◌}
 use mathlib.Core.Path.{◌≡◌, refl, sym, ap, ◌∙◌, subst}
 use mathlib.Core.Bool.{Bool, true, false, ◌&&◌}
 use mathlib.Core.List.{List, [], ◌∷◌, ◌++◌}
@@ -9,7 +9,7 @@ use lib.Dec.{eqb, leb, ltb, lit<}
 use lib.ListN.{length, take, drop, get_or}
 use borrow.Author.Tests.{eqb-true, ltb-true}
 use Rattle.netlist.specs.declared.Limits.{Limits}
-use Rattle.netlist.specs.Lists.{ascii, same_bytes}
+use Rattle.netlist.specs.Lists.{same_bytes}
 use Rattle.netlist.specs.Number.{number, max_digits}
 use Rattle.netlist.specs.Header.{cons_option, numbers}
 use Rattle.netlist.specs.Outcome.{refused, done, ask}
@@ -17,7 +17,6 @@ use Rattle.netlist.proofs.Tests.{All, empty, each, both_true, clash}
 use Rattle.netlist.proofs.Questions.{none-some, some_same}
 use Rattle.aiger.specs.Lines.{file_line, opens, Head, head_of, head, head_good}
 use Rattle.aiger.specs.Call.{head_outcome}
-use Rattle.aiger_lines.specs.Stray.{stray_at}
 use Rattle.aiger_lines.specs.declared.lines.Lines.{Lines}
 use Rattle.aiger_lines.specs.LineAnswers.{NotSoMany, FileLineAt}
 use Rattle.read_aiger.specs.Counts.{LowCounts}
@@ -33,14 +32,6 @@ front (b ∷ w) [] e = clash (cc)
 front (b ∷ w) (a ∷ t) e =
     let p = both_true (eqb a b) (same_bytes (take (length w) t) w) e in
     ap (λ (x : ℕ). x ∷ t) (eqb-true a b p.0) ∙ ap (λ (u : List ℕ). b ∷ u) (front w t p.1)
-
--- none of the four bytes is a CR
-pub opens-places : (t : List ℕ) → opens t ≡ true → (4 ≤ length t) × (4 ≤ stray_at t)
-opens-places t e =
-    let q : t ≡ ascii "aag " ++ drop 4 t = front (ascii "aag ") t e in
-    let l : length t ≡ suc (suc (suc (suc (length (drop 4 t))))) = ap length q in
-    let s : stray_at t ≡ suc (suc (suc (suc (stray_at (drop 4 t))))) = ap stray_at q in
-    (omega arith, omega arith)
 
 -- ---- the numbers
 

@@ -4,7 +4,7 @@ use mathlib.Core.Path.{◌≡◌, ap, ◌∙◌}
 use mathlib.Core.List.{List, ◌++◌, append-nil}
 use native.Mathlib.Omega.{arith}
 use lib.ListN.{length, take, drop}
-use lib.Seq.{length-take-le, drop-length, drop_at, take_at, length_front}
+use lib.Seq.{length-take-le, drop-length, drop_at, take_at}
 use borrow.Rule.Slice.PartMut.{mid_of, post_of, put_mid, same_len_mid, Post-is, mid_len}
 
 module _ (r kept : List ℕ) (room : ℕ) (inside : room ≤ length r) (long : length kept ≡ length (mid_of room (length r - room) r)) where
@@ -26,9 +26,6 @@ module _ (r kept : List ℕ) (room : ℕ) (inside : room ≤ length r) (long : l
   module _ (front : List ℕ) (same : length front ≡ length (take room end)) where
     pub front_long : length front ≡ room
     front_long = same ∙ length-take-le room end (let l = end-long in omega arith)
-
-    pub both_long : length (front ++ drop room end) ≡ length r
-    both_long = length_front end front room same ∙ end-long
 
     -- the end is as it was
     pub both-kept : drop room (front ++ drop room end) ≡ kept

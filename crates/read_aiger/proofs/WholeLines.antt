@@ -90,13 +90,6 @@ module _ (H : Head) (ls : List (List (List ℕ))) where
           keeps = λ a b. record { gates = refl; wired = record { operands = a; results = b; each = λ i h. absurd (omega arith) } };
         }
 
-    -- no such outputs
-    pub lines-no-outputs : ((xs : List Literal) → formed output_line H.outputs left ≡ some xs → ⊥)
-        → (F : File) → file H ls ≡ some F → rules_kept F ≡ true → ⊥
-    lines-no-outputs bad F e r =
-        let f = file-formed H ls F e in
-        bad F.outputs (ap (formed output_line H.outputs) A.next ∙ f.outputs)
-
     -- an output above M, or no such outputs
     pub lines-no-marks : ((xs : List Literal) → formed output_line H.outputs left ≡ some xs
         → (vs : List ℕ) → UpTo H.most vs → every (readable vs) xs ≡ true → ⊥) → (F : File) → file H ls ≡ some F → rules_kept F ≡ true → ⊥

@@ -37,12 +37,6 @@ abbrev pub gates_made : Option ℕ → ℕ
 gates_made (Some k) = k
 gates_made None = 0
 
--- the limits that the reader works with: they admit a value of each kind, and tables long enough for the wires
-pub record OneValue (L : Limits) : Type 0 where
-  pub inputs : 1 ≤ L.inputs
-  pub outputs : 1 ≤ L.outputs
-  pub wires : L.wires ≤ L.table
-
 -- question 1 of tables of these lengths, then 2, 19, 20, 19 and 5
 abbrev pub asked_aiger : Limits → List ℕ → List ℕ → Outcome Netlist
 asked_aiger L lengths t = ask 1 (tables_long L lengths) (read_aiger L t)

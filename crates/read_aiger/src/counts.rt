@@ -1,7 +1,7 @@
 // The numbers of a header.
 ghost use Rattle.read_aiger.specs.Counts.{LowCounts};
 
-// M I L O A.
+// M I L O A. Their law: I, O and A are below 10^max_digits, as the numbers in a file are, so that sums of them fit.
 #[derive(Clone, Copy)]
 pub struct HeadNumbers {
     pub most: u32,

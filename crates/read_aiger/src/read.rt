@@ -4,7 +4,7 @@ ghost use Rattle.netlist.specs.Table.{tables};
 ghost use Rattle.aiger.specs.Call.{lines_read, read_aiger};
 ghost use Rattle.aiger_lines.specs.LineAnswers.{lines_left};
 ghost use Rattle.read_aiger.specs.HeadAnswers.{head_said};
-ghost use Rattle.read_aiger.specs.WholeAnswers.{OneValue, asked_aiger, NetlistIs};
+ghost use Rattle.read_aiger.specs.WholeAnswers.{asked_aiger, NetlistIs};
 
 use crate::body::body;
 use crate::counts::HeadNumbers;
@@ -32,13 +32,13 @@ fn behind_head(
 ) -> Result<NetlistNumbers, Question>
     requires at_bound { (h.most < length table.old)
         × (table.old ≡ replicate (length table.old) 0) × (h.most < length operands.old) }
-    requires wires_in_bounds { (l.wires ≤ length operands.old) × (l.wires ≤ length results.old) × (1 ≤ l.inputs) × (1 ≤ l.outputs) }
+    requires wires_in_bounds { (l.wires ≤ length operands.old) × (l.wires ≤ length results.old) }
     ensures { NetlistIs (lines_read l (head_said h) (lines_left lines.entry))
         (tables operands.new results.new) result }
 {
     let gates = body(lines, h, table, operands, results).ok_or(Question::Aiger)?;
     let wires = h.inputs as usize + gates;
-    if (l.wires as usize) < wires {
+    if (l.wires as usize) < wires || l.inputs < 1 || l.outputs < 1 {
         return Err(Question::Limits);
     }
     Ok(NetlistNumbers {
@@ -58,7 +58,7 @@ fn read_file(
     results: &mut [u64],
 ) -> Result<NetlistNumbers, Question>
     requires { (l.wires ≤ length table.old) × (table.old ≡ replicate (length table.old) 0) × (l.wires ≤ length operands.old)
-        × (l.wires ≤ length results.old) × (1 ≤ l.inputs) × (1 ≤ l.outputs) }
+        × (l.wires ≤ length results.old) }
     ensures { NetlistIs (read_aiger l text.now) (tables operands.new results.new) result }
 {
     if l.text < text.len() {
@@ -76,12 +76,11 @@ pub fn read(
     variables: &mut [u32],
     l: Limits,
 ) -> Result<NetlistNumbers, Question>
-    requires { OneValue l }
+    requires { l.wires ≤ l.table }
     ensures { NetlistIs (asked_aiger l (length operands.old ∷ length results.old ∷ length variables.old ∷ [])
         text.now) (tables operands.new results.new) result }
 {
-    let least = l.table;
-    if operands.len() < least || results.len() < least || variables.len() < least {
+    if !l.admit(&[operands.len(), results.len(), variables.len()]) {
         return Err(Question::Tables);
     }
     variables.fill(0);

@@ -5,11 +5,10 @@ use mathlib.Core.Path.{◌≡◌, refl, sym, ap, ◌∙◌}
 use mathlib.Core.List.{List, ◌∷◌}
 use mathlib.Core.Option.{none}
 use native.Mathlib.Omega.{arith}
-use lib.ListN.{drop}
 use Rattle.netlist.specs.Number.{number}
 use Rattle.read_text.specs.declared.cursor.Cursor.{Cursor}
 use Rattle.read_text.specs.Line.{line_words, next_word}
-use Rattle.read_text.specs.Answers.{NumberAt}
+use Rattle.read_text.specs.Cursors.{left, NumberAt}
 use Rattle.read_text.proofs.Answering.{number_word, number-line, no_number}
 use Rattle.gate_table.specs.declared.GateNumbers.{GateNumbers}
 use Rattle.read_gate_line.specs.GateForm.{on_number, counted, gate_form}
@@ -20,50 +19,50 @@ use Rattle.read_gate_line.proofs.GateWords.{next-behind}
 
 -- ---- two numbers
 
-module _ (t : List ℕ) (at : ℕ) where
+module _ (c : Cursor) where
   -- the first is missing
-  pub no-operands : number (next_word (drop at t)) ≡ none → gate_form (line_words (drop at t)) ≡ none
+  pub no-operands : number (next_word (left c)) ≡ none → gate_form (line_words (left c)) ≡ none
   unfolding gate_form on_number
-  no-operands h = no_number (λ ws. gate_form ws ≡ none) (drop at t) h refl (λ w ws e. rw e)
+  no-operands h = no_number (λ ws. gate_form ws ≡ none) (left c) h refl (λ w ws e. rw e)
 
-  module _ (k m : ℕ) (a : NumberAt t at k m) where
-    behind-first : gate_form (line_words (drop at t)) ≡ on_number (line_words (drop m t)) (λ n ws. counted k n ws)
+  module _ (k : ℕ) (m : Cursor) (a : NumberAt c k m) where
+    behind-first : gate_form (line_words (left c)) ≡ on_number (line_words (left m)) (λ n ws. counted k n ws)
     unfolding gate_form on_number
-    behind-first = ap gate_form (number_word t at k m a) ∙ rw a.value
+    behind-first = ap gate_form (number_word c k m a) ∙ rw a.value
 
     -- the second is missing
-    pub no-results : number (next_word (drop m t)) ≡ none → gate_form (line_words (drop at t)) ≡ none
+    pub no-results : number (next_word (left m)) ≡ none → gate_form (line_words (left c)) ≡ none
     unfolding on_number
-    no-results h = behind-first ∙ no_number (λ ws. on_number ws (λ n ws. counted k n ws) ≡ none) (drop m t) h refl (λ w ws e. rw e)
+    no-results h = behind-first ∙ no_number (λ ws. on_number ws (λ n ws. counted k n ws) ≡ none) (left m) h refl (λ w ws e. rw e)
 
-    module _ (n to : ℕ) (b : NumberAt t m n to) where
+    module _ (n : ℕ) (d : Cursor) (b : NumberAt m n d) where
       -- it is not 1
-      pub other-results : (n ≡ 1 → ⊥) → gate_form (line_words (drop at t)) ≡ none
+      pub other-results : (n ≡ 1 → ⊥) → gate_form (line_words (left c)) ≡ none
       unfolding on_number
       other-results h =
-          behind-first ∙ ap (λ (ws : List (List ℕ)). on_number ws (λ n ws. counted k n ws)) (number_word t m n to b)
-          ∙ rw b.value (counted-results k n (line_words (drop to t)) h)
+          behind-first ∙ ap (λ (ws : List (List ℕ)). on_number ws (λ n ws. counted k n ws)) (number_word m n d b)
+          ∙ rw b.value (counted-results k n (line_words (left d)) h)
 
       -- it is
-      pub one-result : n ≡ 1 → OperandsAt t at k to
+      pub one-result : n ≡ 1 → OperandsAt c k d
       one-result e = record {
-        operands = next_word (drop at t);
-        results = next_word (drop m t);
-        line = number_word t at k m a ∙ ap (λ (ws : List (List ℕ)). next_word (drop at t) ∷ ws) (number_word t m n to b);
+        operands = next_word (left c);
+        results = next_word (left m);
+        line = number_word c k m a ∙ ap (λ (ws : List (List ℕ)). next_word (left c) ∷ ws) (number_word m n d b);
         count = a.value;
         one = rw e at b.value;
-        after = number-line t m n to b ∙ number-line t at k m a;
+        after = number-line m n d b ∙ number-line c k m a;
         on = omega (arith, a.on, b.on);
-        within = b.within;
+        same = b.same ∙ a.same;
       }
 
 -- ---- the line behind the counts
 
-module _ (t : List ℕ) (at k to : ℕ) (o : OperandsAt t at k to) where
-  pub line-operands : (r : std.Option (GateNumbers × Cursor)) → LineIs t to (counted k 1 (line_words (drop to t))) r → LineIs t at (gate_form (line_words (drop at t))) r
+module _ (c : Cursor) (k : ℕ) (d : Cursor) (o : OperandsAt c k d) where
+  pub line-operands : (r : std.Option (GateNumbers × Cursor)) → LineIs d (counted k 1 (line_words (left d))) r → LineIs c (gate_form (line_words (left c))) r
   unfolding gate_form on_number
   line-operands r l = record {
     gate = l.gate ∙ sym (ap gate_form o.line ∙ rw o.count (rw o.one));
     numbers = l.numbers;
-    next = next-behind t at to o.after o.on r l.next;
+    next = next-behind c d o.after o.on o.same r l.next;
   }

@@ -1,11 +1,11 @@
 -- What the answers of the gate line's readers mean.
-use Rattle.std.specs.Prelude.{ℕ, Option, Some, None, ◌≡◌, List}
+use Rattle.std.specs.Prelude.{ℕ, Option, Some, None, ◌≡◌}
 use Rattle.std.proofs.Math.Option as maybe
 use Rattle.std.proofs.Math.Option.{none, some}
 use Rattle.netlist.specs.declared.Gate.{Gate}
 use Rattle.netlist.specs.declared.Gate.TheVariants.{Xor, And, Inv, Eqw, Eq}
 use Rattle.read_text.specs.declared.cursor.Cursor.{Cursor}
-use Rattle.read_text.specs.Line.{LineTaken}
+use Rattle.read_text.specs.Cursors.{LineTaken}
 use Rattle.gate_table.specs.declared.GateNumbers.{GateNumbers}
 use Rattle.gate_table.specs.declared.Kind.{Kind}
 use Rattle.gate_table.specs.declared.Kind.TheVariants as kind
@@ -41,16 +41,16 @@ line_gate (Some (g, c)) = some (gate_said g)
 line_gate None = none
 
 -- behind a gate the next line starts
-abbrev pub LineNext : List ℕ → ℕ → Option (GateNumbers × Cursor) → Type 0
-LineNext t at (Some (g, c)) = LineTaken t at c.at
-LineNext t at None = Unit {0}
+abbrev pub LineNext : Cursor → Option (GateNumbers × Cursor) → Type 0
+LineNext c (Some (g, d)) = LineTaken c d
+LineNext c None = Unit {0}
 
 abbrev pub LineExact : Option (GateNumbers × Cursor) → Type 0
 LineExact (Some (g, c)) = g ≡ numbers_of (gate_said g)
 LineExact None = Unit {0}
 
--- the first line of t from a place reads as the gate that is expected of it, or as none
-pub record LineIs (t : List ℕ) (at : ℕ) (expected : maybe.Option Gate) (r : Option (GateNumbers × Cursor)) : Type 0 where
+-- the first line from c reads as the gate that is expected of it, or as none
+pub record LineIs (c : Cursor) (expected : maybe.Option Gate) (r : Option (GateNumbers × Cursor)) : Type 0 where
   pub gate : line_gate r ≡ expected
   pub numbers : LineExact r
-  pub next : LineNext t at r
+  pub next : LineNext c r

@@ -1,8 +1,9 @@
 // One gate line: question 7. A line is read from the left: how many operands and results, the wires
 // or the constant, the gate's name, and nothing behind it.
-ghost use Rattle.std.specs.Prelude.{◌≡◌, ◌≤◌, length, drop};
+ghost use Rattle.std.specs.Prelude.{◌≡◌};
 ghost use Rattle.netlist.specs.GateLine.{gate_line, gate1 as the_gate1, gate2 as the_gate2};
 ghost use Rattle.read_text.specs.Line.{line_words};
+ghost use Rattle.read_text.specs.Cursors.{left};
 ghost use Rattle.read_gate_line.specs.GateForm.{alone, one, two};
 ghost use Rattle.read_gate_line.specs.GateAnswers.{gate_named, numbers_for, named_for, NamedExact, LineIs};
 
@@ -55,49 +56,44 @@ fn gate2(name: &[u8], a: u32, b: u32, c: u32) -> Option<GateNumbers>
 }
 
 // The line of a gate whose name ends at a place, with the start of the next line: no other word may follow.
-fn last_word(text: &[u8], at: Cursor, named: Option<GateNumbers>) -> Option<(GateNumbers, Cursor)>
-    requires { (at.at ≤ length text.now) × NamedExact named }
-    ensures { LineIs text.now at.at (alone (gate_named named) (line_words (drop at.at text.now))) result }
+fn last_word(at: Cursor, named: Option<GateNumbers>) -> Option<(GateNumbers, Cursor)>
+    requires { NamedExact named }
+    ensures { LineIs at.entry (alone (gate_named named) (line_words (left at.entry))) result }
 {
     let g = named?;
-    let next = at.line_end(text)?;
+    let next = at.line_end()?;
     Some((g, next))
 }
 
 // The operand, the result and the name of a gate of one operand.
-fn one_operand(text: &[u8], at: Cursor) -> Option<(GateNumbers, Cursor)>
-    requires { at.at ≤ length text.now }
-    ensures { LineIs text.now at.at (one (line_words (drop at.at text.now))) result }
+fn one_operand(at: Cursor) -> Option<(GateNumbers, Cursor)>
+    ensures { LineIs at.entry (one (line_words (left at.entry))) result }
 {
-    let (a, at1) = at.next_number(text)?;
-    let (c, at2) = at1.next_number(text)?;
-    let word = at2.next_word(text);
-    let named = gate1(&text[word.from..word.to], a, c);
-    last_word(text, Cursor { at: word.to }, named)
+    let (a, at1) = at.next_number()?;
+    let (c, at2) = at1.next_number()?;
+    let (name, end) = at2.next_word();
+    last_word(end, gate1(name, a, c))
 }
 
 // The operands, the result and the name of a gate of two operands.
-fn two_operands(text: &[u8], at: Cursor) -> Option<(GateNumbers, Cursor)>
-    requires { at.at ≤ length text.now }
-    ensures { LineIs text.now at.at (two (line_words (drop at.at text.now))) result }
+fn two_operands(at: Cursor) -> Option<(GateNumbers, Cursor)>
+    ensures { LineIs at.entry (two (line_words (left at.entry))) result }
 {
-    let (a, at1) = at.next_number(text)?;
-    let (b, at2) = at1.next_number(text)?;
-    let (c, at3) = at2.next_number(text)?;
-    let word = at3.next_word(text);
-    let named = gate2(&text[word.from..word.to], a, b, c);
-    last_word(text, Cursor { at: word.to }, named)
+    let (a, at1) = at.next_number()?;
+    let (b, at2) = at1.next_number()?;
+    let (c, at3) = at2.next_number()?;
+    let (name, end) = at3.next_word();
+    last_word(end, gate2(name, a, b, c))
 }
 
 // The first line of the text from a place, as a gate, with the start of the next line.
-pub fn gate_line(text: &[u8], at: Cursor) -> Option<(GateNumbers, Cursor)>
-    requires { at.at ≤ length text.now }
-    ensures { LineIs text.now at.at (gate_line (line_words (drop at.at text.now))) result }
+pub fn gate_line(at: Cursor) -> Option<(GateNumbers, Cursor)>
+    ensures { LineIs at.entry (gate_line (line_words (left at.entry))) result }
 {
-    let (n, on) = read_operands(text, at)?;
+    let (n, on) = read_operands(at)?;
     match n {
-        1 => one_operand(text, on),
-        2 => two_operands(text, on),
+        1 => one_operand(on),
+        2 => two_operands(on),
         _ => None,
     }
 }

@@ -1,6 +1,5 @@
 -- The three header lines together.
 use Prim.Native.Nat.{ℕ}
-use Rattle.std.specs.Prelude as std
 use mathlib.Core.Path.{◌≡◌, refl, sym, ap, ◌∙◌, subst}
 use mathlib.Core.Bool.{false}
 use mathlib.Core.List.{List, [], ◌∷◌}
@@ -14,43 +13,41 @@ use Rattle.netlist.specs.Text.{word_lines}
 use Rattle.netlist.specs.Header.{header, make_header, numbers, cons_option, values}
 use Rattle.netlist.proofs.Tests.{clash, on_bool}
 use Rattle.netlist.proofs.Questions.{none-some}
+use Rattle.read_text.specs.Line.{line_words, next_word, after_line, behind_line, is_blank, is_empty}
+use Rattle.read_text.specs.Cursors.{left, Scanned, LineTaken, EndAt, NumberAt}
 use Rattle.read_text.specs.declared.cursor.Cursor.{Cursor}
-use Rattle.read_text.specs.Line.{line_words, next_word, after_line, behind_line, is_blank, is_empty, Scanned, LineTaken, EndAt}
-use Rattle.read_text.specs.Answers.{NumberAt}
 use Rattle.read_text.proofs.Splitting.{add_line, lines_step}
 use Rattle.read_text.proofs.Answering.{number-line, no_number}
-use Rattle.read_text.proofs.Lines.{AtWord, at-word, word_line, no_line, blanks-lines, line-passed, behind-lines}
+use Rattle.read_text.proofs.Lines.{word_line, no_line, behind-lines}
+use Rattle.read_text.proofs.Cursors.{stands-at-word, lines-behind-blanks, behind-its-line}
 use Rattle.old_form.specs.declared.Dialect.{Dialect}
 use Rattle.old_form.specs.Dialects.{header_lines}
-use Rattle.read_header.specs.HeaderAnswers.{pair_only, CountsAt, WidthsAt, HeaderOf, HeaderAt, HeaderSays}
+use Rattle.read_header.specs.HeaderAnswers.{pair_only, CountsAt, WidthsAt, HeaderOf, HeaderAt}
 use Rattle.read_header.specs.declared.HeaderNumbers.{HeaderNumbers}
 use Rattle.read_header.proofs.WidthLines.{numbers_on}
 
 -- the gate lines stand behind the place
-pub header-left : {d : Dialect} {t ins outs : List ℕ} {h : HeaderNumbers} {to : ℕ} → HeaderOf d t ins outs h to
-    → word_lines (drop to t) ≡ drop (header_lines d) (word_lines t)
+pub header-left : {d : Dialect} {t ins outs : List ℕ} {h : HeaderNumbers} {to : Cursor} → HeaderOf d t ins outs h to
+    → word_lines (left to) ≡ drop (header_lines d) (word_lines t)
 header-left {d} {t} a = ap word_lines a.place ∙ behind-lines (header_lines d) t
-
-pub header-in : {d e : Dialect} (t ins outs : List ℕ) (r : std.Option (HeaderNumbers × Cursor)) → e ≡ d → HeaderSays e t ins outs r → HeaderSays d t ins outs r
-header-in t ins outs r p k = subst (λ (d : Dialect). HeaderSays d t ins outs r) p k
 
 -- ---- line one
 
 pub pair-first : (s : List ℕ) → number (next_word s) ≡ none → pair_only (numbers (line_words s)) ≡ none
 pair-first s h = no_number (λ ws. pair_only (numbers ws) ≡ none) s h refl (λ w ws e. rw e)
 
-pub pair-second : (t : List ℕ) (at g c : ℕ) → NumberAt t at g c → number (next_word (drop c t)) ≡ none
-    → pair_only (numbers (line_words (drop at t))) ≡ none
-pair-second t at g c a h =
-    ap pair_only (numbers_on t at g c a) ∙ no_number (λ ws. pair_only (cons_option (some g) (numbers ws)) ≡ none) (drop c t) h refl (λ w ws e. rw e)
+pub pair-second : (at : Cursor) (g : ℕ) (c : Cursor) → NumberAt at g c → number (next_word (left c)) ≡ none
+    → pair_only (numbers (line_words (left at))) ≡ none
+pair-second at g c a h =
+    ap pair_only (numbers_on at g c a) ∙ no_number (λ ws. pair_only (cons_option (some g) (numbers ws)) ≡ none) (left c) h refl (λ w ws e. rw e)
 
-module _ (t : List ℕ) (at g c w d : ℕ) (a : NumberAt t at g c) (b : NumberAt t c w d) where
-  pair-on : numbers (line_words (drop at t)) ≡ cons_option (some g) (cons_option (some w) (numbers (line_words (drop d t))))
-  pair-on = numbers_on t at g c a ∙ ap (cons_option (some g)) (numbers_on t c w d b)
+module _ (at : Cursor) (g : ℕ) (c : Cursor) (w : ℕ) (d : Cursor) (a : NumberAt at g c) (b : NumberAt c w d) where
+  pair-on : numbers (line_words (left at)) ≡ cons_option (some g) (cons_option (some w) (numbers (line_words (left d))))
+  pair-on = numbers_on at g c a ∙ ap (cons_option (some g)) (numbers_on c w d b)
 
-  pub pair-more : is_empty (line_words (drop d t)) ≡ false → pair_only (numbers (line_words (drop at t))) ≡ none
+  pub pair-more : is_empty (line_words (left d)) ≡ false → pair_only (numbers (line_words (left at))) ≡ none
   unfolding is_empty
-  pair-more h = ap pair_only pair-on ∙ go (line_words (drop d t)) h
+  pair-more h = ap pair_only pair-on ∙ go (line_words (left d)) h
     where
       third : (o : Option ℕ) (q : Option (List ℕ)) → pair_only (cons_option (some g) (cons_option (some w) (cons_option o q))) ≡ none
       third none q = refl
@@ -61,10 +58,10 @@ module _ (t : List ℕ) (at g c w d : ℕ) (a : NumberAt t at g c) (b : NumberAt
       go [] e = clash (cc)
       go (x ∷ xs) e = third (number x) (numbers xs)
 
-  pub pair-good : (to : ℕ) → EndAt t d to → CountsAt t at g w to
+  pub pair-good : (to : Cursor) → EndAt d to → CountsAt at g w to
   pair-good to e = record {
     line = ap pair_only pair-on ∙ ap (λ (ws : List (List ℕ)). pair_only (cons_option (some g) (cons_option (some w) (numbers ws)))) e.none;
-    next = record { left = e.left ∙ number-line t c w d b ∙ number-line t at g c a; on = omega (arith, a.on, b.on, e.on); within = e.within };
+    next = record { rest = e.rest ∙ number-line c w d b ∙ number-line at g c a; on = omega (arith, a.on, b.on, e.on); same = e.same ∙ b.same ∙ a.same };
   }
 
 -- ---- lines that are there
@@ -73,13 +70,13 @@ some-not-none : (ws : List ℕ) → ◌≡◌ {A = Option (List ℕ)} none (some
 some-not-none ws e = none-some ws e
 
 -- a line that has what no line without words has is the first line
-pub read-line : {A : Type 0} (f : List (List ℕ) → Option A) → f [] ≡ none → (t : List ℕ) (a : ℕ) (ws : A) (b : ℕ) → f (line_words (drop a t)) ≡ some ws
-    → LineTaken t a b
-    → word_lines (drop a t) ≡ line_words (drop a t) ∷ word_lines (drop b t)
-read-line f empty t a ws b e n =
-    lines_step (drop a t) ∙ go (line_words (drop a t)) e ∙ ap (λ (s : List ℕ). line_words (drop a t) ∷ word_lines s) (sym n.left)
+pub read-line : {A : Type 0} (f : List (List ℕ) → Option A) → f [] ≡ none → (a : Cursor) (ws : A) (b : Cursor) → f (line_words (left a)) ≡ some ws
+    → LineTaken a b
+    → word_lines (left a) ≡ line_words (left a) ∷ word_lines (left b)
+read-line f empty a ws b e n =
+    lines_step (left a) ∙ go (line_words (left a)) e ∙ ap (λ (s : List ℕ). line_words (left a) ∷ word_lines s) (sym n.rest)
   where
-    go : (l : List (List ℕ)) → f l ≡ some ws → add_line l (word_lines (after_line (drop a t))) ≡ l ∷ word_lines (after_line (drop a t))
+    go : (l : List (List ℕ)) → f l ≡ some ws → add_line l (word_lines (after_line (left a))) ≡ l ∷ word_lines (after_line (left a))
     go [] h = absurd (none-some ws (sym empty ∙ h))
     go (w ∷ l) h = refl
 
@@ -88,11 +85,11 @@ abbrev pub Without : {A : Type 0} → (List (List ℕ) → Option A) → List (L
 Without f [] = Unit {0}
 Without f (l ∷ ls) = f l ≡ none
 
-pub first-line : {A : Type 0} (f : List (List ℕ) → Option A) (t : List ℕ) (i : ℕ) → AtWord t i → f (line_words (drop i t)) ≡ none
-    → Without f (word_lines (drop i t))
-first-line f t i a e = on_bool (ltb i (length t))
-    (λ h. subst (Without f) (sym (word_line t i (ltb-true i (length t) h) a)) e)
-    (λ h. subst (Without f) (sym (no_line t i (ltb-false i (length t) h))) tt)
+pub first-line : {A : Type 0} (f : List (List ℕ) → Option A) (c i : Cursor) → Scanned is_blank c i → f (line_words (left i)) ≡ none
+    → Without f (word_lines (left i))
+first-line f c i s e = on_bool (ltb i.at (length i.text.now))
+    (λ h. subst (Without f) (sym (word_line i.text.now i.at (ltb-true i.at (length i.text.now) h) (stands-at-word c i s))) e)
+    (λ h. subst (Without f) (sym (no_line i.text.now i.at (ltb-false i.at (length i.text.now) h))) tt)
 
 -- ---- the header of lines
 
@@ -134,50 +131,50 @@ header-3 a b g w is (c ∷ ls) p q e = rw (p, q, e)
 
 -- ---- the header of a text: line one stands at a, line two at b' behind b, line three at d' behind d
 
-module _ (t : List ℕ) (a : ℕ) (sa : Scanned is_blank t 0 a) where
-  pub start : word_lines t ≡ word_lines (drop a t)
-  start = sym (blanks-lines t 0 a sa)
+module _ (z a : Cursor) (sa : Scanned is_blank z a) where
+  pub start : word_lines (left z) ≡ word_lines (left a)
+  start = sym (lines-behind-blanks z a sa)
 
-  pub no-header-1 : pair_only (numbers (line_words (drop a t))) ≡ none → header (word_lines t) ≡ none
-  no-header-1 e = ap header start ∙ header-1 (word_lines (drop a t)) (first-line pair_of t a (at-word t 0 a sa) e)
+  pub no-header-1 : pair_only (numbers (line_words (left a))) ≡ none → header (word_lines (left z)) ≡ none
+  no-header-1 e = ap header start ∙ header-1 (word_lines (left a)) (first-line pair_of z a sa e)
 
-  module _ (g w b : ℕ) (c : CountsAt t a g w b) (b' : ℕ) (sb : Scanned is_blank t b b') where
-    pub one : word_lines t ≡ line_words (drop a t) ∷ word_lines (drop b' t)
+  module _ (g w : ℕ) (b : Cursor) (c : CountsAt a g w b) (b' : Cursor) (sb : Scanned is_blank b b') where
+    pub one : word_lines (left z) ≡ line_words (left a) ∷ word_lines (left b')
     one =
-        start ∙ read-line pair_of refl t a _ b c.line c.next
-        ∙ ap (λ (ls : List (List (List ℕ))). line_words (drop a t) ∷ ls) (sym (blanks-lines t b b' sb))
+        start ∙ read-line pair_of refl a _ b c.line c.next
+        ∙ ap (λ (ls : List (List (List ℕ))). line_words (left a) ∷ ls) (sym (lines-behind-blanks b b' sb))
 
-    pub pair : numbers (line_words (drop a t)) ≡ some (g ∷ w ∷ [])
+    pub pair : numbers (line_words (left a)) ≡ some (g ∷ w ∷ [])
     pair = pair_is _ _ c.line
 
-    pub no-header-2 : values (numbers (line_words (drop b' t))) ≡ none → header (word_lines t) ≡ none
-    no-header-2 e = ap header one ∙ header-2 (line_words (drop a t)) g w (word_lines (drop b' t)) pair (first-line values_of t b' (at-word t b b' sb) e)
+    pub no-header-2 : values (numbers (line_words (left b'))) ≡ none → header (word_lines (left z)) ≡ none
+    no-header-2 e = ap header one ∙ header-2 (line_words (left a)) g w (word_lines (left b')) pair (first-line values_of b b' sb e)
 
-    module _ (ins : List ℕ) (ni si d : ℕ) (x : WidthsAt t b' (values (numbers (line_words (drop b' t)))) ins ni si d) (d' : ℕ)
-        (sd : Scanned is_blank t d d') where
-      two : word_lines t ≡ line_words (drop a t) ∷ (line_words (drop b' t) ∷ word_lines (drop d' t))
+    module _ (ins : List ℕ) (ni si : ℕ) (d : Cursor) (x : WidthsAt b' (values (numbers (line_words (left b')))) ins ni si d) (d' : Cursor)
+        (sd : Scanned is_blank d d') where
+      two : word_lines (left z) ≡ line_words (left a) ∷ (line_words (left b') ∷ word_lines (left d'))
       two =
           one
-          ∙ ap (λ (ls : List (List (List ℕ))). line_words (drop a t) ∷ ls)
-          (read-line values_of refl t b' _ d x.line x.next
-          ∙ ap (λ (ls : List (List (List ℕ))). line_words (drop b' t) ∷ ls) (sym (blanks-lines t d d' sd)))
+          ∙ ap (λ (ls : List (List (List ℕ))). line_words (left a) ∷ ls)
+          (read-line values_of refl b' _ d x.line x.next
+          ∙ ap (λ (ls : List (List (List ℕ))). line_words (left b') ∷ ls) (sym (lines-behind-blanks d d' sd)))
 
-      pub no-header-3 : values (numbers (line_words (drop d' t))) ≡ none → header (word_lines t) ≡ none
+      pub no-header-3 : values (numbers (line_words (left d'))) ≡ none → header (word_lines (left z)) ≡ none
       no-header-3 e =
           ap header two
-          ∙ header-3 (line_words (drop a t)) (line_words (drop b' t)) g w x.ws (word_lines (drop d' t)) pair x.line
-          (first-line values_of t d' (at-word t d d' sd) e)
+          ∙ header-3 (line_words (left a)) (line_words (left b')) g w x.ws (word_lines (left d')) pair x.line
+          (first-line values_of d d' sd e)
 
-      pub a-header : (outs : List ℕ) (mo so to : ℕ) → WidthsAt t d' (values (numbers (line_words (drop d' t)))) outs mo so to
-          → HeaderAt t ins outs (record { gates = g; wires = w; input_values = ni; input_bits = si; output_values = mo; output_bits = so }) to
-      a-header outs mo so to y =
-          let three : word_lines t ≡ line_words (drop a t) ∷ (line_words (drop b' t) ∷ (line_words (drop d' t) ∷ word_lines (drop to t)))
+      pub a-header : (outs : List ℕ) (mo so : ℕ) (to : Cursor) → left z ≡ z.text.now → WidthsAt d' (values (numbers (line_words (left d')))) outs mo so to
+          → HeaderAt z.text.now ins outs (record { gates = g; wires = w; input_values = ni; input_bits = si; output_values = mo; output_bits = so }) to
+      a-header outs mo so to e y =
+          let three : word_lines (left z) ≡ line_words (left a) ∷ (line_words (left b') ∷ (line_words (left d') ∷ word_lines (left to)))
           = two
-          ∙ ap (λ (ls : List (List (List ℕ))). line_words (drop a t) ∷ (line_words (drop b' t) ∷ ls))
-          (read-line values_of refl t d' _ to y.line y.next) in
+          ∙ ap (λ (ls : List (List (List ℕ))). line_words (left a) ∷ (line_words (left b') ∷ ls))
+          (read-line values_of refl d' _ to y.line y.next) in
           record {
             is = record { count = g; wires = w; inputs = x.ws; outputs = y.ws };
-            read = ap header three ∙ rw (pair, x.line, y.line);
+            read = ap (λ (t : List ℕ). header (word_lines t)) (sym e) ∙ ap header three ∙ rw (pair, x.line, y.line);
             gates = refl;
             wires = refl;
             inputs = x.size;
@@ -186,6 +183,7 @@ module _ (t : List ℕ) (a : ℕ) (sa : Scanned is_blank t 0 a) where
             output_bits = y.all;
             kept_in = x.kept;
             kept_out = y.kept;
-            place = line-passed t d d' to sd y.next ∙ ap behind_line (line-passed t b b' d sb x.next ∙ ap behind_line (line-passed t 0 a b sa c.next));
-            within = y.next.within;
+            place = behind-its-line d d' sd to y.next ∙ ap behind_line
+                (behind-its-line b b' sb d x.next ∙ ap behind_line (behind-its-line z a sa b c.next ∙ ap behind_line e));
+            same = ap (λ t. t.now) (y.next.same ∙ sd.same ∙ x.next.same ∙ sb.same ∙ c.next.same ∙ sa.same);
           }

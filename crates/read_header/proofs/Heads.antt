@@ -1,7 +1,6 @@
 -- Questions 2 to 6 in order, but for the number of gate lines.
-use Prim.Native.Nat.{ℕ, suc, ◌<◌, ◌≤◌}
-use Rattle.std.specs.Prelude.{Result, Ok, Err}
-use mathlib.Core.Path.{◌≡◌, refl, sym, ap, ◌∙◌, subst}
+use Prim.Native.Nat.{ℕ, suc, ◌-◌, ◌<◌, ◌≤◌}
+use mathlib.Core.Path.{◌≡◌, refl, sym, ap, ◌∙◌}
 use mathlib.Core.Bool.{true, false, ◌&&◌}
 use mathlib.Core.List.{List, [], ◌∷◌}
 use mathlib.Core.Option.{none}
@@ -10,29 +9,28 @@ use lib.Dec.{T, eqb, leb, leb→le, eqb→eq}
 use lib.ListN.{length, take, drop}
 use borrow.Author.Tests.{lt-leb, le-leb}
 use Rattle.netlist.specs.declared.Limits.{Limits}
-use Rattle.netlist.specs.declared.Question.{Question}
-use Rattle.netlist.specs.Question.{number_of}
 use Rattle.netlist.specs.Outcome.{done, ask, given, and_then}
 use Rattle.netlist.specs.Text.{word_lines}
-use Rattle.netlist.specs.Header.{Header, within_limits}
+use Rattle.netlist.specs.Header.{Header as TextHeader, within_limits}
 use Rattle.netlist.specs.Read.{bytes_allowed, counts_agree, opening}
 use Rattle.netlist.proofs.Tests.{both, true-T}
-use Rattle.read_text.specs.declared.cursor.Cursor.{Cursor}
 use Rattle.old_form.specs.declared.Dialect.{Dialect}
 use Rattle.old_form.specs.declared.Dialect.TheVariants.{Fashion, Old}
 use Rattle.old_form.specs.OldRead.{old_opening}
 use Rattle.old_form.specs.Dialects.{header_in, header_lines, opening_in}
+use Rattle.read_text.specs.Cursors.{left}
+use Rattle.read_text.specs.declared.cursor.Cursor.{Cursor}
 use Rattle.read_header.specs.HeaderAnswers.{Kept, HeaderOf}
-use Rattle.read_header.specs.HeadAnswers.{within_numbers, gates_counted, Inside, HeadOf, NoHead, HeadSays}
+use Rattle.read_header.specs.HeadAnswers.{within_numbers, header_numbers, gates_counted, Inside, HeadOf, NoHead}
 use Rattle.read_header.specs.declared.HeaderNumbers.{HeaderNumbers}
+use Rattle.read_header.specs.declared.header.Header.{Header}
 use Rattle.read_header.proofs.Headers.{header-left}
 
 -- ---- a header's numbers
 
-module _ (L : Limits) (h : HeaderNumbers) (e : within_numbers L h ≡ true) where
-  -- the five tests of question 5, of which the fourth lets the input bits be taken off the wires
-  tests : T (leb h.wires L.wires) × T (leb h.input_values L.inputs) × T (leb h.output_values L.outputs) × T (leb h.input_bits h.wires)
-      × T (leb h.output_bits h.wires)
+module _ (L : Limits) (h : Header) (e : within_numbers L (header_numbers h) ≡ true) where
+  -- four tests of question 5; the fifth is the law
+  tests : T (leb h.wires L.wires) × T (leb h.input_values L.inputs) × T (leb h.output_values L.outputs) × T (leb h.output_bits h.wires)
   unfolding within_numbers
   tests =
       let a = leb h.wires L.wires in
@@ -40,14 +38,11 @@ module _ (L : Limits) (h : HeaderNumbers) (e : within_numbers L h ≡ true) wher
       let c = leb h.output_values L.outputs in
       let d = leb h.input_bits h.wires in
       let f = leb h.output_bits h.wires in
-      let p = both (a && b && c && d) f (true-T (within_numbers L h) e) in
+      let p = both (a && b && c && d) f (true-T (within_numbers L (header_numbers h)) e) in
       let q = both (a && b && c) d p.0 in
       let r = both (a && b) c q.0 in
       let s = both a b r.0 in
-      (s.0, s.1, r.1, q.1, p.1)
-
-  pub bits_fit : h.input_bits ≤ h.wires
-  bits_fit = leb→le _ _ tests.3
+      (s.0, s.1, r.1, p.1)
 
   inside : gates_counted h ≡ true → Inside L h
   unfolding gates_counted
@@ -56,8 +51,7 @@ module _ (L : Limits) (h : HeaderNumbers) (e : within_numbers L h ≡ true) wher
         wires = leb→le _ _ tests.0;
         inputs = leb→le _ _ tests.1;
         outputs = leb→le _ _ tests.2;
-        ins = leb→le _ _ tests.3;
-        outs = leb→le _ _ tests.4;
+        outs = leb→le _ _ tests.3;
         gates = eqb→eq _ _ (true-T (gates_counted h) f);
       }
 
@@ -67,7 +61,7 @@ module _ (L : Limits) (h : HeaderNumbers) (e : within_numbers L h ≡ true) wher
 opening_of : (d : Dialect) (L : Limits) (t : List ℕ) → opening_in d L t
     ≡ ask 2 (leb (length t) L.text)
     (ask 3 (bytes_allowed t)
-    (and_then (given 4 (header_in d (word_lines t))) λ (H : Header).
+    (and_then (given 4 (header_in d (word_lines t))) λ (H : TextHeader).
     ask 5 (within_limits L H)
     (ask 6 (counts_agree H (drop (header_lines d) (word_lines t)))
     (done H))))
@@ -76,43 +70,41 @@ opening_of Fashion L t = refl
 opening_of Old L t = refl
 
 module _ (d : Dialect) (L : Limits) (t : List ℕ) where
-  pub head-2 : L.text < length t → NoHead d L t 2
-  head-2 k = record { refuses = opening_of d L t ∙ rw (lt-leb _ _ k) }
+  pub no_length : L.text < length t → NoHead d L t 2
+  no_length k = record { refuses = opening_of d L t ∙ rw (lt-leb _ _ k) }
 
   module _ (k : length t ≤ L.text) where
-    pub head-3 : bytes_allowed t ≡ false → NoHead d L t 3
-    head-3 e = record { refuses = opening_of d L t ∙ rw (le-leb _ _ k, e) }
+    pub no_bytes : bytes_allowed t ≡ false → NoHead d L t 3
+    no_bytes e = record { refuses = opening_of d L t ∙ rw (le-leb _ _ k, e) }
 
     module _ (e : bytes_allowed t ≡ true) where
-      pub head-4 : header_in d (word_lines t) ≡ none → NoHead d L t 4
-      head-4 f = record { refuses = opening_of d L t ∙ rw (le-leb _ _ k, e, f) }
+      pub no_header : header_in d (word_lines t) ≡ none → NoHead d L t 4
+      no_header f = record { refuses = opening_of d L t ∙ rw (le-leb _ _ k, e, f) }
 
-      module _ {ins outs : List ℕ} {h : HeaderNumbers} {to : ℕ} (a : HeaderOf d t ins outs h to) where
+      module _ {ins outs : List ℕ} {n : HeaderNumbers} {to : Cursor} (a : HeaderOf d t ins outs n to) where
         -- the header's numbers and the lines behind it decide
-        reached : opening_in d L t ≡ ask 5 (within_numbers L h) (ask 6 (gates_counted h && eqb (length (word_lines (drop to t))) h.gates) (done a.is))
-        unfolding within_numbers gates_counted
+        reached : opening_in d L t
+            ≡ ask 5 (within_numbers L n) (ask 6 (eqb n.gates (n.wires - n.input_bits) && eqb (length (word_lines (left to))) n.gates) (done a.is))
+        unfolding within_numbers
         reached =
             opening_of d L t
             ∙ rw (le-leb _ _ k, e, a.read) (simp (a.wires, a.inputs, a.input_bits, a.outputs, a.output_bits, a.gates, header-left a))
 
-        pub head-5 : within_numbers L h ≡ false → NoHead d L t 5
-        head-5 f = record { refuses = reached ∙ rw f }
+        pub no_limits : within_numbers L n ≡ false → NoHead d L t 5
+        no_limits f = record { refuses = reached ∙ rw f }
 
-        module _ (f : within_numbers L h ≡ true) where
-          pub head-6 : gates_counted h ≡ false → NoHead d L t 6
-          head-6 g = record { refuses = reached ∙ rw (f, g) }
+      -- the numbers of a header that question 5 admits
+      module _ {ins outs : List ℕ} (h : Header) {to : Cursor} (a : HeaderOf d t ins outs (header_numbers h) to)
+          (f : within_numbers L (header_numbers h) ≡ true) where
+        reached-within : opening_in d L t ≡ ask 6 (gates_counted h && eqb (length (word_lines (left to))) h.gates) (done a.is)
+        unfolding gates_counted
+        reached-within = reached a ∙ rw f
 
-          pub head_at : gates_counted h ≡ true → HeadOf d L t ins outs h to
-          head_at g = record { header = a; inside = inside L h f g; opens = reached ∙ rw (f, g) }
+        pub no_count : gates_counted h ≡ false → NoHead d L t 6
+        no_count g = record { refuses = reached-within ∙ rw g }
 
--- ---- a head known by its answer
-
-module _ (d : Dialect) (L : Limits) (t ins outs : List ℕ) {r : Result (HeaderNumbers × Cursor) Question} (k : HeadSays d L t ins outs r) where
-  pub head-is : {h : HeaderNumbers} {c : Cursor} → r ≡ Ok (h, c) → HeadOf d L t ins outs h c.at
-  head-is p = subst (HeadSays d L t ins outs) p k
-
-  pub head-refused : {q : Question} → r ≡ Err q → NoHead d L t (number_of q)
-  head-refused p = subst (HeadSays d L t ins outs) p k
+        pub head_at : gates_counted h ≡ true → HeadOf d L t ins outs h to
+        head_at g = record { header = a; inside = inside L h f g; opens = reached-within ∙ rw g }
 
 -- ---- the widths
 
@@ -125,7 +117,7 @@ kept-front (x ∷ table) (w ∷ ws) k h =
     let q = kept-front table ws (λ i a b. k (suc i) (omega arith) (omega arith)) (omega arith) in
     cc
 
-module _ {d : Dialect} {L : Limits} {t ins outs : List ℕ} {h : HeaderNumbers} {to : ℕ} (a : HeadOf d L t ins outs h to) where
+module _ {d : Dialect} {L : Limits} {t ins outs : List ℕ} {h : Header} {to : Cursor} (a : HeadOf d L t ins outs h to) where
   pub inputs-front : L.inputs ≤ length ins → take h.input_values ins ≡ a.header.is.inputs
   inputs-front room =
       let n = a.header.inputs in

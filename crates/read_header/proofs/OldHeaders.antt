@@ -6,17 +6,18 @@ use mathlib.Core.List.{List, [], ◌∷◌}
 use mathlib.Core.Option.{Option, none, some}
 use native.Mathlib.Omega.{arith}
 use lib.Dec.{eqb, leb}
-use lib.ListN.{length, drop, set}
-use borrow.Author.Tests.{le-leb, eq-eqb, ne_eqb, eqb-true}
+use lib.ListN.{length, set}
+use borrow.Author.Tests.{le-leb, eqb-true}
 use Rattle.netlist.specs.Lists.{sum}
 use Rattle.netlist.specs.Number.{number}
 use Rattle.netlist.specs.Text.{word_lines}
 use Rattle.netlist.specs.Header.{numbers, cons_option}
 use Rattle.netlist.proofs.Questions.{none-some}
-use Rattle.read_text.specs.Line.{line_words, next_word, behind_line, is_blank, Scanned}
-use Rattle.read_text.specs.Answers.{NumberAt}
+use Rattle.read_text.specs.Line.{line_words, next_word, behind_line, is_blank}
+use Rattle.read_text.specs.Cursors.{left, Scanned, NumberAt}
+use Rattle.read_text.specs.declared.cursor.Cursor.{Cursor}
 use Rattle.read_text.proofs.Answering.{number-line, no_number}
-use Rattle.read_text.proofs.Lines.{at-word, line-passed}
+use Rattle.read_text.proofs.Cursors.{behind-its-line}
 use Rattle.old_form.specs.declared.Parties.{Parties}
 use Rattle.old_form.specs.declared.Dialect.TheVariants.{Old}
 use Rattle.old_form.specs.OldHeader.{parties, input_values, output_values, party_header, old_header}
@@ -36,41 +37,33 @@ no-rest x (some (y ∷ [])) e = refl
 no-rest x (some (y ∷ (z ∷ []))) e = absurd (none-some _ (sym e))
 no-rest x (some (y ∷ (z ∷ (v ∷ vs)))) e = refl
 
-pub parties-rest : (t : List ℕ) (at x c : ℕ) → NumberAt t at x c → pair_only (numbers (line_words (drop c t))) ≡ none
-    → parties (numbers (line_words (drop at t))) ≡ none
-parties-rest t at x c a e = ap parties (numbers_on t at x c a) ∙ no-rest x (numbers (line_words (drop c t))) e
+pub parties-rest : (at : Cursor) (x : ℕ) (c : Cursor) → NumberAt at x c → pair_only (numbers (line_words (left c))) ≡ none
+    → parties (numbers (line_words (left at))) ≡ none
+parties-rest at x c a e = ap parties (numbers_on at x c a) ∙ no-rest x (numbers (line_words (left c))) e
 
 -- the first number, and the two others
-module _ (t : List ℕ) (at x c y z to : ℕ) (a : NumberAt t at x c) (b : CountsAt t c y z to) where
-  three : parties (numbers (line_words (drop at t))) ≡ cond (leb 1 x && leb 1 z) (some (record { one = x; two = y; output = z })) none
-  three = ap parties (numbers_on t at x c a) ∙ ap (λ (o : Option (List ℕ)). parties (cons_option (some x) o))
-      (pair_is (numbers (line_words (drop c t))) (y ∷ z ∷ []) b.line)
+module _ (at : Cursor) (x : ℕ) (c : Cursor) (y z : ℕ) (to : Cursor) (a : NumberAt at x c) (b : CountsAt c y z to) where
+  three : parties (numbers (line_words (left at))) ≡ cond (leb 1 x && leb 1 z) (some (record { one = x; two = y; output = z })) none
+  three = ap parties (numbers_on at x c a) ∙ ap (λ (o : Option (List ℕ)). parties (cons_option (some x) o))
+      (pair_is (numbers (line_words (left c))) (y ∷ z ∷ []) b.line)
 
-  pub parties-no-one : x ≡ 0 → parties (numbers (line_words (drop at t))) ≡ none
+  pub parties-no-one : x ≡ 0 → parties (numbers (line_words (left at))) ≡ none
   parties-no-one e = three ∙ rw e
 
   module _ (n : x ≡ 0 → ⊥) where
-    pub parties-no-output : z ≡ 0 → parties (numbers (line_words (drop at t))) ≡ none
+    pub parties-no-output : z ≡ 0 → parties (numbers (line_words (left at))) ≡ none
     parties-no-output e = three ∙ rw (le-leb 1 x (omega arith), e)
 
-    pub parties-good : (z ≡ 0 → ⊥) → PartiesAt t at (record { one = x; two = y; output = z }) to
+    pub parties-good : (z ≡ 0 → ⊥) → PartiesAt at (record { one = x; two = y; output = z }) to
     parties-good m = record {
       line = three ∙ rw (le-leb 1 x (omega arith), le-leb 1 z (omega arith));
-      next = record { left = b.next.left ∙ number-line t at x c a; on = omega (arith, a.on, b.next.on); within = b.next.within };
+      next = record { rest = b.next.rest ∙ number-line at x c a; on = omega (arith, a.on, b.next.on); same = b.next.same ∙ a.same };
     }
 
 -- ---- the values in the tables
 
 pub kept-first : (table : List ℕ) (v : ℕ) → Kept (set table 0 v) (v ∷ [])
 kept-first table v = kept_more table [] 0 v refl (λ i h l. absurd (omega arith))
-
-pub kept-one : (table : List ℕ) (p : Parties) {x : List ℕ} → p.two ≡ 0 → x ≡ set table 0 p.one → (1 ≡ length (input_values p)) × Kept x (input_values p)
-kept-one table p {x} e f = rw (f, eq-eqb p.two 0 e) (refl, kept-first table p.one)
-
-pub kept-two : (table : List ℕ) (p : Parties) {x y : List ℕ} → (p.two ≡ 0 → ⊥) → x ≡ set table 0 p.one → y ≡ set x 1 p.two
-    → (2 ≡ length (input_values p)) × Kept y (input_values p)
-kept-two table p {x} {y} n f g =
-    rw (g, f, ne_eqb p.two 0 n) (refl, kept_more (set table 0 p.one) (p.one ∷ []) 1 p.two refl (kept-first table p.one))
 
 inputs-sum : (p : Parties) → sum (input_values p) ≡ p.one + p.two
 inputs-sum p = go (eqb p.two 0) refl
@@ -99,27 +92,28 @@ old-2 a (b ∷ ls) e = rw e
 
 -- ---- the header of a text: line one stands at a, line two at b' behind b
 
-module _ (t : List ℕ) (a : ℕ) (sa : Scanned is_blank t 0 a) where
-  pub no-old-header-1 : pair_only (numbers (line_words (drop a t))) ≡ none → old_header (word_lines t) ≡ none
-  no-old-header-1 e = ap old_header (start t a sa) ∙ old-1 (word_lines (drop a t)) (first-line pair_of t a (at-word t 0 a sa) e)
+module _ (z a : Cursor) (sa : Scanned is_blank z a) where
+  pub no-old-header-1 : pair_only (numbers (line_words (left a))) ≡ none → old_header (word_lines (left z)) ≡ none
+  no-old-header-1 e = ap old_header (start z a sa) ∙ old-1 (word_lines (left a)) (first-line pair_of z a sa e)
 
-  module _ (g w b : ℕ) (c : CountsAt t a g w b) (b' : ℕ) (sb : Scanned is_blank t b b') where
-    pub no-old-header-2 : parties (numbers (line_words (drop b' t))) ≡ none → old_header (word_lines t) ≡ none
+  module _ (g w : ℕ) (b : Cursor) (c : CountsAt a g w b) (b' : Cursor) (sb : Scanned is_blank b b') where
+    pub no-old-header-2 : parties (numbers (line_words (left b'))) ≡ none → old_header (word_lines (left z)) ≡ none
     no-old-header-2 e =
-        ap old_header (one t a sa g w b c b' sb)
-        ∙ old-2 (line_words (drop a t)) (word_lines (drop b' t)) (first-line parties_of t b' (at-word t b b' sb) e)
+        ap old_header (one z a sa g w b c b' sb)
+        ∙ old-2 (line_words (left a)) (word_lines (left b')) (first-line parties_of b b' sb e)
 
-    pub an-old-header : (p : Parties) (to : ℕ) → PartiesAt t b' p to → (outs₀ : List ℕ) {ins outs : List ℕ} {n : ℕ} → (n ≡ length (input_values p)) × Kept ins
+    pub an-old-header : (p : Parties) (to : Cursor) → left z ≡ z.text.now → PartiesAt b' p to → (outs₀ : List ℕ) {ins outs : List ℕ} {n : ℕ}
+        → (n ≡ length (input_values p)) × Kept ins
         (input_values p)
         → outs ≡ set outs₀ 0 p.output
-        → HeaderOf Old t ins outs (record { gates = g; wires = w; input_values = n; input_bits = p.one + p.two; output_values = 1; output_bits = p.output }) to
-    an-old-header p to x outs₀ {ins} {outs} {n} k o =
-        let two : word_lines t ≡ line_words (drop a t) ∷ (line_words (drop b' t) ∷ word_lines (drop to t))
-        = one t a sa g w b c b' sb
-        ∙ ap (λ (ls : List (List (List ℕ))). line_words (drop a t) ∷ ls) (read-line parties_of refl t b' p to x.line x.next) in
+        → HeaderOf Old z.text.now ins outs (record { gates = g; wires = w; input_values = n; input_bits = p.one + p.two; output_values = 1; output_bits = p.output }) to
+    an-old-header p to e x outs₀ {ins} {outs} {n} k o =
+        let two : word_lines (left z) ≡ line_words (left a) ∷ (line_words (left b') ∷ word_lines (left to))
+        = one z a sa g w b c b' sb
+        ∙ ap (λ (ls : List (List (List ℕ))). line_words (left a) ∷ ls) (read-line parties_of refl b' p to x.line x.next) in
         record {
           is = record { count = g; wires = w; inputs = input_values p; outputs = output_values p };
-          read = ap old_header two ∙ rw (x.line, pair t a sa g w b c b' sb);
+          read = ap (λ (t : List ℕ). old_header (word_lines t)) (sym e) ∙ ap old_header two ∙ rw (x.line, pair z a sa g w b c b' sb);
           gates = refl;
           wires = refl;
           inputs = sym k.0;
@@ -128,6 +122,6 @@ module _ (t : List ℕ) (a : ℕ) (sa : Scanned is_blank t 0 a) where
           output_bits = omega arith;
           kept_in = k.1;
           kept_out = rw o (kept-first outs₀ p.output);
-          place = line-passed t b b' to sb x.next ∙ ap behind_line (line-passed t 0 a b sa c.next);
-          within = x.next.within;
+          place = behind-its-line b b' sb to x.next ∙ ap behind_line (behind-its-line z a sa b c.next ∙ ap behind_line e);
+          same = ap (λ t. t.now) (x.next.same ∙ sb.same ∙ c.next.same ∙ sa.same);
         }

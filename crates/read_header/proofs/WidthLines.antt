@@ -13,17 +13,18 @@ use Rattle.netlist.specs.Lists.{every, sum}
 use Rattle.netlist.specs.Number.{number}
 use Rattle.netlist.specs.Header.{numbers, cons_option, values}
 use Rattle.netlist.proofs.Tests.{clash, on_bool}
+use Rattle.netlist.proofs.HeaderFacts.{number_fits}
 use Rattle.netlist.proofs.Shape.{sum-snoc}
-use Rattle.read_text.specs.Line.{line_words, next_word, after_line, is_empty, EndAt}
-use Rattle.read_text.specs.Answers.{NumberAt}
+use Rattle.read_text.specs.Line.{line_words, next_word, after_line, is_empty}
+use Rattle.read_text.specs.Cursors.{left, NumberAt, EndAt}
+use Rattle.read_text.specs.declared.cursor.Cursor.{Cursor}
 use Rattle.read_text.proofs.Answering.{number_word, number-line, no_number}
 use Rattle.read_header.specs.HeaderAnswers.{Kept, positives, WidthsAt}
 
 -- ---- the numbers of a line
 
-pub numbers_on : (t : List ℕ) (at v to : ℕ) → NumberAt t at v to
-    → numbers (line_words (drop at t)) ≡ cons_option (some v) (numbers (line_words (drop to t)))
-numbers_on t at v to n = ap numbers (number_word t at v to n) ∙ rw n.value
+pub numbers_on : (c : Cursor) (v : ℕ) (d : Cursor) → NumberAt c v d → numbers (line_words (left c)) ≡ cons_option (some v) (numbers (line_words (left d)))
+numbers_on c v d n = ap numbers (number_word c v d n) ∙ rw n.value
 
 -- numbers in front of numbers
 abbrev joined : List ℕ → Option (List ℕ) → Option (List ℕ)
@@ -62,25 +63,25 @@ kept_more table seen n v size k i h' l = on_bool (ltb i n) before at
 
 -- ---- widths up to the line's end
 
--- n widths of the sum s were read
-pub record Widening (t : List ℕ) (from : ℕ) (table : List ℕ) (i n s : ℕ) : Type 0 where
+-- n widths of the sum s were read, and i is the place behind them
+pub record Widening (c : Cursor) (table : List ℕ) (i n s : ℕ) : Type 0 where
   pub seen : List ℕ
-  pub line : numbers (line_words (drop from t)) ≡ joined seen (numbers (line_words (drop i t)))
+  pub line : numbers (line_words (left c)) ≡ joined seen (numbers (line_words (drop i c.text.now)))
   pub ones : every (leb 1) seen ≡ true
   pub size : length seen ≡ n
   pub all : sum seen ≡ s
   pub small : s ≤ n * 4294967295
   pub few : n ≤ i
   pub kept : Kept table seen
-  pub after : after_line (drop i t) ≡ after_line (drop from t)
-  pub on : from ≤ i
-  pub within : i ≤ length t
+  pub after : after_line (drop i c.text.now) ≡ after_line (left c)
+  pub on : c.at ≤ i
+  pub within : i ≤ length c.text.now
 
-module _ (t : List ℕ) (from : ℕ) where
-  pub widen-start : (table : List ℕ) → from ≤ length t → Widening t from table from 0 0
-  widen-start table h = record {
+module _ (c : Cursor) where
+  pub widen-start : (table : List ℕ) → Widening c table c.at 0 0
+  widen-start table = record {
     seen = [];
-    line = joined-nil (numbers (line_words (drop from t)));
+    line = joined-nil (numbers (line_words (left c)));
     ones = refl;
     size = refl;
     all = refl;
@@ -89,52 +90,63 @@ module _ (t : List ℕ) (from : ℕ) where
     kept = λ i a b. absurd (omega arith);
     after = refl;
     on = omega arith;
-    within = h;
+    within = c.within;
   }
 
-  module _ (table : List ℕ) (i n s : ℕ) (w : Widening t from table i n s) where
+  module _ (table : List ℕ) (d : Cursor) (e : d.text ≡ c.text) (n s : ℕ) (w : Widening c table d.at n s) where
+    here : drop d.at c.text.now ≡ left d
+    here = ap (λ t. drop d.at t.now) (sym e)
+
+    line-here : numbers (line_words (left c)) ≡ joined w.seen (numbers (line_words (left d)))
+    line-here = rw here at w.line
+
+    after-here : after_line (left d) ≡ after_line (left c)
+    after-here = rw here at w.after
+
     -- one width more
-    pub widen-on : (v j : ℕ) → (v ≡ 0 → ⊥) → v < 4294967296 → NumberAt t i v j → Widening t from (set table n v) j (n + 1) (s + v)
-    widen-on v j pos fits a =
+    pub widen-on : (v : ℕ) (j : Cursor) → (v ≡ 0 → ⊥) → NumberAt d v j → Widening c (set table n v) j.at (n + 1) (s + v)
+    widen-on v j pos a =
         let one : 1 ≤ v = omega arith in
+        let there : left j ≡ drop j.at c.text.now = ap (λ t. drop j.at t.now) (a.same ∙ e) in
+        let last = j.within in
         record {
           seen = w.seen ++ (v ∷ []);
-          line = w.line ∙ ap (joined w.seen) (numbers_on t i v j a) ∙ joined-more w.seen v (numbers (line_words (drop j t)));
+          line = rw there at (line-here ∙ ap (joined w.seen) (numbers_on d v j a) ∙ joined-more w.seen v (numbers (line_words (left j))));
           ones = every_append (leb 1) w.seen (v ∷ []) ∙ rw w.ones (rw (le-leb 1 v one));
           size = length-append w.seen (v ∷ []) ∙ omega (arith, w.size);
           all = sum-snoc w.seen v ∙ ap (λ (x : ℕ). x + v) w.all;
-          small = omega (arith, w.small);
+          small = omega (arith, w.small, number_fits _ v a.value);
           few = omega (arith, w.few, a.on);
           kept = kept_more table w.seen n v w.size w.kept;
-          after = number-line t i v j a ∙ w.after;
+          after = rw there at (number-line d v j a ∙ after-here);
           on = omega (arith, w.on, a.on);
-          within = a.within;
+          within = rw (a.same ∙ e) at last;
         }
 
     -- the line ends
-    pub widen-end : (to : ℕ) → EndAt t i to → WidthsAt t from (positives (numbers (line_words (drop from t)))) table n s to
-    widen-end to e = record {
+    pub widen-end : (to : Cursor) → EndAt d to → WidthsAt c (positives (numbers (line_words (left c)))) table n s to
+    widen-end to f = record {
       ws = w.seen;
-      line = ap positives (w.line ∙ ap (λ (l : List (List ℕ)). joined w.seen (numbers l)) e.none ∙ ap some (append-nil w.seen))
+      line = ap positives (line-here ∙ ap (λ (l : List (List ℕ)). joined w.seen (numbers l)) f.none ∙ ap some (append-nil w.seen))
           ∙ rw w.ones;
       size = w.size;
       all = w.all;
       kept = w.kept;
-      next = record { left = e.left ∙ w.after; on = omega (arith, w.on, e.on); within = e.within };
+      next = record { rest = f.rest ∙ after-here; on = omega (arith, w.on, f.on); same = f.same ∙ e };
     }
 
     -- a word is no number
-    pub widen-not : number (next_word (drop i t)) ≡ none → is_empty (line_words (drop i t)) ≡ false
-        → positives (numbers (line_words (drop from t))) ≡ none
+    pub widen-not : number (next_word (left d)) ≡ none → is_empty (line_words (left d)) ≡ false
+        → positives (numbers (line_words (left c))) ≡ none
     unfolding is_empty
     widen-not h f =
-        ap positives w.line
-        ∙ no_number (λ ws. is_empty ws ≡ false → positives (joined w.seen (numbers ws)) ≡ none) (drop i t) h
+        ap positives line-here
+        ∙ no_number (λ ws. is_empty ws ≡ false → positives (joined w.seen (numbers ws)) ≡ none) (left d) h
         (λ e. clash (cc)) (λ v ws e g. rw e) f
 
     -- a width is 0
-    pub widen-zero : (v j : ℕ) → v ≡ 0 → NumberAt t i v j → positives (numbers (line_words (drop from t))) ≡ none
-    widen-zero v j z a = ap positives (w.line ∙ ap (joined w.seen) (numbers_on t i v j a)) ∙ go (numbers (line_words (drop j t)))
+    pub widen-zero : (v : ℕ) (j : Cursor) → v ≡ 0 → NumberAt d v j → positives (numbers (line_words (left c))) ≡ none
+    widen-zero v j z a = ap positives (line-here ∙ ap (joined w.seen) (numbers_on d v j a)) ∙ go (numbers (line_words (left j)))
       where
         go : (o : Option (List ℕ)) → positives (joined w.seen (cons_option (some v) o)) ≡ none
         go none = refl
@@ -158,24 +170,24 @@ values-form k (some ws) = go (every (leb 1) ws)
 pub values-off : (s : List ℕ) → number (next_word s) ≡ none → values (numbers (line_words s)) ≡ none
 values-off s h = no_number (λ ws. values (numbers ws) ≡ none) s h refl (λ w ws e. rw e)
 
-module _ (t : List ℕ) (at k c : ℕ) (a : NumberAt t at k c) where
-  values-on : values (numbers (line_words (drop at t))) ≡ values_form k (positives (numbers (line_words (drop c t))))
-  values-on = ap values (numbers_on t at k c a) ∙ values-form k (numbers (line_words (drop c t)))
+module _ (at : Cursor) (k : ℕ) (c : Cursor) (a : NumberAt at k c) where
+  values-on : values (numbers (line_words (left at))) ≡ values_form k (positives (numbers (line_words (left c))))
+  values-on = ap values (numbers_on at k c a) ∙ values-form k (numbers (line_words (left c)))
 
-  pub values-bad : positives (numbers (line_words (drop c t))) ≡ none → values (numbers (line_words (drop at t))) ≡ none
+  pub values-bad : positives (numbers (line_words (left c))) ≡ none → values (numbers (line_words (left at))) ≡ none
   values-bad h = values-on ∙ ap (values_form k) h
 
-  module _ (table : List ℕ) (n s to : ℕ) (w : WidthsAt t c (positives (numbers (line_words (drop c t)))) table n s to) where
-    values-some : values (numbers (line_words (drop at t))) ≡ cond (leb 1 k && eqb k n) (some w.ws) none
+  module _ (table : List ℕ) (n s : ℕ) (to : Cursor) (w : WidthsAt c (positives (numbers (line_words (left c)))) table n s to) where
+    values-some : values (numbers (line_words (left at))) ≡ cond (leb 1 k && eqb k n) (some w.ws) none
     values-some = values-on ∙ ap (values_form k) w.line ∙ ap (λ (m : ℕ). cond (leb 1 k && eqb k m) (some w.ws) none) w.size
 
-    pub values-zero : k ≡ 0 → values (numbers (line_words (drop at t))) ≡ none
+    pub values-zero : k ≡ 0 → values (numbers (line_words (left at))) ≡ none
     values-zero e = values-some ∙ ap (λ (m : ℕ). cond (leb 1 m && eqb m n) (some w.ws) none) e
 
-    pub values-count : (k ≡ 0 → ⊥) → (k ≡ n → ⊥) → values (numbers (line_words (drop at t))) ≡ none
+    pub values-count : (k ≡ 0 → ⊥) → (k ≡ n → ⊥) → values (numbers (line_words (left at))) ≡ none
     values-count z e = let p : 1 ≤ k = omega arith in values-some ∙ rw (le-leb 1 k p) (rw (ne_eqb k n e))
 
-    pub values-good : (k ≡ 0 → ⊥) → k ≡ n → WidthsAt t at (values (numbers (line_words (drop at t)))) table n s to
+    pub values-good : (k ≡ 0 → ⊥) → k ≡ n → WidthsAt at (values (numbers (line_words (left at)))) table n s to
     values-good z e =
         let p : 1 ≤ k = omega arith in
         record {
@@ -184,5 +196,5 @@ module _ (t : List ℕ) (at k c : ℕ) (a : NumberAt t at k c) where
           size = w.size;
           all = w.all;
           kept = w.kept;
-          next = record { left = w.next.left ∙ number-line t at k c a; on = omega (arith, a.on, w.next.on); within = w.next.within };
+          next = record { rest = w.next.rest ∙ number-line at k c a; on = omega (arith, a.on, w.next.on); same = w.next.same ∙ a.same };
         }

@@ -1,5 +1,5 @@
 // The two header lines of the older dialect: question 4.
-ghost use Rattle.std.specs.Prelude.{◌≡◌, ◌≤◌, length};
+ghost use Rattle.std.specs.Prelude.{◌≡◌, length};
 ghost use Rattle.old_form.specs.OldHeader.{input_values};
 ghost use Rattle.old_form.specs.declared.Dialect.TheVariants.{Old};
 ghost use Rattle.read_header.specs.HeaderAnswers.{Kept, PartiesIs, HeaderSays};
@@ -10,12 +10,11 @@ use old_form::Parties;
 use read_text::cursor::Cursor;
 
 // Line two: the bits of party one, of party two and of the output, with the start of the next line.
-fn parties_line(text: &[u8], at: Cursor) -> Option<(Parties, Cursor)>
-    requires { at.at ≤ length text.now }
-    ensures { PartiesIs text.now at.at result }
+fn parties_line(at: Cursor) -> Option<(Parties, Cursor)>
+    ensures { PartiesIs at.entry result }
 {
-    let (one, behind) = at.next_number(text)?;
-    let (two, output, next) = counts_line(text, behind)?;
+    let (one, behind) = at.next_number()?;
+    let (two, output, next) = counts_line(behind)?;
     if one == 0 {
         return None;
     }
@@ -38,26 +37,26 @@ fn keep_inputs(table: &mut [u32], p: Parties) -> usize
 }
 
 // Question 4. The widths go into the tables, as many as they have room for.
-pub fn read_old_header(
-    text: &[u8],
+pub fn read_old_header<'t>(
+    text: &'t [u8],
     inputs: &mut [u32],
     outputs: &mut [u32],
-) -> Option<(HeaderNumbers, Cursor)>
+) -> Option<(HeaderNumbers, Cursor<'t>)>
     ensures { HeaderSays Old text.now inputs.new outputs.new result }
 {
-    let line1 = (Cursor { at: 0 }).skip_blanks(text);
-    let (gates, wires, at1) = counts_line(text, line1)?;
-    let line2 = at1.skip_blanks(text);
-    let (p, at2) = parties_line(text, line2)?;
+    let line1 = (Cursor { text, at: 0 }).skip_blanks();
+    let (gates, wires, at1) = counts_line(line1)?;
+    let line2 = at1.skip_blanks();
+    let (p, at2) = parties_line(line2)?;
     let values = keep_inputs(inputs, p);
     put(outputs, 0, p.output);
     let numbers = HeaderNumbers {
         gates,
         wires,
         input_values: values,
-        input_bits: p.one as u64 + p.two as u64,
+        input_bits: p.one as u128 + p.two as u128,
         output_values: 1,
-        output_bits: p.output as u64,
+        output_bits: p.output as u128,
     };
     Some((numbers, at2))
 }

@@ -1,8 +1,9 @@
 // The gate lines: questions 6 to 9, each gate into the tables. An accepted text is walked once; behind a refused line the
 // others are only counted, since question 6 comes first.
-ghost use Rattle.std.specs.Prelude.{◌≡◌, cond, List, [], ℕ, ◌≤◌, ◌<◌, eqb, length, drop};
+ghost use Rattle.std.specs.Prelude.{◌≡◌, cond, List, [], ℕ, ◌≤◌, ◌<◌, eqb, length};
 ghost use Rattle.netlist.specs.declared.Question.TheVariants.{Count};
 ghost use Rattle.netlist.specs.Text.{word_lines};
+ghost use Rattle.read_text.specs.Cursors.{left as rest};
 ghost use Rattle.netlist.specs.Table.{tables};
 ghost use Rattle.gate_table.specs.Numbers.{gate_said};
 ghost use Rattle.read_netlist.specs.Marks.{Marks};
@@ -20,18 +21,17 @@ use read_text::count::count_lines;
 use read_text::cursor::Cursor;
 
 // Questions 7 to 9 of one line in a dialect: its gate, with the start of the next line. The gate's result is then marked.
-fn one_gate(
-    text: &[u8],
-    at: Cursor,
+fn one_gate<'t>(
+    at: Cursor<'t>,
     n: u32,
     w: u32,
     marks: &mut [u8],
     d: Dialect,
-) -> Result<(GateNumbers, Cursor), Question>
-    requires { (at.at ≤ length text.now) × (w ≤ length marks.old) }
-    ensures { (rs : List ℕ) → Marks marks.old n w rs → GateStepIs d text.now at.at n w rs marks.new result }
+) -> Result<(GateNumbers, Cursor<'t>), Question>
+    requires { w ≤ length marks.old }
+    ensures { (rs : List ℕ) → Marks marks.old n w rs → GateStepIs d at.entry n w rs marks.new result }
 {
-    let Some((g, next)) = gate_line(text, at) else {
+    let Some((g, next)) = gate_line(at) else {
         return Err(Question::Line);
     };
     if !has_gate(g, d) {
@@ -59,11 +59,10 @@ fn store(operands: &mut [u64], results: &mut [u64], at: usize, g: GateNumbers)
 
 // The question that refuses the text where one refuses a line: unless the lines from it on are as many as are left, question 6 comes
 // first.
-fn first(text: &[u8], at: Cursor, left: usize, question: Question) -> Question
-    requires { at.at ≤ length text.now }
-    ensures { result ≡ cond (eqb (length (word_lines (drop at.at text.now))) left) question Count }
+fn first(at: Cursor, left: usize, question: Question) -> Question
+    ensures { result ≡ cond (eqb (length (word_lines (rest at.entry))) left) question Count }
 {
-    if count_lines(text, at) == left {
+    if count_lines(at) == left {
         question
     } else {
         Question::Count
@@ -72,7 +71,6 @@ fn first(text: &[u8], at: Cursor, left: usize, question: Question) -> Question
 
 // The lines from a place on, of which there must be as many as `count`: gates of a netlist with n input bits and w wires, in a dialect.
 pub fn read_gates(
-    text: &[u8],
     from: Cursor,
     count: usize,
     n: u32,
@@ -82,24 +80,25 @@ pub fn read_gates(
     results: &mut [u64],
     d: Dialect,
 ) -> Result<(), Question>
-    requires { (from.at ≤ length text.now) × (count ≤ length operands.old) × (count ≤ length results.old) × Marks marks.old n w [] }
-    ensures { GatesIs d text.now from.at count n w (tables operands.new results.new) result }
+    requires { (count ≤ length operands.old) × (count ≤ length results.old) × Marks marks.old n w [] }
+    ensures { GatesIs d (rest from.entry) count n w (tables operands.new results.new) result }
 {
+    let text = from.text;
     let mut at = from;
     for i in 0..count {
-        let start = at.skip_blanks(text);
+        let start = at.skip_blanks();
         if text.len() <= start.at {
             return Err(Question::Count);
         }
-        match one_gate(text, start, n, w, marks, d) {
+        match one_gate(start, n, w, marks, d) {
             Ok((g, next)) => {
                 store(operands, results, i, g);
                 at = next;
             }
-            Err(question) => return Err(first(text, start, count - i, question)),
+            Err(question) => return Err(first(start, count - i, question)),
         }
     }
-    let end = at.skip_blanks(text);
+    let end = at.skip_blanks();
     if end.at < text.len() {
         return Err(Question::Count);
     }

@@ -1,39 +1,15 @@
 // A whole text into lent tables: questions 1 to 9.
-ghost use Rattle.std.specs.Prelude.{◌≡◌, ◌∷◌, ◌≤◌, ◌<◌, ◌^◌, length, replicate};
+ghost use Rattle.std.specs.Prelude.{◌≡◌, ◌∷◌, ◌≤◌, length, replicate};
 ghost use Rattle.netlist.specs.Table.{tables};
-ghost use Rattle.read_netlist.specs.Gates.{GatesIs};
 ghost use Rattle.read_netlist.specs.Whole.{Readable, TextIs, ReadSays, ReadIs};
 
 use crate::gates::read_gates;
 use crate::marks::mark_inputs;
 use netlist::{Limits, Question};
 use old_form::Dialect;
-use read_header::HeaderNumbers;
 use read_header::head::read_opening_in;
+use read_header::header::Header;
 use read_text::cursor::Cursor;
-
-// Question 6 of the lines from a place on, and then 7 to 9, after a head that is admitted.
-fn read_body(
-    text: &[u8],
-    at: Cursor,
-    h: HeaderNumbers,
-    marks: &mut [u8],
-    operands: &mut [u64],
-    results: &mut [u64],
-    d: Dialect,
-) -> Result<(), Question>
-    requires at_in_bounds { (at.at ≤ length text.now) × (h.input_bits ≤ h.wires) × (h.gates ≤ h.wires) }
-    requires wires_in_bounds { (h.wires ≤ length marks.old) × (h.wires ≤ length operands.old) × (h.wires ≤ length results.old)
-        × (marks.old ≡ replicate (length marks.old) 0) }
-    ensures { GatesIs d text.now at.at h.gates h.input_bits h.wires
-        (tables operands.new results.new) result }
-{
-    let n = h.input_bits as u32;
-    let w = h.wires;
-    let count = h.gates as usize;
-    mark_inputs(marks, n, w);
-    read_gates(text, at, count, n, w, marks, operands, results, d)
-}
 
 // Questions 2 to 9, with tables that question 1 admits; `marks`, which must be zero, then marks every wire.
 fn read_text(
@@ -45,20 +21,34 @@ fn read_text(
     operands: &mut [u64],
     results: &mut [u64],
     d: Dialect,
-) -> Result<HeaderNumbers, Question>
-    requires text_bound { (l.text < 2 ^ 32) × (l.inputs ≤ length inputs.old) × (l.outputs ≤ length outputs.old) }
+) -> Result<Header, Question>
+    requires widths_in_bounds { (l.inputs ≤ length inputs.old) × (l.outputs ≤ length outputs.old) }
     requires wires_in_bounds { (l.wires ≤ length marks.old) × (l.wires ≤ length operands.old) × (l.wires ≤ length results.old)
         × (marks.old ≡ replicate (length marks.old) 0) }
     ensures { TextIs d l text.now inputs.new outputs.new
         (tables operands.new results.new) result }
 {
     let (h, at) = read_opening_in(text, l, inputs, outputs, d)?;
-    read_body(text, at, h, marks, operands, results, d)?;
+    let n = h.input_bits as u32;
+    let count = h.gates as usize;
+    mark_inputs(marks, n, h.wires);
+    // the place in `text` itself: with the text that came back beside it, reading takes a twentieth longer
+    read_gates(
+        Cursor { text, at: at.at },
+        count,
+        n,
+        h.wires,
+        marks,
+        operands,
+        results,
+        d,
+    )?;
     Ok(h)
 }
 
-// Questions 1 to 9 in a dialect: the numbers of the header of a netlist that the tables then hold. The widths of the values go to the front of two tables, the gates into two others, each of any content;
-// `others` are the lengths of the lent tables that are not among these.
+// Questions 1 to 9 in a dialect: the numbers of the header of a netlist that the tables then hold. The widths of the values go to the
+// front of two tables, the gates into two others, each of any content; `others` are the lengths of the lent tables that are not among
+// these.
 pub fn read_in(
     text: &[u8],
     inputs: &mut [u32; 17],
@@ -69,7 +59,7 @@ pub fn read_in(
     others: &[usize],
     l: Limits,
     d: Dialect,
-) -> Result<HeaderNumbers, Question>
+) -> Result<Header, Question>
     requires { Readable l }
     ensures { ReadSays d l (length operands.old ∷ length results.old ∷ length marks.old ∷ others.now) text.now
         inputs.new outputs.new (tables operands.new results.new) result }
@@ -91,7 +81,7 @@ pub fn read(
     marks: &mut [u8],
     others: &[usize],
     l: Limits,
-) -> Result<HeaderNumbers, Question>
+) -> Result<Header, Question>
     requires { Readable l }
     ensures { ReadIs l (length operands.old ∷ length results.old ∷ length marks.old ∷ others.now)
         text.now

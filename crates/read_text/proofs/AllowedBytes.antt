@@ -5,7 +5,7 @@ use mathlib.Core.Bool.{Bool, true, false, ◌&&◌, ◌||◌, and_assoc}
 use mathlib.Core.List.{List, [], ◌∷◌}
 use native.Mathlib.Numerals.{add-one}
 use native.Mathlib.Omega.{arith}
-use lib.Bits.{bit_and, bit_or}
+use lib.Bits.{bit_or}
 use lib.Dec.{eqb}
 use lib.ListN.{length, drop, get_or, drop_of_length-le}
 use lib.Seq.{drop-cons}
@@ -88,16 +88,3 @@ module _ (t : List ℕ) where
 pub none_allowed : (t : List ℕ) → length t ≡ 0 → bytes_allowed t ≡ true
 none_allowed [] h = refl
 none_allowed (x ∷ xs) h = absurd (omega arith)
-
-pub faults-before : (a c l : Bool) → bit_and (fault_of a) (bit_or (fault_of c) (fault_of l)) ≡ fault_of (a || (c && l))
-faults-before true true true = refl
-faults-before true true false = refl
-faults-before true false l = go l
-  where
-    go : (l : Bool) → bit_and 0 (bit_or 1 (fault_of l)) ≡ 0
-    go true = refl
-    go false = refl
-faults-before false true true = refl
-faults-before false true false = refl
-faults-before false false true = refl
-faults-before false false false = refl

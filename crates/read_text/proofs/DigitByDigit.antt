@@ -1,6 +1,5 @@
 -- A number read digit by digit, its value made while its end is looked for.
 use Prim.Native.Nat.{ℕ, suc, ◌+◌, ◌-◌, ◌*◌, ◌^◌, ◌<◌, ◌≤◌}
-use Rattle.std.specs.Prelude.{Option, Some, None}
 use mathlib.Core.Path.{◌≡◌, sym, ap, ◌∙◌, subst}
 use mathlib.Core.Bool.{true, false, not, and-false}
 use mathlib.Core.List.{List, [], ◌∷◌}
@@ -16,10 +15,9 @@ use Rattle.netlist.specs.Number.{is_digit, all_digits, value_from, no_leading_ze
 use Rattle.netlist.proofs.Tests.{on_bool}
 use Rattle.netlist.specs.Text.{space, is_space}
 use Rattle.read_text.specs.Line.{is_blank, in_word, take_while, drop_while, next_word, past_word, past_space, Scanned}
-use Rattle.read_text.specs.Answers.{word_from, behind_word, is_full, WholeAt, WholeIs, NumberAt, NumberIs, one_digit}
+use Rattle.read_text.specs.Answers.{word_from, behind_word, is_full, WholeAt, NumberAt, one_digit}
 use Rattle.read_text.proofs.Numbers.{no-digits, ill-led, too_long, a-number, led-filled, digit-word, above-space, digit-range, full-or, not_full}
 use Rattle.read_text.proofs.Scans.{Scanning, scan-start, scan-stop, scan-end, word-no-space}
-use Rattle.read_text.specs.declared.cursor.Cursor.{Cursor}
 
 -- ---- a word byte by byte
 
@@ -175,30 +173,34 @@ module _ (t : List ℕ) (from : ℕ) where
         subst (WholeAt t from v) e (reading-end h)
 
 -- the word behind the spaces is the next word
-pub whole-next : (t : List ℕ) (at from : ℕ) (r : Option (ℕ × Cursor)) → Scanned is_space t at from → WholeIs t from r → NumberIs t at r
-unfolding next_word past_word
-whole-next t at from (Some (v, c)) s w = record {
-  value = ap (λ (x : List ℕ). number (take_while in_word x)) (sym s.left) ∙ w.value;
-  left = w.left ∙ ap (λ (x : List ℕ). past_space (drop_while in_word x)) s.left;
-  on = omega (arith, s.on, w.on);
-  within = w.within;
-}
-whole-next t at from None s w = ap (λ (x : List ℕ). number (take_while in_word x)) (sym s.left) ∙ w
+module _ (t : List ℕ) (at from : ℕ) (s : Scanned is_space t at from) where
+  pub whole-next : (v to : ℕ) → WholeAt t from v to → NumberAt t at v to
+  unfolding next_word past_word
+  whole-next v to w = record {
+    value = ap (λ (x : List ℕ). number (take_while in_word x)) (sym s.left) ∙ w.value;
+    left = w.left ∙ ap (λ (x : List ℕ). past_space (drop_while in_word x)) s.left;
+    on = omega (arith, s.on, w.on);
+    within = w.within;
+  }
+
+  pub none-next : number (word_from t from) ≡ none → number (next_word (drop at t)) ≡ none
+  unfolding next_word
+  none-next w = ap (λ (x : List ℕ). number (take_while in_word x)) (sym s.left) ∙ w
 
 -- ---- past the spaces
 
 module _ (t : List ℕ) (at i : ℕ) (s : Scanning is_space t at i) where
   -- a digit stands behind them
-  pub number-found : i < length t → is_digit (get_or t i 0) ≡ true → (r : Option (ℕ × Cursor)) → WholeIs t i r → NumberIs t at r
-  number-found h d r w = whole-next t at i r (scan-stop is_space t at i h (word-no-space (get_or t i 0) (digit-word (get_or t i 0) d)) s) w
+  pub at-digit : i < length t → is_digit (get_or t i 0) ≡ true → Scanned is_space t at i
+  at-digit h d = scan-stop is_space t at i h (word-no-space (get_or t i 0) (digit-word (get_or t i 0) d)) s
 
   -- another byte
   pub number-other : i < length t → is_space (get_or t i 0) ≡ false → is_digit (get_or t i 0) ≡ false → number (next_word (drop at t)) ≡ none
-  number-other h n d = whole-next t at i None (scan-stop is_space t at i h n s) (first-other t i h d)
+  number-other h n d = none-next t at i (scan-stop is_space t at i h n s) (first-other t i h d)
 
   -- nothing
   pub number-missing : length t ≤ i → number (next_word (drop at t)) ≡ none
-  number-missing h = whole-next t at i None (scan-end is_space t at i h s) (first-none t i h)
+  number-missing h = none-next t at i (scan-end is_space t at i h s) (first-none t i h)
 
 -- ---- one digit and a space behind it
 
@@ -211,9 +213,9 @@ module _ (t : List ℕ) (at : ℕ) where
   pub digit-longer : (get_or t (at + 1) 0 ≡ space → ⊥) → one_digit t at ≡ false
   digit-longer n = rw (ne_eqb (get_or t (at + 1) 0) space n) (and-false (is_digit (get_or t at 0)))
 
-  pub digit-number : (x : ℕ) (c : Cursor) → at + 1 < length t → is_digit (get_or t at 0) ≡ true → get_or t (at + 1) 0 ≡ space → x ≡ get_or t at 0 - 48
-      → c.at ≡ at + 2 → (one_digit t at ≡ true) × NumberAt t at x c.at
-  digit-number x c h d e v p =
+  pub digit-number : (x : ℕ) → at + 1 < length t → is_digit (get_or t at 0) ≡ true → get_or t (at + 1) 0 ≡ space → x ≡ get_or t at 0 - 48
+      → (one_digit t at ≡ true) × NumberAt t at x (at + 2)
+  digit-number x h d e v =
       let r : WholeAt t at x (at + 1 + 1) = reading-space t at x 0 (at + 1) (reading-start t at x (omega arith) d v) h e in
-      let q : at + 1 + 1 ≡ c.at = omega arith in
-      (rw (d, e), number-found t at at (scan-start is_space t at (omega arith)) (omega arith) d (Some (x, c)) (subst (WholeAt t at x) q r))
+      let q : at + 1 + 1 ≡ at + 2 = omega arith in
+      (rw (d, e), whole-next t at at (at-digit t at at (scan-start is_space t at (omega arith)) (omega arith) d) x (at + 2) (subst (WholeAt t at x) q r))

@@ -145,11 +145,6 @@ no_line t i h = rw (drop_of_length-le t h)
 
 -- ---- places behind lines with words
 
--- blank lines were skipped, and the line behind them passed
-pub line-passed : (t : List ℕ) (at from to : ℕ) → Scanned is_blank t at from → LineTaken t from to → drop to t ≡ behind_line (drop at t)
-unfolding behind_line
-line-passed t at from to s l = l.left ∙ ap after_line s.left
-
 -- the lines there are all but the first
 pub behind-line : (s : List ℕ) → word_lines (behind_line s) ≡ drop 1 (word_lines s)
 unfolding behind_line word_lines words

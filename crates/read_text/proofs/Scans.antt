@@ -9,7 +9,7 @@ use lib.ListN.{length, take, drop, get_or, length-append, length-drop, drop_of_l
 use lib.Seq.{drop-cons, take_at, drop-drop}
 use Rattle.netlist.specs.Text.{is_space, is_line_end}
 use Rattle.netlist.proofs.Tests.{clash}
-use Rattle.read_text.specs.Line.{is_blank, in_word, take_while, drop_while, next_word, past_word, Scanned, ThreeBytes, WordAt}
+use Rattle.read_text.specs.Line.{in_word, take_while, drop_while, next_word, past_word, Scanned, ThreeBytes, WordAt}
 
 -- a scan on its way
 pub record Scanning (p : ℕ → Bool) (t : List ℕ) (from i : ℕ) : Type 0 where
@@ -88,13 +88,6 @@ word_at t at from to a b = record {
 }
 
 -- ---- words of three bytes
-
-pub not_three : (t : List ℕ) (at : ℕ) → false ≡ true → ThreeBytes t at
-not_three t at e = clash (cc)
-
-pub are-three : (t : List ℕ) (at : ℕ) (b : Bool) → at + 3 < length t → is_blank (get_or t at 0) ≡ false → is_blank (get_or t (at + 1) 0) ≡ false
-    → is_blank (get_or t (at + 2) 0) ≡ false → b ≡ is_blank (get_or t (at + 3) 0) → b ≡ true → ThreeBytes t at
-are-three t at b l x y z e p = record { first = ap not x; second = ap not y; third = ap not z; behind = ap not (sym e ∙ p); within = l }
 
 pub word-no-space : (x : ℕ) → in_word x ≡ true → is_space x ≡ false
 word-no-space x h = go (is_space x) (is_line_end x) h

@@ -4,14 +4,7 @@ use Rattle.std.proofs.Math.Option.{none, some}
 use Rattle.netlist.specs.Text.{space, lf, cr}
 use Rattle.netlist.specs.Number.{is_digit, number, max_digits}
 use Rattle.netlist.specs.Read.{byte_allowed}
-use Rattle.read_text.specs.Line.{in_word, take_while, drop_while, next_word, past_word, past_space, line_words, is_empty, EndAt}
-use Rattle.read_text.specs.declared.cursor.Cursor.{Cursor}
-
--- ---- the line's end
-
-abbrev pub EndIs : List ℕ → ℕ → Option Cursor → Type 0
-EndIs t at (Some c) = EndAt t at c.at
-EndIs t at None = is_empty (line_words (drop at t)) ≡ false
+use Rattle.read_text.specs.Line.{in_word, take_while, drop_while, next_word, past_word, past_space}
 
 -- ---- numbers
 
@@ -33,8 +26,8 @@ pub record WholeAt (t : List ℕ) (from v to : ℕ) : Type 0 where
   pub on : from < to
   pub within : to ≤ length t
 
-abbrev pub WholeIs : List ℕ → ℕ → Option (ℕ × Cursor) → Type 0
-WholeIs t from (Some (v, c)) = WholeAt t from v c.at
+abbrev pub WholeIs : List ℕ → ℕ → Option (ℕ × ℕ) → Type 0
+WholeIs t from (Some (v, to)) = WholeAt t from v to
 WholeIs t from None = number (word_from t from) ≡ none
 
 -- the next word from a place is the number v, and with it the space behind it ends at `to`
@@ -44,18 +37,9 @@ pub record NumberAt (t : List ℕ) (at v to : ℕ) : Type 0 where
   pub on : at < to
   pub within : to ≤ length t
 
-abbrev pub NumberIs : List ℕ → ℕ → Option (ℕ × Cursor) → Type 0
-NumberIs t at (Some (v, c)) = NumberAt t at v c.at
-NumberIs t at None = number (next_word (drop at t)) ≡ none
-
 -- one digit stands at a place, and a space behind it
 abbrev pub one_digit : List ℕ → ℕ → Bool
 one_digit t at = is_digit (get_or t at 0) && eqb (get_or t (at + 1) 0) space
-
--- the number of one digit with a space behind it, where there is one
-abbrev pub DigitIs : List ℕ → ℕ → Option (ℕ × Cursor) → Type 0
-DigitIs t at (Some (v, c)) = (one_digit t at ≡ true) × NumberAt t at v c.at
-DigitIs t at None = one_digit t at ≡ false
 
 -- ---- question 3
 

@@ -1,10 +1,11 @@
 // Numbers: a few digits without a leading zero, or 0 itself.
-ghost use Rattle.std.specs.Prelude.{◌≡◌, true, ◌≤◌, ◌-◌, length};
+ghost use Rattle.std.specs.Prelude.{◌≡◌, true, ◌≤◌, ◌-◌};
 ghost use Rattle.netlist.specs.Number.{is_digit};
-ghost use Rattle.read_text.specs.Answers.{WholeIs, NumberIs, DigitIs, is_full};
+ghost use Rattle.read_text.specs.Answers.{WholeIs, is_full};
 
-use crate::cursor::{Cursor, is_blank};
+use crate::cursor::Cursor;
 use crate::ends::is_space;
+use crate::words::is_blank;
 
 // How many digits may follow the first.
 const MOST_MORE: usize = 5;
@@ -31,54 +32,64 @@ fn is_full(v: u32, more: usize) -> bool
     v == 0 || MOST_MORE <= more
 }
 
-impl Cursor {
-    // Takes the word at the cursor as a number, with the place behind it, its value made while its end is looked for. The one space
-    // that mostly stands behind it is passed with it; below a space stand the other bytes that end a word. The digits are counted, so
-    // that the loop can be compiled without jumping back.
-    pub fn take_number(self, text: &[u8]) -> Option<(u32, Self)>
-        ensures { WholeIs text.now self.at result }
+// Takes the word at a place as a number, with the place behind it, its value made while its end is looked for. The one space that
+// mostly stands behind it is passed with it; below a space stand the other bytes that end a word. The digits are counted, so that
+// the loop can be compiled without jumping back.
+pub fn take_number(text: &[u8], start: usize) -> Option<(u32, usize)>
+    ensures { WholeIs text.now start result }
+{
+    if text.len() <= start {
+        return None;
+    }
+    let first = text[start];
+    if !is_digit(first) {
+        return None;
+    }
+    let mut v = digit_value(first);
+    let mut more: usize = 0;
+    for i in start + 1..text.len() {
+        let b = text[i];
+        if !is_digit(b) {
+            if b == b' ' {
+                return Some((v, i + 1));
+            }
+            if b < b' ' {
+                if is_blank(b) {
+                    return Some((v, i));
+                }
+            }
+            return None;
+        }
+        if is_full(v, more) {
+            return None;
+        }
+        v = v * 10 + digit_value(b);
+        more += 1;
+    }
+    Some((v, text.len()))
+}
+
+impl Cursor<'_> {
+    ghost use Rattle.read_text.specs.Cursors.{NumberFrom, NumberIs, DigitIs};
+
+    // The word at the cursor as a number, with the cursor behind it.
+    pub fn take_number(self) -> Option<(u32, Self)>
+        ensures { NumberFrom self.entry result }
     {
-        let start = self.at;
-        if text.len() <= start {
-            return None;
-        }
-        let first = text[start];
-        if !is_digit(first) {
-            return None;
-        }
-        let mut v = digit_value(first);
-        let mut more: usize = 0;
-        for i in start + 1..text.len() {
-            let b = text[i];
-            if !is_digit(b) {
-                if b == b' ' {
-                    return Some((v, Cursor { at: i + 1 }));
-                }
-                if b < b' ' {
-                    if is_blank(b) {
-                        return Some((v, Cursor { at: i }));
-                    }
-                }
-                return None;
-            }
-            if is_full(v, more) {
-                return None;
-            }
-            v = v * 10 + digit_value(b);
-            more += 1;
-        }
-        Some((v, Cursor { at: text.len() }))
+        let text = self.text;
+        let (v, at) = take_number(text, self.at)?;
+        Some((v, Cursor { text, at }))
     }
 
     // The next word of the line as a number: past the spaces to its first digit, and the word.
-    pub fn next_number(self, text: &[u8]) -> Option<(u32, Self)>
-        requires { self.at ≤ length text.now }
-        ensures { NumberIs text.now self.at result }
+    pub fn next_number(self) -> Option<(u32, Self)>
+        ensures { NumberIs self.entry result }
     {
+        let text = self.text;
         for i in self.at..text.len() {
             let b = text[i];
             if is_digit(b) {
-                return (Cursor { at: i }).take_number(text);
+                return (Cursor { text, at: i }).take_number();
             }
             if !is_space(b) {
                 return None;
@@ -88,10 +99,10 @@ impl Cursor {
     }
 
     // The number of one digit with a space behind it, as the counts of a gate line are.
-    pub fn take_digit(self, text: &[u8]) -> Option<(u32, Self)>
-        requires { self.at ≤ length text.now }
-        ensures { DigitIs text.now self.at result }
+    pub fn take_digit(self) -> Option<(u32, Self)>
+        ensures { DigitIs self.entry result }
     {
+        let text = self.text;
         let at = self.at;
         if text.len() - at < 2 {
             return None;
@@ -103,6 +114,6 @@ impl Cursor {
         if text[at + 1] != b' ' {
             return None;
         }
-        Some((digit_value(b), Cursor { at: at + 2 }))
+        Some((digit_value(b), Cursor { text, at: at + 2 }))
     }
 }

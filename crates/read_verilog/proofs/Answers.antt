@@ -1,7 +1,7 @@
 -- The answers on a whole text.
 use Prim.Native.Nat.{ℕ, ◌+◌, ◌≤◌, ◌<◌}
 use mathlib.Core.Path.{◌≡◌, refl, sym, ap, ap₂, subst, ◌∙◌}
-use mathlib.Core.Bool.{Bool, true, false, ◌&&◌}
+use mathlib.Core.Bool.{Bool, true, false, ◌&&◌, and-true}
 use mathlib.Core.List.{List, [], ◌∷◌}
 use mathlib.Core.Option.{Option, none, some}
 use native.Mathlib.Omega.{arith}
@@ -143,25 +143,28 @@ module _ {L : Limits} {t : List ℕ} {r : Scan} (R : Tree L t r) where
         unfolding netlist_made
         outputs-are = ap (λ (x : ℕ). x ∷ []) (sym at.outputs)
 
-        pub too_many : L.wires < k.inputs + (r.operators + k.outputs) → read_equations L t ≡ refused 5
-        too_many h =
-            let n : within_limits L (header_of (netlist_made R.is)) ≡ false = ap
-            (λ (b : Bool). b && leb (length (netlist_made R.is).inputs) L.inputs && leb (length (netlist_made R.is).outputs) L.outputs
-            && leb (input_bits (netlist_made R.is)) (netlist_made R.is).wires && leb (output_bits (netlist_made R.is)) (netlist_made R.is).wires)
-            (lt-leb (netlist_made R.is).wires L.wires (omega (arith, h, wires-are))) in
-            behind-18 ∙ ap (λ (b : Bool). ask 5 b (done (netlist_made R.is))) n
+        -- question 5 asks of the wires, and for one value of each kind
+        abbrev pub all_within : Bool
+        all_within = leb (k.inputs + (r.operators + k.outputs)) L.wires && leb 1 L.inputs && leb 1 L.outputs
+
+        five : within_limits L (header_of (netlist_made R.is)) ≡ all_within
+        five =
+            let N = netlist_made R.is in
+            let a : input_bits N ≡ k.inputs + 0 = ap sum inputs_are in
+            let b : output_bits N ≡ k.outputs + 0 = ap sum outputs-are in
+            let w = ap (λ (n : ℕ). leb n L.wires) wires-are in
+            let i = ap (λ (ws : List ℕ). leb (length ws) L.inputs) inputs_are in
+            let o = ap (λ (ws : List ℕ). leb (length ws) L.outputs) outputs-are in
+            ap₂ ◌&&◌ (ap₂ ◌&&◌ (ap₂ ◌&&◌ (ap₂ ◌&&◌ w i) o) (le-leb (input_bits N) N.wires (omega (arith, a, wires-are))))
+            (le-leb (output_bits N) N.wires (omega (arith, b, wires-are)))
+            ∙ and-true (all_within && true) ∙ and-true all_within
+
+        pub no-room : all_within ≡ false → read_equations L t ≡ refused 5
+        no-room n = behind-18 ∙ ap (λ (b : Bool). ask 5 b (done (netlist_made R.is))) (five ∙ n)
 
         module _ (few : k.inputs + (r.operators + k.outputs) ≤ L.wires) (one : 1 ≤ L.inputs) (two : 1 ≤ L.outputs) where
           within : within_limits L (header_of (netlist_made R.is)) ≡ true
-          within =
-              let N = netlist_made R.is in
-              let a : input_bits N ≡ k.inputs + 0 = ap sum inputs_are in
-              let b : output_bits N ≡ k.outputs + 0 = ap sum outputs-are in
-              let c = ap length inputs_are in
-              let d = ap length outputs-are in
-              ap₂ ◌&&◌ (ap₂ ◌&&◌ (ap₂ ◌&&◌ (ap₂ ◌&&◌ (le-leb N.wires L.wires (omega (arith, few, wires-are)))
-              (le-leb (length N.inputs) L.inputs (omega (arith, c, one)))) (le-leb (length N.outputs) L.outputs (omega (arith, d, two))))
-              (le-leb (input_bits N) N.wires (omega (arith, a, wires-are)))) (le-leb (output_bits N) N.wires (omega (arith, b, wires-are)))
+          within = five ∙ rw (le-leb (k.inputs + (r.operators + k.outputs)) L.wires few, le-leb 1 L.inputs one, le-leb 1 L.outputs two) refl
 
           next-is : k.inputs + r.operators ≡ (built R.is).next
           unfolding netlist_made

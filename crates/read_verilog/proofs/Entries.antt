@@ -198,7 +198,8 @@ module _ (t words : List ℕ) where
       ∙ or-false (same_bytes w x && eqb (get_or st n 0) c) ∙ ap (λ (b : Bool). b && eqb (get_or st n 0) c) (same_turn w x ∙ e)))
       (λ e. ap (λ (y : ℕ). eqb y c) (wire-more st n w ∙ ap (λ (b : Bool). cond b (get_or st n 0) (wire_of t words st n w)) e)
       ∙ value_in st c w h n q.0
-      ∙ sym (a ∙ ap (λ (b : Bool). valued c w (entries_in st n) || ((b && eqb (get_or st n 0) c) || false)) (same_turn w x ∙ e) ∙ or-false (valued c w (entries_in st n))))
+      ∙ sym (a ∙ ap (λ (b : Bool). valued c w (entries_in st n) || ((b && eqb (get_or st n 0) c) || false)) (same_turn w x ∙ e)
+      ∙ or-false (valued c w (entries_in st n))))
 
   -- ---- all values
 
@@ -225,7 +226,8 @@ module _ (t words : List ℕ) where
   -- ---- one value changed
 
   module _ (n : ℕ) (w : List ℕ) (some : 0 < found t words w n) (x : ℕ) where
-    pub wire-set : (st : List ℕ) → n ≤ length st → (v : List ℕ) → wire_of t words (set st (found t words w n - 1) x) n v ≡ cond (same_bytes v w) x (wire_of t words st n v)
+    pub wire-set : (st : List ℕ) → n ≤ length st → (v : List ℕ)
+        → wire_of t words (set st (found t words w n - 1) x) n v ≡ cond (same_bytes v w) x (wire_of t words st n v)
     wire-set st l v =
         let i = found t words w n - 1 in
         let st' = set st i x in

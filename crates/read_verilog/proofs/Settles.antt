@@ -52,7 +52,8 @@ module _ (t words : List ℕ) (n : ℕ) (targets outs : List (List ℕ)) where
           (λ q. ap is_open (g v ∙ ap (λ (x : Bool). cond x new (wire_of t words st n v)) q) ∙ K.opens v ∙ sym
           (ap (λ (x : Bool). elem v targets && not (x || elem v known)) q));
       is_output = λ v. on_bool (same_bytes v w)
-          (λ q. ap is_out (g v ∙ ap (λ (x : Bool). cond x new (wire_of t words st n v)) q) ∙ c ∙ K.is_output w ∙ ap (λ (x : List ℕ). elem x outs) (sym (same-equal v w q)))
+          (λ q. ap is_out (g v ∙ ap (λ (x : Bool). cond x new (wire_of t words st n v)) q) ∙ c ∙ K.is_output w
+          ∙ ap (λ (x : List ℕ). elem x outs) (sym (same-equal v w q)))
           (λ q. ap is_out (g v ∙ ap (λ (x : Bool). cond x new (wire_of t words st n v)) q) ∙ K.is_output v);
     }
       where

@@ -35,7 +35,7 @@ pub fn read(
     requires table_in_bounds { (8 * l.table ≤ length words.old) × (8 * l.table ≤ length links.old) × (8 * l.table ≤ length states.old)
         × (8 * l.table ≤ length wires.old) }
     requires text_bound { (l.text ≤ 32 * l.table) × (8 * l.table < half) × (l.wires + l.text + 1 < half) × (l.wires ≤ length operands.old)
-        × (l.wires ≤ length results.old) × (1 ≤ l.inputs) × (1 ≤ l.outputs) }
+        × (l.wires ≤ length results.old) }
     ensures { NetlistIs (read_equations l text.now) (tables operands.new results.new) result }
 {
     if l.text < text.len() {
@@ -50,7 +50,7 @@ pub fn read(
     }
     let gates = form.operators + k.outputs as usize;
     let all = k.inputs as usize + gates;
-    if (l.wires as usize) < all {
+    if (l.wires as usize) < all || l.inputs < 1 || l.outputs < 1 {
         return Err(Question::Limits);
     }
     let names = Names {

@@ -2,12 +2,11 @@
 use Rattle.std.specs.Prelude.{Err, Ok, Result}
 use Prim.Native.Nat.{ℕ, ◌≤◌, ◌<◌}
 use mathlib.Core.Path.{◌≡◌, refl, sym, ap, ◌∙◌, subst}
-use mathlib.Core.Logic.{◌≢◌}
 use mathlib.Core.Bool.{Bool, true, false}
 use mathlib.Core.List.{List, [], ◌∷◌, map}
 use native.Mathlib.Omega.{arith}
 use lib.Dec.{eqb, leb}
-use borrow.Author.Tests.{eq-eqb, ne_eqb, eqb-true}
+use borrow.Author.Tests.{eq-eqb, eqb-true}
 use lib.ListN.{length, take, length-map, length-drop, length-append, length-replicate}
 use lib.Seq.{sets}
 use Rattle.netlist.specs.declared.Question.{Question}
@@ -27,7 +26,7 @@ use Rattle.netlist.proofs.Accepted.{accepted}
 use Rattle.netlist.proofs.Models.{length-run_gates}
 use Rattle.evaluate.specs.Lane.{lane, lanes, output_words}
 use Rattle.evaluate.proofs.Words.{length-output_words, lanes-output_words}
-use Rattle.read_header.specs.declared.HeaderNumbers.{HeaderNumbers}
+use Rattle.read_header.specs.declared.header.Header.{Header}
 use Rattle.read_netlist.specs.Whole.{ReadAt}
 use Rattle.run64.specs.Promise.{run64_outcome, run64_call, call, bits_of}
 
@@ -46,9 +45,6 @@ length-outputs N ins F e =
     simp (length-drop, length-run_gates, length-append, length-replicate) (omega arith)
 
 module _ {t : Tables} {count W n o : ℕ} {N : Netlist} (h : Holds t count W n o N) (list : List ℕ) where
-  pub words-11 : (out : List ℕ) → length list ≢ n → Answers (run64_outcome list (length out) N) out out (Err Q.Inputs)
-  words-11 out e = answers-refused out (rw (h.ins, ne_eqb (length list) n e))
-
   module _ (e : length list ≡ n) where
     asked : eqb (length list) (input_bits N) ≡ true
     asked = rw h.ins (eq-eqb (length list) n e)
@@ -74,7 +70,7 @@ module _ (s : Sizes) (text list out o r g w : List ℕ) where
   call-not p = answers-refused out
       (call-refused (tables_long (large s) (length o ∷ length r ∷ length g ∷ length w ∷ [])) (read_netlist (large s) text) (run64_outcome list (length out)) p)
 
-  pub call-read : {ins outs x : List ℕ} {tabs : Tables} {h : HeaderNumbers} {a : Result ℕ Question}
+  pub call-read : {ins outs x : List ℕ} {tabs : Tables} {h : Header} {a : Result ℕ Question}
       → (tables_long (large s) (length o ∷ length r ∷ length g ∷ length w ∷ []) ≡ true) × ReadAt (large s) text ins outs tabs h
       → ((N : Netlist) → Holds tabs h.gates h.wires h.input_bits h.output_bits N → Answers (run64_outcome list (length out) N) out x a)
       → Answers (call s text list out o r g w) out x a

@@ -10,19 +10,12 @@ ghost use Rattle.run64.specs.Promise.{run64_outcome, call, Promise};
 
 use gate_table::Gates;
 use netlist::{Answer, Question, Sizes};
-use read_header::HeaderNumbers;
+use read_header::header::Header;
 
 // Questions 11 and 14 and the words, from a header's numbers and tables that hold its netlist. `run_netlist::evaluate` differs in the
 // evaluation and in question 11: a trait for both, with its laws, would be longer.
-fn evaluate(
-    out: &mut [u64],
-    list: &[u64],
-    h: HeaderNumbers,
-    gates: Gates,
-    words: &mut [u64],
-) -> Answer
-    requires { WiredGates gates h.wires × (h.input_bits ≤ h.wires) × (h.output_bits ≤ h.wires)
-        × (h.wires ≤ length words.old) }
+fn evaluate(out: &mut [u64], list: &[u64], h: Header, gates: Gates, words: &mut [u64]) -> Answer
+    requires { WiredGates gates h.wires × (h.output_bits ≤ h.wires) × (h.wires ≤ length words.old) }
     ensures { (N : Netlist) → HoldsGates gates.entry h.wires h.input_bits h.output_bits N
         → Answers (run64_outcome list.now (length out.old) N) out.old out.new result }
 {

@@ -2,7 +2,7 @@
 use Rattle.std.specs.Prelude.{Err, Ok}
 use Prim.Native.Nat.{ℕ, ◌≤◌, ◌<◌}
 use mathlib.Core.Path.{◌≡◌, refl, sym, ap, ◌∙◌, subst}
-use mathlib.Core.Bool.{Bool, true, false}
+use mathlib.Core.Bool.{Bool, true}
 use mathlib.Core.List.{List}
 use native.Mathlib.Omega.{arith}
 use lib.Dec.{eqb, eqb→eq}
@@ -16,7 +16,7 @@ use Rattle.netlist.specs.Services.{list_good, is_bit, output_list, run_outcome, 
 use Rattle.netlist.specs.Table.{Tables, Holds}
 use Rattle.netlist.proofs.Tests.{both, true-T}
 use Rattle.netlist.proofs.Models.{length-run_gates}
-use Rattle.netlist.proofs.Answering.{answers-refused, answers-as, delivers-short, delivers-done}
+use Rattle.netlist.proofs.Answering.{answers-as, delivers-short, delivers-done}
 
 -- a list that question 11 admits has one entry for each input bit
 pub list_length : (n : ℕ) (list : List ℕ) → list_good is_bit n list ≡ true → length list ≡ n
@@ -37,9 +37,6 @@ module _ {t : Tables} {count W n o : ℕ} {N : Netlist} (h : Holds t count W n o
 
   good : (b : Bool) → list_good is_bit n list ≡ b → list_good is_bit (input_bits N) list ≡ b
   good b e = ap (λ (k : ℕ). list_good is_bit k list) h.ins ∙ e
-
-  pub run-11 : (out : List ℕ) → list_good is_bit n list ≡ false → Answers (run_outcome list (length out) N) out out (Err Q.Inputs)
-  run-11 out e = answers-refused out (rw (good false e))
 
   module _ (e : list_good is_bit n list ≡ true) (i : n ≤ W) (u : o ≤ W) where
     pub run-14 : (out : List ℕ) → length out < o → Answers (run_outcome list (length out) N) out out (Err Q.Room)

@@ -8,18 +8,11 @@ ghost use Rattle.gate_table.specs.Gates.{WiredGates, HoldsGates};
 
 use gate_table::Gates;
 use netlist::{Answer, Question};
-use read_header::HeaderNumbers;
+use read_header::header::Header;
 
 // Questions 11 and 14 and the bits, from a header's numbers and its netlist's gates.
-pub fn evaluate(
-    out: &mut [u8],
-    list: &[u8],
-    h: HeaderNumbers,
-    gates: Gates,
-    words: &mut [u64],
-) -> Answer
-    requires { WiredGates gates h.wires × (h.input_bits ≤ h.wires) × (h.output_bits ≤ h.wires)
-        × (h.wires ≤ length words.old) }
+pub fn evaluate(out: &mut [u8], list: &[u8], h: Header, gates: Gates, words: &mut [u64]) -> Answer
+    requires { WiredGates gates h.wires × (h.output_bits ≤ h.wires) × (h.wires ≤ length words.old) }
     ensures { (N : Netlist) → HoldsGates gates.entry h.wires h.input_bits h.output_bits N
         → Answers (run_outcome list.now (length out.old) N) out.old out.new result }
 {

@@ -189,10 +189,12 @@ module _ (z : Sizes) (codes : List ℕ) (s : Session) (source : List SourceRecor
 
     is-gate : gate_of r ≡ some g
     is-gate =
-        let q7 = and_then-done (given 7 (gate_of r)) (λ h. ask 8 (operands_given (λ w. ltb w (length codes + s.gates)) h) (ask 9 (eqb (result h) (length codes + s.gates)) (done h))) g q24.1 in
+        let q7 = and_then-done (given 7 (gate_of r)) (λ h. ask 8 (operands_given (λ w. ltb w (length codes + s.gates)) h)
+        (ask 9 (eqb (result h) (length codes + s.gates)) (done h))) g q24.1 in
         go q7.0 (given-done 7 (gate_of r) q7.0 q7.1) q7.2
       where
-        go : (h : Gate) → gate_of r ≡ some h → ask 8 (operands_given (λ w. ltb w (length codes + s.gates)) h) (ask 9 (eqb (result h) (length codes + s.gates)) (done h)) ≡ done g → gate_of r ≡ some g
+        go : (h : Gate) → gate_of r ≡ some h → ask 8 (operands_given (λ w. ltb w (length codes + s.gates)) h)
+            (ask 9 (eqb (result h) (length codes + s.gates)) (done h)) ≡ done g → gate_of r ≡ some g
         go h i e =
             let q8 = ask-done 8 (operands_given (λ w. ltb w (length codes + s.gates)) h) (ask 9 (eqb (result h) (length codes + s.gates)) (done h)) g e in
             let q9 = ask-done 9 (eqb (result h) (length codes + s.gates)) (done h) g q8.1 in

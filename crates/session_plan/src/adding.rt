@@ -10,6 +10,7 @@ ghost use Rattle.session_plan.specs.Plan.{NoIs, OperandsAre, is_gate, kind_in, f
 use crate::{publics, record};
 use gate_records::{GateRecord, SourceRecord};
 use gate_table::Kind;
+use mask_codes::Next;
 use netlist::{Question, Sizes, Twin};
 use session::Session;
 
@@ -149,7 +150,7 @@ pub fn planned(
     }
     let c = codes.len() as u32 + 2 + s.masked;
     Ok(Plan {
-        keep: g.source(mask_rule::twin(c, kind, a, b), s.masked),
+        keep: g.source(mask_rule::twin(Next { wire: c }, kind, a, b), s.masked),
         steps: Steps {
             kind,
             a,

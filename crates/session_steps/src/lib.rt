@@ -10,6 +10,7 @@ ghost use Rattle.session_plan.specs.Plan.{steps_in, Places};
 ghost use Rattle.session_steps.specs.Promise.{StepsTo, OpenIs, AddIs};
 
 use gate_records::{GateRecord, SourceRecord};
+use mask_codes::{Masks, Next};
 use netlist::{Gate, Question, Sizes};
 use session::{Session, Step};
 use session_plan::adding::{Steps, planned};
@@ -21,8 +22,10 @@ fn write(list: &mut [GateRecord], at: usize, n: u32, x: Steps)
     requires { Places n x at (length list.old) }
     ensures { list.new ≡ sets list.old at (map record_of (steps_in n x)) }
 {
+    let masks = Masks { first: n };
+    let c = Next { wire: x.c };
     for k in 0..x.count {
-        list[at + k] = mask_rule::gate(n, x.c, x.kind, x.a, x.b, k);
+        list[at + k] = mask_rule::gate(masks, c, x.kind, x.a, x.b, k);
     }
 }
 

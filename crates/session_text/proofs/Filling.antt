@@ -10,7 +10,7 @@ use Rattle.netlist.specs.declared.Gate.{Gate}
 use Rattle.netlist.specs.Question.{number_of}
 use Rattle.netlist.specs.Outcome.{Outcome, refused, done, and_then}
 use Rattle.netlist.specs.Table.{Tables, gates_of, put_entry, Wired}
-use Rattle.netlist.proofs.Puts.{Room, wired-none}
+use Rattle.netlist.proofs.Puts.{Room}
 use Rattle.gate_records.specs.declared.SourceRecord.{SourceRecord}
 use Rattle.gate_records.specs.Records.{blank_source, gate_in}
 use Rattle.gate_table.specs.declared.Entry.{Entry}
@@ -24,9 +24,6 @@ use Rattle.session_text.specs.Parts.{GateIs}
 pub record Filled (source : List SourceRecord) (s : Shown) (k : ℕ) (t : Tables) : Type 0 where
   pub gates : record_gates s.inputs source k ≡ done (gates_of t k)
   pub wired : Wired t (s.inputs + s.count) k
-
-pub filled_none : (source : List SourceRecord) (s : Shown) (t : Tables) → Filled source s 0 t
-filled_none source s t = record { gates = refl; wired = wired-none t (s.inputs + s.count) }
 
 -- a no of a record is one of all behind it
 stays : (n : ℕ) (source : List SourceRecord) (k m : ℕ) {q : ℕ} → record_gates n source k ≡ refused q → record_gates n source (k + m) ≡ refused q

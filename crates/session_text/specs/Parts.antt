@@ -121,7 +121,8 @@ pub record TextIs (o : Outcome Netlist) (out out' ops ops' res res' : List ℕ) 
   pub results : Cleared res res'
 
 -- the result of the masked text
-pub record MaskedIs (o : Outcome Netlist) (codes wanted out out' out_codes out_codes' ops ops' res res' wir wir' mar mar' : List ℕ) (a : Result ℕ Question) : Type 0 where
+pub record MaskedIs (o : Outcome Netlist) (codes wanted out out' out_codes out_codes' ops ops' res res' wir wir' mar mar' : List ℕ)
+    (a : Result ℕ Question) : Type 0 where
   pub answers : MaskAnswers (and_then o (mask_outcome codes wanted (length out) (length out_codes))) out out' out_codes out_codes' a
   pub operands : Cleared ops ops'
   pub results : Cleared res res'

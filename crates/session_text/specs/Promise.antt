@@ -31,7 +31,8 @@ pub record Shows (z : Sizes) (tables widths outputs : List ℕ) (s : Session) (s
   pub back : read_netlist (small z) result ≡ done netlist
 
 -- the result buffer and each table before and after the call
-pub record TextPromise (z : Sizes) (widths outputs : List ℕ) (s : Session) (source : List SourceRecord) (out out' o o' r r' : List ℕ) (a : Result ℕ Question) : Type 0 where
+pub record TextPromise (z : Sizes) (widths outputs : List ℕ) (s : Session) (source : List SourceRecord) (out out' o o' r r' : List ℕ)
+    (a : Result ℕ Question) : Type 0 where
   pub answers : Answers (text z widths outputs s source out o r) out out' a
   pub shows : (n : ℕ) → a ≡ Ok n → Shows z (length o ∷ length r ∷ []) widths outputs s source (take n out')
   pub operands : Cleared o o'
@@ -39,7 +40,8 @@ pub record TextPromise (z : Sizes) (widths outputs : List ℕ) (s : Session) (so
 
 -- the outcome of the masked text's call: also a code for each input bit, a wanted code for each output bit, a buffer for the output codes, and tables of
 -- wires and marks
-abbrev pub masked : Sizes → List ℕ → List ℕ → Session → List SourceRecord → List ℕ → List ℕ → List ℕ → List ℕ → List ℕ → List ℕ → List ℕ → List ℕ → Outcome MaskedText
+abbrev pub masked : Sizes → List ℕ → List ℕ → Session → List SourceRecord → List ℕ → List ℕ → List ℕ → List ℕ → List ℕ → List ℕ → List ℕ → List ℕ
+    → Outcome MaskedText
 masked z widths outputs s source codes wanted out out_codes o r w m =
     masked_call (small z) (length o ∷ length r ∷ length m ∷ length w ∷ []) widths outputs s.gates source codes wanted (length out) (length out_codes)
 

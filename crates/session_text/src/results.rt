@@ -10,7 +10,7 @@ ghost use Rattle.session_text.specs.Parts.{Stands, Ready, Long, TextIs, MaskedIs
 use crate::asking::Shown;
 use gate_table::Gates;
 use netlist::{Answer, Question};
-use read_header::HeaderNumbers;
+use read_header::header::Header;
 
 // Question 14 and the text.
 fn write(
@@ -81,7 +81,7 @@ fn mask_tables(
     let mut outs = [0u32; 16];
     ins[..widths.len()].copy_from_slice(widths);
     outs[..outputs.len()].copy_from_slice(outputs);
-    let h = HeaderNumbers {
+    let h = Header {
         gates: s.count as u32,
         wires: (s.inputs + s.count) as u32,
         input_values: widths.len(),

@@ -2,7 +2,7 @@
 use Rattle.std.specs.Prelude.{Err, Ok, Result}
 use Prim.Native.Nat.{ℕ, ◌+◌, ◌≤◌, ◌<◌}
 use mathlib.Core.Path.{◌≡◌, refl, sym, ap, ap₂, ◌∙◌}
-use mathlib.Core.Bool.{Bool, true, false}
+use mathlib.Core.Bool.{Bool, true}
 use mathlib.Core.List.{List, [], ◌∷◌, ◌++◌, map}
 use native.Mathlib.Nat.{suc_inj}
 use native.Mathlib.Omega.{arith}
@@ -107,9 +107,6 @@ module _ {t : Tables} {count W m : ℕ} {N : Netlist} (codes : List ℕ) (h : Ho
 module _ {t : Tables} {count W n m : ℕ} {N : Netlist} (h : Holds t count W n m N) (codes : List ℕ) where
   good : (b : Bool) → list_good is_input_code n codes ≡ b → list_good is_input_code (input_bits N) codes ≡ b
   good b e = ap (λ (k : ℕ). list_good is_input_code k codes) h.ins ∙ e
-
-  pub twins-11 : (e f : List ℕ) → list_good is_input_code n codes ≡ false → TwinsAnswers (twins_outcome codes (length e) (length f) N) e e f f (Err Q.Inputs)
-  twins-11 e f p = twins-refused e f (rw (good false p))
 
   pub holds-codes : list_good is_input_code n codes ≡ true → Holds t count W (length codes) m N
   holds-codes p = record { gates = h.gates; wires = h.wires; ins = h.ins ∙ sym (codes-length is_input_code n codes p); outs = h.outs }

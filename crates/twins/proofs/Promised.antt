@@ -17,7 +17,7 @@ use Rattle.netlist.specs.Services.{tables_long, list_good, holds, outcome_of}
 use Rattle.netlist.specs.Table.{Tables, Holds}
 use Rattle.netlist.proofs.Questions.{done-same, ask-done, and_then-done}
 use Rattle.netlist.proofs.Answering.{call-refused, call-goes-on}
-use Rattle.read_header.specs.declared.HeaderNumbers.{HeaderNumbers}
+use Rattle.read_header.specs.declared.header.Header.{Header}
 use Rattle.read_netlist.specs.Whole.{ReadAt}
 use Rattle.mask_twins.specs.State.{twins_of}
 use Rattle.netlist.proofs.Carried.{twins-carried}
@@ -42,7 +42,7 @@ module _ (s : Sizes) (text codes wires out_codes o r g : List ℕ) where
       twins-refused wires out_codes
       (call-refused (tables_long (small s) lengths) (read_netlist (small s) text) (twins_outcome codes (length wires) (length out_codes)) p)
 
-  pub call-read : {x y is os : List ℕ} {t : Tables} {h : HeaderNumbers} {a : Result ℕ Question}
+  pub call-read : {x y is os : List ℕ} {t : Tables} {h : Header} {a : Result ℕ Question}
       → (tables_long (small s) lengths ≡ true) × ReadAt (small s) text is os t h
       → ((N : Netlist) → Holds t h.gates h.wires h.input_bits h.output_bits N
       → TwinsAnswers (twins_outcome codes (length wires) (length out_codes) N) wires x out_codes y a)

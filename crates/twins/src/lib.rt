@@ -5,30 +5,25 @@
 ghost use Rattle.std.specs.Prelude.{◌≤◌, length};
 ghost use Rattle.netlist.specs.declared.Sizes.TheVariants.{Whole};
 ghost use Rattle.netlist.specs.Netlist.{Netlist, small};
-ghost use Rattle.netlist.specs.Table.{tables, Wired, Holds};
-ghost use Rattle.twins.specs.Promise.{twin_lists, lists_outcome, twins_outcome, TwinsAnswers, call, Promise};
+ghost use Rattle.gate_table.specs.Gates.{WiredGates, HoldsGates};
+ghost use Rattle.twins.specs.Promise.{twins_outcome, TwinsAnswers, call, Promise};
 
 use gate_table::Gates;
 use netlist::{Answer, Question, Sizes};
-use read_header::HeaderNumbers;
+use read_header::header::Header;
 use read_netlist::read::read;
 
-// Question 14, and the twins at the fronts of the buffers: the pass over the source works in them, and needs no table of its own.
-fn place(
-    wires: &mut [u32],
-    out_codes: &mut [u8],
-    h: HeaderNumbers,
-    codes: &[u8],
-    operands: &[u64],
-    results: &[u64],
-) -> Answer
-    requires { Wired (tables operands.now results.now) h.wires h.gates × (h.wires ≤ (small Whole).wires) × (h.gates ≤ h.wires)
-        × (length codes.now ≤ h.wires) }
-    ensures { (N : Netlist)
-        → Holds (tables operands.now results.now) h.gates h.wires (length codes.now) h.output_bits N
-        → TwinsAnswers (lists_outcome (length wires.old) (length out_codes.old) (twin_lists N codes.now))
+// Questions 11 and 14, and the twins at the fronts of the buffers, from a header's numbers and its netlist's gates: the pass over the
+// gates works in the buffers, and needs no table of its own.
+fn deliver(wires: &mut [u32], out_codes: &mut [u8], h: Header, codes: &[u8], gates: Gates) -> Answer
+    requires { WiredGates gates h.wires × (h.wires ≤ (small Whole).wires) × (gates.count ≤ h.wires) }
+    ensures { (N : Netlist) → HoldsGates gates.entry h.wires h.input_bits h.output_bits N
+        → TwinsAnswers (twins_outcome codes.now (length wires.old) (length out_codes.old) N)
         wires.old wires.new out_codes.old out_codes.new result }
 {
+    if !lists::valid_codes(codes, h.input_bits as usize) {
+        return Err(Question::Inputs);
+    }
     let all = h.wires as usize;
     if wires.len() < all {
         return Err(Question::Room);
@@ -36,35 +31,8 @@ fn place(
     if out_codes.len() < all {
         return Err(Question::Room);
     }
-    let gates = Gates {
-        operands,
-        results,
-        count: h.gates as usize,
-    };
     mask_twins::place::place_twins(gates, codes, &mut wires[..all], &mut out_codes[..all]);
     Ok(all)
-}
-
-// Questions 11 and 14 and the twins, from a header's numbers and tables that hold its netlist.
-fn deliver(
-    wires: &mut [u32],
-    out_codes: &mut [u8],
-    h: HeaderNumbers,
-    codes: &[u8],
-    operands: &[u64],
-    results: &[u64],
-) -> Answer
-    requires { Wired (tables operands.now results.now) h.wires h.gates × (h.wires ≤ (small Whole).wires) × (h.gates ≤ h.wires)
-        × (h.input_bits ≤ h.wires) }
-    ensures { (N : Netlist)
-        → Holds (tables operands.now results.now) h.gates h.wires h.input_bits h.output_bits N
-        → TwinsAnswers (twins_outcome codes.now (length wires.old) (length out_codes.old) N)
-        wires.old wires.new out_codes.old out_codes.new result }
-{
-    if !lists::valid_codes(codes, h.input_bits as usize) {
-        return Err(Question::Inputs);
-    }
-    place(wires, out_codes, h, codes, operands, results)
 }
 
 // The answer, with tables that are still to be cleared. None is lent but the reader's own.
@@ -95,7 +63,12 @@ fn answer(
         &[],
         l,
     )?;
-    deliver(wires, out_codes, h, codes, operands, results)
+    let gates = Gates {
+        operands,
+        results,
+        count: h.gates as usize,
+    };
+    deliver(wires, out_codes, h, codes, gates)
 }
 
 // The masked wire of each source wire at the front of `wires`, and its code at the front of `out_codes`. The tables, of any content,

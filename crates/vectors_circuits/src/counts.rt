@@ -1,5 +1,5 @@
 // What a leak is, by the second evaluator: the count of every wire in every input setting.
-use crate::second::{Gate, Shape};
+use crate::second::Circuit;
 use crate::{buffers, codes, second, words};
 use check_leak::difference::Leak;
 
@@ -28,34 +28,19 @@ fn add(counts: &mut [u8], wires: &[u8], n: usize, m: u8) {
 }
 
 // One mask setting.
-fn masks(
-    counts: &mut [u8],
-    bits: &[u8],
-    codes: &[u8],
-    m: u8,
-    shape: Shape,
-    gates: &[Gate],
-    wires: &mut [u8],
-) {
+fn masks(counts: &mut [u8], bits: &[u8], codes: &[u8], m: u8, circuit: Circuit, wires: &mut [u8]) {
     codes::settle(wires, bits, codes, m);
-    second::run(shape.gates, gates, wires);
-    add(counts, wires, shape.wires, m);
+    circuit.run(wires);
+    add(counts, wires, circuit.shape.wires, m);
 }
 
 // The count of each wire in one input setting, of at most 12 bits.
-fn count(
-    counts: &mut [u8],
-    codes: &[u8],
-    setting: usize,
-    shape: Shape,
-    gates: &[Gate],
-    wires: &mut [u8],
-) {
+fn count(counts: &mut [u8], codes: &[u8], setting: usize, circuit: Circuit, wires: &mut [u8]) {
     let mut all = [0u8; 12];
     spread(&mut all, setting);
     let bits = words::part(&all, 0, codes.len());
     for m in 0..4u8 {
-        masks(counts, bits, codes, m, shape, gates, wires);
+        masks(counts, bits, codes, m, circuit, wires);
     }
 }
 
@@ -74,29 +59,27 @@ fn lower(
     end: usize,
     setting: usize,
     codes: &[u8],
-    shape: Shape,
-    gates: &[Gate],
+    circuit: Circuit,
     wires: &mut [u8],
     base: &[u8],
     counts: &mut [u8],
 ) -> Option<usize> {
-    count(counts, codes, setting, shape, gates, wires);
+    count(counts, codes, setting, circuit, wires);
     differ(base, counts, end)
 }
 
 // The lowest wire that leaks, and the smallest setting that shows it, from the counts of setting 0.
 fn search(
     codes: &[u8],
-    shape: Shape,
-    gates: &[Gate],
+    circuit: Circuit,
     wires: &mut [u8],
     base: &[u8],
     counts: &mut [u8],
 ) -> Option<(usize, usize)> {
-    let mut end = shape.wires;
+    let mut end = circuit.shape.wires;
     let mut lowest = None;
     for setting in 1..settings(codes.len()) {
-        if let Some(wire) = lower(end, setting, codes, shape, gates, wires, base, counts) {
+        if let Some(wire) = lower(end, setting, codes, circuit, wires, base, counts) {
             end = wire;
             lowest = Some((wire, setting));
         }
@@ -104,18 +87,17 @@ fn search(
     lowest
 }
 
-// The leak of a netlist of that shape whose gates lie in the table.
+// The leak of a netlist.
 fn found(
     codes: &[u8],
-    shape: Shape,
-    gates: &[Gate],
+    circuit: Circuit,
     wires: &mut [u8],
     base: &mut [u8],
     counts: &mut [u8],
 ) -> Option<Leak> {
-    count(base, codes, 0, shape, gates, wires);
-    let (wire, setting) = search(codes, shape, gates, wires, base, counts)?;
-    count(counts, codes, setting, shape, gates, wires);
+    count(base, codes, 0, circuit, wires);
+    let (wire, setting) = search(codes, circuit, wires, base, counts)?;
+    count(counts, codes, setting, circuit, wires);
     Some(Leak {
         wire,
         setting: setting as u64,
@@ -138,13 +120,6 @@ pub(crate) fn lowest(text: &[u8], codes: &[u8]) -> Option<Leak> {
     let mut wires = buffers::bytes();
     let mut base = buffers::bytes();
     let mut counts = buffers::bytes();
-    second::gates(text, &mut gates);
-    found(
-        codes,
-        second::header(text),
-        &gates,
-        &mut wires,
-        &mut base,
-        &mut counts,
-    )
+    let circuit = second::read(text, &mut gates);
+    found(codes, circuit, &mut wires, &mut base, &mut counts)
 }

@@ -137,13 +137,14 @@ fn line(text: &[u8], at: usize) -> (Gate, usize) {
     (gate, words::behind(text, result.at))
 }
 
-// The gates of a text.
-pub(crate) fn gates(text: &[u8], gates: &mut [Gate]) {
-    let s = header(text);
-    let mut at = s.at;
-    for entry in gates.iter_mut().take(s.gates) {
+// The netlist of a text, whose gates go to the front of a table.
+pub(crate) fn read<'g>(text: &[u8], gates: &'g mut [Gate]) -> Circuit<'g> {
+    let shape = header(text);
+    let mut at = shape.at;
+    for entry in gates.iter_mut().take(shape.gates) {
         (*entry, at) = line(text, at);
     }
+    Circuit { shape, gates }
 }
 
 impl Gate {
@@ -161,9 +162,18 @@ impl Gate {
     }
 }
 
-// Every wire, from the input bits at the front.
-pub(crate) fn run(count: usize, gates: &[Gate], wires: &mut [u8]) {
-    for gate in gates.iter().take(count) {
-        words::put(wires, gate.result, gate.bit(wires));
+// A netlist: its header, and a table with its gates at the front.
+#[derive(Clone, Copy)]
+pub(crate) struct Circuit<'g> {
+    pub(crate) shape: Shape,
+    pub(crate) gates: &'g [Gate],
+}
+
+impl Circuit<'_> {
+    // Every wire, from the input bits at the front.
+    pub(crate) fn run(self, wires: &mut [u8]) {
+        for gate in self.gates.iter().take(self.shape.gates) {
+            words::put(wires, gate.result, gate.bit(wires));
+        }
     }
 }

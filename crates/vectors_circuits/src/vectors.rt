@@ -1,6 +1,6 @@
 // A netlist on its vectors: the service Run and the second evaluator, each against the vector's outputs.
 use crate::score::Score;
-use crate::second::{Gate, Shape};
+use crate::second::{Circuit, Shape};
 use crate::{buffers, codes, second, services, words};
 
 // Whether Run gives the output bits of a vector from the input wires.
@@ -21,44 +21,40 @@ fn last(wires: &[u8], shape: Shape, out_codes: &[u8], m: u8, outputs: &[u8]) -> 
 // Whether Run and the second evaluator give the output bits of a vector under one mask setting.
 fn case(
     text: &[u8],
-    shape: Shape,
+    circuit: Circuit,
     inputs: &[u8],
     outputs: &[u8],
     ins: &[u8],
     out_codes: &[u8],
     m: u8,
-    gates: &[Gate],
     wires: &mut [u8],
 ) -> bool {
     codes::settle(wires, inputs, ins, m);
     let marks = service(
         text,
-        words::part(wires, 0, shape.ins),
+        words::part(wires, 0, circuit.shape.ins),
         out_codes,
         m,
         outputs,
     );
-    second::run(shape.gates, gates, wires);
-    marks && last(wires, shape, out_codes, m, outputs)
+    circuit.run(wires);
+    marks && last(wires, circuit.shape, out_codes, m, outputs)
 }
 
 // One vector under the first mask settings.
 fn vector(
     text: &[u8],
-    shape: Shape,
+    circuit: Circuit,
     inputs: &[u8],
     outputs: &[u8],
     ins: &[u8],
     out_codes: &[u8],
     settings: u8,
-    gates: &[Gate],
     wires: &mut [u8],
 ) -> Score {
     let mut s = Score::default();
     for m in 0..settings {
-        s = s.case(case(
-            text, shape, inputs, outputs, ins, out_codes, m, gates, wires,
-        ));
+        s = s.case(case(text, circuit, inputs, outputs, ins, out_codes, m, wires));
     }
     s
 }
@@ -74,15 +70,14 @@ fn tried(inputs: &[u8], i: usize, step: usize, settings: u8) -> u8 {
 // The vectors of a file, of at most 4,096 lines.
 fn lines(
     text: &[u8],
+    circuit: Circuit,
     file: &[u8],
     step: usize,
     ins: &[u8],
     out_codes: &[u8],
     settings: u8,
-    gates: &[Gate],
     wires: &mut [u8],
 ) -> Score {
-    let shape = second::header(text);
     let mut s = Score::default();
     let mut at = 0;
     for i in 0..4096usize {
@@ -91,13 +86,12 @@ fn lines(
         let label = words::behind(file, middle);
         let tries = vector(
             text,
-            shape,
+            circuit,
             inputs,
             words::word(file, middle),
             ins,
             out_codes,
             tried(inputs, i, step, settings),
-            gates,
             wires,
         );
         s = s.join(tries);
@@ -118,8 +112,8 @@ pub(crate) fn score(
 ) -> Score {
     let mut gates = buffers::gates();
     let mut wires = buffers::bytes();
-    second::gates(text, &mut gates);
+    let circuit = second::read(text, &mut gates);
     lines(
-        text, file, step, ins, out_codes, settings, &gates, &mut wires,
+        text, circuit, file, step, ins, out_codes, settings, &mut wires,
     )
 }

@@ -10,7 +10,8 @@ Accepts ts s = T (well_ended (walk ts s))
 
 -- of the tokens ts those of a tree have been read, k parentheses being open: rest is left, and M is what was made of the tree
 -- from the wires of names and the next wire c
-pub record Read {A : Type 0} (tokens_of : A → List Token) (made_of : A → (List ℕ → ℕ) → ℕ → Made) (wire : List ℕ → ℕ) (k c : ℕ) (ts rest : List Token) (M : Made)
+pub record Read {A : Type 0} (tokens_of : A → List Token) (made_of : A → (List ℕ → ℕ) → ℕ → Made) (wire : List ℕ → ℕ) (k c : ℕ)
+    (ts rest : List Token) (M : Made)
     : Type 0 where
   pub tree : A
   pub text : ts ≡ tokens_of tree ++ rest

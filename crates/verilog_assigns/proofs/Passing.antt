@@ -165,7 +165,8 @@ module _ {t : List ℕ} {p : List ℕ → Bool} {at : ℕ} where
         some-code : token_passes p code (between t from to) ≡ true → eqb code 0 ≡ false
         some-code e = on_bool (eqb code 0) (λ z. absurd (never (sym (rw z at e)))) (λ z. z)
 
-        passed : eqb code 0 ≡ false → (x : Token) (us : List Token) → token_of code (between t from to) ≡ some x → code ≡ code_of x → names_pass p (x ∷ us) ≡ names_pass p us
+        passed : eqb code 0 ≡ false → (x : Token) (us : List Token) → token_of code (between t from to) ≡ some x → code ≡ code_of x
+            → names_pass p (x ∷ us) ≡ names_pass p us
         passed z x us i c = on_bool (eqb code 15)
             (λ h. let w = between t from to in
             let nm : name w ≡ x = some_same (name w) x (sym (ap (λ (j : ℕ). token_of j w) (eqb-true code 15 h) ∙ name-marked w) ∙ i) in

@@ -48,4 +48,5 @@ pub record AssignsSay (S : Settled) (st : List ℕ) (r : Bool) : Type 0 where
   pub states : r ≡ true → st ≡ S.states
 
 pub record AssignsIs (t words : List ℕ) (n at : ℕ) (st st' : List ℕ) (r : Bool) : Type 0 where
-  pub gives : (xs : List Assign) (rest : List Token) → tokens (drop at t) ≡ some (assigns_left xs rest) → AssignsSay (settle_all t words n (unsettled st) xs) st' r
+  pub gives : (xs : List Assign) (rest : List Token) → tokens (drop at t) ≡ some (assigns_left xs rest)
+      → AssignsSay (settle_all t words n (unsettled st) xs) st' r

@@ -21,4 +21,5 @@ abbrev pub output_copies : List ℕ → List ℕ → List ℕ → List ℕ → �
 output_copies t words st ws count c ps = copies c (map (wire_of t words ws count) (chosen (λ w. eqb (wire_of t words st count w) 6) ps))
 
 pub record CopiesIs (t words st ws : List ℕ) (count n at c : ℕ) (before after : Tables) : Type 0 where
-  pub gives : (ps : List (List ℕ)) (rest : List Token) → tokens (drop at t) ≡ some (ports_left ps rest) → after ≡ put_gates n before (output_copies t words st ws count c ps)
+  pub gives : (ps : List (List ℕ)) (rest : List Token) → tokens (drop at t) ≡ some (ports_left ps rest)
+      → after ≡ put_gates n before (output_copies t words st ws count c ps)

@@ -64,12 +64,6 @@ one-operator c = on_bool (leb 12 c) (λ e. on_bool (leb c 14) (λ f. rw (e, f) (
 abbrev pub left : List ℕ → ℕ → ℕ → ℕ
 left t code to = 2 * (length t - to) + cond (eqb code 0) 0 1
 
-pub left_less : (t : List ℕ) (code to : ℕ) {code' start' to' : ℕ} → eqb code 0 ≡ false → TokenAt t to code' start' to' → left t code' to' < left t code to
-left_less t code to {code'} z A =
-    on_bool (eqb code' 0)
-    (λ h. rw (h, z) (omega (arith, A.start, A.onward)))
-    (λ h. rw (h, z) (omega (arith, A.start, A.on h, A.within)))
-
 -- ---- the loop
 
 pub record Sofar (t : List ℕ) (p : Phase) (k most count : ℕ) (ts : List Token) : Type 0 where

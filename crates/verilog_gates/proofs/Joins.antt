@@ -372,7 +372,8 @@ module _ {wire : List ℕ → ℕ} {t : List ℕ} {n from : ℕ} {negated : Bool
           (G.more, G.left, G.split ∙ C.0))
 
   -- no operand
-  pub factor-none : (c : ℕ) {before after : Tables} {v : Value} → ((number_of y.kind) ≡ 15 → ⊥) → ((number_of y.kind) ≡ 7 → ⊥) → Finished t n false 0 c y.to before after v
+  pub factor-none : (c : ℕ) {before after : Tables} {v : Value} → ((number_of y.kind) ≡ 15 → ⊥) → ((number_of y.kind) ≡ 7 → ⊥)
+      → Finished t n false 0 c y.to before after v
       → FactorIs wire t n from c before after v
   factor-none c {before} {after} {v} f g F = record {
     to = y.to;
@@ -429,7 +430,8 @@ module _ (wire : List ℕ → ℕ) (t : List ℕ) (n from c : ℕ) where
   pub factors-start : {before after : Tables} {v : Value} → FactorIs wire t n from c before after v → Factors before after v
   factors-start F = sum-start term_tokens term_made factor_tokens factor_made (ascii "&") 13 And wire t n from c (λ k ts rest M R. term-first R) any F
 
-  pub factors-more : {before now now' after : Tables} {v u : Value} → Factors before now v → (number_of v.token.kind) ≡ 13 → FactorIs wire t n v.token.to v.next now now' u
+  pub factors-more : {before now now' after : Tables} {v u : Value} → Factors before now v → (number_of v.token.kind) ≡ 13
+      → FactorIs wire t n v.token.to v.next now now' u
       → after ≡ put_gate n now' (And v.wire u.wire u.next) → Factors before after (joined u)
   factors-more S e R p =
       sum_more term_tokens term_made factor_tokens factor_made (ascii "&") 13 And wire t n from c (λ k ts us rest L R l r. term-more l r) and-marked refl and-turn
@@ -463,12 +465,3 @@ left t code behind = 2 * (length t - behind) + cond (eqb code 0) 0 1
 -- a sign is no end
 pub sign-some : {code k : ℕ} → code ≡ k → eqb k 0 ≡ false → eqb code 0 ≡ false
 sign-some e z = ap (λ (x : ℕ). eqb x 0) e ∙ z
-
-pub left_less : {A : Type 0} {tokens_of : A → List Token} {made_of : A → (List ℕ → ℕ) → ℕ → Made} {stops : ℕ → Bool} {wire : List ℕ → ℕ} {n c : ℕ} {before after : Tables}
-    (t : List ℕ) (code behind k : ℕ) (v : Value) → code ≡ k → eqb k 0 ≡ false → OperandIs tokens_of made_of stops wire t n behind c before after v → left t
-    (number_of v.token.kind) v.token.to < left t code behind
-left_less t code behind k v e p R =
-    let z = sign-some e p in
-    on_bool (eqb (number_of v.token.kind) 0)
-    (λ h. rw (h, z) (omega (arith, R.on, R.token.start, R.token.onward)))
-    (λ h. rw (h, z) (omega (arith, R.on, R.token.start, R.token.on h, R.token.within)))

@@ -31,7 +31,8 @@ abbrev pub unlaid : List ℕ → ℕ → Laid
 unlaid wires c = record { gates = []; wires = wires; next = c }
 
 -- of the tokens ts those of assignments have been read, up to a place; their gates were put into the tables
-pub record Laying (t words : List ℕ) (n count : ℕ) (wires₀ : List ℕ) (c place : ℕ) (ts : List Token) (before after : Tables) (wires : List ℕ) (free : ℕ) : Type 0 where
+pub record Laying (t words : List ℕ) (n count : ℕ) (wires₀ : List ℕ) (c place : ℕ) (ts : List Token) (before after : Tables) (wires : List ℕ)
+    (free : ℕ) : Type 0 where
   pub assigns : List Assign
   pub rest : List Token
   pub split : ts ≡ each_tokens assign_tokens assigns ++ rest

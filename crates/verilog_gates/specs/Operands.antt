@@ -43,7 +43,8 @@ pub record OperandIs {A : Type 0} (tokens_of : A → List Token) (made_of : A �
   pub on : from ≤ to
   pub more : c ≤ v.next
   pub few : v.next + from ≤ c + to
-  pub gives : (k : ℕ) (ts : List Token) → tokens (drop from t) ≡ some ts → Accepts ts (at on_operand k) → Gives tokens_of made_of wire t n k c to ts before after v
+  pub gives : (k : ℕ) (ts : List Token) → tokens (drop from t) ≡ some ts → Accepts ts (at on_operand k)
+      → Gives tokens_of made_of wire t n k c to ts before after v
 
 abbrev pub any : ℕ → Bool
 any c = true

@@ -76,7 +76,8 @@ ports_left (w ∷ ws) rest = name w ∷ behind_port ws rest
 
 -- what a list of ports says
 pub record PortsGive (t words : List ℕ) (n at : ℕ) (st st' ws ws' : List ℕ) (r : Ported) : Type 0 where
-  pub gives : (ps : List (List ℕ)) (rest : List Token) → tokens (drop at t) ≡ some (ports_left ps rest) → PortsSay (seat_all t words n (unseated st ws) ps) st' ws' r
+  pub gives : (ps : List (List ℕ)) (rest : List Token) → tokens (drop at t) ≡ some (ports_left ps rest)
+      → PortsSay (seat_all t words n (unseated st ws) ps) st' ws' r
 
 abbrev pub ported : Option Ports → Ported
 ported None = record { good = false; inputs = 0; outputs = 0 }

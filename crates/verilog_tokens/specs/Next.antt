@@ -8,7 +8,8 @@ use Rattle.verilog.specs.Tokens.{is_letter, starts, is_white, Token, name, mark,
 
 abbrev pub sign_code : ℕ → ℕ
 sign_code b =
-    cond (eqb b 40) 7 (cond (eqb b 41) 8 (cond (eqb b 59) 9 (cond (eqb b 44) 10 (cond (eqb b 61) 11 (cond (eqb b 126) 12 (cond (eqb b 38) 13 (cond (eqb b 94) 14 16)))))))
+    cond (eqb b 40) 7 (cond (eqb b 41) 8 (cond (eqb b 59) 9 (cond (eqb b 44) 10
+    (cond (eqb b 61) 11 (cond (eqb b 126) 12 (cond (eqb b 38) 13 (cond (eqb b 94) 14 16)))))))
 
 unfoldable pub word_code : List ℕ → ℕ
 word_code w =

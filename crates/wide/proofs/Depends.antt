@@ -23,8 +23,14 @@ module _ (P : ℕ → Type 0) where
 
   made_alike : (m : ℕ → List Bool) (u v : List Bool) (g : Gate) → Alike m u v → ((i : ℕ) → T (touched (bits_at (m i)) g) → P i)
       → made (bits_at u) g ≡ made (bits_at v) g
-  made_alike m u v (Xor a b c) h t = cc (h a (λ i k. t i (or_left (bits_at (m i) a) (bits_at (m i) b) k)), h b (λ i k. t i (or_right (bits_at (m i) a) (bits_at (m i) b) k)))
-  made_alike m u v (And a b c) h t = cc (h a (λ i k. t i (or_left (bits_at (m i) a) (bits_at (m i) b) k)), h b (λ i k. t i (or_right (bits_at (m i) a) (bits_at (m i) b) k)))
+  made_alike m u v (Xor a b c) h t = cc (
+    h a (λ i k. t i (or_left (bits_at (m i) a) (bits_at (m i) b) k)),
+    h b (λ i k. t i (or_right (bits_at (m i) a) (bits_at (m i) b) k)),
+  )
+  made_alike m u v (And a b c) h t = cc (
+    h a (λ i k. t i (or_left (bits_at (m i) a) (bits_at (m i) b) k)),
+    h b (λ i k. t i (or_right (bits_at (m i) a) (bits_at (m i) b) k)),
+  )
   made_alike m u v (Inv a c) h t = cc (h a t)
   made_alike m u v (Eqw a c) h t = cc (h a t)
   made_alike m u v (Eq k c) h t = refl

@@ -35,9 +35,6 @@ colour-here ps i c l =
 colour-other : (ps : List ℕ) (i j c : ℕ) → j ≢ i → colour_of (get_or (repainted ps i c) j 0) ≡ colour_of (get_or ps j 0)
 colour-other ps i j c n = ap colour_of (get_or-set_other ps i j (get_or ps i 0 % 4 + 4 * c) 0 n)
 
-pub coloured-none : (ps : List ℕ) → Coloured ps ps
-coloured-none ps = record { codes = refl; upto = λ h. h }
-
 pub coloured-then : {ps qs rs : List ℕ} → Coloured ps qs → Coloured qs rs → Coloured ps rs
 coloured-then a b = record { codes = b.codes ∙ a.codes; upto = λ h. b.upto (a.upto h) }
 
@@ -50,15 +47,6 @@ coloured-one ps i c l = record {
       (λ b. let k = colour-here ps i c (ltb-true i (length ps) b) in rw e (omega arith))
       (λ b. let o = set_out ps i (get_or ps i 0 % 4 + 4 * c) (ltb-false i (length ps) b) in subst (λ (qs : List ℕ). colour_of (get_or qs j 0) ≤ 12) (sym o) (h j)))
       (λ t. let k = colour-other ps i j c (eqb-false j i t) in omega (arith, h j));
-}
-
-pub kept-none : (ps : List ℕ) → Kept ps ps
-kept-none ps = record { coloured = coloured-none ps; stay = λ i l. refl }
-
-pub kept_then : {ps qs rs : List ℕ} → Kept ps qs → Kept qs rs → Kept ps rs
-kept_then a b = record {
-  coloured = coloured-then a.coloured b.coloured;
-  stay = λ i l. let e = a.stay i l in b.stay i (omega arith) ∙ e;
 }
 
 -- one that had none

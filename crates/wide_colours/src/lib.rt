@@ -5,7 +5,7 @@ ghost use Rattle.std.specs.Prelude.{◌≡◌, true, ℕ, ◌+◌, ◌*◌, ◌%
 ghost use Rattle.wide.specs.Rule.{Different};
 ghost use Rattle.wide_colours.specs.Colours.{Upto, Kept, Seeded};
 
-use wide_sets::members::Members;
+use wide_sets::members::InputSet;
 
 // The most colours, one for each of the members that a set can have.
 pub const MOST: usize = 12;
@@ -28,7 +28,7 @@ fn put(paints: &mut [u8], i: usize, colour: u8)
 }
 
 // Whether the members of a set have different colours from 1 to 12.
-fn different(m: Members, paints: &[u8]) -> bool
+fn different(m: InputSet, paints: &[u8]) -> bool
     ensures { result ≡ true → Different (take m.count m.items) paints.now }
 {
     let mut seen = [false; 13];
@@ -43,7 +43,7 @@ fn different(m: Members, paints: &[u8]) -> bool
 }
 
 // The members of a set take the colours 1, 2, 3 and so on.
-pub fn seed(m: Members, paints: &mut [u8])
+pub fn seed(m: InputSet, paints: &mut [u8])
     ensures { Seeded (take m.count m.items) paints.old paints.new }
 {
     for (a, item) in m.items[..m.count].iter().enumerate() {
@@ -60,9 +60,9 @@ fn colour(paint: u8) -> usize
 }
 
 // How often the members of a set have each colour.
-fn taken(m: Members, paints: &[u8]) -> [u8; 13] {
+fn taken(members: &[u32], paints: &[u8]) -> [u8; 13] {
     let mut times = [0u8; 13];
-    for item in &m.items[..m.count] {
+    for item in members {
         let c = colour(at(paints, *item as usize));
         times[c] = times[c].saturating_add(1);
     }
@@ -95,28 +95,28 @@ fn next(paints: &mut [u8], i: usize, times: [u8; 13], from: usize) -> usize
 
 // The members of a set that have no colour get the lowest that the others have not, unless two members have the same. Whether the
 // set then has different colours is for `different` to say.
-fn give(m: Members, paints: &mut [u8])
+fn give(members: &[u32], paints: &mut [u8])
     ensures { Kept paints.old paints.new }
 {
-    let times = taken(m, paints);
+    let times = taken(members, paints);
     if times[1..].iter().any(|t| 1 < *t) {
         return;
     }
     let mut c = 1;
-    for item in &m.items[..m.count] {
+    for item in members {
         c = next(paints, *item as usize, times, c);
     }
 }
 
 // Whether the members of a set have different colours from 1 to 12; where they have not, those without a colour get one first.
-pub fn fit(m: Members, paints: &mut [u8]) -> bool
+pub fn fit(m: InputSet, paints: &mut [u8]) -> bool
     ensures { Kept paints.old paints.new
         × (result ≡ true → Different (take m.count m.items) paints.new) }
 {
     if different(m, paints) {
         return true;
     }
-    give(m, paints);
+    give(&m.items[..m.count], paints);
     different(m, paints)
 }
 

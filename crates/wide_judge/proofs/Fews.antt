@@ -4,8 +4,6 @@ use mathlib.Core.Path.{◌≡◌, refl, sym, ap, ap₂, ◌∙◌, subst}
 use mathlib.Core.Bool.{Bool, true, false}
 use mathlib.Core.List.{List, [], ◌∷◌}
 use mathlib.Core.Option.{Option}
-use Rattle.std.specs.Prelude.{Option as Maybe, Some, None}
-use Rattle.std.specs.Option.{is_some}
 use native.Mathlib.Omega.{arith}
 use lib.Dec.{T, leb→le}
 use lib.ListN.{length, get_or, take}
@@ -23,9 +21,7 @@ use Rattle.wide.specs.Wide.{WideLeak, few, every_pair, few_reach, wide_answers}
 use Rattle.wide.proofs.Merges.{merge-marks}
 use Rattle.wide.proofs.Picked.{length-places}
 use Rattle.wide_sets.specs.Packed.{three_of, Sets, set_at, size_at, Sized}
-use Rattle.wide_sets.specs.declared.members.Members.{Members}
 use Rattle.wide_sets.specs.Reached.{Reached}
-use Rattle.wide_sets.specs.Together.{Together}
 use Rattle.wide_search.specs.Items.{pair_at, PairsFew}
 use Rattle.wide_search.specs.Judging.{Given}
 
@@ -134,21 +130,6 @@ module _ {t : Tables} {m W o : ℕ} {N : Netlist} (S : Sets) (codes ws : List �
         (λ w l. let q = H.wires in let s = ap length (given.each w (omega arith)) in let k = set-upto S w in let f = Z.few w in omega (arith, s, k, f))
         (λ j l. let s = ap length (pair-given j l) in let k = P j l in omega arith)) in
         e ∙ sym (ap (λ (b : Bool). ask 12 b answers) z)
-
--- ---- one pair
-
-module _ {x y : List ℕ} (S : Sets) (ws : List ℕ) (j : ℕ) (p : x ≡ set_at S (get_or ws (2 * j) 0)) (q : y ≡ set_at S (get_or ws (2 * j + 1) 0)) where
-  pub pair-few : (r : Maybe Members) → is_some r ≡ true → Together x y r → length (pair_at S ws j) ≤ 12
-  pair-few None e U = cc
-  pair-few (Some m) e U =
-      let z : take m.count m.items ≡ pair_at S ws j = U ∙ ap₂ merge p q in
-      let h : length (take m.count m.items) ≡ length (pair_at S ws j) = ap length z in
-      let k = length-take-upto m.count m.items in
-      omega (arith, m.few)
-
-  pub pair-many : (r : Maybe Members) → is_some r ≡ false → Together x y r → 12 < length (pair_at S ws j)
-  pair-many None e U = let h : length (merge x y) ≡ length (pair_at S ws j) = ap length (ap₂ merge p q) in omega (arith, U)
-  pair-many (Some m) e U = cc
 
 pub told-both : {l k : Option WideLeak} {b d : Option ℕ} → l ≡ k → b ≡ d
     → ◌≡◌ {A = Outcome (BothAnswers WideLeak)} (done (record { leak = l; pairs = b })) (done (record { leak = k; pairs = d }))

@@ -1,7 +1,7 @@
 // Questions 10, 11, 21 and 12 of a netlist with many inputs that was read, and the verdicts on its wires and on pairs of them.
 #![tactic(auto)]
 
-ghost use Rattle.std.specs.Prelude.{◌≡◌, true, false, ℕ, ◌+◌, ◌<◌, ◌≤◌, length, take, get_or};
+ghost use Rattle.std.specs.Prelude.{◌≡◌, true, false, ℕ, ◌+◌, ◌<◌, ◌≤◌, length, get_or};
 ghost use Rattle.netlist.specs.Lists.{sum};
 ghost use Rattle.netlist.specs.Netlist.{Netlist};
 ghost use Rattle.netlist.specs.Outcome.{done, ask};
@@ -13,8 +13,9 @@ ghost use Rattle.wide_search.specs.Items.{PairsFew};
 ghost use Rattle.wide_judge.specs.Judge.{outcome_of};
 
 use gate_table::Gates;
+use lists::codes::Codes;
 use netlist::Question;
-use read_header::HeaderNumbers;
+use read_header::header::Header;
 use wide_search::item;
 use wide_search::items::Items;
 use wide_search::search::WideFound;
@@ -41,7 +42,7 @@ fn pairs_few(pairs: &[u32], sets: WireSets) -> bool
 // Question 12 and the verdicts. The tables of words and sets have one entry for each wire, the paints one for each code.
 fn within(
     gates: Gates,
-    codes: &[u8],
+    codes: Codes,
     pairs: &[u32],
     marks: &mut [u8],
     words: &mut [u64],
@@ -54,17 +55,16 @@ fn within(
     paints: &mut [u8],
 ) -> CheckedWide
     requires wired { WiredGates gates (length words.old)
-        × ((i : ℕ) → i < length pairs.now → get_or pairs.now i 0 < length words.old) × (length codes.now ≤ 1048576) }
-    requires paints_len { (length paints.old ≡ length codes.now) × (length codes.now + 2 ≤ length words.old)
+        × ((i : ℕ) → i < length pairs.now → get_or pairs.now i 0 < length words.old) × (length codes.list.now ≤ 1048576) }
+    requires paints_len { (length paints.old ≡ length codes.list.now) × (length codes.list.now + 2 ≤ length words.old)
         × (length bases.old ≡ length words.old) × (length base.old ≡ length words.old)
-        × ((i : ℕ) → i < length codes.now → get_or codes.now i 0 < 4)
         × (length set0.old ≡ length words.old) × (length set1.old ≡ length words.old) × (length set2.old ≡ length words.old)
         × (length set3.old ≡ length words.old) }
-    ensures { (o : ℕ) (N : Netlist) → HoldsGates gates.entry (length words.old) (length codes.now + 2) o N → WellFormed N
-        → outcome_of result ≡ ask 12 (few_reach N (length codes.now) pairs.now)
-        (done (wide_answers N codes.now pairs.now)) }
+    ensures { (o : ℕ) (N : Netlist) → HoldsGates gates.entry (length words.old) (length codes.entry.list.now + 2) o N → WellFormed N
+        → outcome_of result ≡ ask 12 (few_reach N (length codes.entry.list.now) pairs.now)
+        (done (wide_answers N codes.entry.list.now pairs.now)) }
 {
-    if !reach::reach(gates, codes.len(), set0, set1, set2, set3) {
+    if !reach::reach(gates, codes.list.len(), set0, set1, set2, set3) {
         return Err(Question::Settings);
     }
     let sets = WireSets {
@@ -81,10 +81,10 @@ fn within(
     Ok(found)
 }
 
-// Questions 10, 11, 21 and 12 and both verdicts, from a header's numbers, its input widths and its gates.
+// Questions 10, 11, 21 and 12 and both verdicts, from a header, its input widths and its gates.
 pub fn judge(
-    h: HeaderNumbers,
-    widths: [u32; 17],
+    h: Header,
+    widths: &[u32],
     codes: &[u8],
     pairs: &[u32],
     gates: Gates,
@@ -99,14 +99,13 @@ pub fn judge(
     paints: &mut [u8],
 ) -> CheckedWide
     requires wired { WiredGates gates h.wires }
-    requires input_values_bound { (h.input_values ≤ 17) × (h.input_bits ≡ sum (take h.input_values widths)) × (h.input_bits ≤ h.wires)
-        × (h.wires ≤ length words.old) × (h.wires ≤ length base.old) × (h.wires ≤ length bases.old)
+    requires input_bits_sum { (h.input_bits ≡ sum widths.now) × (h.wires ≤ length words.old) × (h.wires ≤ length base.old) × (h.wires ≤ length bases.old)
         × (h.wires ≤ length set0.old) × (h.wires ≤ length set1.old) × (h.wires ≤ length set2.old)
         × (h.wires ≤ length set3.old) × (h.wires ≤ length paints.old) × (h.wires ≤ 1048576) }
     ensures { (N : Netlist) → HoldsGates gates.entry h.wires h.input_bits h.output_bits N → WellFormed N
-        → take h.input_values widths ≡ N.inputs → outcome_of result ≡ wide_outcome codes.now pairs.now N }
+        → widths.now ≡ N.inputs → outcome_of result ≡ wide_outcome codes.now pairs.now N }
 {
-    check_netlist::ask_codes(h, widths, codes)?;
+    let admitted = check_netlist::ask_codes(h.input_bits, widths, codes)?;
     let wires = h.wires as usize;
     if !pairs_judge::pairs_good(pairs, wires) {
         return Err(Question::Pairs);
@@ -114,7 +113,7 @@ pub fn judge(
     let n = codes.len();
     within(
         gates,
-        codes,
+        admitted,
         pairs,
         marks,
         &mut words[..wires],

@@ -158,7 +158,8 @@ module _ {t : Tables} {m W o : ℕ} {S : Sets} {N : Netlist} {codes ws : List �
   leak-told p is =
       let e = ends p is in
       let d = F.differs p is in
-      let at : (w : ℕ) → w ≡ wire → (s : ℕ) → count_in (bare t m W) false ps w s ≡ count_in (bare t m W) true ps w s → count_in N false ps wire s ≡ count_in N true ps wire s
+      let at : (w : ℕ) → w ≡ wire → (s : ℕ) → count_in (bare t m W) false ps w s ≡ count_in (bare t m W) true ps w s
+      → count_in N false ps wire s ≡ count_in N true ps wire s
       = λ w q s h. subst (λ (v : ℕ). count_in N false ps v s ≡ count_in N true ps v s) q (sym (same-one false w s) ∙ h ∙ same-one true w s) in
       subst (λ (es : List ℕ). listed (length es) (leak N es) ≡ some (record {
         wire = wire;

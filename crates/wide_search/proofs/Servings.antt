@@ -3,7 +3,7 @@ use Prim.Native.Nat.{ℕ, ◌+◌}
 use mathlib.Core.Path.{sym, ap, ◌∙◌, subst}
 use mathlib.Core.Bool.{not}
 use mathlib.Core.List.{List}
-use mathlib.Core.Logic.{inl, inr, ⊎_elim}
+use mathlib.Core.Logic.{inl, inr}
 use lib.Dec.{eqb}
 use lib.ListN.{set}
 use lib.Seq.{get_or-set_other}
@@ -11,7 +11,6 @@ use borrow.Author.Tests.{eqb-true, eqb-false}
 use Rattle.netlist.proofs.Tests.{on_bool}
 use Rattle.wide.specs.Rule.{Different}
 use Rattle.wide_colours.specs.Colours.{Kept}
-use Rattle.wide_colours.proofs.Giving.{kept_then, different-kept}
 use Rattle.wide_sets.specs.Packed.{Sets}
 use Rattle.wide_search.specs.Items.{item_set, Serving}
 
@@ -24,10 +23,4 @@ module _ {S : Sets} {ws : List ℕ} {W start : ℕ} where
     each = λ y m. on_bool (eqb y x)
         (λ t. inr (subst (λ (z : ℕ). Different (item_set S ws W (start + z)) qs) (sym (eqb-true y x t)) D))
         (λ t. inl (ap (λ (p : ℕ). not (eqb p 0)) (sym (get_or-set_other marks x y 1 0 (eqb-false y x t))) ∙ m));
-  }
-
-  pub serving-then : {a b c ps qs rs : List ℕ} → Serving S ws W start a b ps qs → Serving S ws W start b c qs rs → Serving S ws W start a c ps rs
-  serving-then A B = record {
-    kept = kept_then A.kept B.kept;
-    each = λ x m. ⊎_elim (λ n. ⊎_elim (λ o. inl o) (λ d. inr (different-kept B.kept d)) (A.each x n)) (λ d. inr d) (B.each x m);
   }

@@ -1,4 +1,5 @@
-// What is to be served, as items: first the wires, then the listed pairs. An item's set are the inputs that reach it.
+// One of the items that are to be served, by its number: first the wires are counted, then the listed pairs. An item's set are the
+// inputs that reach it.
 ghost use Rattle.std.specs.Prelude.{◌≡◌, ℕ, ◌+◌, ◌*◌, ◌/◌, ◌<◌, length, get_or, take, set as put};
 ghost use Rattle.wide_sets.specs.Packed.{set_at};
 ghost use Rattle.wide_sets.specs.WireSets.{sets_of};
@@ -7,12 +8,12 @@ ghost use Rattle.wide_search.specs.Items.{is_marked};
 ghost use Rattle.wide_search.specs.Served.{count_of, set_of};
 
 use crate::items::Items;
-use wide_sets::members::Members;
+use wide_sets::members::InputSet;
 use wide_sets::tables::WireSets;
 use wide_sets::unite;
 
 // The inputs that reach one wire of pair j or the other; none where they are more than twelve.
-pub fn pair(pairs: &[u32], sets: WireSets, j: usize) -> Option<Members>
+pub fn pair(pairs: &[u32], sets: WireSets, j: usize) -> Option<InputSet>
     requires { (j < length pairs.now / 2)
         × ((i : ℕ) → i < length pairs.now → get_or pairs.now i 0 < length sets.set0.now) }
     ensures { let S = sets_of sets.entry in Together (set_at S (get_or pairs.now (2 * j) 0))
@@ -26,7 +27,7 @@ pub fn pair(pairs: &[u32], sets: WireSets, j: usize) -> Option<Members>
 }
 
 // The set of item k.
-pub fn set(items: Items, k: usize) -> Members
+pub fn set(items: Items, k: usize) -> InputSet
     requires { k < count_of items }
     ensures { take result.count result.items ≡ set_of items.entry k }
 {

@@ -1,11 +1,12 @@
-// What is to be served.
+// The type of what is to be served. Its functions stand in item.rt, since their contracts cite definitions that name the type.
 ghost use Rattle.std.specs.Prelude.{ℕ, ◌<◌, length, get_or};
 ghost use Rattle.wide_sets.specs.WireSets.{sets_of};
 ghost use Rattle.wide_search.specs.Items.{PairsFew};
 
 use wide_sets::tables::WireSets;
 
-// The wires, by their sets, and the listed pairs of them; at most twelve inputs reach each.
+// The wires, by their sets, and the listed pairs of them; at most twelve inputs reach each. Sets and pairs have a lifetime each: with one
+// for both, the sets would be stored at a shorter one than their own, and the check has no proof of that for a struct that holds references.
 #[derive(Clone, Copy)]
 pub struct Items<'s, 'p> {
     pub sets: WireSets<'s>,

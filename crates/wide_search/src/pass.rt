@@ -1,5 +1,5 @@
 // Passes: the inputs are coloured for as many items as they can serve, and one search over the painted settings judges those.
-ghost use Rattle.std.specs.Prelude.{◌≡◌, ℕ, ◌+◌, ◌*◌, ◌/◌, ◌≤◌, ◌<◌, length, get_or};
+ghost use Rattle.std.specs.Prelude.{◌≡◌, ℕ, ◌+◌, ◌*◌, ◌/◌, ◌≤◌, ◌<◌, length};
 ghost use Rattle.netlist.specs.Netlist.{Netlist};
 ghost use Rattle.gate_table.specs.Gates.{WiredGates};
 ghost use Rattle.wide_search.specs.Served.{count_of, ServingItems};
@@ -9,6 +9,7 @@ use crate::item;
 use crate::items::Items;
 use check_leak::difference;
 use gate_table::Gates;
+use lists::codes::Codes;
 
 // The lowest wire and the first pair that are known not to meet the rule, or the numbers of wires and pairs: numbers and not options, since
 // each pass looks below them.
@@ -46,7 +47,7 @@ fn serve_all(items: Items, start: usize, count: usize, paints: &mut [u8], marks:
 // settings that the colours give are searched on wires and pairs that may still be worse.
 fn pass(
     gates: Gates,
-    codes: &[u8],
+    codes: Codes,
     items: Items,
     start: usize,
     x: usize,
@@ -59,22 +60,21 @@ fn pass(
 ) -> Worst
     requires wired { WiredGates gates (length words.old)
         × (start + x < count_of items) }
-    requires paints_len { (length paints.old ≡ length codes.now) × (length items.sets.set0.now ≡ length words.old) × (length codes.now + 2 ≤ length words.old)
+    requires paints_len { (length paints.old ≡ length codes.list.now) × (length items.sets.set0.now ≡ length words.old) × (length codes.list.now + 2 ≤ length words.old)
         × (length bases.old ≡ length words.old) × (length base.old ≡ length words.old)
-        × ((i : ℕ) → i < length codes.now → get_or codes.now i 0 < 4) × (worst.wire ≤ length words.old)
-        × (worst.pair ≤ length items.pairs.now / 2) }
+        × (worst.wire ≤ length words.old) × (worst.pair ≤ length items.pairs.now / 2) }
     ensures { (result.wire ≤ worst.wire) × (result.pair ≤ worst.pair) × ((o n : ℕ) (N : Netlist)
-        → GivenGates gates.entry (length words.old) (length codes.now) items.entry.sets o N → x < n
+        → GivenGates gates.entry (length words.old) (length codes.entry.list.now) items.entry.sets o N → x < n
         → start + n ≤ length words.old + length items.entry.pairs.now / 2
-        → Judging N codes.now items.entry.pairs.now marks.old (length words.old) start n (x + 1)
+        → Judging N codes.entry.list.now items.entry.pairs.now marks.old (length words.old) start n (x + 1)
         worst.wire worst.pair
-        → Judging N codes.now items.entry.pairs.now marks.new (length words.old) start n x
+        → Judging N codes.entry.list.now items.entry.pairs.now marks.new (length words.old) start n x
         result.wire result.pair) }
 {
     if item::marked(marks, x) {
         return worst;
     }
-    wide_colours::lay(codes, paints);
+    wide_colours::lay(codes.list, paints);
     let m = item::set(items, start + x);
     wide_colours::seed(m, paints);
     serve_all(items, start, x, paints, marks);
@@ -99,7 +99,7 @@ fn pass(
 // The items from `start` on, `total` of them, are judged, from the last to the first.
 pub fn passes(
     gates: Gates,
-    codes: &[u8],
+    codes: Codes,
     items: Items,
     start: usize,
     total: usize,
@@ -112,15 +112,14 @@ pub fn passes(
 ) -> Worst
     requires wired { WiredGates gates (length words.old)
         × (start + total ≤ count_of items) }
-    requires paints_len { (length paints.old ≡ length codes.now) × (length items.sets.set0.now ≡ length words.old) × (length codes.now + 2 ≤ length words.old)
+    requires paints_len { (length paints.old ≡ length codes.list.now) × (length items.sets.set0.now ≡ length words.old) × (length codes.list.now + 2 ≤ length words.old)
         × (length bases.old ≡ length words.old) × (length base.old ≡ length words.old)
-        × ((i : ℕ) → i < length codes.now → get_or codes.now i 0 < 4) × (worst.wire ≤ length words.old)
-        × (worst.pair ≤ length items.pairs.now / 2) }
+        × (worst.wire ≤ length words.old) × (worst.pair ≤ length items.pairs.now / 2) }
     ensures { (result.wire ≤ worst.wire) × (result.pair ≤ worst.pair) × ((o : ℕ) (N : Netlist)
-        → GivenGates gates.entry (length words.old) (length codes.now) items.entry.sets o N
-        → Judging N codes.now items.entry.pairs.now marks.old (length words.old) start total total
+        → GivenGates gates.entry (length words.old) (length codes.entry.list.now) items.entry.sets o N
+        → Judging N codes.entry.list.now items.entry.pairs.now marks.old (length words.old) start total total
         worst.wire worst.pair
-        → Judging N codes.now items.entry.pairs.now marks.new (length words.old) start total 0
+        → Judging N codes.entry.list.now items.entry.pairs.now marks.new (length words.old) start total 0
         result.wire result.pair) }
 {
     let mut worst = worst;

@@ -1,5 +1,5 @@
 // The verdicts on wires and pairs of a netlist with many inputs.
-ghost use Rattle.std.specs.Prelude.{◌≡◌, ℕ, ◌+◌, ◌/◌, ◌≤◌, ◌<◌, length, get_or, take, List};
+ghost use Rattle.std.specs.Prelude.{◌≡◌, ℕ, ◌+◌, ◌/◌, ◌≤◌, ◌<◌, length, take, List};
 ghost use Rattle.netlist.specs.Netlist.{Netlist};
 ghost use Rattle.gate_table.specs.Gates.{WiredGates};
 ghost use Rattle.netlist.specs.Leak.{leak as leak_of};
@@ -14,7 +14,8 @@ use crate::items::Items;
 use crate::pass;
 use crate::pass::Worst;
 use gate_table::Gates;
-use wide_sets::members::Members;
+use lists::codes::Codes;
+use wide_sets::members::{InputSet, Members};
 use wide_sets::tables::WireSets;
 
 // A leak: its wire, the input bits that are one in its setting, its base's count and its own.
@@ -34,7 +35,7 @@ pub struct WideFound {
 }
 
 // Of the members of a set, those whose bit of a number is one. Each is written, and the next written over it where its bit is zero.
-fn pick(m: Members, number: u64) -> Members
+fn pick(m: InputSet, number: u64) -> Members
     ensures { take result.count result.items ≡ picked (take m.count m.items) number }
 {
     let mut items = [0u32; 12];
@@ -51,7 +52,7 @@ fn pick(m: Members, number: u64) -> Members
 // The lowest wire and the first pair that do not meet the rule.
 fn lowest(
     gates: Gates,
-    codes: &[u8],
+    codes: Codes,
     items: Items,
     paints: &mut [u8],
     marks: &mut [u8],
@@ -60,12 +61,11 @@ fn lowest(
     bases: &mut [u64],
 ) -> Worst
     requires wired { WiredGates gates (length words.old) }
-    requires paints_len { (length paints.old ≡ length codes.now) × (length items.sets.set0.now ≡ length words.old) × (length codes.now + 2 ≤ length words.old)
-        × (length bases.old ≡ length words.old) × (length base.old ≡ length words.old)
-        × ((i : ℕ) → i < length codes.now → get_or codes.now i 0 < 4) }
+    requires paints_len { (length paints.old ≡ length codes.list.now) × (length items.sets.set0.now ≡ length words.old) × (length codes.list.now + 2 ≤ length words.old)
+        × (length bases.old ≡ length words.old) × (length base.old ≡ length words.old) }
     ensures { (result.wire ≤ length words.old) × (result.pair ≤ length items.entry.pairs.now / 2) × ((o : ℕ) (N : Netlist)
-        → GivenGates gates.entry (length words.old) (length codes.now) items.entry.sets o N
-        → Lowest N codes.now items.entry.pairs.now (length words.old) result.wire result.pair) }
+        → GivenGates gates.entry (length words.old) (length codes.entry.list.now) items.entry.sets o N
+        → Lowest N codes.entry.list.now items.entry.pairs.now (length words.old) result.wire result.pair) }
 {
     let wires = words.len();
     let listed = items.pairs.len() / 2;
@@ -96,7 +96,7 @@ fn lowest(
 // whose counts differ is that of the smallest setting.
 fn tell(
     gates: Gates,
-    codes: &[u8],
+    codes: Codes,
     sets: WireSets,
     wire: usize,
     paints: &mut [u8],
@@ -106,14 +106,13 @@ fn tell(
 ) -> Option<WideLeak>
     requires wired { WiredGates gates (length words.old)
         × (wire < length words.old) }
-    requires paints_len { (length paints.old ≡ length codes.now) × (length sets.set0.now ≡ length words.old) × (length codes.now + 2 ≤ length words.old)
-        × (length bases.old ≡ length words.old) × (length base.old ≡ length words.old)
-        × ((i : ℕ) → i < length codes.now → get_or codes.now i 0 < 4) }
-    ensures { (o pair : ℕ) (ws : List ℕ) (N : Netlist) → GivenGates gates.entry (length words.old) (length codes.now) sets.entry o N
-        → Lowest N codes.now ws (length words.old) wire pair
-        → told_of result ≡ listed (length codes.now) (leak_of N codes.now) }
+    requires paints_len { (length paints.old ≡ length codes.list.now) × (length sets.set0.now ≡ length words.old) × (length codes.list.now + 2 ≤ length words.old)
+        × (length bases.old ≡ length words.old) × (length base.old ≡ length words.old) }
+    ensures { (o pair : ℕ) (ws : List ℕ) (N : Netlist) → GivenGates gates.entry (length words.old) (length codes.entry.list.now) sets.entry o N
+        → Lowest N codes.entry.list.now ws (length words.old) wire pair
+        → told_of result ≡ listed (length codes.entry.list.now) (leak_of N codes.entry.list.now) }
 {
-    wide_colours::lay(codes, paints);
+    wide_colours::lay(codes.list, paints);
     let m = sets.at(wire);
     wide_colours::seed(m, paints);
     let none = [0u32; 1];
@@ -137,10 +136,10 @@ fn tell(
     })
 }
 
-// Whether the tables' netlist is clean under the input codes, and each listed pair of its wires. The sets are those of its wires.
+// Whether the gates' netlist is clean under the input codes, and each listed pair of its wires. The sets are those of its wires.
 pub fn search(
     gates: Gates,
-    codes: &[u8],
+    codes: Codes,
     items: Items,
     paints: &mut [u8],
     marks: &mut [u8],
@@ -149,12 +148,11 @@ pub fn search(
     bases: &mut [u64],
 ) -> WideFound
     requires wired { WiredGates gates (length words.old) }
-    requires paints_len { (length paints.old ≡ length codes.now) × (length items.sets.set0.now ≡ length words.old) × (length codes.now + 2 ≤ length words.old)
-        × (length bases.old ≡ length words.old) × (length base.old ≡ length words.old)
-        × ((i : ℕ) → i < length codes.now → get_or codes.now i 0 < 4) }
-    ensures { (o : ℕ) (N : Netlist) → GivenGates gates.entry (length words.old) (length codes.now) items.entry.sets o N
-        → (told_of result.leak ≡ listed (length codes.now) (leak_of N codes.now))
-        × (bad_of result.pair ≡ first_bad (clean_pair N codes.now) items.entry.pairs.now) }
+    requires paints_len { (length paints.old ≡ length codes.list.now) × (length items.sets.set0.now ≡ length words.old) × (length codes.list.now + 2 ≤ length words.old)
+        × (length bases.old ≡ length words.old) × (length base.old ≡ length words.old) }
+    ensures { (o : ℕ) (N : Netlist) → GivenGates gates.entry (length words.old) (length codes.entry.list.now) items.entry.sets o N
+        → (told_of result.leak ≡ listed (length codes.entry.list.now) (leak_of N codes.entry.list.now))
+        × (bad_of result.pair ≡ first_bad (clean_pair N codes.entry.list.now) items.entry.pairs.now) }
 {
     let worst = lowest(gates, codes, items, paints, marks, words, base, bases);
     let leak = if worst.wire < words.len() {

@@ -2,7 +2,7 @@
 use Rattle.std.specs.Prelude.{ℕ, ◌+◌, ◌≤◌, ◌<◌, List, ◌∷◌, ◌≡◌, Option, Some, None, length, take, drop}
 use Rattle.wide.specs.Sets.{merge}
 use Rattle.wide_sets.specs.Packed.{second, Small}
-use Rattle.wide_sets.specs.declared.members.Members.{Members}
+use Rattle.wide_sets.specs.declared.members.InputSet.{InputSet}
 use Rattle.wide_sets.specs.declared.unite.Head.{Head}
 
 -- the next number from two places on, and the places behind it
@@ -19,6 +19,6 @@ Unites x y out (Some k) = (k ≤ length out) × (take k out ≡ merge x y)
 Unites x y out None = length out < length (merge x y)
 
 -- a set has all numbers of two lists, or they are more than twelve
-abbrev pub Together : List ℕ → List ℕ → Option Members → Type 0
+abbrev pub Together : List ℕ → List ℕ → Option InputSet → Type 0
 Together x y (Some m) = take m.count m.items ≡ merge x y
 Together x y None = 12 < length (merge x y)

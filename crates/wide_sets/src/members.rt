@@ -6,9 +6,16 @@ ghost use Rattle.wide_sets.specs.WireSets.{sets_of};
 
 use crate::tables::WireSets;
 
-// The first `count` items, rising; at most twelve, and each fits in twenty bits.
+// The first `count` items, rising.
 #[derive(Clone, Copy)]
 pub struct Members {
+    pub items: [u32; 12],
+    pub count: usize,
+}
+
+// Such members, of a set: at most twelve, and each fits in twenty bits.
+#[derive(Clone, Copy)]
+pub struct InputSet {
     pub items: [u32; 12],
     pub count: usize,
     ghost few: { count ≤ 12 },
@@ -34,8 +41,8 @@ const COUNT: u64 = 1152921504606846976;
 
 // The set of four entries.
 fn unpack(a: u64, b: u64, c: u64, d: u64) -> Members
-    requires { count_in a ≤ 12 }
-    ensures { (take result.count result.items ≡ list_in a b c d) × (result.count ≡ count_in a) }
+    ensures { (take result.count result.items ≡ list_in a b c d) × (result.count ≡ count_in a)
+        × (length result.items ≡ 12) × Small result.items }
 {
     let items = [
         (a % SECOND) as u32,
@@ -66,7 +73,7 @@ fn three(x: u32, y: u32, z: u32) -> u64
 }
 
 // The entries of a set.
-fn pack(m: Members) -> Entries
+fn pack(m: InputSet) -> Entries
     ensures { (list_in result.a result.b result.c result.d ≡ take m.count m.items) × (count_in result.a ≡ m.count) }
 {
     let items = m.items;
@@ -78,25 +85,25 @@ fn pack(m: Members) -> Entries
     }
 }
 
+// The set of wire w, in tables of any content.
+pub fn get(set0: &[u64], set1: &[u64], set2: &[u64], set3: &[u64], w: usize) -> Members
+    requires { (w < length set0.now) × (w < length set1.now) × (w < length set2.now) × (w < length set3.now) }
+    ensures { let S = sets set0.now set1.now set2.now set3.now in
+        (take result.count result.items ≡ set_at S w) × (result.count ≡ size_at S w)
+        × (length result.items ≡ 12) × Small result.items }
+{
+    unpack(set0[w], set1[w], set2[w], set3[w])
+}
+
 impl<'a> WireSets<'a> {
     // The set of wire w.
-    pub fn at(self, w: usize) -> Members
+    pub fn at(self, w: usize) -> InputSet
         requires { w < length self.set0.now }
         ensures { (take result.count result.items ≡ set_at (sets_of self.entry) w)
             × (result.count ≡ size_at (sets_of self.entry) w) }
     {
-        unpack(self.set0[w], self.set1[w], self.set2[w], self.set3[w])
-    }
-
-    // Whether the entries of two wires are the same.
-    pub fn same(self, a: usize, b: usize) -> bool
-        requires { (a < length self.set0.now) × (b < length self.set0.now) }
-        ensures { result ≡ true → set_at (sets_of self.entry) a ≡ set_at (sets_of self.entry) b }
-    {
-        self.set0[a] == self.set0[b]
-            && self.set1[a] == self.set1[b]
-            && self.set2[a] == self.set2[b]
-            && self.set3[a] == self.set3[b]
+        let Members { items, count } = get(self.set0, self.set1, self.set2, self.set3, w);
+        InputSet { items, count }
     }
 }
 
@@ -107,7 +114,7 @@ pub fn put(
     set2: &mut [u64],
     set3: &mut [u64],
     w: usize,
-    m: Members,
+    m: InputSet,
 )
     requires { (w < length set0.old) × (w < length set1.old) × (w < length set2.old) × (w < length set3.old) }
     ensures { Put (sets set0.old set1.old set2.old set3.old)
@@ -147,6 +154,16 @@ pub fn empty(set0: &[u64], w: usize) -> bool
     ensures { result ≡ true → (b c d : List ℕ) → set_at (sets set0.now b c d) w ≡ [] }
 {
     set0[w] < COUNT
+}
+
+// Whether the entries of two wires are the same.
+pub fn same(set0: &[u64], set1: &[u64], set2: &[u64], set3: &[u64], a: usize, b: usize) -> bool
+    requires { (a < length set0.now) × (a < length set1.now) × (a < length set2.now) × (a < length set3.now)
+        × (b < length set0.now) × (b < length set1.now) × (b < length set2.now) × (b < length set3.now) }
+    ensures { let S = sets set0.now set1.now set2.now set3.now in
+        result ≡ true → set_at S a ≡ set_at S b }
+{
+    set0[a] == set0[b] && set1[a] == set1[b] && set2[a] == set2[b] && set3[a] == set3[b]
 }
 
 // Wire w is reached by no input: the first entry alone tells.

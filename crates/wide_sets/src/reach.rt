@@ -18,7 +18,9 @@ fn one_of(sets: WireSets, a: usize, b: usize) -> Option<usize>
     requires { (a < length sets.set0.now) × (b < length sets.set0.now) }
     ensures { OneOf (sets_of sets.entry) (length sets.entry.set0.now) a b result }
 {
-    if members::empty(sets.set0, b) || sets.same(a, b) {
+    if members::empty(sets.set0, b)
+        || members::same(sets.set0, sets.set1, sets.set2, sets.set3, a, b)
+    {
         Some(a)
     } else if members::empty(sets.set0, a) {
         Some(b)
@@ -74,16 +76,13 @@ fn join(
     ensures { let S = sets set0.old set1.old set2.old set3.old in
         Lined S (sets set0.new set1.new set2.new set3.new) c (merge (set_at S a) (set_at S b)) result }
 {
-    match one_of(
-        WireSets {
-            set0,
-            set1,
-            set2,
-            set3,
-        },
-        a,
-        b,
-    ) {
+    let sets = WireSets {
+        set0,
+        set1,
+        set2,
+        set3,
+    };
+    match one_of(sets, a, b) {
         Some(w) => {
             members::copy(set0, set1, set2, set3, w, c);
             true
@@ -112,7 +111,7 @@ fn line(set0: &mut [u64], set1: &mut [u64], set2: &mut [u64], set3: &mut [u64], 
     }
 }
 
-// The sets of all wires of the tables' netlist, of which the first n are its inputs besides the mask pair. Says whether at most twelve
+// The sets of all wires of the gates' netlist, of which the first n are its inputs besides the mask pair. Says whether at most twelve
 // inputs reach each wire; after a no the tables are of no use.
 pub fn reach(
     gates: Gates,

@@ -3,7 +3,7 @@ ghost use Rattle.std.specs.Prelude.{◌+◌, ◌<◌, ◌≤◌, length, take};
 ghost use Rattle.wide_sets.specs.Packed.{Small};
 ghost use Rattle.wide_sets.specs.Together.{Next, Unites, Together};
 
-use crate::members::Members;
+use crate::members::InputSet;
 
 // The next number of two lists from places i and j on, and the places behind it.
 #[derive(Clone, Copy)]
@@ -78,10 +78,10 @@ pub fn unite(x: &[u32], y: &[u32], out: &mut [u32]) -> Option<usize>
 }
 
 // The members of two sets; none where they are more than twelve.
-pub fn both(x: Members, y: Members) -> Option<Members>
+pub fn both(x: InputSet, y: InputSet) -> Option<InputSet>
     ensures { Together (take x.count x.items) (take y.count y.items) result }
 {
     let mut items = [0u32; 12];
     let count = unite(&x.items[..x.count], &y.items[..y.count], &mut items)?;
-    Some(Members { items, count })
+    Some(InputSet { items, count })
 }

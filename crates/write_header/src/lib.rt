@@ -9,6 +9,15 @@ ghost use Rattle.write_header.specs.Header.{spaced, header_text, old_header_text
 
 use old_form::Dialect;
 
+// What a header says: how many gates and wires there are, and the widths of the input and of the output values.
+#[derive(Clone, Copy)]
+pub struct Shape<'a> {
+    pub gates: usize,
+    pub wires: usize,
+    pub ins: &'a [u32],
+    pub outs: &'a [u32],
+}
+
 // Line one: two numbers.
 fn counts(out: &mut [u8], at: usize, gates: usize, wires: usize) -> usize
     ensures { Wrote out.old at (line (decimals (gates ∷ wires ∷ []))) out.new result }
@@ -55,19 +64,12 @@ fn values(out: &mut [u8], at: usize, ws: &[u32]) -> usize
 }
 
 // The three lines and the blank line behind them.
-pub fn header(
-    out: &mut [u8],
-    at: usize,
-    gates: usize,
-    wires: usize,
-    ins: &[u32],
-    outs: &[u32],
-) -> usize
-    ensures { Wrote out.old at (header_text gates wires ins.now outs.now) out.new result }
+pub fn header(out: &mut [u8], at: usize, s: Shape) -> usize
+    ensures { let h = s.entry in Wrote out.old at (header_text h.gates h.wires h.ins.now h.outs.now) out.new result }
 {
-    let second = counts(out, at, gates, wires);
-    let third = values(out, second, ins);
-    let blank = values(out, third, outs);
+    let second = counts(out, at, s.gates, s.wires);
+    let third = values(out, second, s.ins);
+    let blank = values(out, third, s.outs);
     write_buffer::put(out, blank, b'\n')
 }
 
@@ -79,36 +81,21 @@ fn width_at(ws: &[u32], i: usize) -> u32
 }
 
 // The two lines of the older dialect, of at most two input values and one output value, and the blank line behind them.
-pub fn old_header(
-    out: &mut [u8],
-    at: usize,
-    gates: usize,
-    wires: usize,
-    ins: &[u32],
-    outs: &[u32],
-) -> usize
-    ensures { Wrote out.old at (old_header_text gates wires ins.now outs.now) out.new result }
+pub fn old_header(out: &mut [u8], at: usize, s: Shape) -> usize
+    ensures { let h = s.entry in Wrote out.old at (old_header_text h.gates h.wires h.ins.now h.outs.now) out.new result }
 {
-    let second = counts(out, at, gates, wires);
-    let others = [width_at(ins, 1), width_at(outs, 0)];
-    let blank = numbers(out, second, width_at(ins, 0) as usize, &others);
+    let second = counts(out, at, s.gates, s.wires);
+    let others = [width_at(s.ins, 1), width_at(s.outs, 0)];
+    let blank = numbers(out, second, width_at(s.ins, 0) as usize, &others);
     write_buffer::put(out, blank, b'\n')
 }
 
 // The header of a dialect.
-pub fn header_in(
-    out: &mut [u8],
-    at: usize,
-    gates: usize,
-    wires: usize,
-    ins: &[u32],
-    outs: &[u32],
-    dialect: Dialect,
-) -> usize
-    ensures { Wrote out.old at (header_text_in dialect gates wires ins.now outs.now) out.new result }
+pub fn header_in(out: &mut [u8], at: usize, s: Shape, dialect: Dialect) -> usize
+    ensures { let h = s.entry in Wrote out.old at (header_text_in dialect h.gates h.wires h.ins.now h.outs.now) out.new result }
 {
     match dialect {
-        Dialect::Fashion => header(out, at, gates, wires, ins, outs),
-        Dialect::Old => old_header(out, at, gates, wires, ins, outs),
+        Dialect::Fashion => header(out, at, s),
+        Dialect::Old => old_header(out, at, s),
     }
 }

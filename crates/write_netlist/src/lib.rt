@@ -6,6 +6,7 @@ ghost use Rattle.std.specs.Prelude.{◌≤◌, ◌<◌, ◌≡◌, leb, length};
 ghost use Rattle.netlist.specs.Services.{Delivers};
 ghost use Rattle.gate_table.specs.Gates.{tables_of, gates_in, WiredGates};
 ghost use Rattle.write_buffer.specs.Wrote.{Wrote, top};
+ghost use Rattle.write_header.specs.Header.{header_text_in};
 ghost use Rattle.write_gates.specs.Gates.{WroteGates};
 ghost use Rattle.write_netlist.specs.Form.{form_text, form_text_in};
 ghost use Rattle.write_netlist.specs.Text.{text_of, Within, WiredIn};
@@ -13,6 +14,7 @@ ghost use Rattle.write_netlist.specs.Text.{text_of, Within, WiredIn};
 use gate_table::Gates;
 use netlist::{Answer, Question};
 use old_form::Dialect;
+use write_header::Shape;
 use write_wires::table::Words;
 
 // The gates of a netlist, the wires and the widths of its header, and the dialect of its text.
@@ -25,8 +27,21 @@ struct Form<'a> {
     dialect: Dialect,
 }
 
+// The header and the blank line.
+fn header_lines(out: &mut [u8], f: Form) -> usize
+    ensures { let F = f.entry in Wrote out.old 0 (header_text_in F.dialect F.gates.count F.wires F.ins.now F.outs.now) out.new result }
+{
+    let shape = Shape {
+        gates: f.gates.count,
+        wires: f.wires,
+        ins: f.ins,
+        outs: f.outs,
+    };
+    write_header::header_in(out, 0, shape, f.dialect)
+}
+
 // The lines of the gates.
-fn gates(d: Words, out: &mut [u8], at: usize, gates: Gates) -> usize
+fn gate_lines(d: Words, out: &mut [u8], at: usize, gates: Gates) -> usize
     requires count_in_bounds { (gates.count ≤ length gates.operands.now) × (gates.count ≤ length gates.results.now) }
     ensures { WroteGates out.old at (gates_in gates.entry) out.new result }
 {
@@ -42,8 +57,8 @@ fn write(d: Words, out: &mut [u8], f: Form) -> usize
     requires count_in_bounds { Within f }
     ensures { Wrote out.old 0 (text_of f.entry) out.new result }
 {
-    let at = write_header::header_in(out, 0, f.gates.count, f.wires, f.ins, f.outs, f.dialect);
-    gates(d, out, at, f.gates)
+    let at = header_lines(out, f);
+    gate_lines(d, out, at, f.gates)
 }
 
 // Question 14 of the text: yes where lines of the longest kind would fit, and otherwise as it is measured.
@@ -52,15 +67,7 @@ fn holds(d: Words, room: usize, f: Form) -> bool
     ensures { result ≡ leb (length (text_of f.entry)) room }
 {
     let mut none = [0u8; 1];
-    let header = write_header::header_in(
-        &mut none,
-        0,
-        f.gates.count,
-        f.wires,
-        f.ins,
-        f.outs,
-        f.dialect,
-    );
+    let header = header_lines(&mut none, f);
     write_gates::room::ample(room, header, f.gates.count, f.wires) || write(d, &mut none, f) <= room
 }
 

@@ -10,7 +10,7 @@ use lib.Seq.{take-suc, take_all}
 use Rattle.netlist.specs.Text.{space, lf}
 use Rattle.netlist.specs.Number.{decimal}
 use Rattle.netlist.specs.GateLine.{eq_bytes}
-use Rattle.netlist.specs.Write.{line, one, two}
+use Rattle.netlist.specs.Write.{line, one}
 use Rattle.write_buffer.specs.Wrote.{Wrote, top, cap}
 use Rattle.write_buffer.proofs.Decimals.{decimal-one, decimal-two}
 use Rattle.write_wires.specs.Packed.{Worded}
@@ -35,14 +35,8 @@ spaced-more h os i l =
 pub whole-front : {n i : ℕ} (os : List ℕ) (c : ℕ) → n ≡ length os → length os ≤ i → (head_of n ++ spaced (take i os)) ++ parted (decimal c) ≡ front_of os c
 whole-front {i = i} os c p h = λ j. (head_of (p j) ++ spaced (take_all i os h j)) ++ parted (decimal c)
 
--- the lines of two operands, of one, and of a constant, which has a shorter name
-pub line-two : (a b c : ℕ) (name : List ℕ) → line_of (a ∷ b ∷ []) c (name ++ (lf ∷ [])) ≡ line (two ∷ one ∷ decimal a ∷ decimal b ∷ decimal c ∷ name ∷ [])
-line-two a b c name = simp append_assoc
-
-pub line-one : (a c : ℕ) (name : List ℕ) → line_of (a ∷ []) c (name ++ (lf ∷ [])) ≡ line (one ∷ one ∷ decimal a ∷ decimal c ∷ name ∷ [])
-line-one a c name = simp append_assoc
-
-pub line_eq : (v c : ℕ) → (parted one ++ parted one) ++ (parted (decimal v) ++ (decimal c ++ (space ∷ (eq_bytes ++ (lf ∷ []))))) ≡ line (one ∷ one ∷ decimal v ∷ decimal c ∷ eq_bytes ∷ [])
+pub line_eq : (v c : ℕ) → (parted one ++ parted one) ++ (parted (decimal v) ++ (decimal c ++ (space ∷ (eq_bytes ++ (lf ∷ []))))) ≡ line
+    (one ∷ one ∷ decimal v ∷ decimal c ∷ eq_bytes ∷ [])
 line_eq v c = simp append_assoc
 
 -- a line of which nothing fits

@@ -5,11 +5,11 @@ use mathlib.Core.List.{List}
 use mathlib.Core.Logic.{⊎_elim}
 use native.Mathlib.Omega.{arith}
 use lib.Dec.{ltb}
-use lib.ListN.{length, take, get_or, set, length-set}
-use lib.Seq.{get_or-set_same, get_or-set_other, get_or-take, length-take-le}
+use lib.ListN.{length, get_or, set, length-set}
+use lib.Seq.{get_or-set_same, get_or-set_other}
 use borrow.Author.Tests.{ltb-true, ltb-false}
 use Rattle.netlist.proofs.Tests.{on_bool}
-use Rattle.write_wires.specs.Packed.{packed, added, Filled, WordTable, LowTable, Worded, Tens}
+use Rattle.write_wires.specs.Packed.{packed, added, Filled, WordTable, Worded, Tens}
 use Rattle.write_wires.proofs.Packing.{Looks, looks, packed-one, packed-two, packed-three, added-three}
 
 -- one entry of each half more
@@ -48,30 +48,6 @@ filled_more {d} {k} {x} {y} f h p q = record { long = long; words = words; more 
       where
         last : (i : ℕ) → i < k + 1 → k ≤ i → get_or (grown d k x y) (1000 + i) 0 ≡ added i
         last i l m = let z : k ≡ i = omega arith in rw (sym z) (more-last ∙ q)
-
-pub filled_none : {d : List ℕ} → length d ≡ 2000 → Filled d 0
-filled_none l = record { long = l; words = λ i h. absurd (omega arith); more = λ i h. absurd (omega arith) }
-
--- a whole table, one of no entries, and the front of a longer one
-pub whole-table : {d : List ℕ} → Filled d 1000 → WordTable d
-whole-table f = record { filled = λ e. f; low = λ h i l. absurd (omega (arith, f.long)) }
-
-pub empty-table : {d : List ℕ} → length d ≡ 0 → WordTable d
-empty-table l = record { filled = λ e. absurd (omega arith); low = λ h i k. absurd (omega arith) }
-
-pub low-table : (d : List ℕ) (k : ℕ) → LowTable d k → WordTable (take k d)
-low-table d k t =
-    let n : length (take k d) ≡ k = length-take-le k d t.long in
-    record {
-      filled = λ e. absurd (omega (arith, t.few));
-      low = λ h i l. get_or-take k d i 0 (omega arith) ∙ t.words i (omega arith);
-    }
-
-pub none-low : (d : List ℕ) → LowTable d 0
-none-low d = record { few = omega arith; long = omega arith; words = λ i h. absurd (omega arith) }
-
-pub filled-low : {d : List ℕ} {k : ℕ} → Filled d k → k ≤ 1000 → LowTable d k
-filled-low f h = record { few = h; long = omega (arith, f.long); words = f.words }
 
 -- the word of a number below a thousand
 pub word_low : {d : List ℕ} (n : ℕ) → WordTable d → Worded (length d) n → n < 1000 → get_or d n 0 ≡ packed n

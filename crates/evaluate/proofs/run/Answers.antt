@@ -3,17 +3,11 @@ use Prim.Native.Nat.{◌+◌, ◌-◌}
 use mathlib.Core.Path.{◌≡◌}
 use native.Mathlib.Omega.{arith}
 use Rattle.gate_table.specs.Gates.{tables_of}
-use Rattle.evaluate.proofs.Steps.{ran-none, ran-all, ahead_within, ahead_step}
+use Rattle.evaluate.proofs.Steps.{ran-none, ran-all, ahead_step}
 use Rattle.evaluate.proofs.run.Goals as goal
 
 pub returns-then-gates-eq0 : goal.returns-then-gates-eq0
 returns-then-gates-eq0 c = ran-all (ran-none (tables_of c.args.gates) c.args.gates.count c.args.words.now) (omega arith)
-
-pub loop-i-init : goal.loop-i-init
-loop-i-init c = record { ran = ran-none _ _ _; inside = omega arith; parts = c.at-next.ensures }
-
-pub step-requires : goal.step-requires
-step-requires c = ahead_within c.loop-i.invariant c.requires
 
 pub loop-i-preserved : goal.loop-i-preserved
 loop-i-preserved c =
@@ -26,9 +20,6 @@ loop-i-preserved c =
       inside = c.loop-i-test.true;
       parts = c.at-next-in-loop-i.ensures;
     }
-
-pub step-requires-2 : goal.step-requires-2
-step-requires-2 c = ahead_within c.loop-i.invariant c.requires
 
 pub returns : goal.returns
 returns c =

@@ -1,17 +1,7 @@
 -- `evaluate::wires` meets its contract.
-use Prim.Native.Nat.{◌-◌}
-use lib.ListN.{length}
-use borrow.Rule.Slice.PartMut.{same_len_mid}
 use Rattle.gate_table.specs.Gates.{tables_of}
-use Rattle.netlist.proofs.Puts.{wired-same}
 use Rattle.evaluate.proofs.Runs.{wires-law}
 use Rattle.evaluate.proofs.wires.Goals as goal
-
-pub run-requires : goal.run-requires
-run-requires c =
-    let ws = c.args.words.now in
-    let clear = c.fill in
-    wired-same (same_len_mid c.args.ins (length ws - c.args.ins) ws clear.new.self clear.auto.self) c.requires.wired
 
 pub returns : goal.returns
 returns c j l =

@@ -3,11 +3,8 @@ use mathlib.Core.List.{[], ◌∷◌}
 use lib.ListN.{length}
 use Rattle.netlist.specs.Table.{tables}
 use Rattle.std.proofs.lemmas.Result.{err_from_is_err_and}
-use Rattle.from_aiger.proofs.Calling.{file-read, file-not, asked-not, one_value, call-read}
+use Rattle.from_aiger.proofs.Calling.{file-read, file-not, asked-not, call-read}
 use Rattle.from_aiger.proofs.answer.Goals as goal
-
-pub read-requires : goal.read-requires
-read-requires c = rw c.small.ensures (one_value c.args.sizes)
 
 pub returns-in_err-m : goal.returns-in_err-m
 returns-in_err-m c =

@@ -19,8 +19,6 @@ read-requires c =
         F.places,
         omega (arith, F.gates, p.sizes_in_bounds.0),
         omega (arith, F.gates, p.sizes_in_bounds.1),
-        F.inputs,
-        F.outputs,
       );
     })
 

@@ -9,4 +9,5 @@ returns c =
     let s = c.args in
     let t = c.read in
     let ls = length s.operands.now ∷ length s.results.now ∷ length s.marks.now ∷ s.others.now in
-    block-is s.l ls s.text.now s.codes.now t.new.inputs t.new.outputs (tables t.new.operands t.new.results) c.in_ok-h.ensures c.in_ok-ask_codes.ensures
+    block-is c.large-l.result ls s.text.now s.codes.now t.new.inputs t.new.outputs (tables t.new.operands t.new.results) c.in_ok-h.ensures c.large-l.ensures
+    c.in_ok-ask_codes.ensures.asked

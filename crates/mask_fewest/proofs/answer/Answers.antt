@@ -23,7 +23,6 @@ deliver-requires c =
         wired = a.wired;
         few = omega (arith, a.wires, (small-fits s.sizes).1);
         gates = omega (arith, a.gates);
-        ins = a.in_bits;
         outs = a.out_bits;
         inputs = omega (arith, a.many_in);
         outputs = a.many_out;

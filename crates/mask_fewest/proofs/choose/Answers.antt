@@ -7,31 +7,6 @@ use Rattle.mask_fewest.proofs.Giving.{places, fits-fronts, chose}
 use native.Mathlib.Omega.{arith}
 use Rattle.mask_fewest.proofs.choose.Goals as goal
 
-pub slice_bounds-search-end-2 : goal.slice_bounds-search-end-2
-slice_bounds-search-end-2 c =
-    sym
-    (length-take-le _ _ c.requires.0.ways)
-
-pub slice_bounds-search-end-4 : goal.slice_bounds-search-end-4
-slice_bounds-search-end-4 c =
-    sym
-    (length-take-le _ _ c.requires.0.best)
-
-pub slice_bounds-search-end-6 : goal.slice_bounds-search-end-6
-slice_bounds-search-end-6 c =
-    sym
-    (length-take-le _ _ c.requires.0.fronts.marks)
-
-pub slice_bounds-search-end-8 : goal.slice_bounds-search-end-8
-slice_bounds-search-end-8 c =
-    sym
-    (length-take-le _ _ c.requires.0.fronts.wires)
-
-pub slice_bounds-search-end-10 : goal.slice_bounds-search-end-10
-slice_bounds-search-end-10 c =
-    sym
-    (length-take-le _ _ c.requires.0.spans)
-
 pub search-r-requires : goal.search-r-requires
 search-r-requires c =
     let a = c.args in let p = c.requires.0 in let W = a.h.wires in let m = length-take-le W a.marks.now p.fronts.marks in (
@@ -53,14 +28,6 @@ swap-requires c =
     let R = c.search-r in
     let f = length_front c.args.best.now R.new.best c.args.h.wires R.auto.best in
     let pl = places p.source in (p.fronts.wired.operands, p.fronts.wired.results, omega (arith, p.best))
-
-pub codes-requires : goal.codes-requires
-codes-requires c =
-    let p = c.requires.0 in
-    let R = c.search-r in
-    let f = length_front c.args.best.now R.new.best c.args.h.wires R.auto.best in
-    let g = length_front c.args.ways.now R.new.way c.args.h.wires R.auto.way in
-    let pl = places p.source in (omega (arith, p.best), omega (arith, p.ways))
 
 pub returns : goal.returns
 returns c =

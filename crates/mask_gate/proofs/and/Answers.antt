@@ -5,8 +5,8 @@ use Rattle.mask_gate.proofs.and.Goals as goal
 pub returns : goal.returns
 returns c =
     let a = c.args in
-    and-made a.n a.c a.a a.b c.change-from.ensures
+    and-made a.masks.first a.c.wire a.a a.b c.change-from.ensures
     c.changed-second.ensures
-    c.past-next.ensures c.mask_wire-p.ensures
-    c.mask_wire-q.ensures
+    c.past-next.ensures c.wire-p.ensures
+    c.wire-q.ensures
     c.steps.ensures

@@ -5,6 +5,6 @@ use Rattle.mask_gate.proofs.xor.Goals as goal
 pub returns : goal.returns
 returns c =
     let a = c.args in
-    xor-made a.n a.c a.a a.b c.change-from.ensures
+    xor-made a.masks.first a.c.wire a.a a.b c.change-from.ensures
     c.changed-second.ensures c.past-next.ensures
     c.xor.ensures

@@ -1,7 +1,6 @@
 -- `holds`: the header is measured; where the longest lines do not fit behind it, so is the whole text.
 use mathlib.Core.Path.{sym, ◌∙◌}
 use native.Mathlib.Omega.{arith}
-use Rattle.write_gates.proofs.Delivering.{measured-holds}
 use Rattle.mask_text.proofs.Wholes.{text-ample}
 use Rattle.mask_text.proofs.holds.Goals as goal
 
@@ -10,7 +9,3 @@ returns-then-ample c =
     let a = c.args.j in
     λ N h z F. sym (text-ample h a.codes.now a.wanted.now z F (omega arith) c.header-header.ensures
     c.requires.ready.1 (sym c.ample.ensures ∙ c.if-ample.true))
-
-pub returns : goal.returns
-returns c = λ N h z F. measured-holds (c.write-size.ensures N h z).wrote
-    c.requires.ready.1

@@ -1,4 +1,5 @@
 -- Three lines, with blank lines between them.
+use mathlib.Core.Path.{refl}
 use Rattle.read_header.proofs.Headers.{no-header-1, no-header-2, no-header-3, a-header}
 use Rattle.read_header.proofs.read_header.Goals as goal
 
@@ -19,4 +20,4 @@ returns-in_err-no c =
 pub returns : goal.returns
 returns c =
     a-header _ _ c.skip_blanks-line1.ensures _ _ _ c.in_ok-gates.ensures _ c.skip_blanks-line2.ensures _ _ _ _ c.in_ok-ni.ensures _
-    c.skip_blanks-line3.ensures _ _ _ _ c.in_ok-no.ensures
+    c.skip_blanks-line3.ensures _ _ _ _ refl c.in_ok-no.ensures

@@ -1,26 +1,36 @@
--- `deliver`: question 11, and then the twins.
+-- `deliver`: questions 11 and 14 in order, and the twins at the fronts of the buffers.
 use mathlib.Core.Path.{sym, ◌∙◌}
-use borrow.Author.Tests.{not-false}
+use lib.Seq.{length-take-le}
 use Rattle.netlist.specs.Mask.{is_input_code}
 use Rattle.mask_twins.proofs.Made.{codes-length}
-use Rattle.twins.proofs.Placing.{twins-11, twins-14, holds-codes}
+use Rattle.twins.proofs.Placing.{twins-14, holds-codes, short-wires, short-codes, placed, finished-same}
 use native.Mathlib.Omega.{arith}
 use Rattle.twins.proofs.deliver.Goals as goal
 
-pub returns-then-not-valid_codes : goal.returns-then-not-valid_codes
-returns-then-not-valid_codes c =
-    let s = c.args in
-    λ N h. twins-11 h s.codes.now _ _ (sym c.valid_codes.ensures ∙ c.if-not-valid_codes.true)
+pub returns-then-wires-all : goal.returns-then-wires-all
+returns-then-wires-all c =
+    let codes = c.args.codes.now in
+    let q = sym c.valid_codes.ensures ∙ c.if-not-valid_codes.false in
+    let k = codes-length is_input_code _ codes q in
+    λ N h. twins-14 h codes q (short-wires codes (holds-codes h codes q) (omega (arith, k, c.args.h.inputs_are_wires)) _ _ c.if-wires-all.true)
 
-pub place-requires : goal.place-requires
-place-requires c =
-    let p = c.requires in
-    let k = codes-length is_input_code _ c.args.codes.now (sym c.valid_codes.ensures ∙ c.if-not-valid_codes.false) in
-    (p.0, p.1, p.2, omega (arith, k, p.3))
+pub returns-then-out_codes-all : goal.returns-then-out_codes-all
+returns-then-out_codes-all c =
+    let codes = c.args.codes.now in
+    let q = sym c.valid_codes.ensures ∙ c.if-not-valid_codes.false in
+    let k = codes-length is_input_code _ codes q in
+    λ N h. twins-14 h codes q (short-codes codes (holds-codes h codes q) (omega (arith, k, c.args.h.inputs_are_wires)) _ _ c.if-out_codes-all.true)
 
 pub returns : goal.returns
 returns c =
+    let t = c.place_twins in
     let codes = c.args.codes.now in
-    let q = sym c.valid_codes.ensures ∙ not-false _
-    c.if-not-valid_codes.false-raw in
-    λ N h. twins-14 h codes q (c.place.ensures N (holds-codes h codes q))
+    let q = sym c.valid_codes.ensures ∙ c.if-not-valid_codes.false in
+    let k = codes-length is_input_code _ codes q in
+    let a = c.if-wires-all.false in
+    let b = c.if-out_codes-all.false in
+    let w = length-take-le c.args.h.wires c.args.wires.now a in
+    let v = length-take-le c.args.h.wires c.args.out_codes.now b in
+    λ N h. twins-14 h codes q
+    (placed codes (holds-codes h codes q) (omega (arith, k, c.args.h.inputs_are_wires)) a b (t.auto.wire ∙ w) (t.auto.code ∙ v)
+    (finished-same (sym w) t.ensures))

@@ -1,5 +1,5 @@
 -- `judge`: questions 10, 11, 21 and 12, and both verdicts.
-use mathlib.Core.Path.{◌≡◌, sym, subst, ◌∙◌}
+use mathlib.Core.Path.{◌≡◌, sym, ap, subst, ◌∙◌}
 use mathlib.Core.Bool.{true}
 use mathlib.Core.List.{List}
 use Prim.Native.Nat.{ℕ, ◌+◌, ◌≤◌}
@@ -7,7 +7,7 @@ use lib.ListN.{length, take}
 use lib.Seq.{length-take-le}
 use Rattle.netlist.specs.Table.{Holds}
 use Rattle.gate_table.specs.Gates.{tables_of}
-use Rattle.check_netlist.proofs.Judging.{asked-bits, asked-codes}
+use Rattle.check_netlist.proofs.Judging.{asked-bits}
 use Rattle.pairs.specs.Call.{pairs_good}
 use Rattle.wide_judge.proofs.Judging.{answered}
 use native.Mathlib.Omega.{arith}
@@ -16,36 +16,34 @@ use Rattle.wide_judge.proofs.judge.Goals as goal
 pub within-requires-clause-paints_len : goal.within-requires-clause-paints_len
 within-requires-clause-paints_len c =
     let a = c.args in
-    let p = c.requires.input_values_bound in
-    let vs = take a.h.input_values a.widths in
-    let asked = sym c.in_ok-ask_codes.ensures in
-    let bits = asked-bits vs a.codes.now asked in
+    let p = c.requires.input_bits_sum in
+    let same = ap length c.in_ok-admitted.ensures.given in
+    let bits = asked-bits a.widths.now a.codes.now (sym c.in_ok-admitted.ensures.asked) in
     let L : (l : List ℕ) → a.h.wires ≤ length l → length (take a.h.wires l) ≡ a.h.wires = λ l h. length-take-le a.h.wires l h in
-    let w = L a.words.now p.3 in
-    let n = length-take-le (length a.codes.now) a.paints.now (omega (arith, bits, p.1, p.2, p.10)) in (
-      n,
-      omega (arith, bits, p.1, p.2, w),
-      L a.bases.now p.5 ∙ sym w,
-      L a.base.now p.4 ∙ sym w,
-      asked-codes vs a.codes.now asked,
-      L a.set0.now p.6 ∙ sym w,
-      L a.set1.now p.7 ∙ sym w,
-      L a.set2.now p.8 ∙ sym w,
-      L a.set3.now p.9 ∙ sym w,
+    let w = L a.words.now p.1 in
+    let n = length-take-le (length a.codes.now) a.paints.now (omega (arith, bits, p.0, a.h.inputs_are_wires, p.8)) in (
+      n ∙ sym same,
+      omega (arith, same, bits, p.0, a.h.inputs_are_wires, w),
+      L a.bases.now p.3 ∙ sym w,
+      L a.base.now p.2 ∙ sym w,
+      L a.set0.now p.4 ∙ sym w,
+      L a.set1.now p.5 ∙ sym w,
+      L a.set2.now p.6 ∙ sym w,
+      L a.set3.now p.7 ∙ sym w,
     )
 
 pub returns : goal.returns
 returns c =
     let a = c.args in
-    let p = c.requires.input_values_bound in
-    let vs = take a.h.input_values a.widths in
-    let asked = c.in_ok-ask_codes.ensures in
-    let bits = asked-bits vs a.codes.now (sym asked) in
+    let p = c.requires.input_bits_sum in
+    let asked = c.in_ok-admitted.ensures.asked in
+    let given = c.in_ok-admitted.ensures.given in
+    let bits = asked-bits a.widths.now a.codes.now (sym asked) in
     let good : pairs_good a.h.wires a.pairs.now ≡ true = sym
     c.pairs_good.ensures ∙ c.if-not-pairs_good.false in
     let t = tables_of a.gates in
-    let w = length-take-le a.h.wires a.words.now p.3 in
-    let n : a.h.input_bits ≡ length a.codes.now + 2 = p.1 ∙ sym bits in
-    λ N H F e. answered N a.codes.now a.pairs.now vs e asked H.wires good
-    (c.within.ensures a.h.output_bits N (subst (λ (Y : ℕ). Holds t a.gates.count Y (length a.codes.now + 2) a.h.output_bits N) (sym w)
+    let w = length-take-le a.h.wires a.words.now p.1 in
+    let n : a.h.input_bits ≡ length a.codes.now + 2 = p.0 ∙ sym bits in
+    λ N H F e. answered N a.codes.now a.pairs.now a.widths.now e asked H.wires good
+    ((rw given at c.within.ensures) a.h.output_bits N (subst (λ (Y : ℕ). Holds t a.gates.count Y (length a.codes.now + 2) a.h.output_bits N) (sym w)
     (subst (λ (Y : ℕ). Holds t a.gates.count a.h.wires Y a.h.output_bits N) n H)) F)

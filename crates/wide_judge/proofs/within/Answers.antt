@@ -14,8 +14,8 @@ returns-then-not-reach c =
     let r = c.reach in
     let S = sets r.new.set0 r.new.set1 r.new.set2 r.new.set3 in
     let t = tables_of a.gates in
-    λ o N H F. wires-many S a.codes.now a.pairs.now H c.requires.wired.1 (c.if-not-reach.true)
-    (r.ensures.1 o N (subst (λ (Y : ℕ). Holds t a.gates.count Y (length a.codes.now + 2) o N) (sym c.requires.paints_len.5) H) F)
+    λ o N H F. wires-many S a.codes.list.now a.pairs.now H c.requires.wired.1 (c.if-not-reach.true)
+    (r.ensures.1 o N (subst (λ (Y : ℕ). Holds t a.gates.count Y (length a.codes.list.now + 2) o N) (sym c.requires.paints_len.4) H) F)
 
 pub returns-then-not-pairs_few : goal.returns-then-not-pairs_few
 returns-then-not-pairs_few c =
@@ -23,9 +23,9 @@ returns-then-not-pairs_few c =
     let r = c.reach in
     let S = sets r.new.set0 r.new.set1 r.new.set2 r.new.set3 in
     let t = tables_of a.gates in
-    λ o N H F. pairs-many S a.codes.now a.pairs.now H c.requires.wired.1
+    λ o N H F. pairs-many S a.codes.list.now a.pairs.now H c.requires.wired.1
     (c.if-not-reach.false)
-    (r.ensures.1 o N (subst (λ (Y : ℕ). Holds t a.gates.count Y (length a.codes.now + 2) o N) (sym c.requires.paints_len.5) H) F)
+    (r.ensures.1 o N (subst (λ (Y : ℕ). Holds t a.gates.count Y (length a.codes.list.now + 2) o N) (sym c.requires.paints_len.4) H) F)
     (c.pairs_few.ensures.1 (c.if-not-pairs_few.true))
 
 pub returns : goal.returns
@@ -38,10 +38,10 @@ returns c =
     let t = tables_of a.gates in
     let y = c.if-not-reach.false in
     λ o N H F.
-    let R = r.ensures.1 o N (subst (λ (Y : ℕ). Holds t a.gates.count Y (length a.codes.now + 2) o N) (sym q.5) H) F in
+    let R = r.ensures.1 o N (subst (λ (Y : ℕ). Holds t a.gates.count Y (length a.codes.list.now + 2) o N) (sym q.4) H) F in
     let g = c.search-found.ensures o N
-    (given S a.codes.now a.pairs.now H c.requires.wired.1 y R) in
-    all-few S a.codes.now a.pairs.now H c.requires.wired.1 y R (subst (Sized S) q.5 (r.ensures.0 y))
+    (given S a.codes.list.now a.pairs.now H c.requires.wired.1 y R) in
+    all-few S a.codes.list.now a.pairs.now H c.requires.wired.1 y R (subst (Sized S) q.4 (r.ensures.0 y))
     (c.pairs_few.ensures.0
     (c.if-not-pairs_few.false))
     (told-both g.0 g.1)

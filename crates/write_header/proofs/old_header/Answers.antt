@@ -5,7 +5,7 @@ use Rattle.write_header.proofs.old_header.Goals as goal
 
 pub returns : goal.returns
 returns c =
-    let s = c.args in
+    let s = c.args.s in
     wrote_then c.counts-second.ensures
     (wrote_then
     (wrote-parties s.ins.now s.outs.now c.width_at-3.ensures

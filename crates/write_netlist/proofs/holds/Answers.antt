@@ -9,4 +9,4 @@ returns-then-ample c =
     let f = c.args.f in
     c.if-ample.true
     ∙ sym (form-ample f.dialect f.gates.count f.wires f.ins.now f.outs.now (omega arith) c.requires.wired.0
-    c.header_in-header.ensures c.requires.wired.1 (sym c.ample.ensures ∙ c.if-ample.true))
+    c.header_lines-header.ensures c.requires.wired.1 (sym c.ample.ensures ∙ c.if-ample.true))

@@ -3,4 +3,4 @@ use Rattle.write_buffer.proofs.Writing.{wrote_then}
 use Rattle.write_netlist.proofs.write.Goals as goal
 
 pub returns : goal.returns
-returns c = wrote_then c.header_in-at.ensures c.gates.ensures.wrote
+returns c = wrote_then c.header_lines-at.ensures c.gate_lines.ensures.wrote

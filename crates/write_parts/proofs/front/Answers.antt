@@ -10,8 +10,18 @@ loop-a-init g c = spilt-most _ 6 (omega arith) (omega arith) (spilt-none (rw c.h
 
 pub wire-next-requires : goal.wire-next-requires
 wire-next-requires g c =
-    let p = c.requires.words in
-    (p.0.operands c.loop-a.a-index (omega arith), omega (arith, p.1, c.requires.few, c.loop-a.invariant.few, c.loop-a.invariant.next, c.loop-a.auto.out, c.store-next.auto.out))
+    let p = c.requires.words in (
+      p.0.operands c.loop-a.a-index (omega arith),
+      omega (
+        arith,
+        p.1,
+        c.requires.few,
+        c.loop-a.invariant.few,
+        c.loop-a.invariant.next,
+        c.loop-a.auto.out,
+        c.store-next.auto.out,
+      ),
+    )
 
 pub loop-a-preserved : goal.loop-a-preserved
 loop-a-preserved g c =

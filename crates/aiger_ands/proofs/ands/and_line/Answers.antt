@@ -13,8 +13,10 @@ pub returns-then-not-is_readable-clause-line : goal.returns-then-not-is_readable
 returns-then-not-is_readable-clause-line c = (
   λ given wires gs l S. and_no c.in_ok-next.ensures.line _ given (λ h. elim c.then-not-is_readable.branch [
     | then-not-is_readable-via-then-not-is_readable w ↦ not_so (sym w.if-not-is_readable.true ∙ c.is_readable.ensures.0 given wires S.places ∙ h.0)
-    | then-not-is_readable-via-else-not-is_readable+then-not-is_readable-2 w ↦ not_so (sym w.if-not-is_readable-2.true ∙ w.is_readable-else-not-is_readable.ensures.0 given wires S.places ∙ h.1)
-    | then-not-is_readable-via-else-not-is_readable+else-not-is_readable-2+then-not-can_give w ↦ not_so (sym w.if-not-can_give.true ∙ w.can_give.ensures.0 given wires S.places ∙ h.2)
+    | then-not-is_readable-via-else-not-is_readable+then-not-is_readable-2 w ↦ not_so
+        (sym w.if-not-is_readable-2.true ∙ w.is_readable-else-not-is_readable.ensures.0 given wires S.places ∙ h.1)
+    | then-not-is_readable-via-else-not-is_readable+else-not-is_readable-2+then-not-can_give w ↦ not_so
+        (sym w.if-not-can_give.true ∙ w.can_give.ensures.0 given wires S.places ∙ h.2)
   ]),
   omega arith,
 )

@@ -3,4 +3,4 @@ use Rattle.aiger_lines.proofs.Strays.{Passing}
 use Rattle.aiger_lines.proofs.between.to_word.Given as goal
 
 abbrev pub invariant-loop-i : goal.invariant-loop-i
-invariant-loop-i l = Passing l.text l.fn.at.at l.i
+invariant-loop-i l = Passing l.text l.fn.at l.i

@@ -21,4 +21,5 @@ overflow_add-many c =
 
 pub loop-word-preserved : goal.loop-word-preserved
 loop-word-preserved c =
-    counting_more (λ k. lane c.args.place (get_or c.args.words.now k 0)) c.loop-word.word-index c.loop-word.invariant (bit-low c.args.place (get_or c.args.words.now c.loop-word.word-index 0))
+    counting_more (λ k. lane c.args.place (get_or c.args.words.now k 0)) c.loop-word.word-index c.loop-word.invariant
+    (bit-low c.args.place (get_or c.args.words.now c.loop-word.word-index 0))

@@ -4,19 +4,12 @@ use mathlib.Core.Bool.{false}
 use Prim.Native.Nat.{ℕ, ◌+◌}
 use lib.Dec.{T}
 use lib.ListN.{length}
-use Rattle.netlist.proofs.Puts.{wired-same}
 use Rattle.evaluate.specs.Bare.{bare}
 use Rattle.check_counts.specs.Block.{Evaluated}
 use Rattle.check_counts.proofs.BlockRuns.{run-block-law}
 use Rattle.check_counts.proofs.Bases.{counted_same, same_base, first-base}
-use native.Mathlib.Omega.{arith}
 use Rattle.gate_table.specs.Gates.{tables_of}
 use Rattle.check_counts.proofs.block.refresh.Goals as goal
-
-pub run_block-requires : goal.run_block-requires
-run_block-requires c =
-    let e = c.requires.paints_in_bounds.1 in
-    record { wired = wired-same e c.requires.wired; paints_in_bounds = omega (arith, c.requires.paints_in_bounds.0, e) }
 
 pub returns-then-publics : goal.returns-then-publics
 returns-then-publics c =

@@ -6,4 +6,4 @@ use Rattle.check_counts.specs.Paint.{paint_each}
 use Rattle.check_counts.proofs.paint.each.Given as goal
 
 abbrev pub invariant-loop-i : goal.invariant-loop-i
-invariant-loop-i l = Laid 0 (paint_each 0 l.codes) (replicate 12 0) l.paints l.i × (l.i ≤ length l.codes)
+invariant-loop-i l = Laid 0 (paint_each 0 l.codes.list.now) (replicate 12 0) l.paints l.i × (l.i ≤ length l.codes.list.now)

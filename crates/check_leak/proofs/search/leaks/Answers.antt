@@ -1,31 +1,21 @@
 -- `search::leaks`: Check's search is that by colours with a colour for each input.
-use mathlib.Core.Path.{sym, ap, subst, ◌∙◌}
+use mathlib.Core.Path.{subst}
 use mathlib.Core.Bool.{true, false}
 use mathlib.Core.List.{List}
 use Prim.Native.Nat.{ℕ, ◌*◌}
 use lib.ListN.{length}
 use Rattle.evaluate.specs.Bare.{bare}
 use Rattle.check_counts.specs.Base.{count_in}
-use Rattle.check_counts.proofs.Paints.{length-each}
 use Rattle.check_leak.specs.Difference.{LowestDifference}
 use Rattle.check_leak.proofs.Answers.{tells-found}
-use native.Mathlib.Omega.{arith}
 use Rattle.gate_table.specs.Gates.{tables_of}
 use Rattle.check_leak.proofs.search.leaks.Goals as goal
-
-pub slice_bounds-find-end : goal.slice_bounds-find-end
-slice_bounds-find-end c = sym (ap length c.each-paints.ensures ∙ length-each 0 c.args.codes.now)
-
-pub find-requires : goal.find-requires
-find-requires c =
-    let e = ap length c.each-paints.ensures ∙ length-each 0 c.args.codes.now in
-    record { wired = c.requires.wired; paints_in_bounds = (omega (arith, c.requires.codes_len_bound.1, e), c.requires.codes_len_bound.2, c.blocks_of.ensures.1) }
 
 pub returns : goal.returns
 returns c = λ n o N h. let a = c.args in
     let find = c.find in
     let blocks = c.blocks_of in
     let N' = bare (tables_of a.gates) a.gates.count (length a.words.now) in
-    tells-found h a.codes.now (blocks.result * 16) find.result blocks.ensures.0 c.requires.codes_len_bound.3
+    tells-found h a.codes.list.now (blocks.result * 16) find.result blocks.ensures.0 a.codes.small
     (subst (λ (ps : List ℕ). LowestDifference (count_in N' false ps) (count_in N' true ps) (length a.words.now) (blocks.result * 16) find.result)
     c.each-paints.ensures find.ensures)

@@ -1,28 +1,18 @@
 -- `evaluate::lay::low_bits` meets its contract.
 use mathlib.Core.Path.{refl, ◌∙◌}
 use native.Mathlib.Omega.{arith}
-use lib.Bits.{and_le_r}
 use lib.ListN.{get_or}
-use Rattle.netlist.proofs.Laid.{laid_none, laid_more}
+use Rattle.netlist.proofs.Laid.{laid_more}
 use Rattle.evaluate.specs.Lane.{lane}
 use Rattle.evaluate.proofs.Lanes.{bit-first}
 use Rattle.evaluate.proofs.Fronts.{laid-front, bits-long, bits_at}
 use Rattle.evaluate.proofs.lay.low_bits.Goals as goal
-
-pub loop-i-init : goal.loop-i-init
-loop-i-init c = laid_none 0 _ _
-
-pub overflow_cast-dst : goal.overflow_cast-dst
-overflow_cast-dst c = omega (arith, and_le_r (get_or c.args.src.now c.loop-i.i 0) 1)
 
 pub loop-i-preserved : goal.loop-i-preserved
 loop-i-preserved c =
     let src = c.args.src.now in
     let at = c.loop-i in
     laid_more _ at.invariant (omega (arith, bits-long (lane 0) src)) (omega arith) (bit-first (get_or src at.i 0) ∙ bits_at (lane 0) src at.i refl)
-
-pub shape_of-dst : goal.shape_of-dst
-shape_of-dst c = c.loop-i.invariant.long
 
 pub returns : goal.returns
 returns c = let e = bits-long (lane 0) c.args.src.now in laid-front c.loop-i.invariant (omega arith) (omega arith)

@@ -1,15 +1,8 @@
 -- `evaluate::single::outputs` meets its contract.
 use mathlib.Core.Path.{◌∙◌}
-use native.Mathlib.Omega.{arith}
 use lib.Dec.{lit<}
-use Rattle.netlist.proofs.Puts.{wired-same}
 use Rattle.evaluate.proofs.Runs.{single-law}
 use Rattle.evaluate.proofs.single.outputs.Goals as goal
-
-pub wires-requires : goal.wires-requires
-wires-requires c =
-    let k = c.bits.auto.dst in
-    record { wired = wired-same k c.requires.wired; ins_in_bounds = omega (arith, c.requires.bits_in_bounds.0, k) }
 
 pub returns : goal.returns
 returns c N h =

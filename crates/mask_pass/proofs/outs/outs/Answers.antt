@@ -1,10 +1,6 @@
 -- `mask_pass::outs::outs` meets its contract.
-use Rattle.mask_pass.proofs.Outputs.{outed-none, outed-more, outed-all}
-use native.Mathlib.Omega.{arith}
+use Rattle.mask_pass.proofs.Outputs.{outed-more, outed-all}
 use Rattle.mask_pass.proofs.outs.outs.Goals as goal
-
-pub loop-i-init : goal.loop-i-init
-loop-i-init c = outed-none _ _ _ _ _ _ _ _ (omega arith) (omega arith)
 
 pub loop-i-preserved : goal.loop-i-preserved
 loop-i-preserved c =

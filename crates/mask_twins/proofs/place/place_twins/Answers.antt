@@ -1,25 +1,21 @@
 -- `place_twins`: the twins of the inputs, and then those of the gates' results.
 use lib.ListN.{length}
-use Rattle.netlist.proofs.Puts.{wired-same}
 use Rattle.mask_twins.proofs.Starts.{started-most}
 use Rattle.mask_twins.proofs.Finishes.{finished}
 use native.Mathlib.Omega.{arith}
 use Rattle.gate_table.specs.Gates.{tables_of}
 use Rattle.mask_twins.proofs.place.place_twins.Goals as goal
 
-pub results-requires : goal.results-requires
-results-requires c =
-    let p = c.requires in
-    let s = c.start-first in
-    record { count_bound = omega (arith, p.small, p.ins, started-most s.ensures); wired = (wired-same s.auto.wire p.wired, omega (arith, p.codes, s.auto.wire, s.auto.code)) }
-
 pub returns : goal.returns
 returns c =
     let a = c.args in
     let s = c.start-first in
-    let g = c.results in
+    let g = c.place_results in
     record {
       state = λ N h. finished (tables_of a.gates) a.gates.count (length a.wire.now) a.codes.now N h
           g.new.wire g.new.code s.ensures g.ensures.state;
       grown = omega (arith, started-most s.ensures, g.ensures.grown);
     }
+
+pub place_results-requires-clause-count_bound : goal.place_results-requires-clause-count_bound
+place_results-requires-clause-count_bound c = let p = c.requires in omega (arith, p.small, p.ins, started-most c.start-first.ensures)

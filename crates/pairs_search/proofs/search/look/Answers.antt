@@ -1,7 +1,6 @@
 -- `look`: a block's lowest leak and its first uneven pair.
 use Rattle.pairs_search.proofs.Finds.{look-law}
 use Rattle.pairs_search.proofs.search.look.Goals as goal
-use Rattle.pairs_search.proofs.search.look.Goals.{then-wires-words, else-wires-words}
 
 pub returns : goal.returns
 returns c =

@@ -21,6 +21,6 @@ returns c = λ n o N h. let a = c.args in
     let S = blocks.result * 16 in
     let found = subst (λ (ps : List ℕ). Found (counts_of N' false ps) (counts_of N' true ps) a.pairs.now W (length a.pairs.now / 2) S find.result)
     c.each-paints.ensures find.ensures in (
-      tells-found h a.codes.now S find.result.leak blocks.ensures.0 c.requires.codes_len_bound.5 found.lowest,
-      tells-pairs h a.codes.now c.requires.codes_len_bound.5 a.pairs.now S find.result.pair blocks.ensures.0 found.uneven,
+      tells-found h a.codes.list.now S find.result.leak blocks.ensures.0 a.codes.small found.lowest,
+      tells-pairs h a.codes.list.now a.codes.small a.pairs.now S find.result.pair blocks.ensures.0 found.uneven,
     )

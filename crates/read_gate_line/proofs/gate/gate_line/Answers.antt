@@ -8,19 +8,19 @@ use Rattle.read_gate_line.proofs.OperandCounts.{line-operands}
 use Rattle.read_gate_line.proofs.gate.gate_line.Goals as goal
 
 pub returns-in_err-n : goal.returns-in_err-n
-returns-in_err-n c = rw c.from_residual.ensures (line_same _ _ _ _ _ (gate-form _) (line-not _ _ _ c.in_err-n.ensures))
+returns-in_err-n c = rw c.from_residual.ensures (line_same _ _ _ _ (gate-form _) (line-not _ _ c.in_err-n.ensures))
 
 pub returns-in-1 : goal.returns-in-1
 returns-in-1 c =
-    line_same _ _ _ _ _ (gate-form _)
-    (line-operands _ _ _ _ c.in_ok-n.ensures _ (line_same _ _ _ _ _ (counted-one _ _ _ refl c.in-1.is) c.one_operand.ensures))
+    line_same _ _ _ _ (gate-form _)
+    (line-operands _ _ _ c.in_ok-n.ensures _ (line_same _ _ _ _ (counted-one _ _ _ refl c.in-1.is) c.one_operand.ensures))
 
 pub returns-in-2 : goal.returns-in-2
 returns-in-2 c =
-    line_same _ _ _ _ _ (gate-form _)
-    (line-operands _ _ _ _ c.in_ok-n.ensures _ (line_same _ _ _ _ _ (counted-two _ _ _ refl (λ e. omega (arith, c.in-2.is)) c.in-2.is) c.two_operands.ensures))
+    line_same _ _ _ _ (gate-form _)
+    (line-operands _ _ _ c.in_ok-n.ensures _ (line_same _ _ _ _ (counted-two _ _ _ refl (λ e. omega (arith, c.in-2.is)) c.in-2.is) c.two_operands.ensures))
 
 pub returns-in_default : goal.returns-in_default
 returns-in_default c =
-    line_same _ _ _ _ _ (gate-form _)
-    (line-operands _ _ _ _ c.in_ok-n.ensures _ (line-not _ _ _ (counted-other _ _ _ refl (search rules) (search rules))))
+    line_same _ _ _ _ (gate-form _)
+    (line-operands _ _ _ c.in_ok-n.ensures _ (line-not _ _ (counted-other _ _ _ refl (search rules) (search rules))))

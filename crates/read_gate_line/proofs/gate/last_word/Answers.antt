@@ -3,10 +3,10 @@ use Rattle.read_gate_line.proofs.GateWords.{last-unnamed, last_more, last-gate}
 use Rattle.read_gate_line.proofs.gate.last_word.Goals as goal
 
 pub returns-in_err-g : goal.returns-in_err-g
-returns-in_err-g c = rw c.from_residual.ensures (last-unnamed _ _ _ c.in_err-g.was)
+returns-in_err-g c = rw c.from_residual.ensures (last-unnamed _ _ c.in_err-g.was)
 
 pub returns-in_err-next : goal.returns-in_err-next
-returns-in_err-next c = rw c.from_residual-in_err-next.ensures (last_more _ _ _ c.in_err-next.ensures)
+returns-in_err-next c = rw c.from_residual-in_err-next.ensures (last_more _ _ c.in_err-next.ensures)
 
 pub returns : goal.returns
-returns c = last-gate _ _ _ _ _ c.in_ok-g.was c.requires.1 c.in_ok-next.ensures
+returns c = last-gate _ _ _ _ c.in_ok-g.was c.requires c.in_ok-next.ensures

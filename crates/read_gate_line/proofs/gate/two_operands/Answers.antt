@@ -5,21 +5,21 @@ use borrow.Author.Rules.{rules}
 use Rattle.read_gate_line.proofs.gate.two_operands.Goals as goal
 
 pub returns-in_err-a : goal.returns-in_err-a
-returns-in_err-a c = rw c.from_residual.ensures (line-no-number _ _ _ c.in_err-a.ensures)
+returns-in_err-a c = rw c.from_residual.ensures (line-no-number _ _ c.in_err-a.ensures)
 
 pub returns-in_err-b : goal.returns-in_err-b
 returns-in_err-b c =
-    rw c.from_residual-in_err-b.ensures (line-behind _ _ _ _ _ _ c.in_ok-a.ensures (line-no-number _ _ _ c.in_err-b.ensures))
+    rw c.from_residual-in_err-b.ensures (line-behind _ _ _ _ _ c.in_ok-a.ensures (line-no-number _ _ c.in_err-b.ensures))
 
 pub returns-in_err-c : goal.returns-in_err-c
 returns-in_err-c c =
     rw c.from_residual-in_err-c.ensures
-    (line-behind _ _ _ _ _ _ c.in_ok-a.ensures (line-behind _ _ _ _ _ _ c.in_ok-b.ensures (line-no-number _ _ _ c.in_err-c.ensures)))
+    (line-behind _ _ _ _ _ c.in_ok-a.ensures (line-behind _ _ _ _ _ c.in_ok-b.ensures (line-no-number _ _ c.in_err-c.ensures)))
 
 pub last_word-requires : goal.last_word-requires
-last_word-requires c = (search rules, named-exact _ _ c.gate2-named.ensures)
+last_word-requires c = named-exact _ _ c.gate2.ensures
 
 pub returns : goal.returns
 returns c =
-    line-behind _ _ _ _ _ _ c.in_ok-a.ensures (line-behind _ _ _ _ _ _ c.in_ok-b.ensures (line-behind _ _ _ _ _ _ c.in_ok-c.ensures
-    (line-named _ refl _ _ _ _ _ _ c.next_word-word.ensures (named-gate _ _ c.gate2-named.ensures) c.last_word.ensures)))
+    line-behind _ _ _ _ _ c.in_ok-a.ensures (line-behind _ _ _ _ _ c.in_ok-b.ensures (line-behind _ _ _ _ _ c.in_ok-c.ensures
+    (line-named _ refl _ _ _ _ _ c.next_word.ensures (named-gate _ _ c.gate2.ensures) c.last_word.ensures)))

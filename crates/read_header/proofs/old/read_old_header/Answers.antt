@@ -1,4 +1,5 @@
 -- `read_old_header`: two lines, with blank lines between them.
+use mathlib.Core.Path.{refl}
 use Rattle.read_header.proofs.OldHeaders.{no-old-header-1, no-old-header-2, an-old-header}
 use Rattle.read_header.proofs.old.read_old_header.Goals as goal
 
@@ -12,5 +13,5 @@ returns-in_err-p c =
 
 pub returns : goal.returns
 returns c =
-    an-old-header _ _ c.skip_blanks-line1.ensures _ _ _ c.in_ok-gates.ensures _ c.skip_blanks-line2.ensures _ _ c.in_ok-p.ensures
+    an-old-header _ _ c.skip_blanks-line1.ensures _ _ _ c.in_ok-gates.ensures _ c.skip_blanks-line2.ensures _ _ refl c.in_ok-p.ensures
     c.args.outputs.now c.keep_inputs-values.ensures c.put.ensures

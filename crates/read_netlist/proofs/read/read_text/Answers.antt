@@ -9,13 +9,13 @@ returns-in_err-h c =
     let p = err_from_is_err_and c.from_residual.result c.from_residual.ensures.1 in
     rw (p.1, p.2) (read-no-head c.in_err-h.ensures)
 
-pub returns-in_err-read_body : goal.returns-in_err-read_body
-returns-in_err-read_body c =
-    let p = err_from_is_err_and c.from_residual-in_err-read_body.result c.from_residual-in_err-read_body.ensures.1 in
-    rw (p.1, p.2) (read-not c.in_ok-h.ensures c.in_err-read_body.ensures)
+pub returns-in_err-read_gates : goal.returns-in_err-read_gates
+returns-in_err-read_gates c =
+    let p = err_from_is_err_and c.from_residual-in_err-read_gates.result c.from_residual-in_err-read_gates.ensures.1 in
+    rw (p.1, p.2) (read-not c.in_ok-h.ensures (rw c.in_ok-h.ensures.header.same c.in_err-read_gates.ensures))
 
 pub returns : goal.returns
 returns c =
-    let p = c.requires.text_bound in
-    read_done c.in_ok-h.ensures (omega (arith, p.1, c.read_opening_in.auto.inputs)) (omega (arith, p.2, c.read_opening_in.auto.outputs))
-    c.in_ok-read_body.ensures
+    let p = c.requires.widths_in_bounds in
+    read_done c.in_ok-h.ensures (omega (arith, p.0, c.read_opening_in.auto.inputs)) (omega (arith, p.1, c.read_opening_in.auto.outputs))
+    (rw c.in_ok-h.ensures.header.same c.in_ok-read_gates.ensures)

@@ -1,9 +1,11 @@
 -- One question after another.
-use Rattle.std.proofs.Common.{arith, ◌≡◌}
+use Rattle.std.proofs.Common.{arith, ◌≡◌, refl}
+use borrow.Author.Tests.{le-leb, lt-leb}
 use Rattle.std.proofs.lemmas.Result.{err_from_is_err_and}
 use Rattle.netlist.specs.declared.Question.TheVariants.{Grammar, Names}
-use Rattle.read_verilog.proofs.Answers.{long-text, no-form, tree, rules-broken, at, too-deep, too_many, netlist-read}
+use Rattle.read_verilog.proofs.Answers.{long-text, no-form, tree, rules-broken, at, too-deep, no-room, netlist-read}
 use Rattle.read_verilog.proofs.Made.{gates-put}
+use Rattle.read_verilog.proofs.read.read.Goals.{then-l-all-via-then-l-all, then-l-all-via-else-l-all+then-l-lt1, then-l-all-via-else-l-all+else-l-lt1+then-l-lt1-2}
 use Rattle.read_verilog.proofs.read.read.Goals as goal
 
 pub returns-then-l-text : goal.returns-then-l-text
@@ -44,7 +46,11 @@ pub returns-then-l-all : goal.returns-then-l-all
 returns-then-l-all c =
     let T = tree c.args.l c.args.text.now (omega (arith, c.if-l-text.false)) (rw c.in_ok-form.ensures.ok_part at c.walk.ensures) in
     let K = rw c.in_ok-k.ensures.ok_part at c.rules.ensures in
-    too_many T K (omega (arith, c.if-form-gt-DEEPEST.false)) (omega (arith, c.if-l-all.true))
+    no-room T K (omega (arith, c.if-form-gt-DEEPEST.false)) (elim c.then-l-all.branch [
+      | then-l-all-via-then-l-all w ↦ rw (lt-leb _ _ w.if-l-all.true) refl
+      | then-l-all-via-else-l-all+then-l-lt1 w ↦ rw (le-leb _ _ w.if-l-all.false, lt-leb _ _ w.if-l-lt1.true) refl
+      | then-l-all-via-else-l-all+else-l-lt1+then-l-lt1-2 w ↦ rw (le-leb _ _ w.if-l-all.false, le-leb _ _ w.if-l-lt1.false, lt-leb _ _ w.if-l-lt1-2.true) refl
+    ])
 
 pub invariant_of-names : goal.invariant_of-names
 invariant_of-names c =
@@ -73,5 +79,5 @@ returns c =
     let T = tree c.args.l c.args.text.now (omega (arith, c.if-l-text.false)) (rw c.in_ok-form.ensures.ok_part at c.walk.ensures) in
     let K = rw c.in_ok-k.ensures.ok_part at c.rules.ensures in
     let b = c.requires.text_bound in
-    netlist-read T K (omega (arith, c.if-form-gt-DEEPEST.false)) (omega (arith, c.if-l-all.false)) b.5 b.6 b.3 b.4 (omega (arith, b.2))
+    netlist-read T K (omega (arith, c.if-form-gt-DEEPEST.false)) (omega (arith, c.if-l-all.false)) c.if-l-lt1.false c.if-l-lt1-2.false b.3 b.4 (omega (arith, b.2))
     (gates-put c.equations.ensures c.copies.ensures)

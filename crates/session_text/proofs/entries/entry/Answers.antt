@@ -10,4 +10,5 @@ returns-in_err-gate_good c =
     rw (p.1, p.2) (rw c.from-g.ensures at c.in_err-gate_good.ensures)
 
 pub returns : goal.returns
-returns c = let a = c.args in record-yes a.r a.next (rw c.from-g.ensures at c.in_ok-gate_good.ensures) (rw (c.kind_in.ensures, c.from-g.ensures) at c.entry_of.ensures) (omega arith) (omega arith)
+returns c = let a = c.args in record-yes a.r a.next (rw c.from-g.ensures at c.in_ok-gate_good.ensures)
+    (rw (c.kind_in.ensures, c.from-g.ensures) at c.entry_of.ensures) (omega arith) (omega arith)

@@ -28,26 +28,31 @@ pub expression-loop-names-preserved : goal.expression-loop-names-preserved
 expression-loop-names-preserved t c = record {
   operands = c.put.auto.operands ∙ c.term-v.auto.operands ∙ c.loop-names.invariant.operands;
   results = c.put.auto.results ∙ c.term-v.auto.results ∙ c.loop-names.invariant.results;
-  onward = λ before h. terms-more _ _ _ _ _ (c.loop-names.invariant.onward before h) (this_number c.loop-names.left.token.kind Xor c.loop-names-test.ensures) c.term-v.ensures c.put.ensures;
+  onward = λ before h. terms-more _ _ _ _ _ (c.loop-names.invariant.onward before h)
+      (this_number c.loop-names.left.token.kind Xor c.loop-names-test.ensures) c.term-v.ensures c.put.ensures;
 }
 
 pub expression-returns : goal.expression-returns
 expression-returns t c =
-    terms-end _ _ _ _ _ (c.loop-names.invariant.onward _ (terms-start _ _ _ _ _ c.term-left.ensures)) (other_number c.loop-names.left.token.kind Xor c.loop-names-test.ensures)
+    terms-end _ _ _ _ _ (c.loop-names.invariant.onward _ (terms-start _ _ _ _ _ c.term-left.ensures))
+    (other_number c.loop-names.left.token.kind Xor c.loop-names-test.ensures)
 
 -- ---- a factor: a name or an expression in parentheses, inverted or not
 
 pub factor-returns-in-Name : goal.factor-returns-in-Name
 factor-returns-in-Name t c =
-    factor-name (operand_behind _ _ _ _ c.eq-negated.ensures c.next-first.ensures c.past-t.ensures) _ _ (ap number_of c.in-Name.is) c.wire_of-wire.ensures c.finish.ensures
+    factor-name (operand_behind _ _ _ _ c.eq-negated.ensures c.next-first.ensures c.past-t.ensures) _ _
+    (ap number_of c.in-Name.is) c.wire_of-wire.ensures c.finish.ensures
 
 pub factor-returns-in_default : goal.factor-returns-in_default
 factor-returns-in_default t c =
-    factor-none (operand_behind _ _ _ _ c.eq-negated.ensures c.next-first.ensures c.past-t.ensures) _ (not_number _ Name c.in_default.not-Name) (not_number _ Open c.in_default.not-Open) c.finish-in_default.ensures
+    factor-none (operand_behind _ _ _ _ c.eq-negated.ensures c.next-first.ensures c.past-t.ensures) _ (not_number _ Name c.in_default.not-Name)
+    (not_number _ Open c.in_default.not-Open) c.finish-in_default.ensures
 
 pub factor-returns-in-Open : goal.factor-returns-in-Open
 factor-returns-in-Open t c =
-    factor-group (operand_behind _ _ _ _ c.eq-negated.ensures c.next-first.ensures c.past-t.ensures) _ (ap number_of c.in-Open.is) c.expression-e.ensures c.finish-in-Open.ensures
+    factor-group (operand_behind _ _ _ _ c.eq-negated.ensures c.next-first.ensures c.past-t.ensures) _
+    (ap number_of c.in-Open.is) c.expression-e.ensures c.finish-in-Open.ensures
 
 -- ---- a term: factors with a sign between them
 
@@ -72,9 +77,11 @@ pub term-loop-names-preserved : goal.term-loop-names-preserved
 term-loop-names-preserved t c = record {
   operands = c.put.auto.operands ∙ c.factor-v.auto.operands ∙ c.loop-names.invariant.operands;
   results = c.put.auto.results ∙ c.factor-v.auto.results ∙ c.loop-names.invariant.results;
-  onward = λ before h. factors-more _ _ _ _ _ (c.loop-names.invariant.onward before h) (this_number c.loop-names.left.token.kind And c.loop-names-test.ensures) c.factor-v.ensures c.put.ensures;
+  onward = λ before h. factors-more _ _ _ _ _ (c.loop-names.invariant.onward before h)
+      (this_number c.loop-names.left.token.kind And c.loop-names-test.ensures) c.factor-v.ensures c.put.ensures;
 }
 
 pub term-returns : goal.term-returns
 term-returns t c =
-    factors-end _ _ _ _ _ (c.loop-names.invariant.onward _ (factors-start _ _ _ _ _ c.factor-left.ensures)) (other_number c.loop-names.left.token.kind And c.loop-names-test.ensures)
+    factors-end _ _ _ _ _ (c.loop-names.invariant.onward _ (factors-start _ _ _ _ _ c.factor-left.ensures))
+    (other_number c.loop-names.left.token.kind And c.loop-names-test.ensures)

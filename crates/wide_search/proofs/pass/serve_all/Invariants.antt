@@ -9,4 +9,5 @@ use Rattle.wide_search.proofs.pass.serve_all.Given as goal
 abbrev pub invariant-loop-x : goal.invariant-loop-x
 invariant-loop-x l =
     (l.x ≤ l.count) × (length l.paints ≡ length l.initial.paints) ×
-    (length l.marks ≡ length l.initial.marks) × Serving (sets_of l.items.sets) l.items.pairs.now (length l.items.sets.set0.now) l.start l.initial.marks l.marks l.initial.paints l.paints
+    (length l.marks ≡ length l.initial.marks) × Serving (sets_of l.items.sets) l.items.pairs.now
+    (length l.items.sets.set0.now) l.start l.initial.marks l.marks l.initial.paints l.paints

@@ -22,8 +22,8 @@ returns c =
       elim c.if-worst-words.branch [
         | then-worst-words w' ↦
             rw w'.leak-is (w'.tell-leak.ensures o low.result.pair a.items.pairs.now N
-            (subst (λ (Y : ℕ). Given t a.gates.count Y (length a.codes.now) S o N) (sym w) G)
-            (subst (λ (Y : ℕ). Lowest N a.codes.now a.items.pairs.now Y low.result.wire low.result.pair) (sym w) L))
+            (subst (λ (Y : ℕ). Given t a.gates.count Y (length a.codes.list.now) S o N) (sym w) G)
+            (subst (λ (Y : ℕ). Lowest N a.codes.list.now a.items.pairs.now Y low.result.wire low.result.pair) (sym w) L))
         | else-worst-words w' ↦ rw w'.leak-is (sym (clean-told G L (omega (arith, w'.if-worst-words.false, w))))
       ],
       rw c.then_some.ensures (pairs-told L),

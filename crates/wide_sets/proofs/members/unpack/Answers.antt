@@ -5,10 +5,10 @@ use Rattle.wide_sets.specs.Packed.{three_of}
 use Rattle.wide_sets.proofs.Packing.{small-none, small-three}
 use Rattle.wide_sets.proofs.members.unpack.Goals as goal
 
-pub invariant_of-result : goal.invariant_of-result
-invariant_of-result c =
+pub returns : goal.returns
+returns c =
     let a = c.args in
     let z = three_of a.d [] in
     let y = three_of a.c z in
     let x = three_of a.b y in
-    record { few = c.requires; long = refl; small = small-three a.a x (small-three a.b y (small-three a.c z (small-three a.d [] small-none))) }
+    (refl, refl, refl, small-three a.a x (small-three a.b y (small-three a.c z (small-three a.d [] small-none))))

@@ -4,4 +4,4 @@ use Rattle.aiger_lines.proofs.NumberLines.{Numbering}
 use Rattle.aiger_lines.proofs.lines.Lines.numbers.Given as goal
 
 abbrev pub invariant-loop-entry : goal.invariant-loop-entry
-invariant-loop-entry l = Numbering l.self.text.now l.self.at (length l.fn.into) l.into l.p.at l.entry-index
+invariant-loop-entry l = Numbering l.self.text.now l.self.at (length l.fn.into) l.into l.at l.entry-index

@@ -1,16 +1,17 @@
 -- A scan over spaces, and the word behind them.
-use mathlib.Core.Path.{sym, ◌∙◌}
+use mathlib.Core.Path.{refl, sym, ◌∙◌}
 use borrow.Author.Rules.{rules}
 use Rattle.read_text.proofs.Scans.{scan-start, scan-on}
-use Rattle.read_text.proofs.DigitByDigit.{number-found, number-other, number-missing}
+use Rattle.read_text.proofs.DigitByDigit.{at-digit, number-other, number-missing}
+use Rattle.read_text.proofs.Cursors.{number-found}
 use Rattle.read_text.proofs.cursor.Cursor.next_number.Goals as goal
 
 pub loop-i-init : goal.loop-i-init
-loop-i-init c = scan-start _ _ _ c.requires
+loop-i-init c = scan-start _ _ _ c.args.self.within
 
 pub returns-then-is_digit : goal.returns-then-is_digit
 returns-then-is_digit c =
-    number-found _ _ _ c.loop-i.invariant (search rules) (sym c.is_digit.ensures ∙ c.if-is_digit.true)
+    number-found _ _ refl (at-digit _ _ _ c.loop-i.invariant (search rules) (sym c.is_digit.ensures ∙ c.if-is_digit.true))
     c.take_number.result c.take_number.ensures
 
 pub returns-then-not-is_space : goal.returns-then-not-is_space
