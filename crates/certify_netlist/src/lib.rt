@@ -103,16 +103,15 @@ fn decide(
         → Judged N codes.now leak.old leak.new ones.old ones.new result }
 {
     let entries = 15 * wires;
-    let sure = certify_pass::pass::certified(
+    let Some(sure) = certify_pass::pass::certified(
         codes,
         gates,
         &mut records[..entries],
         &mut marks[..wires],
         &mut words[..wires],
-    );
-    if wires <= sure {
+    ) else {
         return Ok(Verdict::Clean);
-    }
+    };
     witness(
         sure,
         codes,
