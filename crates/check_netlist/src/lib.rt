@@ -42,7 +42,7 @@ pub fn ask_codes<'a>(bits: u64, widths: &[u32], codes: &'a [u8]) -> Result<Codes
     Ok(Codes { list: codes })
 }
 
-// Questions 10 to 12 and the verdict, from a header's numbers, its input widths and its gates.
+// Questions 10 to 12 and the verdict, from a header, its input widths and its gates.
 pub fn judge(
     h: Header,
     widths: &[u32],

@@ -1,4 +1,5 @@
-// The verdicts on wires and pairs of a netlist with many inputs.
+// The verdicts on wires and pairs of a netlist with many inputs. The tables that are written are parameters of their own: C lends them one
+// by one, and a struct of `&mut` slices would have to promise at each call that it still holds the same ones.
 ghost use Rattle.std.specs.Prelude.{◌≡◌, ℕ, ◌+◌, ◌/◌, ◌≤◌, ◌<◌, length, take, List};
 ghost use Rattle.netlist.specs.Netlist.{Netlist};
 ghost use Rattle.gate_table.specs.Gates.{WiredGates};
@@ -61,8 +62,8 @@ fn lowest(
     bases: &mut [u64],
 ) -> Worst
     requires wired { WiredGates gates (length words.old) }
-    requires paints_len { (length paints.old ≡ length codes.list.now) × (length items.sets.set0.now ≡ length words.old) × (length codes.list.now + 2 ≤ length words.old)
-        × (length bases.old ≡ length words.old) × (length base.old ≡ length words.old) }
+    requires paints_len { (length paints.old ≡ length codes.list.now) × (length items.sets.set0.now ≡ length words.old)
+        × (length codes.list.now + 2 ≤ length words.old) × (length bases.old ≡ length words.old) × (length base.old ≡ length words.old) }
     ensures { (result.wire ≤ length words.old) × (result.pair ≤ length items.entry.pairs.now / 2) × ((o : ℕ) (N : Netlist)
         → GivenGates gates.entry (length words.old) (length codes.entry.list.now) items.entry.sets o N
         → Lowest N codes.entry.list.now items.entry.pairs.now (length words.old) result.wire result.pair) }
@@ -106,8 +107,8 @@ fn tell(
 ) -> Option<WideLeak>
     requires wired { WiredGates gates (length words.old)
         × (wire < length words.old) }
-    requires paints_len { (length paints.old ≡ length codes.list.now) × (length sets.set0.now ≡ length words.old) × (length codes.list.now + 2 ≤ length words.old)
-        × (length bases.old ≡ length words.old) × (length base.old ≡ length words.old) }
+    requires paints_len { (length paints.old ≡ length codes.list.now) × (length sets.set0.now ≡ length words.old)
+        × (length codes.list.now + 2 ≤ length words.old) × (length bases.old ≡ length words.old) × (length base.old ≡ length words.old) }
     ensures { (o pair : ℕ) (ws : List ℕ) (N : Netlist) → GivenGates gates.entry (length words.old) (length codes.entry.list.now) sets.entry o N
         → Lowest N codes.entry.list.now ws (length words.old) wire pair
         → told_of result ≡ listed (length codes.entry.list.now) (leak_of N codes.entry.list.now) }
@@ -148,8 +149,8 @@ pub fn search(
     bases: &mut [u64],
 ) -> WideFound
     requires wired { WiredGates gates (length words.old) }
-    requires paints_len { (length paints.old ≡ length codes.list.now) × (length items.sets.set0.now ≡ length words.old) × (length codes.list.now + 2 ≤ length words.old)
-        × (length bases.old ≡ length words.old) × (length base.old ≡ length words.old) }
+    requires paints_len { (length paints.old ≡ length codes.list.now) × (length items.sets.set0.now ≡ length words.old)
+        × (length codes.list.now + 2 ≤ length words.old) × (length bases.old ≡ length words.old) × (length base.old ≡ length words.old) }
     ensures { (o : ℕ) (N : Netlist) → GivenGates gates.entry (length words.old) (length codes.entry.list.now) items.entry.sets o N
         → (told_of result.leak ≡ listed (length codes.entry.list.now) (leak_of N codes.entry.list.now))
         × (bad_of result.pair ≡ first_bad (clean_pair N codes.entry.list.now) items.entry.pairs.now) }
