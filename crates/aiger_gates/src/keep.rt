@@ -3,7 +3,7 @@ ghost use Rattle.netlist.specs.Table.{tables};
 ghost use Rattle.gate_table.specs.Numbers.{gate_said};
 ghost use Rattle.aiger_gates.specs.Places.{Keeping};
 
-use gate_table::{GateNumbers, entry_of, put};
+use gate_table::{Entry, GateNumbers, put};
 
 // Puts a gate behind the first `at`, where the tables have room.
 pub fn keep(operands: &mut [u64], results: &mut [u64], at: usize, g: GateNumbers)
@@ -11,6 +11,6 @@ pub fn keep(operands: &mut [u64], results: &mut [u64], at: usize, g: GateNumbers
         at (gate_said g) }
 {
     if at < operands.len() && at < results.len() {
-        put(operands, results, at, entry_of(g));
+        put(operands, results, at, Entry::from(g));
     }
 }

@@ -13,7 +13,7 @@ ghost use Rattle.gate_table.specs.Entry.{Stored};
 
 use crate::marks::{mark, operands_given, result_free};
 use crate::names::has_gate;
-use gate_table::{GateNumbers, entry_of, put};
+use gate_table::{Entry, GateNumbers, put};
 use netlist::Question;
 use old_form::Dialect;
 use read_gate_line::gate::gate_line;
@@ -54,7 +54,7 @@ fn store(operands: &mut [u64], results: &mut [u64], at: usize, g: GateNumbers)
     ensures { (W : ℕ) → Names W (gate_said g) → Stored W (tables operands.old results.old) at (gate_said g)
         (tables operands.new results.new) }
 {
-    put(operands, results, at, entry_of(g));
+    put(operands, results, at, Entry::from(g));
 }
 
 // The question that refuses the text where one refuses a line: unless the lines from it on are as many as are left, question 6 comes

@@ -2,7 +2,7 @@
 ghost use Rattle.session_text.specs.Parts.{RecordIs};
 
 use gate_records::{GateRecord, SourceRecord};
-use gate_table::{Entry, GateNumbers, entry_of};
+use gate_table::{Entry, GateNumbers};
 use netlist::Question;
 use session_plan::adding::{gate_good, kind_in};
 
@@ -12,7 +12,7 @@ pub fn entry(r: SourceRecord, next: usize) -> Result<Entry, Question>
 {
     let g = GateRecord::from(r);
     gate_good(g, next)?;
-    Ok(entry_of(GateNumbers {
+    Ok(Entry::from(GateNumbers {
         kind: kind_in(g),
         left: r.first,
         right: r.second,

@@ -11,4 +11,4 @@ returns-in_err-gate_good c =
 
 pub returns : goal.returns
 returns c = let a = c.args in record-yes a.r a.next (rw c.from-g.ensures at c.in_ok-gate_good.ensures)
-    (rw (c.kind_in.ensures, c.from-g.ensures) at c.entry_of.ensures) (omega arith) (omega arith)
+    (rw (c.kind_in.ensures, c.from-g.ensures) at c.from.ensures) (omega arith) (omega arith)
