@@ -6,8 +6,8 @@ ghost use Rattle.netlist.specs.Table.{tables};
 ghost use Rattle.aiger_gates.specs.Places.{Keeping, OperandIs, AndIs, out_kind, OutIs};
 
 use crate::keep::keep;
-use crate::variables::entry;
 use gate_table::{GateNumbers, Kind};
+use lists::entry;
 
 // The wire that carries an operand, and how many gates there are with its own.
 #[derive(Clone, Copy)]
@@ -47,7 +47,7 @@ pub fn operand(
             count: count + 1,
         };
     }
-    let w = entry(table, x / 2) - 1;
+    let w = entry(table, (x / 2) as usize) - 1;
     if x % 2 == 0 {
         return Carried { wire: w, count };
     }
@@ -149,7 +149,7 @@ pub fn out_gate(
         );
         return;
     }
-    let w = entry(table, x / 2) - 1;
+    let w = entry(table, (x / 2) as usize) - 1;
     keep(
         operands,
         results,

@@ -7,9 +7,10 @@ ghost use Rattle.session.specs.Asked.{gate_good};
 ghost use Rattle.session.specs.Lists.{lists_of};
 ghost use Rattle.session_plan.specs.Plan.{NoIs, OperandsAre, is_gate, kind_in, first_asked, PlanIs};
 
-use crate::{publics, record};
+use crate::publics;
 use gate_records::{GateRecord, SourceRecord};
 use gate_table::Kind;
+use lists::entry;
 use mask_codes::Next;
 use netlist::{Question, Sizes, Twin};
 use session::Session;
@@ -109,7 +110,7 @@ fn twin(codes: &[u8], source: &[SourceRecord], w: u32) -> Twin
             code: 1,
         };
     }
-    record(source, wire - inputs).twin()
+    entry(source, wire - inputs).twin()
 }
 
 // The kind of a record that is a gate's, which holds the constant of an EQ.

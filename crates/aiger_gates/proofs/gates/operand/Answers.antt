@@ -14,15 +14,15 @@ returns-then-x-lt2 c = (
 )
 
 pub overflow_sub-w : goal.overflow_sub-w
-overflow_sub-w c = omega (arith, c.entry-w.ensures, c.requires.1 c.if-x-lt2.false)
+overflow_sub-w c = omega (arith, (c.entry-w.ensures 0 (λ x p. p)), c.requires.1 c.if-x-lt2.false)
 
 pub returns-then-x-eq0 : goal.returns-then-x-eq0
-returns-then-x-eq0 c = (operand-plain _ _ _ _ _ _ refl _ c.if-x-lt2.false (ap (λ (z : ℕ). z - 1) c.entry-w.ensures) (search rules), omega arith)
+returns-then-x-eq0 c = (operand-plain _ _ _ _ _ _ refl _ c.if-x-lt2.false (ap (λ (z : ℕ). z - 1) (c.entry-w.ensures 0 (λ x p. p))) (search rules), omega arith)
 
 pub returns : goal.returns
 returns c = (
   operand-inverse _ _ _ _ _ _ refl _ c.if-x-lt2.false
-      (ap (λ (z : ℕ). z - 1) c.entry-w.ensures) _
+      (ap (λ (z : ℕ). z - 1) (c.entry-w.ensures 0 (λ x p. p))) _
       c.if-x-eq0.false c.keep-2.ensures,
   omega arith,
 )

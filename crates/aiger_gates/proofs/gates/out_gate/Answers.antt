@@ -9,10 +9,10 @@ pub returns-then-x-lt2 : goal.returns-then-x-lt2
 returns-then-x-lt2 c = out-constant _ _ _ _ _ _ _ refl c.if-x-lt2.true c.keep.ensures
 
 pub overflow_sub-w : goal.overflow_sub-w
-overflow_sub-w c = omega (arith, c.entry-w.ensures, c.requires.1 c.if-x-lt2.false)
+overflow_sub-w c = omega (arith, (c.entry-w.ensures 0 (λ x p. p)), c.requires.1 c.if-x-lt2.false)
 
 pub returns : goal.returns
 returns c =
     out-other _ _ _ _ _ _ _ refl _ _ c.if-x-lt2.false
-    (ap (λ (z : ℕ). z - 1) c.entry-w.ensures)
+    (ap (λ (z : ℕ). z - 1) (c.entry-w.ensures 0 (λ x p. p)))
     c.out_kind.ensures c.keep-2.ensures
