@@ -77,10 +77,11 @@ fn mask_tables(
         out.old out.new out_codes.old out_codes.new result }
 {
     let s = q?;
-    let mut ins = [0u32; 17];
-    let mut outs = [0u32; 16];
-    ins[..widths.len()].copy_from_slice(widths);
-    outs[..outputs.len()].copy_from_slice(outputs);
+    let gates = Gates {
+        operands,
+        results,
+        count: s.count,
+    };
     let h = Header {
         gates: s.count as u32,
         wires: (s.inputs + s.count) as u32,
@@ -90,7 +91,7 @@ fn mask_tables(
         output_bits: s.outputs as u64,
     };
     mask::ask_lists(
-        out, out_codes, h, codes, wanted, ins, outs, operands, results, wires, marks,
+        out, out_codes, h, codes, wanted, widths, outputs, gates, wires, marks,
     )
 }
 
