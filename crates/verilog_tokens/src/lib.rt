@@ -2,13 +2,14 @@
 #![tactic(auto)]
 
 ghost use Rattle.std.specs.Prelude.{◌≡◌, ◌≤◌, ◌<◌, ◌+◌, length, drop, get_or};
-ghost use Rattle.read_text.specs.Line.{Scanned};
-ghost use Rattle.netlist.specs.Number.{is_digit};
+ghost use Rattle.read_text.specs.Cursors.{Scanned};
 ghost use Rattle.verilog.specs.Tokens.{is_letter, in_word, is_white};
 ghost use Rattle.verilog_tokens.specs.Kind.{number_of};
 ghost use Rattle.verilog_tokens.specs.Next.{sign_code, word_code, White, TokenAt};
 
 use read_text::bytes::same;
+use read_text::cursor::Cursor;
+use read_text::number::is_digit;
 
 // What a token is: a reserved word, a sign, a name, the end of the text, or none of these.
 #[derive(Clone, Copy, PartialEq, Eq)]
@@ -49,12 +50,6 @@ fn is_letter(b: u8) -> bool
     matches!(b, b'A'..=b'Z' | b'a'..=b'z')
 }
 
-fn is_digit(b: u8) -> bool
-    ensures { result ≡ is_digit b }
-{
-    matches!(b, b'0'..=b'9')
-}
-
 // Whether a byte is part of a word.
 fn in_word(b: u8) -> bool
     ensures { result ≡ in_word b }
@@ -88,16 +83,10 @@ fn skip_white(text: &[u8], at: usize) -> usize
 }
 
 // Past the bytes of a word.
-fn word_end(text: &[u8], from: usize) -> usize
-    requires { from ≤ length text.now }
-    ensures { Scanned in_word text.now from result }
+fn take_word(at: Cursor) -> Cursor
+    ensures { Scanned in_word at.entry result }
 {
-    for i in from..text.len() {
-        if !in_word(text[i]) {
-            return i;
-        }
-    }
-    text.len()
+    at.pass(in_word)
 }
 
 // What a word is.
@@ -168,7 +157,8 @@ pub fn next(text: &[u8], at: usize) -> Token
             to: from + 1,
         };
     }
-    let to = word_end(text, from);
+    let end = take_word(Cursor { text, at: from });
+    let to = end.at;
     Token {
         kind: word(&text[from..to]),
         from,
