@@ -1,6 +1,7 @@
 // Gates as records, in lists that a caller lends: a gate alone, and a source gate with where its result stands in the masked netlist.
 // A kind has its number of `gate_table`, but EQ 1, which has 6 there, has 5 here as EQ 0 has: the operand of an EQ is its constant. A gate of
-// one operand has 0 as its second.
+// one operand has 0 as its second. Kinds are numbers here and no enum, since both records are structs of the C interface: what C lends may hold
+// any number, of which question 7 asks whether it is a kind.
 #![tactic(auto)]
 
 ghost use Rattle.std.specs.Prelude.{◌≡◌};

@@ -35,7 +35,7 @@ impl Masks {
     }
 }
 
-// The next wire, which no gate has given yet. Its number is below 2^31.
+// The wire from which on the next gates are numbered. It is below 2^31.
 #[derive(Clone, Copy)]
 pub struct Next {
     pub wire: u32,

@@ -12,7 +12,7 @@ use old_form::Dialect;
 use read_text::allowed::all_allowed;
 use read_text::cursor::Cursor;
 
-// Question 5.
+// Question 5: the numbers as a header, where the wires and the values are few enough, and the bits of the values no more than the wires.
 #[tactic(auto, unfolding(crate::specs::HeadAnswers::within_numbers))]
 fn within(l: Limits, h: HeaderNumbers) -> Option<Header>
     ensures { WithinIs l h result }

@@ -13,7 +13,7 @@ ghost use Rattle.read_header.specs.HeaderAnswers.{positives, CountsIs, WidthsIs,
 use lists::put;
 use read_text::cursor::Cursor;
 
-// What the header says, besides the widths themselves. The sums of widths from a lent text fit 128 bits, and not 64.
+// What the header says, besides the widths themselves. The sums of the widths fit 128 bits, and need not fit 64.
 #[derive(Clone, Copy)]
 pub struct HeaderNumbers {
     // the gate count
@@ -39,7 +39,7 @@ fn counts_line(at: Cursor) -> Option<(u32, u32, Cursor)>
 }
 
 // The numbers up to the line's end, each 1 or more: how many, their sum, and the start of the next line. Those past the table's end
-// are read too.
+// are read too. A `loop` and no `for`: it goes from a cursor to the one behind each number, and how many there are is known at the end alone.
 fn read_widths<'t>(at: Cursor<'t>, table: &mut [u32]) -> Option<(usize, u128, Cursor<'t>)>
     ensures { WidthsIs at.entry (positives (numbers (line_words (left at.entry))))
         table.new result }

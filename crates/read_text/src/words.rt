@@ -13,7 +13,7 @@ pub fn is_blank(b: u8) -> bool
     is_space(b) || is_line_end(b)
 }
 
-// Whether it is.
+// Whether a byte is part of a word.
 fn in_word(b: u8) -> bool
     ensures { result ≡ in_word b }
 {
