@@ -1,4 +1,5 @@
-// The outputs, copied in port order behind all other gates.
+// The outputs, copied in port order behind all other gates. The tables that are written stay parameters of their own: C lends them one
+// by one, and a struct of `&mut` slices would have to promise at each call that it still holds the same ones.
 #![tactic(auto)]
 
 ghost use Rattle.std.specs.Prelude.{◌+◌, ◌≤◌, ◌<◌, length};
