@@ -8,7 +8,6 @@ ghost use Rattle.write_gates.specs.Gates.{WroteGates};
 ghost use Rattle.mask_and.specs.Row.{row_of};
 
 use gate_records::GateRecord;
-use netlist::Gate;
 use write_wires::table::Words;
 
 // A row for each step: its operation, 1 for AND and 0 for XOR, and the places of its operands. The operation is a number, since
@@ -32,13 +31,12 @@ pub fn step(a: u32, b: u32, p: u32, q: u32, o: u32, c: u32, k: usize) -> GateRec
     let rows = ROWS;
     let row = rows[k];
     let places = [a, b, p, q, o, c, c + 1, c + 2, c + 3, c + 4, c + 5, c + 6];
-    let x = places[row[1] as usize];
-    let y = places[row[2] as usize];
-    let wire = c + k as u32;
-    if row[0] == 1 {
-        GateRecord::from(Gate::And(x, y, wire))
-    } else {
-        GateRecord::from(Gate::Xor(x, y, wire))
+    GateRecord {
+        // `GateRecord::from` of an XOR or an AND takes three instructions more a step: 3 percent of adding an AND to a session
+        kind: row[0] as u32 + 1,
+        first: places[row[1] as usize],
+        second: places[row[2] as usize],
+        result: c + k as u32,
     }
 }
 
