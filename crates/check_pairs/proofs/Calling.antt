@@ -57,7 +57,7 @@ module _ (s : Sizes) (text codes ws o r g w b z : List ℕ) where
       let one = (ask-done 1 (tables_long (large s) lengths) (and_then (read_netlist (large s) text) (pairs_outcome codes ws)) a (sym e)).1 in
       and_then-done (read_netlist (large s) text) (pairs_outcome codes ws) a one
 
-  module _ (f : PairsFound) (e : done (both_of f) ≡ call s text codes ws o r g w b z) where
+  module _ (f : PairsFound ℕ) (e : done (both_of f) ≡ call s text codes ws o r g w b z) where
     -- the one-wire answer is Check's
     pub call-check : (tables : List ℕ) → tables_long (large s) tables ≡ true → check_call (large s) tables text codes ≡ done (found_of f.leak)
     unfolding check_call
@@ -80,14 +80,14 @@ module _ (s : Sizes) (text codes ws o r g w b z : List ℕ) where
           let k = (pairs-done codes ws N (both_of f) asked).1 in
           rw k at (pairs-judged N codes ws)
 
-  wires-judged : (v : std.Option Leak) (N : Netlist) → leak N codes ≡ found_of v → WiresJudged N codes v
+  wires-judged : (v : std.Option (Leak ℕ)) (N : Netlist) → leak N codes ≡ found_of v → WiresJudged N codes v
   wires-judged std.None N e = none-clean N codes e
   wires-judged (std.Some p) N e =
       let f = found-lowest N codes (found p) e in
       (f, λ clean. f.breaks (clean p.wire f.wire))
 
   -- both answers follow the rules
-  pub call-judged : (a : Result PairsFound Question) → outcome_of a ≡ call s text codes ws o r g w b z → (N : Netlist)
+  pub call-judged : (a : Result (PairsFound ℕ) Question) → outcome_of a ≡ call s text codes ws o r g w b z → (N : Netlist)
       → read_netlist (large s) text ≡ done N → Judged N codes ws a
   call-judged (Ok f) e N read = (wires-judged f.leak N (wires-leak f e N read), pairs-answer f e N read)
   call-judged (Err q) e N read = tt

@@ -28,9 +28,8 @@ use Rattle.read_netlist.specs.Whole.{ReadAt}
 use Rattle.pairs.specs.Call.{BothAnswers, pairs_good}
 use Rattle.pairs.proofs.PairCheck.{pairs-judged}
 use Rattle.wide.specs.Wide.{WideLeak, listed, few_reach, wide_answers, wide_outcome, wide_call}
-use Rattle.wide_search.specs.Told.{told_of}
-use Rattle.wide_search.specs.declared.search.WideLeak as search
-use Rattle.wide_search.specs.declared.search.WideFound.{WideFound}
+use Rattle.wide_search.specs.Told as search
+use Rattle.wide_search.specs.Told.{WideFound, told_of}
 use Rattle.wide_judge.specs.Judge.{both_of, outcome_of}
 use Rattle.check_wide.specs.Promise.{call, WiresJudged, Judged}
 

@@ -61,7 +61,7 @@ module _ (s : Sizes) (text codes o r g w b : List ℕ) where
       outcome-leak N codes f (sym (ap (λ (u : Outcome Netlist). and_then u (check_outcome codes)) read) ∙ one)
 
   -- the answer follows the equal-count rule
-  pub call-judged : (a : Result (std.Option Leak) Question) → outcome_of a ≡ call s text codes o r g w b → (N : Netlist)
+  pub call-judged : (a : Result (std.Option (Leak ℕ)) Question) → outcome_of a ≡ call s text codes o r g w b → (N : Netlist)
       → read_netlist (large s) text ≡ done N → Judged N codes a
   call-judged (Ok std.None) e N read = none-clean N codes (answer-leak N none read e)
   call-judged (Ok (std.Some p)) e N read =

@@ -25,8 +25,8 @@ use lists::codes::Codes;
 
 // The lowest leak, and how many pairs stand before the first bad one; none where all are clean.
 #[derive(Clone, Copy, Debug, PartialEq, Eq)]
-pub struct PairsFound {
-    pub leak: Option<Leak>,
+pub struct PairsFound<S = u64> {
+    pub leak: Option<Leak<S>>,
     pub pair: Option<usize>,
 }
 

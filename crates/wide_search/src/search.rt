@@ -14,26 +14,18 @@ ghost use Rattle.wide_search.specs.Told.{told_of};
 use crate::items::Items;
 use crate::pass;
 use crate::pass::Worst;
+use check_leak::difference::Leak;
 use gate_table::Gates;
 use lists::codes::Codes;
+use pairs_search::search::PairsFound;
 use wide_sets::members::{InputSet, Members};
 use wide_sets::tables::WireSets;
 
-// A leak: its wire, the input bits that are one in its setting, its base's count and its own.
-#[derive(Clone, Copy)]
-pub struct WideLeak {
-    pub wire: usize,
-    pub ones: Members,
-    pub base: u8,
-    pub own: u8,
-}
+// A leak, whose setting is told by the input bits that are one in it.
+pub type WideLeak = Leak<Members>;
 
-// The lowest leak, and how many pairs stand before the first bad one; none where all are clean.
-#[derive(Clone, Copy)]
-pub struct WideFound {
-    pub leak: Option<WideLeak>,
-    pub pair: Option<usize>,
-}
+// What was found on wires and pairs, with such a leak.
+pub type WideFound = PairsFound<Members>;
 
 // Of the members of a set, those whose bit of a number is one. Each is written, and the next written over it where its bit is zero.
 fn pick(m: InputSet, number: u64) -> Members
@@ -131,7 +123,7 @@ fn tell(
     let leak = found.leak?;
     Some(WideLeak {
         wire,
-        ones: pick(m, leak.setting),
+        setting: pick(m, leak.setting),
         base: leak.base,
         own: leak.own,
     })
