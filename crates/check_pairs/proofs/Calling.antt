@@ -1,11 +1,15 @@
 -- From the netlist that was read to the outcome of a call, and what an answer says of it.
-use Prim.Native.Nat.{ℕ}
+use Prim.Native.Nat.{ℕ, min}
 use Rattle.std.specs.Prelude as std
 use Rattle.std.specs.Prelude.{Result, Ok, Err}
-use mathlib.Core.Path.{◌≡◌, sym, ap, ◌∙◌}
-use mathlib.Core.Bool.{true}
+use mathlib.Core.Path.{◌≡◌, refl, sym, ap, ◌∙◌}
+use mathlib.Core.Bool.{Bool, true, false, ◌&&◌}
 use mathlib.Core.List.{List, [], ◌∷◌}
+use native.Mathlib.Omega.{arith}
+use lib.Dec.{leb}
 use lib.ListN.{length, take}
+use borrow.Author.Tests.{le-leb, lt-leb, leb-true, leb-false}
+use Rattle.netlist.specs.declared.Limits.{Limits}
 use Rattle.netlist.specs.declared.Question.{Question}
 use Rattle.netlist.specs.declared.Sizes.{Sizes}
 use Rattle.netlist.specs.Netlist.{Netlist, large}
@@ -30,6 +34,29 @@ use Rattle.pairs_search.specs.declared.search.PairsFound.{PairsFound}
 use Rattle.pairs_search.specs.Search.{bad_of}
 use Rattle.pairs_judge.specs.Judge.{both_of, outcome_of, WiresJudged, Judged}
 use Rattle.check_pairs.specs.Promise.{call}
+
+-- the shorter of two tables stands for both
+shorter-long : (t a b : ℕ) → leb t (min a b) ≡ leb t a && leb t b
+shorter-long t a b = go (leb t a) (leb t b) refl refl
+  where
+    go : (x y : Bool) → leb t a ≡ x → leb t b ≡ y → leb t (min a b) ≡ x && y
+    go true true p q = le-leb t (min a b) (omega (arith, leb-true t a p, leb-true t b q))
+    go true false p q = lt-leb t (min a b) (omega (arith, leb-false t b q))
+    go false y p q = lt-leb t (min a b) (omega (arith, leb-false t a p))
+
+-- the shortest of three tables stands for them
+pub long-three : (L : Limits) (o r g w b z : ℕ) {m n : ℕ} → m ≡ min w b → n ≡ min m z
+    → tables_long L (o ∷ r ∷ g ∷ n ∷ []) ≡ tables_long L (o ∷ r ∷ g ∷ w ∷ b ∷ z ∷ [])
+long-three L o r g w b z {m} e d =
+    ap (λ (n : ℕ). tables_long L (o ∷ r ∷ g ∷ n ∷ [])) (d ∙ ap (λ (k : ℕ). min k z) e)
+    ∙ ap (λ (k : Bool). leb L.table o && (leb L.table r && (leb L.table g && k)))
+    (ap (λ (k : Bool). k && true) (shorter-long L.table (min w b) z ∙ ap (λ (k : Bool). k && leb L.table z) (shorter-long L.table w b))
+    ∙ assoc (leb L.table w) (leb L.table b) (leb L.table z))
+  where
+    assoc : (x y v : Bool) → ((x && y) && v) && true ≡ x && (y && (v && true))
+    assoc true true v = refl
+    assoc true false v = refl
+    assoc false y v = refl
 
 module _ (s : Sizes) (text codes ws o r g w b z : List ℕ) where
   abbrev lengths : List ℕ
