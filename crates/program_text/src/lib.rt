@@ -44,7 +44,7 @@ fn counted(file: &[u8]) -> usize
     ensures { Front file.now result (list_bytes file.now) }
 {
     let n = front(file, FILE_LIMIT);
-    without_end(file, n)
+    without_end(&file[..n]).len()
 }
 
 // The list in a file, in place of its bytes; answers how many entries it has. The bytes behind them are free.
