@@ -10,12 +10,11 @@ ghost use Rattle.check_counts.specs.Block.{nibble, ones, ones_of, nibbles_of, Ev
 use crate::{load, nibble};
 use gate_table::Gates;
 
-// What blocks of settings are run with: the gates, the paints of the input bits, and whether one of these is public. Gates and paints
-// have a lifetime each, since the gates would else be stored at a shorter one than their own, of which the check has no proof.
+// What blocks of settings are run with: the gates, the paints of the input bits, and whether one of these is public.
 #[derive(Clone, Copy)]
-pub struct Blocks<'g, 'p> {
-    pub gates: Gates<'g>,
-    pub paints: &'p [u8],
+pub struct Blocks<'a> {
+    pub gates: Gates<'a>,
+    pub paints: &'a [u8],
     pub publics: bool,
 }
 
@@ -37,7 +36,7 @@ pub fn each<F: Fn(u64) -> u64>(words: &[u64], to: &mut [u64], f: F)
     }
 }
 
-// Each word's counts in its place.
+// Each word's counts in its own place, which `each` cannot write while it reads the words.
 fn tally(words: &mut [u64])
     ensures { (w s : ℕ) → s < 16 → nibbles_of words.new w s ≡ ones_of words.old w s }
 {
@@ -61,7 +60,7 @@ pub fn first(words: &[u64], base: &mut [u64])
     each(words, base, first_count);
 }
 
-impl<'g, 'p> Blocks<'g, 'p> {
+impl<'a> Blocks<'a> {
     // The words of all wires in a block's settings, or in their bases.
     pub fn run(self, secrets: bool, block: u64, words: &mut [u64])
         requires wired { WiredGates self.gates (length words.old) }
