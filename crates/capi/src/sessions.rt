@@ -59,7 +59,7 @@ pub extern "C" fn fidrovelj_session_gate(
     if s.gates <= k {
         return SourceRecord::default();
     }
-    source.get(k as usize).copied().unwrap_or_default()
+    lists::entry(source, k as usize)
 }
 
 // The session's netlist as text: how many bytes the written form has at the front of `out`.

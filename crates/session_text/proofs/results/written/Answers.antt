@@ -13,7 +13,7 @@ returns-in_err-shown c =
     let p = err_from_is_err_and c.from_residual.result c.from_residual.ensures.1 in
     let lengths : List ℕ = length a.operands.now ∷ length a.results.now ∷ [] in
     rw (p.1, p.2) (text-no a.sizes a.widths.now a.outputs.now a.s a.source.now a.out.now a.operands.now a.results.now
-        (head-no (small a.sizes) lengths a.widths.now a.outputs.now a.s.gates a.source.now c.in_err-shown.ensures))
+    (head-no (small a.sizes) lengths a.widths.now a.outputs.now a.s.gates a.source.now c.in_err-shown.ensures))
 
 pub returns-in_err-fill : goal.returns-in_err-fill
 returns-in_err-fill c =
@@ -21,7 +21,7 @@ returns-in_err-fill c =
     let p = err_from_is_err_and c.from_residual-in_err-fill.result c.from_residual-in_err-fill.ensures.1 in
     let lengths : List ℕ = length a.operands.now ∷ length a.results.now ∷ [] in
     rw (p.1, p.2) (text-no a.sizes a.widths.now a.outputs.now a.s a.source.now a.out.now a.operands.now a.results.now
-        (records-no a.sizes lengths a.widths.now a.outputs.now a.s.gates a.source.now c.in_ok-shown.ensures c.in_err-fill.ensures))
+    (records-no a.sizes lengths a.widths.now a.outputs.now a.s.gates a.source.now c.in_ok-shown.ensures c.in_err-fill.ensures))
 
 pub returns : goal.returns
 unfolding text_call
