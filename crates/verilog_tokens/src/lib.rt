@@ -9,7 +9,6 @@ ghost use Rattle.verilog_tokens.specs.Next.{sign_code, word_code, White, TokenAt
 
 use read_text::bytes::same;
 use read_text::cursor::Cursor;
-use read_text::number::is_digit;
 
 // What a token is: a reserved word, a sign, a name, the end of the text, or none of these.
 #[derive(Clone, Copy, PartialEq, Eq)]
@@ -47,14 +46,14 @@ const LONGEST: usize = 16;
 fn is_letter(b: u8) -> bool
     ensures { result ≡ is_letter b }
 {
-    matches!(b, b'A'..=b'Z' | b'a'..=b'z')
+    b.is_ascii_alphabetic()
 }
 
 // Whether a byte is part of a word.
 fn in_word(b: u8) -> bool
     ensures { result ≡ in_word b }
 {
-    is_letter(b) || is_digit(b)
+    b.is_ascii_alphanumeric()
 }
 
 // Whether the byte at a place is white: space, LF, or CR directly before LF.
@@ -74,12 +73,9 @@ fn skip_white(text: &[u8], at: usize) -> usize
     requires { at ≤ length text.now }
     ensures { White text.now at result }
 {
-    for i in at..text.len() {
-        if !is_white(text, i) {
-            return i;
-        }
-    }
-    text.len()
+    (at..text.len())
+        .find(|i| !is_white(text, *i))
+        .unwrap_or(text.len())
 }
 
 // Past the bytes of a word.
@@ -89,7 +85,8 @@ fn take_word(at: Cursor) -> Cursor
     at.pass(in_word)
 }
 
-// What a word is.
+// What a word is. No match of byte strings: it looks at byte after byte, and the proof for the words that are none of the six, which it
+// finds in 42 ways, did not close.
 #[tactic(auto, unfolding(crate::specs::Next::word_code))]
 fn word(w: &[u8]) -> Kind
     requires { 0 < length w.now }
