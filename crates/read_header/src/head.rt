@@ -86,12 +86,8 @@ pub fn read_opening_in<'t>(
     ensures { HeadSays d l text.now inputs.new outputs.new result }
 {
     ask_bytes(text, l)?;
-    let Some((said, at)) = read_header_in(text, inputs, outputs, d) else {
-        return Err(Question::Header);
-    };
-    let Some(h) = within(l, said) else {
-        return Err(Question::Limits);
-    };
+    let (said, at) = read_header_in(text, inputs, outputs, d).ok_or(Question::Header)?;
+    let h = within(l, said).ok_or(Question::Limits)?;
     if !gates_counted(h) {
         return Err(Question::Count);
     }

@@ -44,23 +44,21 @@ fn read_widths<'t>(at: Cursor<'t>, table: &mut [u32]) -> Option<(usize, u128, Cu
     ensures { WidthsIs at.entry (positives (numbers (line_words (left at.entry))))
         table.new result }
 {
-    let text = at.text;
-    let mut here = at.at;
+    let mut here = at;
     let mut n: usize = 0;
     let mut sum: u128 = 0;
     loop {
-        let c = Cursor { text, at: here };
-        if let Some(next) = c.line_end() {
+        if let Some(next) = here.line_end() {
             return Some((n, sum, next));
         }
-        let (width, on) = c.next_number()?;
+        let (width, on) = here.next_number()?;
         if width == 0 {
             return None;
         }
         put(table, n, width);
         n += 1;
         sum += width as u128;
-        here = on.at;
+        here = on;
     }
 }
 
