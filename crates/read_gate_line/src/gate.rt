@@ -24,7 +24,8 @@ fn numbers(kind: Kind, left: u32, right: u32, wire: u32) -> GateNumbers
     }
 }
 
-// The gate of one operand that a name stands for; EQ has a constant for it.
+// The gate of one operand that a name stands for; EQ has a constant for it. The names are told apart by `same`, here and below: it is the
+// one comparer that document 01 names.
 #[tactic(auto, unfolding(crate::specs::GateAnswers::named_for))]
 fn gate1(name: &[u8], a: u32, c: u32) -> Option<GateNumbers>
     ensures { result ≡ named_for (the_gate1 name.now a c) }
