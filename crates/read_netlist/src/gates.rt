@@ -31,9 +31,7 @@ fn one_gate<'t>(
     requires { w ≤ length marks.old }
     ensures { (rs : List ℕ) → Marks marks.old n w rs → GateStepIs d at.entry n w rs marks.new result }
 {
-    let Some((g, next)) = gate_line(at) else {
-        return Err(Question::Line);
-    };
+    let (g, next) = gate_line(at).ok_or(Question::Line)?;
     if !has_gate(g, d) {
         return Err(Question::Line);
     }

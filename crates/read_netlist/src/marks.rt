@@ -11,8 +11,7 @@ use gate_table::{GateNumbers, Kind, second};
 fn is_marked(table: &[u8], x: u32) -> bool
     ensures { result ≡ marked table.now x }
 {
-    let i = x as usize;
-    i < table.len() && table[i] == 1
+    table.get(x as usize) == Some(&1)
 }
 
 // Question 8: each operand is marked, or the constant is a bit.
@@ -46,7 +45,5 @@ pub fn mark_inputs(table: &mut [u8], n: u32, w: u32)
     requires { (n ≤ w) × (w ≤ length table.old) × (table.old ≡ replicate (length table.old) 0) }
     ensures { Marks table.new n w [] }
 {
-    for i in 0..n {
-        mark(table, i);
-    }
+    table[..n as usize].fill(1);
 }
