@@ -102,7 +102,6 @@ fn answer<'a>(
 
 // Question 14, and the text and the codes where it gets a yes. `ins` are the widths of the masked input values, the last of
 // them 2, and `outs` those of the output values; `wire` and `code` have an entry for each source wire, and may hold anything.
-// No line on a hundred wires or fewer is stored by words, so there the table is not filled.
 pub fn deliver(
     out: &mut [u8],
     out_codes: &mut [u8],
@@ -137,10 +136,7 @@ pub fn deliver(
         wanted,
         shape,
     };
-    if wires <= 100 {
-        return answer(Words { entries: &[] }, out, out_codes, j, wire, code);
-    }
     let mut table = [0u64; 2000];
-    write_wires::table::fill(&mut table, 100);
-    answer(Words { entries: &table }, out, out_codes, j, wire, code)
+    let words = Words::of(&mut table, wires);
+    answer(words, out, out_codes, j, wire, code)
 }

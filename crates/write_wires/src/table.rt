@@ -1,6 +1,6 @@
 // The table of words.
 ghost use Rattle.std.specs.Prelude.{◌≡◌, ◌<◌, ◌≤◌, ◌+◌, ◌*◌, length};
-ghost use Rattle.write_wires.specs.Packed.{packed, Filled, Tens, WordTable, Worded};
+ghost use Rattle.write_wires.specs.Packed.{packed, Filled, Tens, WordTable, Worded, entries_for};
 
 use crate::TOP;
 
@@ -49,6 +49,22 @@ pub struct Words<'t> {
 }
 
 impl<'t> Words<'t> {
+    // The words that the lines of a netlist of so many wires take, in a lent array of any content: none up to a hundred wires, where no
+    // line is stored by words, those of the wires up to a thousand, and else all.
+    pub fn of(table: &'t mut [u64; 2000], wires: usize) -> Self
+        ensures { length result.entries.now ≡ entries_for wires }
+    {
+        let entries = match wires {
+            0..=100 => 0,
+            101..=1000 => (wires + 9) / 10 * 10,
+            _ => 2000,
+        };
+        fill(table, usize::min(entries, 1000) / 10);
+        Words {
+            entries: &table[..entries],
+        }
+    }
+
     // The word of a number.
     pub fn look(self, n: u32) -> u64
         requires { Worded (length self.entries.now) n }
