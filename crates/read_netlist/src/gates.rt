@@ -17,19 +17,19 @@ use gate_table::{Entry, GateNumbers, put};
 use netlist::Question;
 use old_form::Dialect;
 use read_gate_line::gate::gate_line;
+use read_header::header::Header;
 use read_text::count::count_lines;
 use read_text::cursor::Cursor;
 
 // Questions 7 to 9 of one line in a dialect: its gate, with the start of the next line. The gate's result is then marked.
 fn one_gate<'t>(
     at: Cursor<'t>,
-    n: u32,
-    w: u32,
+    h: Header,
     marks: &mut [u8],
     d: Dialect,
 ) -> Result<(GateNumbers, Cursor<'t>), Question>
-    requires { w ≤ length marks.old }
-    ensures { (rs : List ℕ) → Marks marks.old n w rs → GateStepIs d at.entry n w rs marks.new result }
+    requires { h.wires ≤ length marks.old }
+    ensures { (rs : List ℕ) → Marks marks.old h.input_bits h.wires rs → GateStepIs d at.entry h.input_bits h.wires rs marks.new result }
 {
     let (g, next) = gate_line(at).ok_or(Question::Line)?;
     if !has_gate(g, d) {
@@ -39,7 +39,7 @@ fn one_gate<'t>(
         return Err(Question::Operands);
     }
     let c = g.result;
-    if !result_free(marks, c, n, w) {
+    if !result_free(marks, c, h) {
         return Err(Question::Wire);
     }
     mark(marks, c);
@@ -67,28 +67,27 @@ fn first(at: Cursor, left: usize, question: Question) -> Question
     }
 }
 
-// The lines from a place on, of which there must be as many as `count`: gates of a netlist with n input bits and w wires, in a dialect.
+// The lines from a place on, of which there must be as many as the header says: gates of a netlist with that header, in a dialect.
 pub fn read_gates(
     from: Cursor,
-    count: usize,
-    n: u32,
-    w: u32,
+    h: Header,
     marks: &mut [u8],
     operands: &mut [u64],
     results: &mut [u64],
     d: Dialect,
 ) -> Result<(), Question>
-    requires { (count ≤ length operands.old) × (count ≤ length results.old) × Marks marks.old n w [] }
-    ensures { GatesIs d (rest from.entry) count n w (tables operands.new results.new) result }
+    requires { (h.gates ≤ length operands.old) × (h.gates ≤ length results.old) × Marks marks.old h.input_bits h.wires [] }
+    ensures { GatesIs d (rest from.entry) h.gates h.input_bits h.wires (tables operands.new results.new) result }
 {
     let text = from.text;
+    let count = h.gates as usize;
     let mut at = from;
     for i in 0..count {
         let start = at.skip_blanks();
         if text.len() <= start.at {
             return Err(Question::Count);
         }
-        match one_gate(start, n, w, marks, d) {
+        match one_gate(start, h, marks, d) {
             Ok((g, next)) => {
                 store(operands, results, i, g);
                 at = next;

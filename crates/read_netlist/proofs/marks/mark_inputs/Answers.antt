@@ -3,4 +3,4 @@ use Rattle.read_netlist.proofs.Marking.{inputs-marked}
 use Rattle.read_netlist.proofs.marks.mark_inputs.Goals as goal
 
 pub returns : goal.returns
-returns c = inputs-marked c.requires.0 c.requires.1 c.requires.2 (c.fill.ensures.after (λ y e. e))
+returns c = inputs-marked c.args.h.inputs_are_wires c.requires.0 c.requires.1 (c.fill.ensures.after (λ y e. e))
