@@ -66,7 +66,8 @@ fn last_word(at: Cursor, named: Option<GateNumbers>) -> Option<(GateNumbers, Cur
     Some((g, next))
 }
 
-// The operand, the result and the name of a gate of one operand.
+// The operand, the result and the name of a gate of one operand. Apart from `two_operands`: one function of both would ask twice which of
+// the two it reads, for the second operand and for the name.
 fn one_operand(at: Cursor) -> Option<(GateNumbers, Cursor)>
     ensures { LineIs at.entry (one (line_words (left at.entry))) result }
 {

@@ -13,7 +13,8 @@ ghost use Rattle.read_header.specs.HeaderAnswers.{positives, CountsIs, WidthsIs,
 use lists::put;
 use read_text::cursor::Cursor;
 
-// What the header says, besides the widths themselves. The sums of the widths fit 128 bits, and need not fit 64.
+// What the header says, besides the widths themselves. The sums of the widths fit 128 bits, and need not fit 64. Apart from `Header`, whose
+// law holds behind question 5 alone.
 #[derive(Clone, Copy)]
 pub struct HeaderNumbers {
     // the gate count

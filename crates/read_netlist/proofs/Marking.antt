@@ -63,10 +63,6 @@ marks-names m (Inv a c) o l = (marked-below m a o, l)
 marks-names m (Eqw a c) o l = (marked-below m a o, l)
 marks-names m (Eq v c) o l = (ltb-true v 2 o, l)
 
-or-false : (b : Bool) → (b || false) ≡ b
-or-false true = refl
-or-false false = refl
-
 marked-set : (table : List ℕ) (c x : ℕ) → c < length table → marked (set table c 1) x ≡ (eqb x c || marked table x)
 unfolding marked
 marked-set table c x h = on_bool (eqb x c)

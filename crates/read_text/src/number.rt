@@ -33,7 +33,7 @@ fn is_full(v: u32, more: usize) -> bool
 
 // Takes the word at a place as a number, with the place behind it, its value made while its end is looked for. The one space that
 // mostly stands behind it is passed with it; below a space stand the other bytes that end a word. The digits are counted, so that
-// the loop can be compiled without jumping back.
+// the loop can be compiled without jumping back. It stands beside the method, since it takes any place, also one behind the text's end.
 pub fn take_number(text: &[u8], start: usize) -> Option<(u32, usize)>
     ensures { WholeIs text.now start result }
 {

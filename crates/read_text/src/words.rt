@@ -33,7 +33,8 @@ fn is_three_bytes(c: Cursor) -> bool
 impl<'t> Cursor<'t> {
     ghost use Rattle.read_text.specs.Cursors.{Scanned, WordIs, EndIs, LineTaken};
 
-    // Past the bytes that pass a test.
+    // Past the bytes that pass a test. A loop and no `position`: that promises a run of calls of a closure over `test`, from which the proof
+    // of the scan did not close.
     pub fn pass<F: Fn(u8) -> bool>(self, test: F) -> Self
         requires { F.IsAlwaysCallable test }
         ensures { (p : ℕ → Bool) → ((b : ℕ) (r : Bool) → F.post test b r → r ≡ p b) → Scanned p self.entry result }
