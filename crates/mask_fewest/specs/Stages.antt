@@ -45,13 +45,12 @@ pub record Chose (N : Netlist) (codes wanted : List ℕ) (budget : ℕ) (t : Tab
   pub floor : r.floor ≡ floor_of N codes wanted budget
 
 -- .. with the widths ns of its input values; and the buffers of the input codes and of the tally have room
-pub record Givable (h : Header) (t : Tables) (count n : ℕ) (wanted ns ws ms ys is ts : List ℕ) : Type 0 where
+pub record Givable (h : Header) (t : Tables) (count : ℕ) (codes wanted ns ws ms is ts : List ℕ) : Type 0 where
   pub fronts : Fronts h t count ws ms
   pub widths : length ns ≤ 16
-  pub codes : n ≤ h.wires
+  pub ins : length codes ≤ h.wires
   pub outs : length wanted ≤ h.wires
-  pub ways : h.wires ≤ length ys
-  pub inputs : n ≤ length is
+  pub inputs : length codes ≤ length is
   pub tally : 2 ≤ length ts
 
 -- the result of a source with these codes and this tally

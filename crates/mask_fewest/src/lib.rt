@@ -2,7 +2,7 @@
 // the order of the operands of each AND. Questions 1 to 9 with the small limits, 11 with codes 0 to 4, 13, 22 and 14.
 #![tactic(auto)]
 
-ghost use Rattle.std.specs.Prelude.{◌≤◌, [], ◌∷◌, ◌++◌, length, take};
+ghost use Rattle.std.specs.Prelude.{◌≤◌, [], ◌∷◌, ◌++◌, length};
 ghost use Rattle.netlist.specs.Netlist.{Netlist};
 ghost use Rattle.netlist.specs.Read.{WellFormed};
 ghost use Rattle.netlist.specs.Mask.{mask_netlist};
@@ -70,7 +70,7 @@ fn choose<'a>(
     r
 }
 
-// The masked text and the output codes of a source, and where question 14 gets a yes also its first n codes and the tally. The buffers
+// The masked text and the output codes of a source, and where question 14 gets a yes also the codes and the tally. The buffers
 // and tables are parameters of their own: C lends them one by one, and a struct of `&mut` slices would have to promise at each call that
 // it still holds them.
 fn give(
@@ -80,37 +80,27 @@ fn give(
     tally: &mut [u64],
     h: Header,
     r: Tally,
-    n: usize,
+    codes: &[u8],
     wanted: &[u8],
     inputs: &[u32],
     outputs: &[u32],
     gates: Gates,
     wires: &mut [u32],
     marks: &mut [u8],
-    ways: &[u8],
 ) -> Answer
-    requires { Givable h (tables_of gates) gates.count n wanted.now inputs.now wires.old marks.old ways.now ins.old tally.old }
+    requires { Givable h (tables_of gates) gates.count codes.now wanted.now inputs.now wires.old marks.old ins.old tally.old }
     ensures { (N : Netlist)
-        → MaskSource (tables_of gates.entry) gates.entry.count h.wires n (length wanted.now)
+        → MaskSource (tables_of gates.entry) gates.entry.count h.wires (length codes.now) (length wanted.now)
         (inputs.now ++ (2 ∷ [])) outputs.now N
-        → WellFormed (mask_netlist N (take n ways.now) wanted.now).netlist
+        → WellFormed (mask_netlist N codes.now wanted.now).netlist
         → FewestAnswers (delivery (room out.old ins.old ends.old tally.old)
-        (given N (take n ways.now) wanted.now r)) out.old out.new ins.old
+        (given N codes.now wanted.now r)) out.old out.new ins.old
         ins.new ends.old ends.new tally.old tally.new result }
 {
     let size = mask::deliver(
-        out,
-        ends,
-        h,
-        &ways[..n],
-        wanted,
-        inputs,
-        outputs,
-        gates,
-        wires,
-        marks,
+        out, ends, h, codes, wanted, inputs, outputs, gates, wires, marks,
     )?;
-    ins[..n].copy_from_slice(&ways[..n]);
+    ins[..codes.len()].copy_from_slice(codes);
     tally[0] = r.changes as u64;
     tally[1] = r.floor as u64;
     Ok(size)
@@ -173,14 +163,13 @@ fn deliver(
         tally,
         h,
         r,
-        codes.len(),
+        &ways[..codes.len()],
         wanted,
         inputs,
         outputs,
         gates,
         wires,
         marks,
-        ways,
     )
 }
 
