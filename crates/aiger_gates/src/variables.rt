@@ -1,4 +1,5 @@
-// The wires of variables. Entry v of the table is 0 where variable v is not given, and otherwise one more than its wire.
+// The wires of variables. Entry v of the table is 0 where variable v is not given, and otherwise one more than its wire: C lends a table of
+// numbers, and has 0 in it for none.
 ghost use Rattle.std.specs.Prelude.{◌≡◌, true, List, ℕ, ◌+◌, ◌/◌, ◌<◌, ◌^◌, ◌≤◌, length, set, get_or};
 ghost use Rattle.aiger.specs.File.{literal};
 ghost use Rattle.aiger.specs.Rules.{readable, can_give};

@@ -133,6 +133,23 @@ impl From<GateNumbers> for Entry {
     }
 }
 
+// The entries of a gate whose kind stands with its wires, which hold it.
+impl From<Gate> for Entry {
+    ghost use Rattle.gate_table.specs.Entry.{gate_entry, Enters};
+
+    ghost from_gives = { λ g e. (e ≡ gate_entry g) × Enters g e };
+
+    fn from(g: Gate) -> Self {
+        match g {
+            Gate::Xor(a, b, c) => pack(Kind::Xor, a, b, c),
+            Gate::And(a, b, c) => pack(Kind::And, a, b, c),
+            Gate::Inv(a, c) => pack(Kind::Inv, a, a, c),
+            Gate::Eqw(a, c) => pack(Kind::Eqw, a, a, c),
+            Gate::Eq(v, c) => pack(Kind::Eq(v), 0, 0, c),
+        }
+    }
+}
+
 // Stores entries at a place of the tables.
 pub fn put(operands: &mut [u64], results: &mut [u64], at: usize, e: Entry)
     requires { (at < length operands.old) × (at < length results.old) }
