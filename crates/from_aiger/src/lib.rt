@@ -21,7 +21,8 @@ pub fn write(out: &mut [u8], m: NetlistNumbers, gates: Gates) -> Answer
     write_netlist::deliver(out, gates, m.wires, &[m.inputs], &[m.outputs])
 }
 
-// The file read, and its netlist's text.
+// The file read, and its netlist's text. The tables are lent one by one: a struct of `&mut` slices would have to promise at each call that
+// it still holds them.
 fn answer(
     text: &[u8],
     out: &mut [u8],

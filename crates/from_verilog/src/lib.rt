@@ -52,7 +52,8 @@ fn read_and_write(
     from_aiger::write(out, m, gates)
 }
 
-// Question 1, and then the others.
+// Question 1, and then the others. The tables are lent one by one: a struct of `&mut` slices would have to promise at each call that it
+// still holds them.
 fn answer(
     text: &[u8],
     out: &mut [u8],

@@ -36,7 +36,7 @@ fn copy(
     free + 1
 }
 
-// Copies the outputs among the ports from a place on.
+// Copies the outputs among the ports from a place on. No `for`: the place moves by as much as a token is long.
 pub fn copies(
     names: Names,
     states: &[u32],

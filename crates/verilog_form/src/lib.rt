@@ -89,7 +89,7 @@ fn operators(kind: Kind) -> usize
     }
 }
 
-// Question 16 of a text.
+// Question 16 of a text. No `for`: the place moves by as much as a token is long.
 pub fn walk(text: &[u8]) -> Option<Scan>
     requires { length text.now < half }
     ensures { ScanIs text.now result }

@@ -73,7 +73,8 @@ impl Names<'_> {
     }
 }
 
-// The name between two places as the next entry, newest of its chain.
+// The name between two places as the next entry, newest of its chain. The tables are lent one by one: a struct of `&mut` slices would have
+// to promise at each call that it still holds them.
 pub fn add(
     text: &[u8],
     from: usize,

@@ -123,7 +123,8 @@ fn one(
     })
 }
 
-// The declarations from a place on; none if a name stands twice, or the tables have no room for all.
+// The declarations from a place on; none if a name stands twice, or the tables have no room for all. No `for`: the place moves by as much
+// as a token is long.
 pub fn declarations(
     text: &[u8],
     heads: &mut [u64],

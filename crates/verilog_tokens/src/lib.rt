@@ -32,7 +32,7 @@ pub enum Kind {
     Other,
 }
 
-// A token: what it is, its first byte, and the one behind its last.
+// A token: what it is, its first byte, and the one behind its last. Places and no slice, since the tables of names store places.
 #[derive(Clone, Copy)]
 pub struct Token {
     pub kind: Kind,
