@@ -1,4 +1,4 @@
-// A netlist that was read, as one value for the functions that judge it.
+// A netlist that was read, as one value for the functions that judge it or give its twins.
 #![tactic(auto)]
 
 pub mod tables;
