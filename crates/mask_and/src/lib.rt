@@ -52,7 +52,7 @@ fn row(d: Words, out: &mut [u8], at: usize, is_and: bool, a: u32, b: u32, c: u32
 }
 
 // The steps' gates at the wires from c, with the operands a and b, their mask wires p and q, and the wire o of the OR of the masks. A loop
-// over what `step` gives took a seventh longer.
+// over what `step` gives took 185 µs in place of 162, so that masking, at 1.02 to 1.07 times the plain C of bench/, would miss its bar of 1.1.
 pub fn steps(
     d: Words,
     out: &mut [u8],

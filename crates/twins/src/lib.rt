@@ -72,7 +72,7 @@ fn answer(
 }
 
 // The masked wire of each source wire at the front of `wires`, and its code at the front of `out_codes`. The tables, of any content,
-// are zero on return.
+// are zero on return. Buffers and tables are parameters of their own: C lends each by itself.
 pub fn twins(
     text: &[u8],
     codes: &[u8],
