@@ -138,6 +138,9 @@ pub fn deliver(
         wanted,
         shape,
     };
+    if let Some(none) = Words::none_for(wires) {
+        return answer(none, out, out_codes, j, wire, code);
+    }
     let mut table = [0u64; 2000];
     let words = Words::of(&mut table, wires);
     answer(words, out, out_codes, j, wire, code)

@@ -103,6 +103,9 @@ pub fn deliver_in(
         outs,
         dialect,
     };
+    if let Some(none) = Words::none_for(wires) {
+        return answer(none, out, f);
+    }
     let mut table = [0u64; 2000];
     answer(Words::of(&mut table, wires), out, f)
 }
