@@ -4,23 +4,20 @@ use mathlib.Core.Path.{◌≡◌, refl, sym, ◌∙◌, subst}
 use mathlib.Core.Bool.{true}
 use mathlib.Core.List.{List, [], ◌∷◌, ◌++◌, append-nil, append_assoc}
 use native.Mathlib.Omega.{arith}
-use lib.Dec.{eqb}
+use lib.Dec.{eqb, ltb}
 use lib.ListN.{length, get_or, length-append}
 use Rattle.netlist.specs.declared.Gate.{Gate}
 use Rattle.netlist.specs.declared.Gate.TheVariants.{And, Inv, Eqw, Eq}
 use Rattle.netlist.specs.Lists.{member}
 use Rattle.netlist.specs.Table.{Tables, Wired, Named}
 use Rattle.netlist.specs.Leak.{bit}
-use borrow.Author.Tests.{eqb-true, eqb-false}
+use borrow.Author.Tests.{eqb-true, eqb-false, ltb-true, ltb-false}
 use Rattle.netlist.proofs.Tests.{true-T, on_bool}
-use Rattle.gate_table.specs.declared.Kind.{Kind}
-use Rattle.gate_table.specs.declared.Kind.TheVariants as kind
-use Rattle.gate_table.specs.Kind.{gate_for}
 use Rattle.gate_table.specs.Numbers.{Names}
 use Rattle.aiger.specs.File.{literal}
 use Rattle.aiger.specs.Rules.{readable}
 use Rattle.aiger.specs.Made.{wire_at, operand}
-use Rattle.aiger_gates.specs.Places.{Holding, Keeps, Keeping, Standing, Added, OperandIs, AndIs, out_kind, OutIs}
+use Rattle.aiger_gates.specs.Places.{Holding, Keeps, Keeping, Standing, Added, OperandIs, AndIs, OutIs}
 use Rattle.aiger.proofs.MadeGates.{InOrder, order-next, operand-order}
 use Rattle.aiger_gates.proofs.Placing.{literal-low, literal-even, literal-odd, literal-readable, place-wire}
 
@@ -61,12 +58,15 @@ bit-of x h = on_bool (eqb x 0)
     (λ e. let d : x ≡ 0 → ⊥ = eqb-false x 0 e in let z : x ≡ 1 = omega arith in rw z)
 
 module _ (table : List ℕ) (t : Tables) (n count x c : ℕ) (same : c ≡ n + count) where
-  pub operand-constant : (u : Tables) → x < 2 → Keeping t u count (Eq x c) → OperandIs table t u n count x c (count + 1)
-  operand-constant u h k given wires gs S r =
-      let m : Names (n + count + 1) (Eq x c) = (h, omega arith) in
-      let s : Standing table u n (count + 1) given wires (gs ++ (Eq x c ∷ [])) = standing-more S (Eq x c) m k in
-      let e : Eq x c ≡ Eq (bit (eqb x 1)) (n + count) = rw (bit-of x h, same) in
-      rw (literal-low x h) (same, record { next = omega arith; standing = rw e at s })
+  -- the gate of an output is that of an operand, but for a variable's own wire
+  pub operand-out : (u : Tables) → (2 ≤ x → x % 2 ≡ 0 → ⊥) → OutIs table t u n count x → OperandIs table t u n count x c (count + 1)
+  operand-out u e o given wires gs S r =
+      let s = o given wires gs S r in
+      on_bool (ltb x 2)
+      (λ b. let l = literal-low x (ltb-true x 2 b) in rw l (same, record { next = omega arith; standing = rw l at s }))
+      (λ b. let high = ltb-false x 2 b in
+      let l = literal-odd x high (e high) in
+      rw l (same, record { next = omega arith; standing = rw l at s }))
 
   module _ (w : ℕ) (high : 2 ≤ x) (at : w ≡ get_or table (x / 2) 0 - 1) where
     wire-of : {given wires : List ℕ} {gs : List Gate} → Standing table t n count given wires gs → readable given (literal x) ≡ true
@@ -81,14 +81,6 @@ module _ (table : List ℕ) (t : Tables) (n count x c : ℕ) (same : c ≡ n + c
     operand-plain e given wires gs S r =
         let p = wire-of S r in
         rw (literal-even x high e) (p.0, record { next = refl; standing = subst (Standing table t n count given wires) (sym (append-nil gs)) S })
-
-    pub operand-inverse : (u : Tables) → (x % 2 ≡ 0 → ⊥) → Keeping t u count (Inv w c) → OperandIs table t u n count x c (count + 1)
-    operand-inverse u e k given wires gs S r =
-        let p = wire-of S r in
-        let m : Names (n + count + 1) (Inv w c) = (omega (arith, p.1), omega arith) in
-        let s : Standing table u n (count + 1) given wires (gs ++ (Inv w c ∷ [])) = standing-more S (Inv w c) m k in
-        let q : Inv w c ≡ Inv (wire_at wires (x / 2)) (n + count) = rw (p.0, same) in
-        rw (literal-odd x high e) (same, record { next = omega arith; standing = rw q at s })
 
 -- ---- an AND line
 
@@ -132,19 +124,19 @@ module _ (table : List ℕ) (t u : Tables) (n count x c : ℕ) (same : c ≡ n +
       let e : Eq x c ≡ Eq (bit (eqb x 1)) (n + count) = rw (bit-of x h, same) in
       rw (literal-low x h) (rw e at s)
 
-  pub out-other : (w : ℕ) (k : Kind) → 2 ≤ x → w ≡ get_or table (x / 2) 0 - 1 → k ≡ out_kind x → Keeping t u count (gate_for k w 0 c) → OutIs table t u n count x
-  out-other w v high at q k given wires gs S r =
-      let p = wire-of table t n count x c same w high at S r in
-      on_bool (eqb (x % 2) 0)
-      (λ b. let e = eqb-true (x % 2) 0 b in
-      let f : v ≡ kind.Eqw = q ∙ rw b in
-      let m : Names (n + count + 1) (Eqw w c) = (omega (arith, p.1), omega arith) in
-      let s : Standing table u n (count + 1) given wires (gs ++ (Eqw w c ∷ [])) = standing-more S (Eqw w c) m (rw f at k) in
-      let g : Eqw w c ≡ Eqw (wire_at wires (x / 2)) (n + count) = rw (p.0, same) in
-      rw (literal-even x high e) (rw g at s))
-      (λ b. let e = eqb-false (x % 2) 0 b in
-      let f : v ≡ kind.Inv = q ∙ rw b in
-      let m : Names (n + count + 1) (Inv w c) = (omega (arith, p.1), omega arith) in
-      let s : Standing table u n (count + 1) given wires (gs ++ (Inv w c ∷ [])) = standing-more S (Inv w c) m (rw f at k) in
-      let g : Inv w c ≡ Inv (wire_at wires (x / 2)) (n + count) = rw (p.0, same) in
-      rw (literal-odd x high e) (rw g at s))
+  module _ (w : ℕ) (high : 2 ≤ x) (at : w ≡ get_or table (x / 2) 0 - 1) where
+    pub out-plain : x % 2 ≡ 0 → Keeping t u count (Eqw w c) → OutIs table t u n count x
+    out-plain e k given wires gs S r =
+        let p = wire-of table t n count x c same w high at S r in
+        let m : Names (n + count + 1) (Eqw w c) = (omega (arith, p.1), omega arith) in
+        let s : Standing table u n (count + 1) given wires (gs ++ (Eqw w c ∷ [])) = standing-more S (Eqw w c) m k in
+        let g : Eqw w c ≡ Eqw (wire_at wires (x / 2)) (n + count) = rw (p.0, same) in
+        rw (literal-even x high e) (rw g at s)
+
+    pub out-inverse : (x % 2 ≡ 0 → ⊥) → Keeping t u count (Inv w c) → OutIs table t u n count x
+    out-inverse e k given wires gs S r =
+        let p = wire-of table t n count x c same w high at S r in
+        let m : Names (n + count + 1) (Inv w c) = (omega (arith, p.1), omega arith) in
+        let s : Standing table u n (count + 1) given wires (gs ++ (Inv w c ∷ [])) = standing-more S (Inv w c) m k in
+        let g : Inv w c ≡ Inv (wire_at wires (x / 2)) (n + count) = rw (p.0, same) in
+        rw (literal-odd x high e) (rw g at s)

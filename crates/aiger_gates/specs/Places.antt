@@ -1,10 +1,8 @@
 -- What the lent tables hold while a file is read.
-use Rattle.std.specs.Prelude.{ℕ, ◌+◌, ◌%◌, ◌≤◌, ◌≡◌, true, cond, List, [], ◌∷◌, ◌++◌, eqb, length, get_or}
+use Rattle.std.specs.Prelude.{ℕ, ◌+◌, ◌≤◌, ◌≡◌, true, cond, List, [], ◌∷◌, ◌++◌, length, get_or}
 use Rattle.netlist.specs.declared.Gate.{Gate}
 use Rattle.netlist.specs.Lists.{member}
 use Rattle.netlist.specs.Table.{Tables, gates_of, Wired}
-use Rattle.gate_table.specs.declared.Kind.{Kind}
-use Rattle.gate_table.specs.declared.Kind.TheVariants.{Inv, Eqw}
 use Rattle.gate_table.specs.Numbers.{Names}
 use Rattle.aiger.specs.File.{literal, line_of}
 use Rattle.aiger.specs.Rules.{readable}
@@ -52,10 +50,6 @@ AndIs table t u n count x y wire next = (given wires : List ℕ) (gs : List Gate
     → readable given (literal x) ≡ true → readable given (literal y) ≡ true → (v : ℕ)
     → (wire ≡ (and_made (wire_at wires) (line_of v x y) (n + count)).wire)
     × Added table u n next given wires gs (and_made (wire_at wires) (line_of v x y) (n + count))
-
--- the kind of an output that is no constant
-abbrev pub out_kind : ℕ → Kind
-out_kind x = cond (eqb (x % 2) 0) Eqw Inv
 
 -- one gate more after an output
 abbrev pub OutIs : List ℕ → Tables → Tables → ℕ → ℕ → ℕ → Type 0

@@ -1,22 +1,23 @@
 // The gates of operands, of AND lines and of outputs, behind n input bits and `count` gates.
-// The tables are lent one by one: a struct of `&mut` slices would have to promise at each call that it still holds them.
-ghost use Rattle.std.specs.Prelude.{◌≡◌, ◌+◌, ◌/◌, ◌^◌, ◌<◌, ◌≤◌, get_or};
-ghost use Rattle.netlist.specs.declared.Gate.TheVariants.{And};
+// The tables are lent one by one: a struct of `&mut` slices would have to promise at each call that it still holds them. No struct for `n`
+// and `count`: `n` stays and `count` grows from call to call, so each call would put one together again.
+ghost use Rattle.std.specs.Prelude.{◌+◌, ◌/◌, ◌^◌, ◌<◌, ◌≤◌, get_or};
 ghost use Rattle.netlist.specs.Table.{tables};
-ghost use Rattle.aiger_gates.specs.Places.{Keeping, OperandIs, AndIs, out_kind, OutIs};
+ghost use Rattle.aiger_gates.specs.Places.{OperandIs, AndIs, OutIs};
 
 use crate::keep::keep;
-use crate::variables::entry;
-use gate_table::{GateNumbers, Kind};
+use lists::entry;
+use netlist::Gate;
 
-// The wire that carries an operand, and how many gates there are with its own.
+// The wire that carries an operand, and how many gates there are with its own. How far both go stands in the contracts: a bound of a plain
+// number is shorter there than a type for it.
 #[derive(Clone, Copy)]
 pub struct Carried {
     pub wire: u32,
     pub count: usize,
 }
 
-// An operand: an EQ for a constant, an INV for an inverse, and otherwise the variable's own wire.
+// An operand: a variable's own wire, and otherwise a gate as for an output: an EQ for a constant, an INV for an inverse.
 pub fn operand(
     table: &[u32],
     operands: &mut [u64],
@@ -29,62 +30,17 @@ pub fn operand(
     ensures { OperandIs table.now (tables operands.old results.old)
         (tables operands.new results.new) n count x result.wire result.count × (result.count ≤ count + 1) }
 {
-    let c = n + count as u32;
-    if x < 2 {
-        keep(
-            operands,
-            results,
-            count,
-            GateNumbers {
-                kind: Kind::Eq(x),
-                left: 0,
-                right: 0,
-                result: c,
-            },
-        );
+    if 2 <= x && x % 2 == 0 {
         return Carried {
-            wire: c,
-            count: count + 1,
+            wire: entry(table, (x / 2) as usize) - 1,
+            count,
         };
     }
-    let w = entry(table, x / 2) - 1;
-    if x % 2 == 0 {
-        return Carried { wire: w, count };
-    }
-    keep(
-        operands,
-        results,
-        count,
-        GateNumbers {
-            kind: Kind::Inv,
-            left: w,
-            right: 0,
-            result: c,
-        },
-    );
+    out_gate(table, operands, results, x, n, count);
     Carried {
-        wire: c,
+        wire: n + count as u32,
         count: count + 1,
     }
-}
-
-// A gate of two operands behind the others.
-fn and_gate(operands: &mut [u64], results: &mut [u64], left: u32, right: u32, n: u32, count: usize)
-    requires { n + count + 1 < 2 ^ 32 }
-    ensures { Keeping (tables operands.old results.old) (tables operands.new results.new)
-        count (And left right (n + count)) }
-{
-    keep(
-        operands,
-        results,
-        count,
-        GateNumbers {
-            kind: Kind::And,
-            left,
-            right,
-            result: n + count as u32,
-        },
-    );
 }
 
 // The gates of an AND line, the left operand's first, and the wire of the last.
@@ -107,18 +63,12 @@ pub fn and_gates(
     let r = operand(table, operands, results, second, n, l.count);
     let right = r.wire;
     let behind = r.count;
-    and_gate(operands, results, left, right, n, behind);
+    let c = n + behind as u32;
+    keep(operands, results, behind, Gate::And(left, right, c));
     Carried {
-        wire: n + behind as u32,
+        wire: c,
         count: behind + 1,
     }
-}
-
-// The kind of an output that is no constant: a copy, or the inverse.
-fn out_kind(x: u32) -> Kind
-    ensures { result ≡ out_kind x }
-{
-    if x % 2 == 0 { Kind::Eqw } else { Kind::Inv }
 }
 
 // An output: an EQW, an INV or an EQ.
@@ -136,29 +86,13 @@ pub fn out_gate(
 {
     let c = n + count as u32;
     if x < 2 {
-        keep(
-            operands,
-            results,
-            count,
-            GateNumbers {
-                kind: Kind::Eq(x),
-                left: 0,
-                right: 0,
-                result: c,
-            },
-        );
+        keep(operands, results, count, Gate::Eq(x, c));
         return;
     }
-    let w = entry(table, x / 2) - 1;
-    keep(
-        operands,
-        results,
-        count,
-        GateNumbers {
-            kind: out_kind(x),
-            left: w,
-            right: 0,
-            result: c,
-        },
-    );
+    let w = entry(table, (x / 2) as usize) - 1;
+    if x % 2 == 0 {
+        keep(operands, results, count, Gate::Eqw(w, c));
+    } else {
+        keep(operands, results, count, Gate::Inv(w, c));
+    }
 }

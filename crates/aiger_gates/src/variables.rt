@@ -1,22 +1,18 @@
-// The wires of variables. Entry v of the table is 0 where variable v is not given, and otherwise one more than its wire.
+// The wires of variables. Entry v of the table is 0 where variable v is not given, and otherwise one more than its wire: C lends a table of
+// numbers, and has 0 in it for none.
 ghost use Rattle.std.specs.Prelude.{◌≡◌, true, List, ℕ, ◌+◌, ◌/◌, ◌<◌, ◌^◌, ◌≤◌, length, set, get_or};
 ghost use Rattle.aiger.specs.File.{literal};
 ghost use Rattle.aiger.specs.Rules.{readable, can_give};
 ghost use Rattle.aiger_gates.specs.Places.{Places};
 
-// The entry of a variable, 0 past the table's end.
-pub fn entry(table: &[u32], v: u32) -> u32
-    ensures { result ≡ get_or table.now v 0 }
-{
-    table.get(v as usize).copied().unwrap_or(0)
-}
+use lists::entry;
 
 // Whether a literal can be read: a constant, or of a variable that is given.
 pub fn is_readable(table: &[u32], x: u32) -> bool
     ensures { ((given wires : List ℕ) → Places table.now given wires → result ≡ readable given (literal x))
         × (result ≡ true → 2 ≤ x → 1 ≤ get_or table.now (x / 2) 0) }
 {
-    x < 2 || entry(table, x / 2) != 0
+    x < 2 || entry(table, (x / 2) as usize) != 0
 }
 
 // Whether a literal can be given: even, above 1, of a variable that is at most M and not given yet.
@@ -24,7 +20,7 @@ pub fn can_give(table: &[u32], x: u32, most: u32) -> bool
     ensures { ((given wires : List ℕ) → Places table.now given wires → result ≡ can_give most given (literal x))
         × (result ≡ true → x / 2 ≤ most) }
 {
-    2 <= x && x % 2 == 0 && x / 2 <= most && entry(table, x / 2) == 0
+    2 <= x && x % 2 == 0 && x / 2 <= most && entry(table, (x / 2) as usize) == 0
 }
 
 // Gives a variable its wire.

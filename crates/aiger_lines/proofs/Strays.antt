@@ -1,5 +1,5 @@
 -- A CR that does not stand before LF: where a text has none, its lines are those that the line reader takes.
-use Prim.Native.Nat.{ℕ, zero, suc, ◌+◌, ◌≤◌, ◌<◌}
+use Prim.Native.Nat.{ℕ, zero, suc, ◌+◌, ◌-◌, ◌≤◌, ◌<◌}
 use mathlib.Core.Path.{◌≡◌, refl, sym, ap, ◌∙◌, subst}
 use mathlib.Core.Bool.{Bool, true, false, cond, not, ◌&&◌, ◌||◌}
 use mathlib.Core.List.{List, [], ◌∷◌, map}
@@ -10,6 +10,8 @@ use native.Mathlib.Numerals.{add-one}
 use lib.ListN.{length, drop, get_or, drop_of_length-le}
 use lib.Seq.{drop-cons}
 use borrow.Author.Tests.{eqb-true}
+use Rattle.std.specs.Prelude as P
+use Rattle.std.specs.Option.{MatchOption, unwrap_or}
 use Rattle.netlist.specs.Text.{space, lf, cr, at_lf, lf_ends, is_line_end, onto, split, filled, word_lines, space_words}
 use Rattle.netlist.specs.Number.{is_digit, all_digits, no_leading_zero, max_digits, value_from, number}
 use Rattle.netlist.specs.Header.{cons_option, numbers}
@@ -238,13 +240,13 @@ between-on x xs h = go (eqb x space) (eqb x cr) (is_line_end x) (at_lf xs) refl 
     go false false false d p q r k h = absurd (never false h refl)
 
 -- on the way to the next word
-pub record Passing (t : List ℕ) (from i : ℕ) : Type 0 where
+record Passing (t : List ℕ) (from i : ℕ) : Type 0 where
   pub lines : file_lines (drop i t) ≡ file_lines (drop from t)
   pub on : from ≤ i
   pub before : i ≤ stray_at t
 
 module _ (t : List ℕ) (from i : ℕ) (P : Passing t from i) where
-  pub passing-on : i < length t → is_between (drop i t) ≡ true → Passing t from (i + 1)
+  passing-on : i < length t → is_between (drop i t) ≡ true → Passing t from (i + 1)
   passing-on h e =
       let d : drop i t ≡ get_or t i 0 ∷ drop (i + 1) t = rw (add-one, drop-cons t i 0) refl in
       let b = between-on (get_or t i 0) (drop (i + 1) t) (ap is_between (sym d) ∙ e) in
@@ -256,10 +258,31 @@ module _ (t : List ℕ) (from i : ℕ) (P : Passing t from i) where
   passing-stop e = record { lines = P.lines; still = e; on = P.on; before = P.before }
 
   -- the loop went to the text's end
-  pub passing-end : length t ≤ i → ToWord t from (length t)
+  passing-end : length t ≤ i → ToWord t from (length t)
   passing-end h =
       let e : i ≡ length t = omega (arith, P.before, stray-within t) in
       subst (ToWord t from) e (passing-stop (ap is_between (drop_of_length-le t h)))
+
+-- the first place from here on whose byte is part of a word, or the end
+module _ (t : List ℕ) (at : ℕ) (h : at ≤ stray_at t) where
+  pass-more : (n : ℕ) → at + n ≤ length t → ((k : ℕ) → at ≤ k → k < at + n → is_between (drop k t) ≡ true) → Passing t at (at + n)
+  pass-more zero l w = let e : at ≡ at + zero = omega arith in subst (Passing t at) e (record { lines = refl; on = omega arith; before = h })
+  pass-more (suc n) l w =
+      let e : (at + n) + 1 ≡ at + suc n = omega arith in
+      subst (Passing t at) e
+      (passing-on t at (at + n) (pass-more n (omega arith) (λ k a b. w k a (omega arith))) (omega arith) (w (at + n) (omega arith) (omega arith)))
+
+  pass-to : (i : ℕ) → at ≤ i → i ≤ length t → ((k : ℕ) → at ≤ k → k < i → is_between (drop k t) ≡ true) → Passing t at i
+  pass-to i a l w =
+      let e : at + (i - at) ≡ i = omega arith in
+      subst (Passing t at) e (pass-more (i - at) (omega arith) (λ k b c. w k b (omega arith)))
+
+  pub passed : (r : P.Option ℕ)
+      → MatchOption r ((k : ℕ) → at ≤ k → k < length t → is_between (drop k t) ≡ true)
+      (λ i. (at ≤ i) × (i < length t) × (is_between (drop i t) ≡ false) × ((k : ℕ) → at ≤ k → k < i → is_between (drop k t) ≡ true))
+      → ToWord t at (unwrap_or r (length t))
+  passed P.None w = passing-end t at (length t) (pass-to (length t) (omega (arith, h, stray-within t)) (omega arith) w) (omega arith)
+  passed (P.Some i) w = passing-stop t at i (pass-to i w.0 (let l = w.1 in omega arith) w.3) w.2
 
 -- the words of a line that starts with a word
 some_word : (x : ℕ) (l : List ℕ) → eqb x space ≡ false → (w : List ℕ) × (ws : List (List ℕ)) × (space_words (x ∷ l) ≡ w ∷ ws)

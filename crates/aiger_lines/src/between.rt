@@ -1,8 +1,9 @@
 // What stands between words and lines.
-ghost use Rattle.std.specs.Prelude.{◌≡◌, ◌<◌, ◌≤◌, length, drop};
+ghost use Rattle.std.specs.Prelude.{◌≡◌, ◌<◌, length, drop};
 ghost use Rattle.read_text.specs.Cursors.{Scanned};
-ghost use Rattle.aiger_lines.specs.Stray.{is_plain, is_stray, is_between, stray_at, ToWord};
+ghost use Rattle.aiger_lines.specs.Stray.{is_plain, is_stray, is_between};
 
+use crate::lines::Lines;
 use read_text::cursor::Cursor;
 use read_text::ends::{is_cr, is_line_end};
 use read_text::words::is_blank;
@@ -22,22 +23,22 @@ fn is_between(text: &[u8], i: usize) -> bool
     is_blank(text[i]) && !is_stray(text, i)
 }
 
-// Past spaces and line ends.
-pub fn to_word(text: &[u8], at: usize) -> usize
-    requires { at ≤ stray_at text.now }
-    ensures { ToWord text.now at result }
-{
-    for i in at..text.len() {
-        if !is_between(text, i) {
-            return i;
-        }
-    }
-    text.len()
-}
-
 // Past spaces.
 pub fn past_spaces(at: Cursor) -> Cursor
     ensures { Scanned is_plain at.entry result }
 {
     at.pass(|b| b == b' ')
+}
+
+impl Lines<'_> {
+    ghost use Rattle.aiger_lines.specs.Stray.{ToWord};
+
+    // The place of the next word, past spaces and line ends.
+    pub fn to_word(self) -> usize
+        ensures { ToWord self.entry.text.now self.entry.at result }
+    {
+        (self.at..self.text.len())
+            .find(|i| !is_between(self.text, *i))
+            .unwrap_or(self.text.len())
+    }
 }

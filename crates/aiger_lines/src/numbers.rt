@@ -1,7 +1,7 @@
 // A line of so many numbers, and nothing else.
 ghost use Rattle.std.specs.Prelude.{◌≤◌, length, drop};
 
-use crate::between::{is_stray, past_spaces, to_word};
+use crate::between::{is_stray, past_spaces};
 use crate::lines::Lines;
 use read_text::cursor::Cursor;
 
@@ -13,18 +13,19 @@ impl Lines<'_> {
         ensures line { FileLineIs (drop self.entry.at self.entry.text.now) (length into.old) into.new result }
         ensures behind { BehindIs self.entry result }
     {
-        let text = self.text;
-        let mut at = self.at;
+        let mut at = past_spaces(Cursor {
+            text: self.text,
+            at: self.at,
+        });
         for entry in into.iter_mut() {
-            let (v, next) = past_spaces(Cursor { text, at }).take_number()?;
+            let (v, next) = at.take_number()?;
             *entry = v;
-            at = next.at;
+            at = past_spaces(next);
         }
-        let end = past_spaces(Cursor { text, at });
-        if is_stray(text, end.at) {
+        if is_stray(self.text, at.at) {
             return None;
         }
-        let next = end.line_end()?;
+        let next = at.line_end()?;
         Some(Lines {
             text: self.text,
             at: next.at,
@@ -37,10 +38,9 @@ impl Lines<'_> {
         ensures line { LineIs (lines_left self.entry) (length into.old) into.new result }
         ensures behind { BehindIs self.entry result }
     {
-        let at = to_word(self.text, self.at);
         let lines = Lines {
             text: self.text,
-            at,
+            at: self.to_word(),
         };
         lines.numbers(into)
     }

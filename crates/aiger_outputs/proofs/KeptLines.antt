@@ -1,7 +1,7 @@
 -- Literals that a table keeps.
 use Prim.Native.Nat.{ℕ, suc, ◌+◌, ◌/◌, ◌^◌, ◌<◌, ◌≤◌}
 use mathlib.Core.Path.{◌≡◌, refl, sym, ap, ◌∙◌, subst}
-use mathlib.Core.Bool.{true, false}
+use mathlib.Core.Bool.{Bool, true, false}
 use mathlib.Core.List.{List, [], ◌∷◌, ◌++◌, map}
 use mathlib.Core.Option.{some}
 use native.Mathlib.Numerals.{add-one}
@@ -9,14 +9,17 @@ use native.Mathlib.Omega.{arith}
 use borrow.Author.Count.{below_more}
 use lib.ListN.{length, take, drop, get_or, set, length-set}
 use lib.Seq.{take-suc, take-suc-set, take_all, split_at, get_or-set_same, get_or-set_other}
+use Rattle.std.specs.Bool.{MatchBool}
+use Rattle.std.specs.List.{AllWithin, HoldsAt}
 use Rattle.netlist.specs.Lists.{every}
 use Rattle.aiger.specs.File.{Literal, literal}
 use Rattle.aiger.specs.Lines.{formed, output_line}
 use Rattle.aiger.specs.Rules.{readable}
 use Rattle.aiger_lines.specs.LineAnswers.{LineNot, OneAt}
 use Rattle.aiger_gates.specs.Places.{Places}
+use Rattle.aiger_gates.proofs.Placing.{not_so}
 use Rattle.aiger_outputs.specs.OutAnswers.{LiteralsAt, Low, HaveWires}
-use Rattle.aiger_outputs.proofs.OutLines.{literals-more, literals-no, every-snoc, every-no}
+use Rattle.aiger_outputs.proofs.OutLines.{literals-more, literals-no, every-no}
 
 map-join : (xs ys : List ℕ) → map literal (xs ++ ys) ≡ map literal xs ++ map literal ys
 map-join [] ys = refl
@@ -63,32 +66,29 @@ module _ {ls left : List (List (List ℕ))} {kept : List ℕ} {i : ℕ} (K : Kee
         λ j b. K.low j (omega arith),
       )
 
--- ---- read from the table: the first i can be read
-pub record Looking (table kept : List ℕ) (i : ℕ) : Type 0 where
-  pub good : (given wires : List ℕ) → Places table given wires → every (readable given) (map literal (take i kept)) ≡ true
-  pub wired : (j : ℕ) → j < i → 2 ≤ get_or kept j 0 → 1 ≤ get_or table (get_or kept j 0 / 2) 0
-  pub inside : i ≤ length kept
+-- ---- read from the table
 
-module _ {table kept : List ℕ} {i : ℕ} (K : Looking table kept i) (h : i < length kept) where
-  pub looking-more : ((given wires : List ℕ) → Places table given wires → true ≡ readable given (literal (get_or kept i 0)))
-      → (2 ≤ get_or kept i 0 → 1 ≤ get_or table (get_or kept i 0 / 2) 0) → Looking table kept (i + 1)
-  looking-more r w = record {
-    good = λ given wires P. ap (every (readable given)) (literal-more kept i h)
-        ∙ every-snoc (readable given) (map literal (take i kept)) (literal (get_or kept i 0)) (K.good given wires P) (sym (r given wires P));
-    wired = below_more (λ (j : ℕ). 2 ≤ get_or kept j 0 → 1 ≤ get_or table (get_or kept j 0 / 2) 0) i K.wired w;
-    inside = omega arith;
-  }
+abbrev pub Good : List ℕ → ℕ → Type 0
+Good table x = ((given wires : List ℕ) → Places table given wires → true ≡ readable given (literal x)) × (2 ≤ x → 1 ≤ get_or table (x / 2) 0)
 
-  pub looking-no : ((given wires : List ℕ) → Places table given wires → false ≡ readable given (literal (get_or kept i 0)))
-      → (given wires : List ℕ) → Places table given wires → false ≡ every (readable given) (map literal kept)
-  looking-no r given wires P =
-      sym (ap (every (readable given)) (literal-split kept i h)
-      ∙ every-no (readable given) (map literal (take i kept)) (literal (get_or kept i 0)) (map literal (drop (suc i) kept)) (sym (r given wires P)))
+abbrev pub Bad : List ℕ → ℕ → Type 0
+Bad table x = (given wires : List ℕ) → Places table given wires → false ≡ readable given (literal x)
 
-pub looking-all : {table kept : List ℕ} {i : ℕ} → Looking table kept i → length kept ≤ i
-    → ((given wires : List ℕ) → Places table given wires → true ≡ every (readable given) (map literal kept)) × HaveWires table kept
-looking-all {table} {kept} {i} K h = (
-  λ given wires P. sym (sym (ap (every (readable given)) (literals-whole kept i h)) ∙ K.good given wires P),
-  λ j b.
-      K.wired j (omega arith),
+good-every : (p : Literal → Bool) (xs : List ℕ) → ((k : ℕ) → k < length xs → true ≡ p (literal (get_or xs k 0))) → true ≡ every p (map literal xs)
+good-every p [] h = refl
+good-every p (x ∷ xs) h =
+    let e : p (literal x) ≡ true = sym (h 0 (omega arith)) in
+    rw e (good-every p xs (λ k l. h (suc k) (omega arith)))
+
+pub all-readable : (table kept : List ℕ) (r : Bool)
+    → MatchBool r (AllWithin (Good table) kept 0 (length kept)) ((k : ℕ) × (k < length kept) × HoldsAt (Bad table) kept k)
+    → ((given wires : List ℕ) → Places table given wires → r ≡ every (readable given) (map literal kept)) × (r ≡ true → HaveWires table kept)
+all-readable table kept true h = (
+  λ given wires P. good-every (readable given) kept (λ k l. (h k 0 (omega arith) l).0 given wires P),
+  λ e k l. (h k 0 (omega arith) l).1,
+)
+all-readable table kept false h = (
+  λ given wires P. sym (ap (every (readable given)) (literal-split kept h.0 h.1)
+      ∙ every-no (readable given) (map literal (take h.0 kept)) (literal (get_or kept h.0 0)) (map literal (drop (suc h.0) kept)) (sym (h.2 0 given wires P))),
+  λ e. not_so e,
 )

@@ -1,14 +1,16 @@
 -- Marks on the variables that output lines put out.
 use Prim.Native.Nat.{ℕ, ◌+◌, ◌/◌, ◌<◌, ◌≤◌}
-use mathlib.Core.Path.{◌≡◌, sym, ap, ◌∙◌}
-use mathlib.Core.Bool.{true}
+use mathlib.Core.Path.{◌≡◌, sym, ap, ap₂, subst, ◌∙◌}
+use mathlib.Core.Bool.{Bool, true, false}
 use mathlib.Core.List.{List, [], ◌∷◌, ◌++◌}
 use mathlib.Core.Option.{some}
 use native.Mathlib.Omega.{arith}
 use lib.Dec.{eqb, ltb}
-use lib.ListN.{length, get_or, set}
-use lib.Seq.{get_or-set_same, get_or-set_other}
-use borrow.Author.Count.{below_more}
+use lib.ListN.{length, take, get_or, set}
+use lib.Seq.{length-take-le, get_or-take, get_or-set_same, get_or-set_other}
+use Rattle.std.specs.Bool.{MatchBool}
+use Rattle.std.specs.List.{zip, AllWithin, HoldsAt}
+use Rattle.std.proofs.lemmas.Slice.Zip.{length-zip, get_or-zip}
 use borrow.Author.Tests.{eqb-true, eqb-false, ltb-true, ltb-false}
 use Rattle.netlist.specs.Lists.{every, member}
 use Rattle.netlist.proofs.Tests.{on_bool}
@@ -16,6 +18,7 @@ use Rattle.netlist.proofs.Questions.{some_same}
 use Rattle.aiger.specs.File.{Literal, literal}
 use Rattle.aiger.specs.Lines.{output_line, formed}
 use Rattle.aiger.specs.Rules.{readable}
+use Rattle.aiger.specs.Made.{wire_at}
 use Rattle.aiger_lines.specs.LineAnswers.{at_front, LineNot, OneAt}
 use Rattle.aiger_gates.specs.Places.{Places}
 use Rattle.aiger_gates.proofs.Placing.{literal-low, literal-readable}
@@ -70,16 +73,49 @@ module _ {ls left : List (List (List ℕ))} {i M : ℕ} {marks : List ℕ} (A : 
       let l = up (x / 2) (sym (literal-readable x (omega arith) given) ∙ k) in
       omega arith
 
--- ---- the variables below v that have a mark are given
+-- ---- whether the variables that have a mark are given
 
-abbrev pub Seen : List ℕ → List ℕ → ℕ → Type 0
-Seen table marks v = (u : ℕ) → u < v → 1 ≤ get_or marks u 0 → 1 ≤ get_or table u 0
+-- a variable without a mark, or with a wire
+abbrev pub Lets : ℕ × ℕ → Type 0
+Lets p = 1 ≤ p.1 → 1 ≤ p.0
 
-pub seen_more : (table marks : List ℕ) (v : ℕ) → Seen table marks v → (1 ≤ get_or marks v 0 → 1 ≤ get_or table v 0) → Seen table marks (v + 1)
-seen_more table marks v s h = below_more (λ (u : ℕ). 1 ≤ get_or marks u 0 → 1 ≤ get_or table u 0) v s h
+abbrev pub Misses : ℕ × ℕ → Type 0
+Misses p = (1 ≤ p.1) × (p.0 ≡ 0)
 
-module _ {table given wires : List ℕ} (P : Places table given wires) {M : ℕ} {marks : List ℕ} {are : List Literal} (O : PutOut M marks are) where
-  pub seen_all : Seen table marks (M + 1) → true ≡ every (readable given) are
-  seen_all s = sym (O.enough given (λ v l m. on_bool (member v given)
+-- the wires and marks of the variables up to M
+abbrev pub up_to : ℕ → List ℕ → List ℕ → List (ℕ × ℕ)
+up_to M table marks = zip (take (M + 1) table) (take (M + 1) marks)
+
+module _ {table given wires : List ℕ} (P : Places table given wires) {M : ℕ} {marks : List ℕ} {are : List Literal} (O : PutOut M marks are)
+    (inside : M < length table) (marked_inside : M < length marks) where
+  up-length : length (up_to M table marks) ≡ M + 1
+  up-length =
+      omega (
+        arith,
+        length-zip (take (M + 1) table) (take (M + 1) marks),
+        length-take-le (M + 1) table (omega arith),
+        length-take-le (M + 1) marks (omega arith),
+      )
+
+  up-at : (v : ℕ) → v ≤ M → get_or (up_to M table marks) v (0, 0) ≡ (get_or table v 0, get_or marks v 0)
+  up-at v l =
+      get_or-zip (take (M + 1) table) (take (M + 1) marks) v (0, 0)
+      (omega (arith, length-take-le (M + 1) table (omega arith))) (omega (arith, length-take-le (M + 1) marks (omega arith)))
+      ∙ ap₂ (λ (a b : ℕ). (a, b)) (get_or-take (M + 1) table v 0 (omega arith)) (get_or-take (M + 1) marks v 0 (omega arith))
+
+  pub given_from : (r : Bool) → MatchBool r (AllWithin Lets (up_to M table marks) 0 (length (up_to M table marks)))
+      ((k : ℕ) × (k < length (up_to M table marks)) × HoldsAt Misses (up_to M table marks) k)
+      → r ≡ every (readable given) are
+  given_from true h = sym (O.enough given (λ v l m. on_bool (member v given)
       (λ e. e)
-      (λ e. let w = s v (omega arith) m in let z : get_or table v 0 ≡ 0 = P.each v ∙ rw e in absurd (omega arith))))
+      (λ e. let w : Lets (get_or table v 0, get_or marks v 0) = subst Lets (up-at v l) (h v (0, 0) (omega arith) (omega (arith, up-length))) in
+      let z : get_or table v 0 ≡ 0 = P.each v ∙ rw e in
+      let y = w m in absurd (omega arith))))
+  given_from false h =
+      let l : h.0 ≤ M = (let b = h.1 in omega (arith, up-length)) in
+      let w : Misses (get_or table h.0 0, get_or marks h.0 0) = subst Misses (up-at h.0 l) (h.2 (0, 0)) in
+      on_bool (every (readable given) are)
+      (λ e. let g = O.needed given e h.0 l w.0 in
+      let z : get_or table h.0 0 ≡ wire_at wires h.0 + 1 = P.each h.0 ∙ rw g in
+      let y = w.1 in absurd (omega arith))
+      (λ e. sym e)

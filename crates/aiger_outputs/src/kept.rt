@@ -30,10 +30,5 @@ pub fn are_readable(table: &[u32], kept: &[u64]) -> bool
     ensures { ((given wires : List ℕ) → Places table.now given wires
         → result ≡ every (readable given) (map literal kept.now)) × (result ≡ true → HaveWires table.now kept.now) }
 {
-    for x in kept {
-        if !is_readable(table, *x as u32) {
-            return false;
-        }
-    }
-    true
+    kept.iter().all(|x| is_readable(table, *x as u32))
 }

@@ -43,25 +43,15 @@ pub fn mark_literals<'t>(
     Some(left)
 }
 
-// Whether a variable has a mark and is not given.
-fn is_missing(table: &[u32], marks: &[u64], v: usize) -> bool
-    requires { (v < length table.now) × (v < length marks.now) }
-    ensures { (result ≡ true → (1 ≤ get_or marks.now v 0) × (get_or table.now v 0 ≡ 0))
-        × (result ≡ false → 1 ≤ get_or marks.now v 0 → 1 ≤ get_or table.now v 0) }
-{
-    marks[v] != 0 && table[v] == 0
-}
-
 // Whether all variables up to M that have a mark are given.
 pub fn are_given(table: &[u32], marks: &[u64], most: u32) -> bool
     requires { (most < length table.now) × (most < length marks.now) }
     ensures { (given wires : List ℕ) (are : List Literal) → Places table.now given wires → PutOut most marks.now are
         → result ≡ every (readable given) are }
 {
-    for v in 0..=most as usize {
-        if is_missing(table, marks, v) {
-            return false;
-        }
-    }
-    true
+    let last = most as usize;
+    table[..=last]
+        .iter()
+        .zip(&marks[..=last])
+        .all(|(wire, mark)| *mark == 0 || *wire != 0)
 }

@@ -6,7 +6,6 @@ mod certified;
 mod fewest_calls;
 mod pair_calls;
 mod sessions;
-mod shown;
 mod wide_calls;
 
 ghost use Rattle.rewrite.specs.Promise.{Promise as RewritePromise};

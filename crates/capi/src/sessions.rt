@@ -5,11 +5,10 @@ ghost use Rattle.session_steps.specs.Promise.{OpenIs, AddIs};
 ghost use Rattle.session_text.specs.Promise.{gate_shown, TextPromise, MaskedPromise};
 ghost use Rattle.capi_answers.specs.Number.{sizes_of, Told};
 
-use crate::shown::{asked, blank, masked, place, text};
-use capi_answers::sizes;
+use capi_answers::{number, sizes};
 use gate_records::{GateRecord, SourceRecord};
 use session::{Session, Step};
-use session_text::fill;
+use session_text::results::{masked, text};
 
 // Opens a session.
 #[unsafe(no_mangle)]
@@ -57,11 +56,10 @@ pub extern "C" fn fidrovelj_session_gate(
 ) -> SourceRecord
     ensures { result ≡ gate_shown s k source.now }
 {
-    let at = place(s, k, source.len());
-    if at < source.len() {
-        return source[at];
+    if s.gates <= k {
+        return SourceRecord::default();
     }
-    blank()
+    lists::entry(source, k as usize)
 }
 
 // The session's netlist as text: how many bytes the written form has at the front of `out`.
@@ -79,11 +77,16 @@ pub extern "C" fn fidrovelj_session_text(
     ensures { Told (TextPromise (sizes_of whole) widths.now outputs.now s source.now out.old
         out.new operands.old operands.new results.old results.new) result }
 {
-    let a = operands.len();
-    let b = results.len();
-    let q = asked(s, widths, outputs, source.len(), a, b, a, b, whole);
-    let filled = fill(source, q, operands, results);
-    text(filled, widths, outputs, out, operands, results)
+    number(text(
+        s,
+        widths,
+        outputs,
+        source,
+        out,
+        operands,
+        results,
+        sizes(whole),
+    ))
 }
 
 // What Mask gives for that netlist: how many bytes the masked text has at the front of `out`.
@@ -108,21 +111,19 @@ pub extern "C" fn fidrovelj_session_masked(
         operands.new results.old results.new wires.old wires.new marks.old
         marks.new) result }
 {
-    let a = operands.len();
-    let b = results.len();
-    let q = asked(
+    number(masked(
         s,
         widths,
         outputs,
-        source.len(),
-        a,
-        b,
-        marks.len(),
-        wires.len(),
-        whole,
-    );
-    let filled = fill(source, q, operands, results);
-    masked(
-        filled, widths, outputs, codes, wanted, out, out_codes, operands, results, wires, marks,
-    )
+        source,
+        codes,
+        wanted,
+        out,
+        out_codes,
+        operands,
+        results,
+        wires,
+        marks,
+        sizes(whole),
+    ))
 }

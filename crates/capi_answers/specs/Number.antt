@@ -29,34 +29,34 @@ pub record Told (Promise : Result ℕ Question → Type 0) (r : ℤ) : Type 0 wh
   pub told : r ≡ number answer
 
 -- the wire of a leak, its setting, its base's count and its own
-abbrev pub leak_numbers : Leak → List ℕ
+abbrev pub leak_numbers : Leak ℕ → List ℕ
 leak_numbers l = l.wire ∷ l.setting ∷ l.base ∷ l.own ∷ []
 
 -- 0 for clean, 1 for a leak, or minus the number of the question
-abbrev pub verdict : Result (Option Leak) Question → ℤ
+abbrev pub verdict : Result (Option (Leak ℕ)) Question → ℤ
 verdict (Ok None) = pos 0
 verdict (Ok (Some l)) = pos 1
 verdict (Err q) = neg_ℤ (pos (number_of q))
 
 -- the numbers of the leak, where there is one to tell
-abbrev pub numbers : Result (Option Leak) Question → List ℕ
+abbrev pub numbers : Result (Option (Leak ℕ)) Question → List ℕ
 numbers (Ok None) = []
 numbers (Ok (Some l)) = leak_numbers l
 numbers (Err q) = []
 
 -- question 14: can a list of n entries hold the numbers, where there is a leak to tell?
-abbrev pub listed : ℕ → Result (Option Leak) Question → Result (Option Leak) Question
+abbrev pub listed : ℕ → Result (Option (Leak ℕ)) Question → Result (Option (Leak ℕ)) Question
 listed n (Ok None) = Ok None
 listed n (Ok (Some l)) = cond (leb 4 n) (Ok (Some l)) (Err Q.Room)
 listed n (Err q) = Err q
 
 -- an answer's number, and its leak's numbers at the front of a list that was `before`, which stays untouched otherwise
-pub record Shows (before after : List ℕ) (r : ℤ) (a : Result (Option Leak) Question) : Type 0 where
+pub record Shows (before after : List ℕ) (r : ℤ) (a : Result (Option (Leak ℕ)) Question) : Type 0 where
   pub told : r ≡ verdict (listed (length before) a)
   pub leak : after ≡ sets before 0 (numbers (listed (length before) a))
 
 -- what Check promises of its answer, which the caller gets as a number and a list
-pub record ToldLeak (Promise : Result (Option Leak) Question → Type 0) (before after : List ℕ) (r : ℤ) : Type 0 where
-  pub answer : Result (Option Leak) Question
+pub record ToldLeak (Promise : Result (Option (Leak ℕ)) Question → Type 0) (before after : List ℕ) (r : ℤ) : Type 0 where
+  pub answer : Result (Option (Leak ℕ)) Question
   pub promise : Promise answer
   pub shows : Shows before after r answer

@@ -10,17 +10,17 @@ use Rattle.pairs_search.specs.declared.search.PairsFound.{PairsFound}
 use Rattle.capi_answers.specs.Number.{leak_numbers}
 
 -- 1 for a leak on a wire, and 2 more for a bad pair
-abbrev pub both_by : Option Leak → Option ℕ → ℤ
+abbrev pub both_by : Option (Leak ℕ) → Option ℕ → ℤ
 both_by None None = pos 0
 both_by (Some l) None = pos 1
 both_by None (Some k) = pos 2
 both_by (Some l) (Some k) = pos 3
 
-abbrev pub both : PairsFound → ℤ
+abbrev pub both : PairsFound ℕ → ℤ
 both f = both_by f.leak f.pair
 
 -- the numbers of a leak, if there is one
-abbrev pub told_leak : Option Leak → List ℕ
+abbrev pub told_leak : Option (Leak ℕ) → List ℕ
 told_leak None = []
 told_leak (Some l) = leak_numbers l
 
@@ -30,31 +30,31 @@ bad_numbers None = []
 bad_numbers (Some k) = k ∷ []
 
 -- question 14: each list can hold its numbers
-abbrev pub room_for : ℕ → ℕ → Result PairsFound Question → Result PairsFound Question
+abbrev pub room_for : ℕ → ℕ → Result (PairsFound ℕ) Question → Result (PairsFound ℕ) Question
 room_for leak bad (Ok f) = cond (holds leak (told_leak f.leak) && holds bad (bad_numbers f.pair)) (Ok f) (Err Q.Room)
 room_for leak bad (Err q) = Err q
 
 -- the number of an answer, and what it writes to the front of each list: nothing where it is a refusal
-abbrev pub both_number : Result PairsFound Question → ℤ
+abbrev pub both_number : Result (PairsFound ℕ) Question → ℤ
 both_number (Ok f) = both f
 both_number (Err q) = neg_ℤ (pos (number_of q))
 
-abbrev pub to_leak : Result PairsFound Question → List ℕ
+abbrev pub to_leak : Result (PairsFound ℕ) Question → List ℕ
 to_leak (Ok f) = told_leak f.leak
 to_leak (Err q) = []
 
-abbrev pub to_bad : Result PairsFound Question → List ℕ
+abbrev pub to_bad : Result (PairsFound ℕ) Question → List ℕ
 to_bad (Ok f) = bad_numbers f.pair
 to_bad (Err q) = []
 
 -- the number of an answer, and both lists after it
-pub record ShowsBoth (leak leak' bad bad' : List ℕ) (r : ℤ) (a : Result PairsFound Question) : Type 0 where
+pub record ShowsBoth (leak leak' bad bad' : List ℕ) (r : ℤ) (a : Result (PairsFound ℕ) Question) : Type 0 where
   pub told : r ≡ both_number (room_for (length leak) (length bad) a)
   pub leak_list : leak' ≡ sets leak 0 (to_leak (room_for (length leak) (length bad) a))
   pub bad_list : bad' ≡ sets bad 0 (to_bad (room_for (length leak) (length bad) a))
 
 -- what the service promises of its answer, which the caller gets as a number and two lists
-pub record ToldBoth (Promise : Result PairsFound Question → Type 0) (leak leak' bad bad' : List ℕ) (r : ℤ) : Type 0 where
-  pub answer : Result PairsFound Question
+pub record ToldBoth (Promise : Result (PairsFound ℕ) Question → Type 0) (leak leak' bad bad' : List ℕ) (r : ℤ) : Type 0 where
+  pub answer : Result (PairsFound ℕ) Question
   pub promise : Promise answer
   pub shows : ShowsBoth leak leak' bad bad' r answer

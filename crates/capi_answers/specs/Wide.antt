@@ -4,35 +4,34 @@ use Rattle.std.proofs.lemmas.List.Edits.{sets}
 use Rattle.netlist.specs.declared.Question.{Question}
 use Rattle.netlist.specs.declared.Question.TheVariants as Q
 use Rattle.pairs_search.specs.declared.search.PairsFound.{PairsFound}
-use Rattle.wide_search.specs.declared.search.WideLeak.{WideLeak}
-use Rattle.wide_search.specs.declared.search.WideFound.{WideFound}
+use Rattle.wide_search.specs.Told.{WideLeak, WideFound}
 use Rattle.capi_answers.specs.Pairs.{room_for, both_number, to_leak, to_bad}
 
 -- question 14: the list for the ones can hold them; their number stands in place of a leak's setting
-abbrev pub ones_by : ℕ → Option WideLeak → Option ℕ → Result PairsFound Question
+abbrev pub ones_by : ℕ → Option WideLeak → Option ℕ → Result (PairsFound ℕ) Question
 ones_by room None p = Ok (record { leak = None; pair = p })
 ones_by room (Some l) p =
-    cond (leb l.ones.count room)
-    (Ok (record { leak = Some (record { wire = l.wire; setting = l.ones.count; base = l.base; own = l.own }); pair = p }))
+    cond (leb l.setting.count room)
+    (Ok (record { leak = Some (record { wire = l.wire; setting = l.setting.count; base = l.base; own = l.own }); pair = p }))
     (Err Q.Room)
 
-abbrev pub room_ones : ℕ → Result WideFound Question → Result PairsFound Question
+abbrev pub room_ones : ℕ → Result WideFound Question → Result (PairsFound ℕ) Question
 room_ones room (Ok f) = ones_by room f.leak f.pair
 room_ones room (Err q) = Err q
 
 -- the input bits that are one in a leak's setting, if there is one
 abbrev pub told_ones : Option WideLeak → List ℕ
 told_ones None = []
-told_ones (Some l) = take (min l.ones.count 12) l.ones.items
+told_ones (Some l) = take (min l.setting.count 12) l.setting.items
 
 -- what an answer writes to the list for the ones: nothing where it is told as a refusal
-abbrev pub to_ones : Result PairsFound Question → Result WideFound Question → List ℕ
+abbrev pub to_ones : Result (PairsFound ℕ) Question → Result WideFound Question → List ℕ
 to_ones (Ok f) (Ok w) = told_ones w.leak
 to_ones (Ok f) (Err q) = []
 to_ones (Err q) a = []
 
 -- question 14 of all three lists
-abbrev pub room_wide : List ℕ → List ℕ → List ℕ → Result WideFound Question → Result PairsFound Question
+abbrev pub room_wide : List ℕ → List ℕ → List ℕ → Result WideFound Question → Result (PairsFound ℕ) Question
 room_wide leak ones bad a = room_for (length leak) (length bad) (room_ones (length ones) a)
 
 -- the number of an answer, and the lists after it

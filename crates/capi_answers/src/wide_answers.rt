@@ -24,12 +24,12 @@ fn ones_room(room: usize, a: CheckedWide) -> CheckedPairs
             pair: found.pair,
         });
     };
-    if room < leak.ones.count {
+    if room < leak.setting.count {
         return Err(Question::Room);
     }
     let counted = Leak {
         wire: leak.wire,
-        setting: leak.ones.count as u64,
+        setting: leak.setting.count as u64,
         base: leak.base,
         own: leak.own,
     };
@@ -58,7 +58,7 @@ fn show_ones(list: &mut [u64], told: CheckedPairs, a: CheckedWide)
     }
     if let Ok(found) = a {
         if let Some(leak) = found.leak {
-            lay(list, leak.ones);
+            lay(list, leak.setting);
         }
     }
 }

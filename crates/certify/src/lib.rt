@@ -5,8 +5,8 @@
 ghost use Rattle.certify.specs.Promise.{call, Answers, Promise};
 
 use certify_netlist::Certified;
-use gate_table::Gates;
 use netlist::Sizes;
+use netlist_tables::tables::NetlistTables;
 use read_netlist::read::read;
 
 // The answer, with tables that are still to be cleared.
@@ -40,15 +40,8 @@ fn answer(
         &[words.len(), base.len(), records.len() / 15],
         l,
     )?;
-    let gates = Gates {
-        operands,
-        results,
-        count: h.gates as usize,
-    };
-    let widths = &inputs[..h.input_values];
-    certify_netlist::judge(
-        h, widths, codes, leak, ones, gates, marks, words, base, records,
-    )
+    let netlist = NetlistTables::new(h, &inputs, operands, results);
+    certify_netlist::judge(netlist, codes, leak, ones, marks, words, base, records)
 }
 
 // Whether every wire of the netlist in `text` is clean under the input codes. A leak's four numbers, or the lowest wire not known to be

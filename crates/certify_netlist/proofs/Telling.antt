@@ -42,7 +42,7 @@ many-ones codes words s {ins} e =
     ∙ ap (ones_below (λ i. get_or (lanes (4 * s) ins) i false)) (sym (length-map ins (lane (4 * s))))
     ∙ ap (λ (l : List ℕ). ones_in (lanes (4 * s) l)) e
 
-pub leak-in : {N : Netlist} {codes words : List ℕ} {p : LeakFound} → Witness N codes words p → p.wire < N.wires → length codes ≤ length words
+pub leak-in : {N : Netlist} {codes words : List ℕ} {p : LeakFound ℕ} → Witness N codes words p → p.wire < N.wires → length codes ≤ length words
     → LeakIn N codes p.wire p.base p.own (setting_in codes words p.setting)
 leak-in {codes = codes} {words = words} {p = p} W h room =
     record { long = setting-long codes words p.setting room; wire = h; own = W.own; base = W.base; differ = W.differ }
@@ -53,7 +53,7 @@ masked-asked {N} {ws} {codes} F e a =
     let b = asked-bits ws codes a in
     record { formed = F; ins = ap sum (sym e) ∙ sym b }
 
-module _ {N : Netlist} (codes words : List ℕ) {ins : List ℕ} {p : LeakFound} (many : ℕ) (e : ins ≡ take (length codes) words) (room : length codes ≤ length words)
+module _ {N : Netlist} (codes words : List ℕ) {ins : List ℕ} {p : LeakFound ℕ} (many : ℕ) (e : ins ≡ take (length codes) words) (room : length codes ≤ length words)
     (inside : p.wire < N.wires) (W : Witness N codes words p) (counted : many ≡ length (ones_at (4 * p.setting) ins)) (leak ones : List ℕ) where
   pub leak-short : (length leak < 4) ⊎ (length ones < many) → LeakShort N codes leak ones
   leak-short h =

@@ -5,9 +5,9 @@
 mod ones;
 
 ghost use Rattle.std.specs.Prelude.{◌≡◌, List, ℕ, ◌+◌, ◌*◌, ◌<◌, ◌≤◌, length, take};
-ghost use Rattle.netlist.specs.Lists.{sum};
 ghost use Rattle.netlist.specs.Netlist.{Netlist};
 ghost use Rattle.gate_table.specs.Gates.{WiredGates, HoldsGates};
+ghost use Rattle.netlist_tables.specs.Tables.{HoldsNetlist};
 ghost use Rattle.certify_pass.specs.Pass.{Masked};
 ghost use Rattle.certify_search.specs.Witness.{Witness};
 ghost use Rattle.netlist.specs.Leak.{EqualCounts};
@@ -17,7 +17,7 @@ ghost use Rattle.certify_netlist.specs.Judge.{Judged, JudgedAs};
 use check_leak::difference::Leak;
 use gate_table::Gates;
 use netlist::Question;
-use read_header::header::Header;
+use netlist_tables::tables::NetlistTables;
 
 // What the certifier says of a netlist: every wire is clean; or a leak, whose numbers and input bits are told; or the lowest wire not
 // known to be clean is told.
@@ -103,16 +103,15 @@ fn decide(
         → Judged N codes.now leak.old leak.new ones.old ones.new result }
 {
     let entries = 15 * wires;
-    let sure = certify_pass::pass::certified(
+    let Some(sure) = certify_pass::pass::certified(
         codes,
         gates,
         &mut records[..entries],
         &mut marks[..wires],
         &mut words[..wires],
-    );
-    if wires <= sure {
+    ) else {
         return Ok(Verdict::Clean);
-    }
+    };
     witness(
         sure,
         codes,
@@ -124,33 +123,28 @@ fn decide(
     )
 }
 
-// Questions 10 and 11 and the verdict, from a header's numbers, its input widths and its gates.
+// Questions 10 and 11 and the verdict, of a netlist that was read.
 pub fn judge(
-    h: Header,
-    widths: &[u32],
+    netlist: NetlistTables,
     codes: &[u8],
     leak: &mut [u64],
     ones: &mut [u64],
-    gates: Gates,
     marks: &mut [u8],
     words: &mut [u64],
     base: &mut [u64],
     records: &mut [u64],
 ) -> Certified
-    requires wired { WiredGates gates h.wires }
-    requires input_bits_sum { (h.input_bits ≡ sum widths.now) × (h.wires ≤ length marks.old) × (h.wires ≤ length words.old)
-        × (h.wires ≤ length base.old) × (15 * h.wires ≤ length records.old) }
-    ensures { (N : Netlist) → HoldsGates gates.entry h.wires h.input_bits h.output_bits N
-        → widths.now ≡ N.inputs → WellFormed N
-        → JudgedAs N codes.now leak.old leak.new ones.old ones.new result }
+    requires { (netlist.header.wires ≤ length marks.old) × (netlist.header.wires ≤ length words.old)
+        × (netlist.header.wires ≤ length base.old) × (15 * netlist.header.wires ≤ length records.old) }
+    ensures { (N : Netlist) → HoldsNetlist netlist.entry N → WellFormed N → JudgedAs N codes.now leak.old leak.new ones.old ones.new result }
 {
-    check_netlist::ask_codes(h.input_bits, widths, codes)?;
+    check_netlist::ask_codes(netlist.header.input_bits, netlist.widths, codes)?;
     decide(
-        h.wires as usize,
+        netlist.header.wires as usize,
         codes,
         leak,
         ones,
-        gates,
+        netlist.gates,
         marks,
         words,
         base,

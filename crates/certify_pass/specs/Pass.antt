@@ -30,6 +30,11 @@ abbrev pub KnownIf : Netlist → List ℕ → ℕ → Option Record → Type 0
 KnownIf N codes w (Some r) = Known N codes w r
 KnownIf N codes w None = Unit
 
+-- how many of the wires are shown to be clean: those below the lowest that is not, or all
+abbrev pub sure : ℕ → Option ℕ → ℕ
+sure wires (Some w) = w
+sure wires None = wires
+
 -- a gate's result is what it makes of its operands
 abbrev pub GateMakes : Netlist → List ℕ → Parts → Type 0
 GateMakes N codes g = Makes N codes g.kind g.left g.right g.result

@@ -1,10 +1,10 @@
 // The pass over all gates, and the lowest wire that it does not show to be clean.
-ghost use Rattle.std.specs.Prelude.{◌≡◌, true, List, ℕ, ◌+◌, ◌*◌, ◌<◌, ◌≤◌, length, get_or};
+ghost use Rattle.std.specs.Prelude.{◌≡◌, true, List, ℕ, ◌+◌, ◌*◌, ◌<◌, ◌≤◌, length, get_or, IfSome};
 ghost use Rattle.netlist.specs.Netlist.{Netlist};
 ghost use Rattle.gate_table.specs.Gates.{WiredGates, HoldsGates};
 ghost use Rattle.netlist.specs.Leak.{EqualCounts};
 ghost use Rattle.evaluate.specs.Lane.{lane};
-ghost use Rattle.certify_pass.specs.Pass.{Holding, Masked};
+ghost use Rattle.certify_pass.specs.Pass.{Holding, Masked, sure};
 
 use crate::{gate, inputs};
 use gate_table::Gates;
@@ -22,31 +22,33 @@ fn run(gates: Gates, wires: usize, records: &mut [u64], marks: &mut [u8], hints:
     }
 }
 
-// The lowest wire that is not marked clean, or how many wires there are.
-fn lowest(marks: &[u8]) -> usize
-    ensures { (result ≤ length marks.now) × ((w : ℕ) → w < result → lane 0 (get_or marks.now w 0) ≡ true) }
+// The lowest wire that is not marked clean.
+fn lowest(marks: &[u8]) -> Option<usize>
+    ensures bound { IfSome result (λ w. w < length marks.now) }
+    ensures lower { (w : ℕ) → w < sure (length marks.now) result → lane 0 (get_or marks.now w 0) ≡ true }
 {
     for (w, mark) in marks.iter().enumerate() {
         if *mark & 1 == 0 {
-            return w;
+            return Some(w);
         }
     }
-    marks.len()
+    None
 }
 
-// The lowest wire that is not known to be clean, or how many wires there are. The records, fifteen entries for each wire, and the
-// marks, one for each, are working store, and so are the hints, of which any number will do.
+// The lowest wire that is not known to be clean. The records, fifteen entries for each wire, and the marks, one for each, are working
+// store, and so are the hints, of which any number will do.
 pub fn certified(
     codes: &[u8],
     gates: Gates,
     records: &mut [u64],
     marks: &mut [u8],
     hints: &mut [u64],
-) -> usize
+) -> Option<usize>
     requires { WiredGates gates (length marks.old) × (length records.old ≡ 15 * length marks.old)
         × (length codes.now + 2 ≤ length marks.old) }
-    ensures { (result ≤ length marks.old) × ((n o : ℕ) (N : Netlist) → HoldsGates gates.entry (length marks.old)
-        n o N → Masked N codes.now → (w : ℕ) → w < result → EqualCounts N codes.now w) }
+    ensures bound { IfSome result (λ w. w < length marks.old) }
+    ensures lower { (n o : ℕ) (N : Netlist) → HoldsGates gates.entry (length marks.old) n o N → Masked N codes.now
+        → (w : ℕ) → w < sure (length marks.old) result → EqualCounts N codes.now w }
 {
     records.fill(0);
     marks.fill(0);

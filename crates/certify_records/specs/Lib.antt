@@ -3,3 +3,4 @@ pub mod Place
 pub mod Record
 pub mod Even
 pub mod Leaf
+pub mod Mix

@@ -78,7 +78,8 @@ pub fn aligned(x: Record, y: Record) -> (Record, Record)
     align(s, t, s.third, t.third, high)
 }
 
-// The atom of a place of two records, none where both have none, if they have no different atoms there.
+// The atom of a place of two records, `NO_ATOM` where both have none, if they have no different atoms there. The Option says whether they
+// fit; a place without an atom stays a number, as the records hold it.
 fn either(a: u32, b: u32) -> Option<u32>
     ensures { EitherIs a b result }
 {

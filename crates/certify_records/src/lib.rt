@@ -4,13 +4,15 @@
 mod align;
 pub mod even;
 pub mod leaf;
+pub mod mix;
 mod reduce;
 mod table;
 
 ghost use Rattle.std.specs.Prelude.{◌≡◌, true, ◌<◌};
 ghost use Rattle.certify_records.specs.Record.{JoinIs, Fellows, over};
 
-// No atom.
+// No atom. A number and no Option: as the greatest it stands behind every atom, so that places are compared without a case for it, and
+// two places fill one entry of C's table.
 pub const NO_ATOM: u32 = 0xffff_ffff;
 
 // The most wires that have atoms.
@@ -41,7 +43,8 @@ impl Record {
     }
 }
 
-// Whether two records have the same atoms.
+// Whether two records have the same atoms. Place by place: an array of the four would be one comparison here, and in `align` and `reduce`
+// an index where a name says which place moves.
 pub fn fellows(r: Record, s: Record) -> bool
     ensures { result ≡ true → Fellows r s }
 {

@@ -219,7 +219,7 @@ module _ {N : Netlist} {codes ws : List ℕ} (R : Ran N codes ws) where
       let d = ap bit (lane-bit w s 3 (4 * s + 3) h (omega arith) refl) in
       λ i. a i + b i + c i + d i
 
-  pub witness : (base : List ℕ) (found : Option Leak) → ((w s : ℕ) → s < 16 → nibbles_of base w s ≡ ones_of ws w 0)
+  pub witness : (base : List ℕ) (found : Option (Leak ℕ)) → ((w s : ℕ) → s < 16 → nibbles_of base w s ≡ ones_of ws w 0)
       → LowestDifference (nibbles_of base) (ones_of ws) (length ws) 16 found → Witnessed N codes ws found
   witness base (Some p) first S =
       let D = S.differs p refl in

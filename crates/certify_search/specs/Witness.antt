@@ -6,7 +6,7 @@ use Rattle.check_leak.specs.declared.difference.Leak.{Leak}
 use Rattle.certify_search.specs.Round.{setting_in}
 
 -- a leak's wire has, in its setting, the count told, which is not that of the setting with the same public bits and zero secrets
-pub record Witness (N : Netlist) (codes words : List ℕ) (p : Leak) : Type 0 where
+pub record Witness (N : Netlist) (codes words : List ℕ) (p : Leak ℕ) : Type 0 where
   pub wire : p.wire < length words
   pub inside : p.setting < 16
   pub own : p.own ≡ count N codes p.wire (setting_in codes words p.setting)
@@ -14,6 +14,6 @@ pub record Witness (N : Netlist) (codes words : List ℕ) (p : Leak) : Type 0 wh
   pub differ : p.base ≢ p.own
 
 -- so it is where there is one
-abbrev pub Witnessed : Netlist → List ℕ → List ℕ → Option Leak → Type 0
+abbrev pub Witnessed : Netlist → List ℕ → List ℕ → Option (Leak ℕ) → Type 0
 Witnessed N codes words (Some p) = Witness N codes words p
 Witnessed N codes words None = Unit

@@ -2,14 +2,8 @@
 ghost use Rattle.std.specs.Prelude.{◌+◌, ◌≤◌, length};
 ghost use Rattle.certify_search.specs.Round.{InputWord, Loaded};
 
+use certify_records::mix::mixed;
 use check_counts::load;
-
-// The next number of the fixed generator: xorshift.
-fn next(seed: u64) -> u64 {
-    let a = seed ^ (seed << 13);
-    let b = a ^ (a >> 7);
-    b ^ (b << 17)
-}
 
 // The word of an input bit: a public bit is the same in all settings, a secret one is zero in setting 0.
 fn input(code: u8, noise: u64) -> u64
@@ -29,7 +23,7 @@ pub fn inputs(codes: &[u8], seed: u64, words: &mut [u64]) -> u64
 {
     let mut noise = seed;
     for (i, code) in codes.iter().enumerate() {
-        noise = next(noise);
+        noise = mixed(noise);
         words[i] = input(*code, noise);
     }
     let n = codes.len();

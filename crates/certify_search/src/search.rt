@@ -27,7 +27,7 @@ fn run(gates: Gates, codes: &[u8], seed: u64, words: &mut [u64]) -> u64
 // The lowest wire with another count than its base in a round that was run.
 fn look(words: &[u64], base: &mut [u64]) -> Option<Leak>
     requires { length base.old ≡ length words.now }
-    ensures inside { (p : Leak) → result ≡ Some p → p.setting < 16 }
+    ensures inside { (p : Leak ℕ) → result ≡ Some p → p.setting < 16 }
     ensures witness { (N : Netlist) (codes : List ℕ) → Ran N codes words.now → Witnessed N codes words.now result }
 {
     block::first(words, base);
@@ -41,7 +41,7 @@ const ROUNDS: usize = 64;
 pub fn search(gates: Gates, codes: &[u8], words: &mut [u64], base: &mut [u64]) -> Option<Leak>
     requires { WiredGates gates (length words.old) × (length codes.now + 2 ≤ length words.old)
         × (length base.old ≡ length words.old) }
-    ensures inside { (p : Leak) → result ≡ Some p → p.setting < 16 }
+    ensures inside { (p : Leak ℕ) → result ≡ Some p → p.setting < 16 }
     ensures witness { (n o : ℕ) (N : Netlist) → HoldsGates gates.entry (length words.old) n o N
         → Masked N codes.now → Witnessed N codes.now words.new result }
 {

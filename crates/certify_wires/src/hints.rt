@@ -6,14 +6,8 @@ ghost use Rattle.certify_wires.specs.Known.{Known};
 ghost use Rattle.certify_wires.specs.Store.{Recorded};
 
 use crate::store::{self, HALF, packed};
+use certify_records::mix::mixed;
 use certify_records::{NO_ATOM, Record, leaf};
-
-// Bits mixed.
-fn mixed(x: u64) -> u64 {
-    let y = x ^ (x << 13);
-    let z = y ^ (y >> 7);
-    z ^ (z << 17)
-}
 
 // The place of the hint for a function of a record's atoms.
 fn place(r: Record, selector: u64, places: usize) -> usize

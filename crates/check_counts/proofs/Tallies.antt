@@ -28,11 +28,17 @@ ones_none s =
 pub ones-past : (words : List ℕ) (v s : ℕ) → length words ≤ v → ones_of words v s ≡ 0
 ones-past words v s l = ap (λ (x : ℕ). ones x s) (get_or-eq_default words 0 l) ∙ ones_none s
 
+-- the words of all wires are told one by one, and past them there are no ones
+pub told-all : {f : ℕ → ℕ → ℕ} {W : ℕ} (base : List ℕ) → length base ≡ W → Agree (nibbles_of base) f W 16
+    → ((v s : ℕ) → W ≤ v → f v s ≡ 0)
+    → (v s : ℕ) → s < 16 → nibbles_of base v s ≡ f v s
+told-all {f} {W} base long told past v s m =
+    on_bool (ltb v W) (λ t. told v (ltb-true v W t) s m)
+    (λ t.
+    let k = ltb-false v W t in
+    no-nibble s (get_or-eq_default base 0 {n = v} (omega arith)) ∙ sym (past v s k))
+
 pub tallied-all : {f : ℕ → ℕ → ℕ} {base₀ base : List ℕ} {w : ℕ} → Tallied f base₀ base w → length base₀ ≤ w
     → ((v s : ℕ) → length base₀ ≤ v → f v s ≡ 0)
     → (v s : ℕ) → s < 16 → nibbles_of base v s ≡ f v s
-tallied-all {f} {base₀} {base} {w} r l past v s m =
-    on_bool (ltb v w) (λ t. r.done v (ltb-true v w t) s m)
-    (λ t.
-    let k = ltb-false v w t in
-    no-nibble s (r.rest v k ∙ get_or-eq_default base₀ 0 {n = v} (omega arith)) ∙ sym (past v s (omega arith)))
+tallied-all {base = base} r l past = told-all base r.long (λ v i. r.done v (omega arith)) past

@@ -1,23 +1,21 @@
-// The words of all wires in one block of settings, and the counts that those are compared with.
-ghost use Rattle.std.specs.Prelude.{◌≡◌, true, false, ℕ, ◌+◌, ◌%◌, ◌<◌, ◌≤◌, length};
+// The words of all wires in one block of settings, and the counts that those are compared with. The words and the counts are parameters
+// of their own: C lends them one by one, and a struct of `&mut` slices would have to promise at each call that it still holds the same.
+ghost use Rattle.std.specs.Prelude.{◌≡◌, true, false, ℕ, ◌+◌, ◌%◌, ◌<◌, ◌≤◌, length, get_or};
 ghost use Rattle.netlist.specs.Leak.{Secret};
 ghost use Rattle.gate_table.specs.Gates.{WiredGates};
 ghost use Rattle.evaluate.specs.Bare.{bare_of};
 ghost use Rattle.check_counts.specs.Paint.{codes_of};
-ghost use Rattle.check_counts.specs.Block.{ones_of, nibbles_of, Evaluated, Counted, Ready};
+ghost use Rattle.check_counts.specs.Block.{nibble, ones, ones_of, nibbles_of, Evaluated, Counted, Ready};
 
 use crate::{load, nibble};
 use gate_table::Gates;
 
-// The words of all wires in a block's settings, or in their bases.
-pub fn run_block(gates: Gates, paints: &[u8], secrets: bool, block: u64, words: &mut [u64])
-    requires wired { WiredGates gates (length words.old) }
-    requires paints_in_bounds { length paints.now + 2 ≤ length words.old }
-    ensures { let N = bare_of gates.entry (length words.old) in Evaluated
-        N secrets paints.now words.new block }
-{
-    load::inputs(paints, secrets, block, words);
-    evaluate::wires(gates, paints.len() + 2, words);
+// What blocks of settings are run with: the gates, the paints of the input bits, and whether one of these is public.
+#[derive(Clone, Copy)]
+pub struct Blocks<'a> {
+    pub gates: Gates<'a>,
+    pub paints: &'a [u8],
+    pub publics: bool,
 }
 
 // Is some input bit public?
@@ -27,7 +25,18 @@ pub fn public(paints: &[u8]) -> bool
     paints.iter().any(|paint| *paint % 4 == 0)
 }
 
-// Each word's counts in its place.
+// What `f` makes of each word, in its place of another table.
+pub fn each<F: Fn(u64) -> u64>(words: &[u64], to: &mut [u64], f: F)
+    requires long { length to.old ≡ length words.now }
+    requires callable { F.IsAlwaysCallable f }
+    ensures { (w : ℕ) → w < length words.now → F.post f (get_or words.now w 0) (get_or to.new w 0) }
+{
+    for (w, word) in words.iter().enumerate() {
+        to[w] = f(*word);
+    }
+}
+
+// Each word's counts in its own place, which `each` cannot write while it reads the words.
 fn tally(words: &mut [u64])
     ensures { (w s : ℕ) → s < 16 → nibbles_of words.new w s ≡ ones_of words.old w s }
 {
@@ -36,37 +45,49 @@ fn tally(words: &mut [u64])
     }
 }
 
-// The counts of the first setting, for all.
+// A word's count in the first setting, for all settings.
+fn first_count(word: u64) -> u64
+    ensures { (s : ℕ) → s < 16 → nibble result s ≡ ones word 0 }
+{
+    nibble::repeat(nibble::counts(word))
+}
+
+// The words' counts in the first setting, for all settings.
 pub fn first(words: &[u64], base: &mut [u64])
     requires { length base.old ≡ length words.now }
     ensures { (w s : ℕ) → s < 16 → nibbles_of base.new w s ≡ ones_of words.now w 0 }
 {
-    for (w, word) in words.iter().enumerate() {
-        base[w] = nibble::repeat(nibble::counts(*word));
-    }
+    each(words, base, first_count);
 }
 
-// The counts of the bases of a block's settings. If no bit is public, setting 0 is the base of all
-// settings, and its counts are taken from the first block's words.
-pub fn refresh(
-    gates: Gates,
-    paints: &[u8],
-    publics: bool,
-    block: u64,
-    words: &[u64],
-    base: &mut [u64],
-)
-    requires wired { WiredGates gates (length words.now) }
-    requires paints_in_bounds { (length paints.now + 2 ≤ length words.now) × (length base.old ≡ length words.now) }
-    requires fact { let N = bare_of gates (length words.now) in Counted N true paints.now
-        (ones_of words.now) block × Ready publics N paints.now base.old block }
-    ensures { let N = bare_of gates.entry (length words.now) in Counted N
-        false paints.now (nibbles_of base.new) block × Ready publics N paints.now base.new (block + 1) }
-{
-    if publics {
-        run_block(gates, paints, false, block, base);
-        tally(base);
-    } else if block == 0 {
-        first(words, base);
+impl<'a> Blocks<'a> {
+    // The words of all wires in a block's settings, or in their bases.
+    pub fn run(self, secrets: bool, block: u64, words: &mut [u64])
+        requires wired { WiredGates self.gates (length words.old) }
+        requires paints_in_bounds { length self.paints.now + 2 ≤ length words.old }
+        ensures { let N = bare_of self.entry.gates (length words.old) in
+            Evaluated N secrets self.entry.paints.now words.new block }
+    {
+        load::inputs(self.paints, secrets, block, words);
+        evaluate::wires(self.gates, self.paints.len() + 2, words);
+    }
+
+    // The counts of the bases of a block's settings. If no bit is public, setting 0 is the base of all
+    // settings, and its counts are taken from the first block's words.
+    pub fn refresh(self, block: u64, words: &[u64], base: &mut [u64])
+        requires wired { WiredGates self.gates (length words.now) }
+        requires paints_in_bounds { (length self.paints.now + 2 ≤ length words.now) × (length base.old ≡ length words.now) }
+        requires fact { let N = bare_of self.gates (length words.now) in
+            Counted N true self.paints.now (ones_of words.now) block × Ready self.publics N self.paints.now base.old block }
+        ensures { let N = bare_of self.entry.gates (length words.now) in
+            Counted N false self.entry.paints.now (nibbles_of base.new) block
+            × Ready self.entry.publics N self.entry.paints.now base.new (block + 1) }
+    {
+        if self.publics {
+            self.run(false, block, base);
+            tally(base);
+        } else if block == 0 {
+            first(words, base);
+        }
     }
 }

@@ -32,7 +32,7 @@ count-bare : {t : Tables} {m W n o : ℕ} {N : Netlist} → Holds t m W n o N �
 unfolding count
 count-bare h codes w x = simp (bare-wires h)
 
-module _ {t : Tables} {m W n o : ℕ} {N : Netlist} (h : Holds t m W n o N) (codes : List ℕ) (S : ℕ) (r : Option Leak)
+module _ {t : Tables} {m W n o : ℕ} {N : Netlist} (h : Holds t m W n o N) (codes : List ℕ) (S : ℕ) (r : Option (Leak ℕ))
     (room : 2 ^ length codes ≤ S) (small : (i : ℕ) → i < length codes → get_or codes i 0 < 4)
     (lowest : LowestDifference (count_in (bare t m W) false (paint_each 0 codes)) (count_in (bare t m W) true (paint_each 0 codes)) W S r) where
   abbrev f : ℕ → ℕ → ℕ
@@ -52,7 +52,7 @@ module _ {t : Tables} {m W n o : ℕ} {N : Netlist} (h : Holds t m W n o N) (cod
       (λ w s l. each-count (bare t m W) true codes small w s ∙ count-bare h codes w (part true codes (setting (length codes) s))) lowest
 
   -- so the first that differs is one of them
-  inside : (p : Leak) → r ≡ Some p → p.setting < 2 ^ length codes
+  inside : (p : Leak ℕ) → r ≡ Some p → p.setting < 2 ^ length codes
   inside p e =
       let d = differs.differs p e in
       let b = mod-lt p.setting (pow_pos (length codes)) in
@@ -61,7 +61,7 @@ module _ {t : Tables} {m W n o : ℕ} {N : Netlist} (h : Holds t m W n o N) (cod
       let c = ltb-false p.setting (2 ^ length codes) t in
       absurd (d.other (round false p.wire p.setting ∙ d.smaller (p.setting % 2 ^ length codes) (omega arith) ∙ sym (round true p.wire p.setting))))
 
-  searched : (q : Option Leak) → r ≡ q → Searched f g (2 ^ length codes) W (found_of q)
+  searched : (q : Option (Leak ℕ)) → r ≡ q → Searched f g (2 ^ length codes) W (found_of q)
   searched None e = λ w a s b. differs.lower w (rw e a) s (omega arith)
   searched (Some p) e =
       let d = differs.differs p e in

@@ -17,21 +17,25 @@ use Rattle.check_counts.specs.Base.{count_in}
 use Rattle.check_counts.specs.Block.{Counted, Ready, Agree}
 use Rattle.check_leak.specs.Difference.{LowestDifference, Differing, wire_of, from}
 
+-- no wire differs
+pub difference-none : (f g : ℕ → ℕ → ℕ) (W S : ℕ) → Agree f g W S → LowestDifference f g W S None
+difference-none f g W S h = record { lower = h; inside = λ p e. cc; differs = λ p e. cc }
+
 -- a wire that does
-pub difference-some : {f g : ℕ → ℕ → ℕ} {W S : ℕ} (p : Leak) → p.wire < W → Agree f g p.wire S → Differing f g S p → LowestDifference f g W S (Some p)
+pub difference-some : {f g : ℕ → ℕ → ℕ} {W S : ℕ} (p : Leak ℕ) → p.wire < W → Agree f g p.wire S → Differing f g S p → LowestDifference f g W S (Some p)
 difference-some {f} {g} {W} {S} p l a d = record {
   lower = a;
-  inside = λ q e. let same : p ≡ q = cc in subst (λ (r : Leak). r.wire < W) same l;
+  inside = λ q e. let same : p ≡ q = cc in subst (λ (r : Leak ℕ). r.wire < W) same l;
   differs = λ q e. let same : p ≡ q = cc in subst (Differing f g S) same d;
 }
 
 -- a leak stands on one of the wires
-pub wire-within : {f g : ℕ → ℕ → ℕ} {W S : ℕ} (found : Option Leak) → LowestDifference f g W S found → wire_of W found ≤ W
+pub wire-within : {f g : ℕ → ℕ → ℕ} {W S : ℕ} (found : Option (Leak ℕ)) → LowestDifference f g W S found → wire_of W found ≤ W
 wire-within None h = omega arith
 wire-within {W = W} (Some p) h = let l : p.wire < W = h.inside p refl in omega arith
 
 -- by equal counts
-pub difference-same : {f g f' g' : ℕ → ℕ → ℕ} {W S : ℕ} {found : Option Leak} → ((w s : ℕ) → s < S → f w s ≡ f' w s) → ((w s : ℕ) → s < S → g w s ≡ g' w s)
+pub difference-same : {f g f' g' : ℕ → ℕ → ℕ} {W S : ℕ} {found : Option (Leak ℕ)} → ((w s : ℕ) → s < S → f w s ≡ f' w s) → ((w s : ℕ) → s < S → g w s ≡ g' w s)
     → LowestDifference f g W S found → LowestDifference f' g' W S found
 difference-same ef eg h = record {
   lower = λ w l s m. sym (ef w s m) ∙ h.lower w l s m ∙ eg w s m;
@@ -51,7 +55,7 @@ difference-same ef eg h = record {
 }
 
 -- T settings more, from S on, searched for wires below the best
-module _ {f g : ℕ → ℕ → ℕ} {W S : ℕ} (best : Option Leak) (past : LowestDifference f g W S best) where
+module _ {f g : ℕ → ℕ → ℕ} {W S : ℕ} (best : Option (Leak ℕ)) (past : LowestDifference f g W S best) where
   -- a setting is one of those before, or one of the T
   split : {P : Type 0} (s : ℕ) → (s < S → P) → (S ≤ s → P) → P
   split s old new = on_bool (ltb s S) (λ t. old (ltb-true s S t)) (λ t. new (ltb-false s S t))
@@ -63,7 +67,7 @@ module _ {f g : ℕ → ℕ → ℕ} {W S : ℕ} (best : Option Leak) (past : Lo
   lower-both limit k next w l s m = split s (λ h. past.lower w (omega arith) s h) (λ h. shifted w s h (next w l (s - S) (omega arith)))
 
   -- a lower wire
-  pub difference-lower : {T : ℕ} (p : Leak) → LowestDifference (from S f) (from S g) (wire_of W best) T (Some p)
+  pub difference-lower : {T : ℕ} (p : Leak ℕ) → LowestDifference (from S f) (from S g) (wire_of W best) T (Some p)
       → LowestDifference f g W (S + T) (Some (record { wire = p.wire; setting = S + p.setting; base = p.base; own = p.own }))
   difference-lower p next =
       let k : wire_of W best ≤ W = wire-within best past in
@@ -93,13 +97,13 @@ module _ {f g : ℕ → ℕ → ℕ} {W S : ℕ} (best : Option Leak) (past : Lo
 -- ---- the loop over the blocks
 
 -- a scan of a block's counts and of those of its bases
-pub search-block-law : {N : Netlist} {ps : List ℕ} {counts held : ℕ → ℕ → ℕ} {block limit : ℕ} {p : Option Leak} → Counted N true ps counts block
+pub search-block-law : {N : Netlist} {ps : List ℕ} {counts held : ℕ → ℕ → ℕ} {block limit : ℕ} {p : Option (Leak ℕ)} → Counted N true ps counts block
     → Counted N false ps held block
     → LowestDifference held counts limit 16 p → LowestDifference (from (block * 16) (count_in N false ps)) (from (block * 16) (count_in N true ps)) limit 16 p
 search-block-law counts based scanned = difference-same based.each counts.each scanned
 
 -- the blocks before this one are searched, and the tables keep their lengths
-pub record Finding (t : Tables) (n W : ℕ) (ps : List ℕ) (publics : Bool) (blocks : ℕ) (words base : List ℕ) (best : Option Leak) (block : ℕ) : Type 0 where
+pub record Finding (t : Tables) (n W : ℕ) (ps : List ℕ) (publics : Bool) (blocks : ℕ) (words base : List ℕ) (best : Option (Leak ℕ)) (block : ℕ) : Type 0 where
   pub passed : block ≤ blocks
   pub long-words : length words ≡ W
   pub long-base : length base ≡ W
@@ -107,9 +111,9 @@ pub record Finding (t : Tables) (n W : ℕ) (ps : List ℕ) (publics : Bool) (bl
   pub lowest : LowestDifference (count_in (bare t n W) false ps) (count_in (bare t n W) true ps) W (block * 16) best
 
 -- a block is searched, and the better of two spots kept
-pub find-more : {t : Tables} {n W : ℕ} {ps : List ℕ} {publics : Bool} {blocks : ℕ} {words base : List ℕ} {best : Option Leak} {block : ℕ}
+pub find-more : {t : Tables} {n W : ℕ} {ps : List ℕ} {publics : Bool} {blocks : ℕ} {words base : List ℕ} {best : Option (Leak ℕ)} {block : ℕ}
     → Finding t n W ps publics blocks words base best block → block < blocks
-    → (us vs : List ℕ) (found next : Option Leak) → length us ≡ length words → length vs ≡ length base
+    → (us vs : List ℕ) (found next : Option (Leak ℕ)) → length us ≡ length words → length vs ≡ length base
     → LowestDifference (from (block * 16) (count_in (bare t n (length words)) false ps)) (from (block * 16) (count_in (bare t n (length words)) true ps))
     (wire_of (length words) best) 16 found
     → Ready publics (bare t n (length words)) ps vs (block + 1)

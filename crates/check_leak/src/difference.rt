@@ -6,11 +6,12 @@ ghost use Rattle.check_leak.specs.Difference.{LowestDifference, wire_of, from};
 
 use check_counts::nibble;
 
-// A wire, a setting in which its count is not its base's, the base's count and its own.
+// A wire, a setting in which its count is not its base's, the base's count and its own. The setting is told by its number or, where the
+// inputs are many, by those that are one in it.
 #[derive(Clone, Copy, Debug, PartialEq, Eq)]
-pub struct Leak {
+pub struct Leak<S = u64> {
     pub wire: usize,
-    pub setting: u64,
+    pub setting: S,
     pub base: u8,
     pub own: u8,
 }

@@ -1,4 +1,5 @@
-// The search for a leak, block by block.
+// The search for a leak, block by block. The words and the counts are parameters of their own: C lends them one by one, and a struct of
+// `&mut` slices would have to promise at each call that it still holds the same ones.
 ghost use Rattle.std.specs.Prelude.{◌≡◌, true, false, ℕ, ◌+◌, ◌*◌, ◌^◌, ◌<◌, ◌≤◌, length};
 ghost use Rattle.netlist.specs.Netlist.{Netlist};
 ghost use Rattle.netlist.specs.Leak.{leak};
@@ -12,30 +13,28 @@ ghost use Rattle.check_leak.specs.Search.{found_of};
 
 use crate::difference;
 use crate::difference::Leak;
+use check_counts::block::Blocks;
 use check_counts::{block, paint};
 use gate_table::Gates;
 use lists::codes::Codes;
 
 // A block is run and searched, for wires below a limit.
 fn search_block(
-    gates: Gates,
-    paints: &[u8],
-    publics: bool,
+    b: Blocks,
     block: u64,
     words: &mut [u64],
     base: &mut [u64],
     limit: usize,
 ) -> Option<Leak>
-    requires wired { WiredGates gates (length words.old) }
-    requires paints_in_bounds { (length paints.now + 2 ≤ length words.old) × (length base.old ≡ length words.old)
-        × (limit ≤ length words.old) × Ready publics (bare_of gates (length words.old)) paints.now
-        base.old block }
-    ensures { let N = bare_of gates.entry (length words.old) in LowestDifference
-        (from (block * 16) (count_in N false paints.now)) (from (block * 16) (count_in N true paints.now)) limit 16 result
-        × Ready publics N paints.now base.new (block + 1) }
+    requires wired { WiredGates b.gates (length words.old) }
+    requires paints_in_bounds { (length b.paints.now + 2 ≤ length words.old) × (length base.old ≡ length words.old)
+        × (limit ≤ length words.old) × Ready b.publics (bare_of b.gates (length words.old)) b.paints.now base.old block }
+    ensures { let N = bare_of b.entry.gates (length words.old) in LowestDifference
+        (from (block * 16) (count_in N false b.entry.paints.now)) (from (block * 16) (count_in N true b.entry.paints.now)) limit 16 result
+        × Ready b.entry.publics N b.entry.paints.now base.new (block + 1) }
 {
-    block::run_block(gates, paints, true, block, words);
-    block::refresh(gates, paints, publics, block, words, base);
+    b.run(true, block, words);
+    b.refresh(block, words, base);
     difference::scan(words, base, limit)
 }
 
@@ -55,10 +54,15 @@ fn find(
         (count_in N false paints.now) (count_in N true paints.now) (length words.old) (blocks * 16) result }
 {
     let publics = block::public(paints);
+    let b = Blocks {
+        gates,
+        paints,
+        publics,
+    };
     let mut best = None;
     for block in 0..blocks {
         let limit = difference::limit(best, words.len());
-        let found = search_block(gates, paints, publics, block, words, base, limit);
+        let found = search_block(b, block, words, base, limit);
         best = difference::better(best, found, block);
     }
     best

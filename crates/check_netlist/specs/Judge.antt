@@ -23,12 +23,12 @@ asked_of (Ok admitted) = done tt
 asked_of (Err q) = refused (number_of q)
 
 -- the outcome that an answer stands for
-abbrev pub outcome_of : Result (Option Leak) Question → Outcome (Math.Option Found)
+abbrev pub outcome_of : Result (Option (Leak ℕ)) Question → Outcome (Math.Option Found)
 outcome_of a = stands_for found_of a
 
 -- the equal-count rule, as an answer has it of a netlist under input codes: clean, so every wire meets the rule; or the lowest leak,
 -- so one does not; a refusal says nothing
-abbrev pub Judged : Netlist → List ℕ → Result (Option Leak) Question → Type 0
+abbrev pub Judged : Netlist → List ℕ → Result (Option (Leak ℕ)) Question → Type 0
 Judged N codes (Ok None) = Clean N codes
 Judged N codes (Ok (Some p)) = LowestLeak N codes (found p) × (Clean N codes → ⊥)
 Judged N codes (Err q) = Unit

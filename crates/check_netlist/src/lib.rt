@@ -5,14 +5,13 @@ ghost use Rattle.std.specs.Prelude.{◌≡◌, ◌≤◌, length, IfOk};
 ghost use Rattle.netlist.specs.Lists.{sum};
 ghost use Rattle.netlist.specs.Netlist.{Netlist};
 ghost use Rattle.netlist.specs.Services.{ends_in_masks, check_outcome};
-ghost use Rattle.gate_table.specs.Gates.{WiredGates, HoldsGates};
+ghost use Rattle.netlist_tables.specs.Tables.{HoldsNetlist};
 ghost use Rattle.check_netlist.specs.Judge.{asked_of, codes_asked, outcome_of};
 
 use check_leak::difference::Leak;
-use gate_table::Gates;
 use lists::codes::Codes;
 use netlist::Question;
-use read_header::header::Header;
+use netlist_tables::tables::NetlistTables;
 
 // The lowest leak, or none where the netlist is clean; or the first question that gets a no.
 pub type Checked = Result<Option<Leak>, Question>;
@@ -42,25 +41,21 @@ pub fn ask_codes<'a>(bits: u64, widths: &[u32], codes: &'a [u8]) -> Result<Codes
     Ok(Codes { list: codes })
 }
 
-// Questions 10 to 12 and the verdict, from a header's numbers, its input widths and its gates.
-pub fn judge(
-    h: Header,
-    widths: &[u32],
-    codes: &[u8],
-    gates: Gates,
-    words: &mut [u64],
-    base: &mut [u64],
-) -> Checked
-    requires wired { WiredGates gates h.wires }
-    requires input_bits_sum { (h.input_bits ≡ sum widths.now) × (h.wires ≤ length words.old) × (h.wires ≤ length base.old) }
-    ensures { (N : Netlist) → HoldsGates gates.entry h.wires h.input_bits h.output_bits N
-        → widths.now ≡ N.inputs → outcome_of result ≡ check_outcome codes.now N }
+// Questions 10 to 12 and the verdict, of a netlist that was read.
+pub fn judge(netlist: NetlistTables, codes: &[u8], words: &mut [u64], base: &mut [u64]) -> Checked
+    requires { (netlist.header.wires ≤ length words.old) × (netlist.header.wires ≤ length base.old) }
+    ensures { (N : Netlist) → HoldsNetlist netlist.entry N → outcome_of result ≡ check_outcome codes.now N }
 {
-    let admitted = ask_codes(h.input_bits, widths, codes)?;
+    let admitted = ask_codes(netlist.header.input_bits, netlist.widths, codes)?;
     if MOST_BITS < codes.len() {
         return Err(Question::Settings);
     }
-    let wires = h.wires as usize;
-    let found = check_leak::search::leaks(gates, admitted, &mut words[..wires], &mut base[..wires]);
+    let wires = netlist.header.wires as usize;
+    let found = check_leak::search::leaks(
+        netlist.gates,
+        admitted,
+        &mut words[..wires],
+        &mut base[..wires],
+    );
     Ok(found)
 }

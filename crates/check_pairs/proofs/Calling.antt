@@ -1,11 +1,15 @@
 -- From the netlist that was read to the outcome of a call, and what an answer says of it.
-use Prim.Native.Nat.{ℕ}
+use Prim.Native.Nat.{ℕ, min}
 use Rattle.std.specs.Prelude as std
 use Rattle.std.specs.Prelude.{Result, Ok, Err}
-use mathlib.Core.Path.{◌≡◌, sym, ap, ◌∙◌}
-use mathlib.Core.Bool.{true}
+use mathlib.Core.Path.{◌≡◌, refl, sym, ap, ◌∙◌}
+use mathlib.Core.Bool.{Bool, true, false, ◌&&◌}
 use mathlib.Core.List.{List, [], ◌∷◌}
-use lib.ListN.{length, take}
+use native.Mathlib.Omega.{arith}
+use lib.Dec.{leb}
+use lib.ListN.{length}
+use borrow.Author.Tests.{le-leb, lt-leb, leb-true, leb-false}
+use Rattle.netlist.specs.declared.Limits.{Limits}
 use Rattle.netlist.specs.declared.Question.{Question}
 use Rattle.netlist.specs.declared.Sizes.{Sizes}
 use Rattle.netlist.specs.Netlist.{Netlist, large}
@@ -13,12 +17,15 @@ use Rattle.netlist.specs.Outcome.{Outcome, refused, done, ask, and_then}
 use Rattle.netlist.specs.Read.{read_netlist}
 use Rattle.netlist.specs.Leak.{Found, leak}
 use Rattle.netlist.specs.Services.{tables_long, check_outcome, check_call}
-use Rattle.netlist.specs.Table.{Tables, Holds}
+use Rattle.netlist.specs.Table.{Tables}
 use Rattle.netlist.proofs.Answering.{call-refused, call-goes-on}
 use Rattle.netlist.proofs.Questions.{done-same, ask-done, and_then-done}
 use Rattle.netlist.proofs.LeakSearch.{none-clean, found-lowest}
 use Rattle.read_header.specs.declared.header.Header.{Header}
 use Rattle.read_netlist.specs.Whole.{ReadAt}
+use Rattle.netlist_tables.specs.declared.tables.NetlistTables.{NetlistTables}
+use Rattle.netlist_tables.specs.Tables.{TakenFrom, HoldsNetlist}
+use Rattle.netlist_tables.proofs.Taken.{taken-holds}
 use Rattle.check_leak.specs.declared.difference.Leak.{Leak}
 use Rattle.check_leak.specs.Search.{found, found_of}
 use Rattle.checker.proofs.Calling.{outcome-leak}
@@ -31,6 +38,29 @@ use Rattle.pairs_search.specs.Search.{bad_of}
 use Rattle.pairs_judge.specs.Judge.{both_of, outcome_of, WiresJudged, Judged}
 use Rattle.check_pairs.specs.Promise.{call}
 
+-- the shorter of two tables stands for both
+shorter-long : (t a b : ℕ) → leb t (min a b) ≡ leb t a && leb t b
+shorter-long t a b = go (leb t a) (leb t b) refl refl
+  where
+    go : (x y : Bool) → leb t a ≡ x → leb t b ≡ y → leb t (min a b) ≡ x && y
+    go true true p q = le-leb t (min a b) (omega (arith, leb-true t a p, leb-true t b q))
+    go true false p q = lt-leb t (min a b) (omega (arith, leb-false t b q))
+    go false y p q = lt-leb t (min a b) (omega (arith, leb-false t a p))
+
+-- the shortest of three tables stands for them
+pub long-three : (L : Limits) (o r g w b z : ℕ) {m n : ℕ} → m ≡ min w b → n ≡ min m z
+    → tables_long L (o ∷ r ∷ g ∷ n ∷ []) ≡ tables_long L (o ∷ r ∷ g ∷ w ∷ b ∷ z ∷ [])
+long-three L o r g w b z {m} e d =
+    ap (λ (n : ℕ). tables_long L (o ∷ r ∷ g ∷ n ∷ [])) (d ∙ ap (λ (k : ℕ). min k z) e)
+    ∙ ap (λ (k : Bool). leb L.table o && (leb L.table r && (leb L.table g && k)))
+    (ap (λ (k : Bool). k && true) (shorter-long L.table (min w b) z ∙ ap (λ (k : Bool). k && leb L.table z) (shorter-long L.table w b))
+    ∙ assoc (leb L.table w) (leb L.table b) (leb L.table z))
+  where
+    assoc : (x y v : Bool) → ((x && y) && v) && true ≡ x && (y && (v && true))
+    assoc true true v = refl
+    assoc true false v = refl
+    assoc false y v = refl
+
 module _ (s : Sizes) (text codes ws o r g w b z : List ℕ) where
   abbrev lengths : List ℕ
   lengths = length o ∷ length r ∷ length g ∷ length w ∷ length b ∷ length z ∷ []
@@ -40,13 +70,13 @@ module _ (s : Sizes) (text codes ws o r g w b z : List ℕ) where
   unfolding pairs_call
   call-not p = sym (call-refused (tables_long (large s) lengths) (read_netlist (large s) text) (pairs_outcome codes ws) p)
 
-  pub call-read : {ins outs : List ℕ} {tabs : Tables} {h : Header} {a : Outcome (BothAnswers Found)}
+  pub call-read : {ins outs : List ℕ} {tabs : Tables} {h : Header} {n : NetlistTables} {a : Outcome (BothAnswers Found)}
       → (tables_long (large s) lengths ≡ true) × ReadAt (large s) text ins outs tabs h
-      → ((N : Netlist) → Holds tabs h.gates h.wires h.input_bits h.output_bits N → take h.input_values ins ≡ N.inputs → a ≡ pairs_outcome codes ws N)
+      → TakenFrom h ins tabs n → ((N : Netlist) → HoldsNetlist n N → a ≡ pairs_outcome codes ws N)
       → a ≡ call s text codes ws o r g w b z
   unfolding pairs_call
-  call-read k f =
-      f k.1.is k.1.holds k.1.inputs
+  call-read k m f =
+      f k.1.is (taken-holds m k.1.holds k.1.inputs)
       ∙ sym (call-goes-on (tables_long (large s) lengths) (read_netlist (large s) text) (pairs_outcome codes ws) k.0 k.1.read)
 
   -- a call with both answers: the netlist that was read, and its outcome
@@ -57,7 +87,7 @@ module _ (s : Sizes) (text codes ws o r g w b z : List ℕ) where
       let one = (ask-done 1 (tables_long (large s) lengths) (and_then (read_netlist (large s) text) (pairs_outcome codes ws)) a (sym e)).1 in
       and_then-done (read_netlist (large s) text) (pairs_outcome codes ws) a one
 
-  module _ (f : PairsFound) (e : done (both_of f) ≡ call s text codes ws o r g w b z) where
+  module _ (f : PairsFound ℕ) (e : done (both_of f) ≡ call s text codes ws o r g w b z) where
     -- the one-wire answer is Check's
     pub call-check : (tables : List ℕ) → tables_long (large s) tables ≡ true → check_call (large s) tables text codes ≡ done (found_of f.leak)
     unfolding check_call
@@ -80,14 +110,14 @@ module _ (s : Sizes) (text codes ws o r g w b z : List ℕ) where
           let k = (pairs-done codes ws N (both_of f) asked).1 in
           rw k at (pairs-judged N codes ws)
 
-  wires-judged : (v : std.Option Leak) (N : Netlist) → leak N codes ≡ found_of v → WiresJudged N codes v
+  wires-judged : (v : std.Option (Leak ℕ)) (N : Netlist) → leak N codes ≡ found_of v → WiresJudged N codes v
   wires-judged std.None N e = none-clean N codes e
   wires-judged (std.Some p) N e =
       let f = found-lowest N codes (found p) e in
       (f, λ clean. f.breaks (clean p.wire f.wire))
 
   -- both answers follow the rules
-  pub call-judged : (a : Result PairsFound Question) → outcome_of a ≡ call s text codes ws o r g w b z → (N : Netlist)
+  pub call-judged : (a : Result (PairsFound ℕ) Question) → outcome_of a ≡ call s text codes ws o r g w b z → (N : Netlist)
       → read_netlist (large s) text ≡ done N → Judged N codes ws a
   call-judged (Ok f) e N read = (wires-judged f.leak N (wires-leak f e N read), pairs-answer f e N read)
   call-judged (Err q) e N read = tt

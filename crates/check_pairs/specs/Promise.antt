@@ -18,12 +18,12 @@ abbrev pub call : Sizes → List ℕ → List ℕ → List ℕ → List ℕ → 
 call s text codes pairs o r g w b z = pairs_call (large s) (length o ∷ length r ∷ length g ∷ length w ∷ length b ∷ length z ∷ []) text codes pairs
 
 -- the sizes, the text, the input codes and the pairs, then each table before and after the call
-pub record Promise (s : Sizes) (text codes pairs o o' r r' g g' w w' b b' z z' : List ℕ) (a : Result PairsFound Question) : Type 0 where
+pub record Promise (s : Sizes) (text codes pairs o o' r r' g g' w w' b b' z z' : List ℕ) (a : Result (PairsFound ℕ) Question) : Type 0 where
   pub outcome : outcome_of a ≡ call s text codes pairs o r g w b z
   -- the answers judge the netlist that the text reads as
   pub judged : (N : Netlist) → read_netlist (large s) text ≡ done N → Judged N codes pairs a
   -- the one-wire answer is what Check gives, with any tables that are long enough for it
-  pub check : (f : PairsFound) → a ≡ Ok f → (tables : List ℕ) → tables_long (large s) tables ≡ true
+  pub check : (f : PairsFound ℕ) → a ≡ Ok f → (tables : List ℕ) → tables_long (large s) tables ≡ true
       → check_call (large s) tables text codes ≡ done (found_of f.leak)
   pub operands : Cleared o o'
   pub results : Cleared r r'

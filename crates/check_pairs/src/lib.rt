@@ -6,8 +6,8 @@ ghost use Rattle.std.specs.Prelude.{◌≡◌};
 ghost use Rattle.pairs_judge.specs.Judge.{outcome_of};
 ghost use Rattle.check_pairs.specs.Promise.{call, Promise};
 
-use gate_table::Gates;
 use netlist::Sizes;
+use netlist_tables::tables::NetlistTables;
 use pairs_judge::CheckedPairs;
 use read_netlist::read::read;
 
@@ -40,13 +40,8 @@ fn answer(
         &[words.len(), base.len(), bases.len()],
         l,
     )?;
-    let gates = Gates {
-        operands,
-        results,
-        count: h.gates as usize,
-    };
-    let widths = &inputs[..h.input_values];
-    pairs_judge::judge(h, widths, codes, pairs, gates, words, base, bases)
+    let netlist = NetlistTables::new(h, &inputs, operands, results);
+    pairs_judge::judge(netlist, codes, pairs, words, base, bases)
 }
 
 // Whether the netlist in `text` is clean under the input codes, and each pair of wires: pair j is entries 2j and 2j + 1 of `pairs`.

@@ -7,7 +7,7 @@ use mathlib.Core.Bool.{true}
 use mathlib.Core.List.{List, [], ◌∷◌}
 use mathlib.Core.Option.{Option, none, some}
 use native.Mathlib.Omega.{arith}
-use lib.ListN.{length, take}
+use lib.ListN.{length}
 use Rattle.netlist.specs.declared.Question.{Question}
 use Rattle.netlist.specs.declared.Sizes.{Sizes}
 use Rattle.netlist.specs.declared.Sizes.TheVariants.{Old, Whole}
@@ -17,7 +17,7 @@ use Rattle.netlist.specs.Read.{read_netlist, WellFormed}
 use Rattle.netlist.specs.Mask.{is_input_code}
 use Rattle.netlist.specs.Leak.{Found, leak}
 use Rattle.netlist.specs.Services.{tables_long, list_good, ends_in_masks}
-use Rattle.netlist.specs.Table.{Tables, Holds}
+use Rattle.netlist.specs.Table.{Tables}
 use Rattle.netlist.proofs.Accepted.{accepted}
 use Rattle.netlist.proofs.Answering.{call-refused, call-goes-on}
 use Rattle.netlist.proofs.Questions.{done-same, ask-done, and_then-done}
@@ -25,12 +25,14 @@ use Rattle.netlist.proofs.LeakSearch.{none-clean, found-lowest}
 use Rattle.netlist.proofs.Tests.{clash}
 use Rattle.read_header.specs.declared.header.Header.{Header}
 use Rattle.read_netlist.specs.Whole.{ReadAt}
+use Rattle.netlist_tables.specs.declared.tables.NetlistTables.{NetlistTables}
+use Rattle.netlist_tables.specs.Tables.{TakenFrom, HoldsNetlist}
+use Rattle.netlist_tables.proofs.Taken.{taken-holds}
 use Rattle.pairs.specs.Call.{BothAnswers, pairs_good}
 use Rattle.pairs.proofs.PairCheck.{pairs-judged}
 use Rattle.wide.specs.Wide.{WideLeak, listed, few_reach, wide_answers, wide_outcome, wide_call}
-use Rattle.wide_search.specs.Told.{told_of}
-use Rattle.wide_search.specs.declared.search.WideLeak as search
-use Rattle.wide_search.specs.declared.search.WideFound.{WideFound}
+use Rattle.wide_search.specs.Told as search
+use Rattle.wide_search.specs.Told.{WideFound, told_of}
 use Rattle.wide_judge.specs.Judge.{both_of, outcome_of}
 use Rattle.check_wide.specs.Promise.{call, WiresJudged, Judged}
 
@@ -49,14 +51,13 @@ module _ (s : Sizes) (text codes ws o r g w b z s0 s1 s2 s3 p : List ℕ) where
   unfolding wide_call
   call-not e = sym (call-refused (tables_long (large s) lengths) (read_netlist (large s) text) (wide_outcome codes ws) e)
 
-  pub call-read : {ins outs : List ℕ} {tabs : Tables} {h : Header} {a : Outcome (BothAnswers WideLeak)}
+  pub call-read : {ins outs : List ℕ} {tabs : Tables} {h : Header} {n : NetlistTables} {a : Outcome (BothAnswers WideLeak)}
       → (tables_long (large s) lengths ≡ true) × ReadAt (large s) text ins outs tabs h
-      → ((N : Netlist) → Holds tabs h.gates h.wires h.input_bits h.output_bits N → WellFormed N → take h.input_values ins ≡ N.inputs
-      → a ≡ wide_outcome codes ws N)
+      → TakenFrom h ins tabs n → ((N : Netlist) → HoldsNetlist n N → WellFormed N → a ≡ wide_outcome codes ws N)
       → a ≡ call s text codes ws o r g w b z s0 s1 s2 s3 p
   unfolding wide_call
-  call-read k f =
-      f k.1.is k.1.holds (accepted (large s) text k.1.is k.1.read).formed k.1.inputs
+  call-read k m f =
+      f k.1.is (taken-holds m k.1.holds k.1.inputs) (accepted (large s) text k.1.is k.1.read).formed
       ∙ sym (call-goes-on (tables_long (large s) lengths) (read_netlist (large s) text) (wide_outcome codes ws) k.0 k.1.read)
 
   -- a call with both answers: the netlist that was read, and its outcome

@@ -11,8 +11,8 @@ use Rattle.pairs.specs.Pairs.{PairsJudged}
 use Rattle.pairs.specs.Call.{BothAnswers}
 use Rattle.pairs_search.specs.Search.{bad_of}
 use Rattle.wide.specs.Wide.{WideLeak, wide_call}
-use Rattle.wide_search.specs.declared.search.WideLeak as search
-use Rattle.wide_search.specs.declared.search.WideFound.{WideFound}
+use Rattle.wide_search.specs.Told as search
+use Rattle.wide_search.specs.Told.{WideFound}
 use Rattle.wide_judge.specs.Judge.{outcome_of}
 
 -- the outcome of a call that is handed its sizes, a text, input codes, a list of pairs, and tables of operands, results, marks, words, base

@@ -6,8 +6,8 @@ ghost use Rattle.std.specs.Prelude.{◌≡◌};
 ghost use Rattle.wide_judge.specs.Judge.{outcome_of};
 ghost use Rattle.check_wide.specs.Promise.{call, Promise};
 
-use gate_table::Gates;
 use netlist::Sizes;
+use netlist_tables::tables::NetlistTables;
 use read_netlist::read::read;
 use wide_judge::CheckedWide;
 
@@ -55,14 +55,9 @@ fn answer(
         ],
         l,
     )?;
-    let gates = Gates {
-        operands,
-        results,
-        count: h.gates as usize,
-    };
-    let widths = &inputs[..h.input_values];
+    let netlist = NetlistTables::new(h, &inputs, operands, results);
     wide_judge::judge(
-        h, widths, codes, pairs, gates, marks, words, base, bases, set0, set1, set2, set3, paints,
+        netlist, codes, pairs, marks, words, base, bases, set0, set1, set2, set3, paints,
     )
 }
 

@@ -7,7 +7,7 @@ use mathlib.Core.Bool.{true}
 use mathlib.Core.List.{List, [], ◌∷◌}
 use mathlib.Core.Option.{Option, none, some}
 use lib.Dec.{leb}
-use lib.ListN.{length, take}
+use lib.ListN.{length}
 use Rattle.netlist.specs.declared.Question.{Question}
 use Rattle.netlist.specs.declared.Sizes.{Sizes}
 use Rattle.netlist.specs.Netlist.{Netlist, input_bits, large}
@@ -16,12 +16,15 @@ use Rattle.netlist.specs.Read.{read_netlist}
 use Rattle.netlist.specs.Mask.{is_input_code}
 use Rattle.netlist.specs.Leak.{Found, leak}
 use Rattle.netlist.specs.Services.{tables_long, list_good, ends_in_masks, max_checked, check_outcome, check_call}
-use Rattle.netlist.specs.Table.{Tables, Holds}
+use Rattle.netlist.specs.Table.{Tables}
 use Rattle.netlist.proofs.Answering.{call-refused, call-goes-on}
 use Rattle.netlist.proofs.Questions.{done-same, ask-done}
 use Rattle.netlist.proofs.LeakSearch.{none-clean, found-lowest}
 use Rattle.read_header.specs.declared.header.Header.{Header}
 use Rattle.read_netlist.specs.Whole.{ReadAt}
+use Rattle.netlist_tables.specs.declared.tables.NetlistTables.{NetlistTables}
+use Rattle.netlist_tables.specs.Tables.{TakenFrom, HoldsNetlist}
+use Rattle.netlist_tables.proofs.Taken.{taken-holds}
 use Rattle.check_leak.specs.declared.difference.Leak.{Leak}
 use Rattle.check_leak.specs.Search.{found}
 use Rattle.check_netlist.specs.Judge.{outcome_of, Judged}
@@ -44,13 +47,13 @@ module _ (s : Sizes) (text codes o r g w b : List ℕ) where
   unfolding check_call
   call-not p = sym (call-refused (tables_long (large s) lengths) (read_netlist (large s) text) (check_outcome codes) p)
 
-  pub call-read : {ins outs : List ℕ} {tabs : Tables} {h : Header} {a : Outcome (Option Found)}
+  pub call-read : {ins outs : List ℕ} {tabs : Tables} {h : Header} {n : NetlistTables} {a : Outcome (Option Found)}
       → (tables_long (large s) lengths ≡ true) × ReadAt (large s) text ins outs tabs h
-      → ((N : Netlist) → Holds tabs h.gates h.wires h.input_bits h.output_bits N → take h.input_values ins ≡ N.inputs → a ≡ check_outcome codes N)
+      → TakenFrom h ins tabs n → ((N : Netlist) → HoldsNetlist n N → a ≡ check_outcome codes N)
       → a ≡ call s text codes o r g w b
   unfolding check_call
-  call-read k f =
-      f k.1.is k.1.holds k.1.inputs
+  call-read k m f =
+      f k.1.is (taken-holds m k.1.holds k.1.inputs)
       ∙ sym (call-goes-on (tables_long (large s) lengths) (read_netlist (large s) text) (check_outcome codes) k.0 k.1.read)
 
   -- an answer that is no refusal is that of the search
@@ -61,7 +64,7 @@ module _ (s : Sizes) (text codes o r g w b : List ℕ) where
       outcome-leak N codes f (sym (ap (λ (u : Outcome Netlist). and_then u (check_outcome codes)) read) ∙ one)
 
   -- the answer follows the equal-count rule
-  pub call-judged : (a : Result (std.Option Leak) Question) → outcome_of a ≡ call s text codes o r g w b → (N : Netlist)
+  pub call-judged : (a : Result (std.Option (Leak ℕ)) Question) → outcome_of a ≡ call s text codes o r g w b → (N : Netlist)
       → read_netlist (large s) text ≡ done N → Judged N codes a
   call-judged (Ok std.None) e N read = none-clean N codes (answer-leak N none read e)
   call-judged (Ok (std.Some p)) e N read =

@@ -17,7 +17,7 @@ abbrev pub call : Sizes → List ℕ → List ℕ → List ℕ → List ℕ → 
 call s text codes o r g w b = check_call (large s) (length o ∷ length r ∷ length g ∷ length w ∷ length b ∷ []) text codes
 
 -- the sizes, the text and the input codes, then each table before and after the call
-pub record Promise (s : Sizes) (text codes o o' r r' g g' w w' b b' : List ℕ) (a : Result (std.Option Leak) Question) : Type 0 where
+pub record Promise (s : Sizes) (text codes o o' r r' g g' w w' b b' : List ℕ) (a : Result (std.Option (Leak ℕ)) Question) : Type 0 where
   pub outcome : outcome_of a ≡ call s text codes o r g w b
   -- the answer judges the netlist that the text reads as
   pub judged : (N : Netlist) → read_netlist (large s) text ≡ done N → Judged N codes a

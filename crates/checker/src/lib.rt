@@ -6,8 +6,8 @@ ghost use Rattle.check_netlist.specs.Judge.{outcome_of};
 ghost use Rattle.checker.specs.Promise.{call, Promise};
 
 use check_netlist::Checked;
-use gate_table::Gates;
 use netlist::Sizes;
+use netlist_tables::tables::NetlistTables;
 use read_netlist::read::read;
 
 // The answer, with tables that are still to be cleared.
@@ -37,13 +37,8 @@ fn answer(
         &[words.len(), base.len()],
         l,
     )?;
-    let gates = Gates {
-        operands,
-        results,
-        count: h.gates as usize,
-    };
-    let widths = &inputs[..h.input_values];
-    check_netlist::judge(h, widths, codes, gates, words, base)
+    let netlist = NetlistTables::new(h, &inputs, operands, results);
+    check_netlist::judge(netlist, codes, words, base)
 }
 
 // Whether the netlist in `text` is clean under the input codes. The tables, of any content, are zero on return.

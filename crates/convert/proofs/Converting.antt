@@ -1,5 +1,5 @@
 -- From a text that was read to the outcome of a conversion.
-use Rattle.std.specs.Prelude.{Ok, Result}
+use Rattle.std.specs.Prelude.{Ok, Err, Result}
 use Prim.Native.Nat.{ℕ}
 use mathlib.Core.Path.{◌≡◌, refl, sym, ap, ap₂, ◌∙◌}
 use mathlib.Core.Bool.{Bool, true, false}
@@ -9,12 +9,13 @@ use lib.ListN.{length, take}
 use Rattle.netlist.specs.declared.Limits.{Limits}
 use Rattle.netlist.specs.declared.Sizes.{Sizes}
 use Rattle.netlist.specs.declared.Question.{Question}
+use Rattle.netlist.specs.Question.{number_of}
 use Rattle.netlist.specs.Netlist.{Netlist, large}
-use Rattle.netlist.specs.Outcome.{Outcome, done, ask, and_then}
+use Rattle.netlist.specs.Outcome.{Outcome, refused, done, ask, and_then}
 use Rattle.netlist.specs.Write.{write_netlist, gate_text}
 use Rattle.netlist.specs.Services.{tables_long, delivered, outcome_of, Answers}
 use Rattle.netlist.specs.Table.{Tables, gates_of}
-use Rattle.netlist.proofs.Answering.{answers-as, call-goes-on}
+use Rattle.netlist.proofs.Answering.{answers-as, answers-refused, call-refused, call-goes-on}
 use Rattle.netlist.proofs.Questions.{done-same, refused-done}
 use Rattle.netlist.proofs.Puts.{length-gates}
 use Rattle.old_form.specs.declared.Dialect.{Dialect}
@@ -67,6 +68,12 @@ module _ {from : Dialect} {L : Limits} {t ins outs : List ℕ} {tabs : Tables} {
 
 module _ (from to : Dialect) (s : Sizes) (text out o r g : List ℕ) where
   -- questions 1 to 9, and then 15 and 14
+  pub call-not : (q : Question) → ask 1 (tables_long (large s) (length o ∷ length r ∷ length g ∷ [])) (read_in from (large s) text) ≡ refused (number_of q)
+      → Answers (call from to s text out o r g) out out (Err q)
+  call-not q p =
+      answers-refused out
+      (call-refused (tables_long (large s) (length o ∷ length r ∷ length g ∷ [])) (read_in from (large s) text) (form_outcome to (length out)) p)
+
   pub call-read : {ins outs x : List ℕ} {tabs : Tables} {h : Header} {a : Result ℕ Question}
       → (tables_long (large s) (length o ∷ length r ∷ length g ∷ []) ≡ true) × ReadOf from (large s) text ins outs tabs h
       → Answers (ask 15 (has_form to (gates_of tabs h.gates) (length (take h.input_values ins)) (length (take h.output_values outs)))

@@ -9,7 +9,7 @@ use gate_table::Parts;
 
 const ALL: u64 = 0xffff_ffff_ffff_ffff;
 
-// Bit i of a number, in every lane.
+// Bit i of a number, in every lane. A type for the bound of `i`, here and for kinds below, would be longer than the clause.
 pub fn spread(bits: u64, i: usize) -> u64
     requires { i < 64 }
     ensures { (j : ℕ) → j < 64 → lane j result ≡ lane i bits }
@@ -19,7 +19,7 @@ pub fn spread(bits: u64, i: usize) -> u64
 
 // Every gate is (left AND factor) XOR term. The factor is the right operand for AND, the term that for
 // XOR; else each is the same in all lanes. Kinds 1 to 4 are XOR, AND, INV and EQW, 5 is EQ 0, the
-// others are EQ 1; bit k of these numbers is for kind k.
+// others are EQ 1; bit k of these numbers is for kind k, so a kind is a number here: with an enum each choice would need its number again.
 const FACTORS: u64 = 0b0001_1010;
 
 const TERMS: u64 = 0b1100_1001;

@@ -7,7 +7,7 @@ ghost use Rattle.fewest_search.specs.Job.{FitsFor, SourceFor, SearchableFor, Beg
 use crate::Job;
 use crate::turn::{enter, turn, weigh};
 
-// More changes than any choice has.
+// More changes than any choice has. A number and not a `None`: the walk compares the bound with the changes at every gate.
 const MANY: u32 = u32::MAX;
 
 // The changes of the choice that is given, and the floor.
@@ -31,7 +31,7 @@ fn start(
         code.new lows.new spans.new result }
 {
     way.fill(0);
-    fewest_walk::spans::spans(job.codes, job.gates.results, job.gates.count, spans);
+    fewest_walk::spans::spans(job.codes, &job.gates.results[..job.gates.count], spans);
     lows[0] = fewest_walk::twices::twices(job.gates);
     enter(job, way, code, lows, 0, MANY);
     best.copy_from_slice(way);
@@ -74,7 +74,7 @@ pub fn search(
             };
         }
         left -= span;
-        let Some(place) = fewest_walk::next::next(job.codes, job.gates.results, stop, way) else {
+        let Some(place) = fewest_walk::next::next(job.codes, &job.gates.results[..stop], way) else {
             return Tally {
                 changes: least,
                 floor: least,

@@ -62,7 +62,7 @@ pub fn weigh(job: Job, code: &[u8], lows: &[u32]) -> u32
         × (get_or lows.now job.gates.count 0 < 2 ^ 31) }
     ensures { result ≡ cost_of code.now lows.now job.entry.gates.count job.entry.wanted.now }
 {
-    lows[job.gates.count] + outputs(code, code.len() - job.wanted.len(), job.wanted)
+    lows[job.gates.count] + outputs(&code[code.len() - job.wanted.len()..], job.wanted)
 }
 
 // The choice in `way`, whose last place that moved is `place`; `best` gets it where it has fewer changes than the least so far.

@@ -1,13 +1,16 @@
 -- The table of ways on its way to the next choice.
-use Prim.Native.Nat.{ℕ, suc, ◌-◌, ◌/◌, ◌≤◌, ◌<◌}
-use mathlib.Core.Path.{◌≡◌}
+use Prim.Native.Nat.{ℕ, suc, ◌+◌, ◌-◌, ◌/◌, ◌≤◌, ◌<◌}
+use mathlib.Core.Path.{◌≡◌, refl, sym}
 use mathlib.Core.Bool.{Bool, true, false, cond}
 use mathlib.Core.List.{List}
 use native.Mathlib.Omega.{arith}
 use lib.Dec.{eqb, ltb}
-use lib.ListN.{length, get_or}
+use borrow.Author.Tests.{ltb-false}
+use lib.ListN.{length, get_or, take}
+use lib.Seq.{get_or-take, length-take-le}
 use Rattle.netlist.specs.Table.{half}
-use Rattle.fewest_walk.specs.Advance.{ways_at, choice_of}
+use Rattle.netlist.proofs.Tests.{on_bool}
+use Rattle.fewest_walk.specs.Advance.{ways_at, choice_of, Advanced}
 
 -- each place has a way
 pub ways-some : (codes results : List ℕ) (p : ℕ) → 1 ≤ ways_at codes results p
@@ -28,3 +31,20 @@ pub record Advancing (w : ℕ → ℕ) (P : ℕ) (way₀ way : List ℕ) (p : �
   pub kept : (q : ℕ) → q < p → choice_of way q ≡ choice_of way₀ q
   pub rest : (q : ℕ) → P ≤ q → choice_of way q ≡ choice_of way₀ q
   pub size : length way ≡ length way₀
+
+-- ---- the gates up to one: the table of results is cut, and the places before have as many ways
+
+pub ways-cut : (codes results : List ℕ) (k q : ℕ) → q < length codes + k → k ≤ length results → ways_at codes (take k results) q ≡ ways_at codes results q
+ways-cut codes results k q h l = on_bool (ltb q (length codes)) (λ z. rw z refl)
+    (λ z. let m : q - length codes < k = omega (arith, ltb-false q (length codes) z) in rw (get_or-take k results (q - length codes) 0 m) refl)
+
+pub advanced-cut : (codes results : List ℕ) (k : ℕ) {way₀ way : List ℕ} {r : ℕ} → k ≤ length results
+    → Advanced (ways_at codes (take k results)) (length codes + length (take k results)) way₀ way r → Advanced (ways_at codes results) (length codes + k) way₀ way r
+advanced-cut codes results k l B = let A = rw (length-take-le k results l) at B in record {
+  within = A.within;
+  last = λ q a b. rw (sym (ways-cut codes results k q b l)) (A.last q a b);
+  further = λ p e. rw (sym (ways-cut codes results k p (let w = A.within in omega arith) l)) (A.further p e);
+  moves = A.moves;
+  kept = A.kept;
+  size = A.size;
+}

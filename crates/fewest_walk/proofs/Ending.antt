@@ -1,11 +1,10 @@
 -- The changes of the outputs.
-use Prim.Native.Nat.{ℕ, ◌+◌, ◌≤◌}
-use mathlib.Core.Path.{◌≡◌}
+use Prim.Native.Nat.{ℕ, ◌≤◌}
 use mathlib.Core.Bool.{Bool, true, false, cond}
 use mathlib.Core.List.{List, [], ◌∷◌}
 use native.Mathlib.Omega.{arith}
 use lib.Dec.{eqb}
-use lib.ListN.{length, drop}
+use lib.ListN.{length}
 use Rattle.mask_changes.specs.Changes.{output_change}
 use Rattle.fewest.specs.Codes.{end_changes}
 
@@ -24,8 +23,8 @@ ends-most [] ws = omega arith
 ends-most (e ∷ es) [] = omega arith
 ends-most (e ∷ es) (w ∷ ws) = omega (arith, out-most e w, ends-most es ws)
 
--- ---- the loop: the first i outputs are done
-
-pub record Ending (code : List ℕ) (from : ℕ) (wanted : List ℕ) (i sum : ℕ) : Type 0 where
-  pub so : sum + end_changes (drop (from + i) code) (drop i wanted) ≡ end_changes (drop from code) wanted
-  pub most : sum ≤ i
+-- and at most as many as there are codes
+pub ends-few : (es ws : List ℕ) → end_changes es ws ≤ length es
+ends-few [] ws = omega arith
+ends-few (e ∷ es) [] = omega arith
+ends-few (e ∷ es) (w ∷ ws) = omega (arith, out-most e w, ends-few es ws)

@@ -6,11 +6,13 @@ use native.Mathlib.Omega.{arith}
 use native.Mathlib.Nat.{mul_comm}
 use lib.Dec.{eqb, leb}
 use borrow.Author.Tests.{eqb-true, eqb-false, leb-true, leb-false}
-use lib.ListN.{length, get_or, set, drop, length-set}
-use lib.Seq.{get_or-set_same, get_or-set_other, drop-cons, drop-length}
+use lib.ListN.{length, get_or, set, take, drop, length-set}
+use lib.Seq.{length-take-le, get_or-set_same, get_or-set_other, drop-cons, drop-length}
 use Rattle.netlist.proofs.Tests.{on_bool}
 use Rattle.fewest.specs.Choice.{product}
-use Rattle.fewest_walk.specs.Span.{span_of, most, capped}
+use Rattle.fewest_walk.specs.Advance.{ways_at}
+use Rattle.fewest_walk.specs.Span.{span_of, most, capped, Spanned}
+use Rattle.fewest_walk.proofs.Advancing.{ways-cut}
 
 -- ---- the loop: the places from p on are done
 
@@ -54,3 +56,18 @@ span-product w bs h zero p e = let z : p ≡ length bs = omega arith in ap produ
 span-product w bs h (suc k) p e =
     ap product (drop-cons bs p 0 (omega arith))
     ∙ ap₂ (λ (a b : ℕ). a * b) (h p (omega arith)) (span-product w bs h k (suc p) (omega arith))
+
+-- ---- the gates up to one, of a table of results that is cut
+
+span-same : (v w : ℕ → ℕ) (P : ℕ) → ((q : ℕ) → q < P → v q ≡ w q) → (k p : ℕ) → p + k ≤ P → span_of v p k ≡ span_of w p k
+span-same v w P h zero p l = refl
+span-same v w P h (suc k) p l = ap₂ (λ (a b : ℕ). a * b) (h p (omega arith)) (span-same v w P h k (suc p) (omega arith))
+
+pub spanned-cut : (codes results : List ℕ) (k : ℕ) {s₀ s : List ℕ} → k ≤ length results
+    → Spanned (ways_at codes (take k results)) (length codes + length (take k results)) s₀ s → Spanned (ways_at codes results) (length codes + k) s₀ s
+spanned-cut codes results k l R = let S = rw (length-take-le k results l) at R in record {
+  each = λ p h.
+      S.each p h
+      ∙ ap capped (span-same _ _ (length codes + k) (λ q b. ways-cut codes results k q b l) (length codes + k - suc p) (suc p) (omega arith));
+  size = S.size;
+}

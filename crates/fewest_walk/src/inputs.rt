@@ -1,4 +1,4 @@
-// The codes of the inputs under the choice that a table of ways says.
+// The codes of the inputs under the choice that a table of ways says. Codes and ways stay numbers: C lends both tables as bytes.
 ghost use Rattle.std.specs.Prelude.{◌≡◌, ℕ, ◌≤◌, length};
 ghost use Rattle.fewest_walk.specs.Ends.{free_code, way_code, FilledBy, Filled};
 

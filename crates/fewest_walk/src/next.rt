@@ -12,7 +12,7 @@ pub fn is_and(results: u64) -> bool
     results / HALF == Kind::And.number()
 }
 
-// How many ways a place has: an input by its code, a gate by its kind.
+// How many ways a place has: an input by its code, a gate by its kind. A number: a way is an entry of a table that C lends as bytes.
 pub fn ways(codes: &[u8], results: &[u64], p: usize) -> u8
     requires { p < length codes.now + length results.now }
     ensures { result ≡ ways_at codes.now results.now p }
@@ -30,14 +30,14 @@ pub fn ways(codes: &[u8], results: &[u64], p: usize) -> u8
     1
 }
 
-// The next choice of the inputs and the first gates in the table of ways, where the places behind take their first way: the place
-// that moved, if there is one.
-pub fn next(codes: &[u8], results: &[u64], count: usize, way: &mut [u8]) -> Option<usize>
-    requires { (count ≤ length results.now) × (length codes.now + count ≤ length way.old) }
-    ensures { Advanced (ways_at codes.now results.now) (length codes.now + count) way.old
+// The next choice of the inputs and of the gates with these results in the table of ways, where the places behind take their first way:
+// the place that moved, if there is one.
+pub fn next(codes: &[u8], results: &[u64], way: &mut [u8]) -> Option<usize>
+    requires { length codes.now + length results.now ≤ length way.old }
+    ensures { Advanced (ways_at codes.now results.now) (length codes.now + length results.now) way.old
         way.new (behind result) }
 {
-    for p in (0..codes.len() + count).rev() {
+    for p in (0..codes.len() + results.len()).rev() {
         let d = way[p];
         if d < ways(codes, results, p) - 1 {
             way[p] = d + 1;

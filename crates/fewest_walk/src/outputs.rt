@@ -1,5 +1,5 @@
 // The mask changes of the outputs.
-ghost use Rattle.std.specs.Prelude.{◌≡◌, ◌+◌, ◌<◌, ◌^◌, length, drop};
+ghost use Rattle.std.specs.Prelude.{◌≡◌, ◌<◌, ◌^◌, length};
 ghost use Rattle.mask_changes.specs.Changes.{output_change};
 ghost use Rattle.fewest.specs.Codes.{end_changes};
 
@@ -7,23 +7,17 @@ ghost use Rattle.fewest.specs.Codes.{end_changes};
 fn output(e: u8, want: u8) -> u32
     ensures { result ≡ output_change e want }
 {
-    if want == 0 {
-        return 0;
-    }
-    if want == e {
-        return 0;
-    }
-    1
+    (want != 0 && want != e) as u32
 }
 
-// The changes of the outputs, which are the wires from one on.
-pub fn outputs(code: &[u8], from: usize, wanted: &[u8]) -> u32
-    requires { (from + length wanted.now ≡ length code.now) × (length wanted.now < 2 ^ 31) }
-    ensures { result ≡ end_changes (drop from code.now) wanted.now }
+// The changes of the outputs, whose wires have these codes. Summed in a loop: with `filter` and `count` behind `zip` the proof didn't close.
+pub fn outputs(code: &[u8], wanted: &[u8]) -> u32
+    requires { length wanted.now < 2 ^ 31 }
+    ensures { result ≡ end_changes code.now wanted.now }
 {
     let mut sum = 0;
-    for (i, want) in wanted.iter().enumerate() {
-        sum += output(code[from + i], *want);
+    for (e, want) in code.iter().zip(wanted) {
+        sum += output(*e, *want);
     }
     sum
 }

@@ -6,13 +6,13 @@ ghost use Rattle.fewest_walk.specs.Span.{Spanned};
 use crate::next::ways;
 
 // For each place how many choices share the places up to it.
-pub fn spans(codes: &[u8], results: &[u64], count: usize, spans: &mut [u64])
-    requires { (count ≤ length results.now) × (length codes.now + count ≤ length spans.old) }
-    ensures { Spanned (ways_at codes.now results.now) (length codes.now + count) spans.old
+pub fn spans(codes: &[u8], results: &[u64], spans: &mut [u64])
+    requires { length codes.now + length results.now ≤ length spans.old }
+    ensures { Spanned (ways_at codes.now results.now) (length codes.now + length results.now) spans.old
         spans.new }
 {
     let mut span: u64 = 1;
-    for p in (0..codes.len() + count).rev() {
+    for p in (0..codes.len() + results.len()).rev() {
         spans[p] = span;
         span = span.saturating_mul(u64::from(ways(codes, results, p)));
     }

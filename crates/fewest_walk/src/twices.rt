@@ -17,7 +17,7 @@ fn twice(g: Parts) -> u32
     }
 }
 
-// How many of the gates do.
+// How many of the gates do. Summed in a loop: with `sum` over the places the proof didn't close, neither of its bound nor of its value.
 pub fn twices(gates: Gates) -> u32
     requires { (gates.count ≤ length gates.operands.now) × (gates.count ≤ length gates.results.now) × (gates.count < 2 ^ 32) }
     ensures { result ≡ gates_twice (gates_in gates.entry) }

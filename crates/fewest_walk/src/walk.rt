@@ -1,5 +1,5 @@
 // The gates from one on, under the choice that a table of ways says: the codes of their results, and how many changes there are at
-// least before each.
+// least before each. The tables stay parameters of their own: C lends them one by one.
 ghost use Rattle.std.specs.Prelude.{◌≡◌, ◌+◌, ◌≤◌, ◌<◌, ◌^◌, length, get_or};
 ghost use Rattle.gate_table.specs.Gates.{WiredGates, tables_of};
 ghost use Rattle.gate_table.specs.Parts.{gate_by, Within};

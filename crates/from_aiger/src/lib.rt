@@ -4,7 +4,7 @@
 
 ghost use Rattle.std.specs.Prelude.{[], ◌∷◌};
 ghost use Rattle.netlist.specs.Services.{Answers, Delivers};
-ghost use Rattle.netlist.specs.Table.{tables, Wired};
+ghost use Rattle.gate_table.specs.Gates.{tables_of, WiredGates};
 ghost use Rattle.write_netlist.specs.Form.{form_text};
 ghost use Rattle.from_aiger.specs.Promise.{call, Promise};
 
@@ -12,21 +12,17 @@ use gate_table::Gates;
 use netlist::{Answer, Sizes};
 use read_aiger::read::NetlistNumbers;
 
-// Question 14 and the text of a netlist whose gates the tables begin with. The numbers have their count, so the tables come without one.
-pub fn write(out: &mut [u8], m: NetlistNumbers, operands: &[u64], results: &[u64]) -> Answer
-    requires { Wired (tables operands.now results.now) m.wires m.gates }
-    ensures { Delivers (form_text m.gates m.wires (m.inputs ∷ []) (m.outputs ∷ [])
-        (tables operands.now results.now)) out.old out.new result }
+// Question 14 and the text of a netlist of these numbers.
+pub fn write(out: &mut [u8], m: NetlistNumbers, gates: Gates) -> Answer
+    requires { WiredGates gates m.wires }
+    ensures { Delivers (form_text gates.entry.count m.wires (m.inputs ∷ []) (m.outputs ∷ []) (tables_of gates.entry))
+        out.old out.new result }
 {
-    let gates = Gates {
-        operands,
-        results,
-        count: m.gates,
-    };
     write_netlist::deliver(out, gates, m.wires, &[m.inputs], &[m.outputs])
 }
 
-// The file read, and its netlist's text.
+// The file read, and its netlist's text. The tables are lent one by one: a struct of `&mut` slices would have to promise at each call that
+// it still holds them.
 fn answer(
     text: &[u8],
     out: &mut [u8],
@@ -39,7 +35,12 @@ fn answer(
         variables.old) out.old out.new result }
 {
     let m = read_aiger::read::read(text, operands, results, variables, sizes.small())?;
-    write(out, m, operands, results)
+    let gates = Gates {
+        operands,
+        results,
+        count: m.gates,
+    };
+    write(out, m, gates)
 }
 
 // The netlist made of the AIGER file in `text`, in the written form, at the front of `out`. The tables, of any content, are

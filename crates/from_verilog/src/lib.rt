@@ -9,6 +9,7 @@ ghost use Rattle.netlist.specs.Services.{rewrite_outcome, Answers};
 ghost use Rattle.verilog.specs.Call.{read_equations};
 ghost use Rattle.from_verilog.specs.Promise.{call, Promise};
 
+use gate_table::Gates;
 use netlist::{Answer, Question, Sizes};
 use read_verilog::read::NUMBERS;
 
@@ -43,10 +44,16 @@ fn read_and_write(
         operands,
         results,
     )?;
-    from_aiger::write(out, m, operands, results)
+    let gates = Gates {
+        operands,
+        results,
+        count: m.gates,
+    };
+    from_aiger::write(out, m, gates)
 }
 
-// Question 1, and then the others.
+// Question 1, and then the others. The tables are lent one by one: a struct of `&mut` slices would have to promise at each call that it
+// still holds them.
 fn answer(
     text: &[u8],
     out: &mut [u8],

@@ -1,5 +1,6 @@
 // The gate reader: one gate after another of a lent text, without a table.
-// The work is done by functions of a text and a place in it. Those over the reader take it apart and call them.
+// The work is done by functions of a text and a place in it. Those over the reader take it apart and call them. They are no `Iterator`: at
+// an end or a no the reader stays and says it again, and what it says may be asked twice.
 #![tactic(auto)]
 
 pub mod calls;

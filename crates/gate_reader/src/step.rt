@@ -2,7 +2,6 @@
 ghost use Rattle.std.specs.Prelude.{◌≡◌};
 ghost use Rattle.gate_reader.specs.Steps.{place_after, StepIs};
 
-use gate_table::gate_of;
 use netlist::{Gate, Question};
 use read_gate_line::gate::gate_line;
 use read_text::cursor::Cursor;
@@ -24,7 +23,7 @@ pub fn step_at(text: &[u8], at: usize) -> Step
     let Some((g, next)) = gate_line(line) else {
         return Err(Question::Line);
     };
-    Ok(Some((gate_of(g), next.at)))
+    Ok(Some((Gate::from(g), next.at)))
 }
 
 // The place of the next step: behind a gate, and otherwise the same.

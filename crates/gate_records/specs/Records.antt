@@ -1,9 +1,14 @@
 -- Gates as records: the kinds 1 to 5 are XOR, AND, INV, EQW and EQ; a gate with one operand has 0 as its second.
-use Rattle.std.specs.Prelude.{ℕ, cond, eqb}
+use Rattle.std.specs.Prelude.{ℕ, cond, eqb, ◌≡◌, Result}
 use Rattle.std.proofs.Math.Option.{Option, none, some}
 use Rattle.netlist.specs.declared.Gate.{Gate}
 use Rattle.netlist.specs.declared.Gate.TheVariants.{Xor, And, Inv, Eqw, Eq}
+use Rattle.netlist.specs.declared.Question.{Question}
 use Rattle.netlist.specs.declared.Twin.{Twin}
+use Rattle.netlist.specs.Outcome.{given}
+use Rattle.netlist.specs.Services.{stands_for}
+use Rattle.gate_table.specs.declared.Kind.{Kind}
+use Rattle.gate_table.specs.Kind.{gate_for}
 use Rattle.gate_records.specs.declared.GateRecord.{GateRecord}
 use Rattle.gate_records.specs.declared.SourceRecord.{SourceRecord}
 
@@ -35,6 +40,14 @@ gate_of r =
     (cond (eqb r.kind 4) (single r.second (Eqw r.first r.result))
     (cond (eqb r.kind 5) (single r.second (Eq r.first r.result))
     none))))
+
+-- the gate of a kind that has a record's numbers
+abbrev pub gate_as : GateRecord → Kind → Gate
+gate_as r k = gate_for k r.first r.second r.result
+
+-- the answer to question 7: the kind of the record's gate
+abbrev pub KindIs : GateRecord → Result Kind Question → Type 0
+KindIs r a = stands_for (gate_as r) a ≡ given 7 (gate_of r)
 
 -- a source gate with its result's twin and the place of its first masked gate
 abbrev pub source_record : GateRecord → Twin → ℕ → SourceRecord

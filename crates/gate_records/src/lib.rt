@@ -1,11 +1,13 @@
 // Gates as records, in lists that a caller lends: a gate alone, and a source gate with where its result stands in the masked netlist.
 // A kind has its number of `gate_table`, but EQ 1, which has 6 there, has 5 here as EQ 0 has: the operand of an EQ is its constant. A gate of
-// one operand has 0 as its second.
+// one operand has 0 as its second. Kinds are numbers here and no enum, since both records are structs of the C interface: what C lends may hold
+// any number, of which question 7 asks whether it is a kind.
 #![tactic(auto)]
 
 ghost use Rattle.std.specs.Prelude.{◌≡◌};
 
-use netlist::{Gate, Twin};
+use gate_table::Kind;
+use netlist::{Gate, Question, Twin};
 
 // One gate.
 #[repr(C)]
@@ -49,6 +51,26 @@ impl From<Gate> for GateRecord {
             first,
             second,
             result,
+        }
+    }
+}
+
+// The kind of a record's gate, or the no of question 7: a gate of one operand has 0 as its second.
+impl TryFrom<GateRecord> for Kind {
+    type Error = Question;
+
+    ghost use Rattle.gate_records.specs.Records.{KindIs};
+
+    ghost try_from_gives = { KindIs };
+
+    fn try_from(g: GateRecord) -> Result<Self, Question> {
+        match (g.kind, g.second) {
+            (1, _) => Ok(Kind::Xor),
+            (2, _) => Ok(Kind::And),
+            (3, 0) => Ok(Kind::Inv),
+            (4, 0) => Ok(Kind::Eqw),
+            (5, 0) => Ok(Kind::Eq(g.first)),
+            _ => Err(Question::Line),
         }
     }
 }

@@ -5,6 +5,7 @@ use mathlib.Core.List.{[], ◌∷◌, ◌++◌}
 use native.Mathlib.Omega.{arith}
 use lib.Dec.{lit<}
 use Rattle.netlist.specs.declared.Gate.{Gate}
+use Rattle.netlist.specs.declared.Gate.TheVariants as gate
 use Rattle.netlist.specs.Netlist.{result}
 use Rattle.netlist.specs.Table.{Tables, half, gate_of, gates_of, put_entry}
 use Rattle.netlist.proofs.Puts.{entry-low, entry-high, Room, gates-put, wired-put}
@@ -14,7 +15,7 @@ use Rattle.gate_table.specs.declared.Kind.TheVariants.{Xor, And, Inv, Eqw, Eq}
 use Rattle.gate_table.specs.declared.Entry.{Entry}
 use Rattle.gate_table.specs.Kind.{gate_for}
 use Rattle.gate_table.specs.Numbers.{gate_said, Names}
-use Rattle.gate_table.specs.Entry.{packed, entry_for, entry_of, Entered, Stored}
+use Rattle.gate_table.specs.Entry.{packed, entry_for, entry_of, gate_entry, Entered, Stored}
 
 -- ---- by the kind
 
@@ -59,6 +60,21 @@ enter W (Eq (suc (suc v))) a b c fa fc n = absurd (omega (arith, n.0))
 pub gate-entered : (g : GateNumbers) → g.left < half → g.result < half → (W : ℕ) {e : Entry} → e ≡ entry_of g → Names W (gate_said g)
     → Entered W (gate_said g) e.operands e.results
 gate-entered g fa fc W p n = rw p (enter W g.kind g.left g.right g.result fa fc n)
+
+-- the same of a gate whose kind stands with its wires
+abbrev pub first_wire : Gate → ℕ
+first_wire (gate.Xor a b c) = a
+first_wire (gate.And a b c) = a
+first_wire (gate.Inv a c) = a
+first_wire (gate.Eqw a c) = a
+first_wire (gate.Eq v c) = 0
+
+pub whole-entered : (g : Gate) → first_wire g < half → result g < half → (W : ℕ) {e : Entry} → e ≡ gate_entry g → Names W g → Entered W g e.operands e.results
+whole-entered (gate.Xor a b c) fa fc W p n = rw p (enter W Xor a b c fa fc n)
+whole-entered (gate.And a b c) fa fc W p n = rw p (enter W And a b c fa fc n)
+whole-entered (gate.Inv a c) fa fc W p n = rw p (enter W Inv a a c fa fc n)
+whole-entered (gate.Eqw a c) fa fc W p n = rw p (enter W Eqw a a c fa fc n)
+whole-entered (gate.Eq v c) fa fc W p n = rw p (enter W (Eq v) 0 0 c fa fc n)
 
 -- a gate's entries, put behind the first n gates
 pub stored : {W n o r : ℕ} {g : Gate} {u : Tables} (t : Tables) → Room t n → Entered W g o r → u ≡ put_entry t n o r → Stored W t n g u

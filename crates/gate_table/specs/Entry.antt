@@ -1,10 +1,12 @@
 -- A gate's entries in the two tables.
 use Rattle.std.specs.Prelude.{ℕ, ◌+◌, ◌*◌, ◌≡◌, [], ◌∷◌, ◌++◌}
 use Rattle.netlist.specs.declared.Gate.{Gate}
+use Rattle.netlist.specs.declared.Gate.TheVariants as gate
 use Rattle.netlist.specs.Table.{Tables, half, gate_in, gates_of, Named, Wired}
 use Rattle.gate_table.specs.declared.GateNumbers.{GateNumbers}
 use Rattle.gate_table.specs.declared.Entry.{Entry}
 use Rattle.gate_table.specs.Kind.{number}
+use Rattle.gate_table.specs.Numbers.{Names}
 use Rattle.gate_table.specs.declared.Kind.{Kind}
 use Rattle.gate_table.specs.declared.Kind.TheVariants.{Xor, And, Inv, Eqw, Eq}
 
@@ -24,10 +26,22 @@ entry_for (Eq v) a b c = packed (number (Eq v)) 0 0 c
 abbrev pub entry_of : GateNumbers → Entry
 entry_of g = entry_for g.kind g.left g.right g.result
 
+-- the same of a gate whose kind stands with its wires
+abbrev pub gate_entry : Gate → Entry
+gate_entry (gate.Xor a b c) = packed 1 a b c
+gate_entry (gate.And a b c) = packed 2 a b c
+gate_entry (gate.Inv a c) = packed 3 a a c
+gate_entry (gate.Eqw a c) = packed 4 a a c
+gate_entry (gate.Eq v c) = packed (number (Eq v)) 0 0 c
+
 -- the two entries hold the gate
 pub record Entered (W : ℕ) (g : Gate) (operands results : ℕ) : Type 0 where
   pub gate : gate_in operands results ≡ g
   pub named : Named W operands results
+
+-- entries hold the gate, whatever bounds its wires
+abbrev pub Enters : Gate → Entry → Type 0
+Enters g e = (W : ℕ) → Names W g → Entered W g e.operands e.results
 
 -- a gate was stored behind the first n
 pub record Stored (W : ℕ) (t : Tables) (n : ℕ) (g : Gate) (u : Tables) : Type 0 where

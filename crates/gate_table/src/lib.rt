@@ -5,8 +5,8 @@
 ghost use Rattle.std.specs.Prelude.{◌≡◌, ℕ, ◌<◌, length};
 ghost use Rattle.netlist.specs.Table.{gate_of, tables, put_entry};
 ghost use Rattle.gate_table.specs.Kind.{number, gate_for};
-ghost use Rattle.gate_table.specs.Numbers.{gate_said, second_of};
-ghost use Rattle.gate_table.specs.Entry.{packed, entry_of};
+ghost use Rattle.gate_table.specs.Numbers.{second_of};
+ghost use Rattle.gate_table.specs.Entry.{packed};
 ghost use Rattle.gate_table.specs.Parts.{parts_of};
 ghost use Rattle.gate_table.specs.Gates.{tables_of, parts_at};
 
@@ -54,7 +54,7 @@ impl Kind {
 }
 
 // A gate with its kind apart from its wires, as its line gives it: a gate of one operand has 0 on the right, and an EQ on the left too.
-// `second` and `entry_of` choose by the kind.
+// `second` and its entries choose by the kind.
 #[derive(Clone, Copy)]
 pub struct GateNumbers {
     pub kind: Kind,
@@ -83,15 +83,19 @@ pub struct Parts {
 pub const HALF: u64 = 4294967296;
 
 // The gate that the numbers are.
-pub fn gate_of(g: GateNumbers) -> Gate
-    ensures { result ≡ gate_said g }
-{
-    match g.kind {
-        Kind::Xor => Gate::Xor(g.left, g.right, g.result),
-        Kind::And => Gate::And(g.left, g.right, g.result),
-        Kind::Inv => Gate::Inv(g.left, g.result),
-        Kind::Eqw => Gate::Eqw(g.left, g.result),
-        Kind::Eq(v) => Gate::Eq(v, g.result),
+impl From<GateNumbers> for Gate {
+    ghost use Rattle.gate_table.specs.Numbers.{gate_said};
+
+    ghost from_gives = { λ g r. r ≡ gate_said g };
+
+    fn from(g: GateNumbers) -> Self {
+        match g.kind {
+            Kind::Xor => Gate::Xor(g.left, g.right, g.result),
+            Kind::And => Gate::And(g.left, g.right, g.result),
+            Kind::Inv => Gate::Inv(g.left, g.result),
+            Kind::Eqw => Gate::Eqw(g.left, g.result),
+            Kind::Eq(v) => Gate::Eq(v, g.result),
+        }
     }
 }
 
@@ -116,12 +120,33 @@ pub fn pack(kind: Kind, a: u32, b: u32, c: u32) -> Entry
 }
 
 // The entries of a gate. Only a constant is a case of its own.
-pub fn entry_of(g: GateNumbers) -> Entry
-    ensures { result ≡ entry_of g }
-{
-    match g.kind {
-        Kind::Eq(_) => pack(g.kind, 0, 0, g.result),
-        _ => pack(g.kind, g.left, second(g), g.result),
+impl From<GateNumbers> for Entry {
+    ghost use Rattle.gate_table.specs.Entry.{entry_of};
+
+    ghost from_gives = { λ g e. e ≡ entry_of g };
+
+    fn from(g: GateNumbers) -> Self {
+        match g.kind {
+            Kind::Eq(_) => pack(g.kind, 0, 0, g.result),
+            _ => pack(g.kind, g.left, second(g), g.result),
+        }
+    }
+}
+
+// The entries of a gate whose kind stands with its wires, which hold it.
+impl From<Gate> for Entry {
+    ghost use Rattle.gate_table.specs.Entry.{gate_entry, Enters};
+
+    ghost from_gives = { λ g e. (e ≡ gate_entry g) × Enters g e };
+
+    fn from(g: Gate) -> Self {
+        match g {
+            Gate::Xor(a, b, c) => pack(Kind::Xor, a, b, c),
+            Gate::And(a, b, c) => pack(Kind::And, a, b, c),
+            Gate::Inv(a, c) => pack(Kind::Inv, a, a, c),
+            Gate::Eqw(a, c) => pack(Kind::Eqw, a, a, c),
+            Gate::Eq(v, c) => pack(Kind::Eq(v), 0, 0, c),
+        }
     }
 }
 

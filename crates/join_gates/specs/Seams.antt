@@ -6,8 +6,8 @@ use Rattle.netlist.specs.Table.{half}
 abbrev pub joined_wires : ℕ → ℕ → ℕ → ℕ
 joined_wires W V n = W + V - n
 
--- the numbers of a seam that question 25 admits, where wire numbers fit half an entry: W wires of the first, o of which are outputs and
--- i inputs, and V wires of the second, n of which are inputs
+-- the numbers of a seam where the first's outputs and a mask pair are the second's inputs, and joined wires fit half an entry: W wires of
+-- the first, o of which are outputs and i inputs, and V wires of the second, n of which are inputs
 pub record Meeting (W o i V n : ℕ) : Type 0 where
   pub outs : o ≤ W
   pub pair : 2 ≤ i

@@ -1,8 +1,8 @@
 // The numbers of a seam.
 ghost use Rattle.join_gates.specs.Seams.{Meeting};
 
-// Those of two netlists that are joined; input bits include the mask pair. Their law: question 25 admits them, and the joined wires fit half
-// an entry.
+// Those of two netlists that are joined; input bits include the mask pair. Their law: the first's output bits and a mask pair are as many as
+// the second's input bits, as question 25 asks, these bits are wires, and the numbers of the joined wires fit half an entry.
 #[derive(Clone, Copy)]
 pub struct SeamNumbers {
     // the first's wires, output bits and input bits

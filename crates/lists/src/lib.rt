@@ -1,9 +1,9 @@
-// Lent lists: questions 11 and 13, that one has an entry for each bit, each in its range; and an entry stored where there is room.
+// Lent lists: questions 11 and 13, that one has an entry for each bit, each in its range; and an entry given or stored where the list has it.
 #![tactic(auto)]
 
 pub mod codes;
 
-ghost use Rattle.std.specs.Prelude.{◌≡◌, set};
+ghost use Rattle.std.specs.Prelude.{◌≡◌, set, get_or};
 ghost use Rattle.netlist.specs.Lists.{every};
 ghost use Rattle.netlist.specs.Mask.{is_input_code, is_wanted};
 ghost use Rattle.netlist.specs.Services.{list_good, is_bit};
@@ -49,6 +49,13 @@ pub fn valid_wanted(list: &[u8], n: usize) -> bool
     ensures { result ≡ list_good is_wanted n list.now }
 {
     good(list, n, 3)
+}
+
+// Entry i of a list, or its type's default (0 of a number) where the list has none.
+pub fn entry<T: Copy + Default>(list: &[T], i: usize) -> T
+    ensures { (d : T) → ((x : T) → T.is_default x → x ≡ d) → result ≡ get_or list.now i d }
+{
+    list.get(i).copied().unwrap_or_default()
 }
 
 // Stores an entry in a list, where the list is long enough.

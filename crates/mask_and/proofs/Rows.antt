@@ -73,13 +73,13 @@ pub record Walked (t : List (List ℕ)) (e : List ℕ) (at : ℕ) (ps : List ℕ
   pub left : row_gates rows ps c ≡ done ++ row_gates (drop i rows) (take (5 + i) places) (c + i)
 
 pub walked_more : {t : List (List ℕ)} {e ps m x places : List ℕ} {at c r i s : ℕ} → Walked t e at ps c m places r i → i < 7
-    → WroteGates m r (row_of (cell t i 0) (get_or places (cell t i 1) 0) (get_or places (cell t i 2) 0) (c + i) ∷ []) x s
+    → WroteGates m r (row_of (eqb (cell t i 0) 1) (get_or places (cell t i 1) 0) (get_or places (cell t i 2) 0) (c + i) ∷ []) x s
     → Walked t e at ps c x (set places (5 + i) (c + i)) s (i + 1)
 walked_more {t} {ps = ps} {places = places} {c = c} {i = i} h l a =
     let w : ℕ = c + i in
     let one : w + 1 ≡ c + (i + 1) = omega arith in
     let R = row_at h.steps l in
-    let g : Gate = row_of (cell t i 0) (get_or places (cell t i 1) 0) (get_or places (cell t i 2) 0) w in
+    let g : Gate = row_of (eqb (cell t i 0) 1) (get_or places (cell t i 1) 0) (get_or places (cell t i 2) 0) w in
     let five : 5 + (i + 1) ≡ suc (5 + i) = omega arith in
     let inside : 5 + i < length places = omega (arith, h.long) in
     let grown : take (5 + (i + 1)) (set places (5 + i) w) ≡ take (5 + i) places ++ (w ∷ []) = rw five (take-suc-set places (5 + i) w inside) in

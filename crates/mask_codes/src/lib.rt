@@ -1,5 +1,6 @@
 // Mask codes: the third code, the code after a code, and the wire that carries a code's mask. The masks' wires and the next wire are
 // values of their own, whose laws say that the numbers counted on from them stay small; where nothing asks that, a wire is a number.
+// Codes are numbers, as C's lists have them, and as numbers the third code is the XOR of two.
 #![tactic(auto)]
 
 ghost use Rattle.std.specs.Prelude.{◌≡◌, ◌<◌, ◌^◌};
@@ -35,7 +36,7 @@ impl Masks {
     }
 }
 
-// The next wire, which no gate has given yet. Its number is below 2^31.
+// The wire from which on the next gates are numbered. It is below 2^31.
 #[derive(Clone, Copy)]
 pub struct Next {
     pub wire: u32,

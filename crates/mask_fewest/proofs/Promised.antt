@@ -1,14 +1,14 @@
 -- From a source that was read to the promise.
 use Rattle.std.specs.Prelude as std
 use Rattle.std.specs.Prelude.{Err, Ok}
-use Prim.Native.Nat.{ℕ, ◌+◌, ◌≤◌, ◌<◌}
+use Prim.Native.Nat.{ℕ, ◌≤◌, ◌<◌}
 use mathlib.Core.Path.{◌≡◌, refl, sym, ap, ap₂, ◌∙◌}
 use mathlib.Core.Bool.{Bool, true, false, ◌&&◌}
-use mathlib.Core.List.{List, [], ◌∷◌}
+use mathlib.Core.List.{List, [], ◌∷◌, ◌++◌}
 use native.Mathlib.Omega.{arith}
 use lib.Dec.{T, eqb, leb→le}
 use borrow.Author.Tests.{le-leb, lt-leb, eq-eqb}
-use lib.ListN.{length, take, set}
+use lib.ListN.{length, take}
 use lib.Seq.{sets}
 use Rattle.netlist.specs.declared.Sizes.{Sizes}
 use Rattle.netlist.specs.declared.Question.{Question}
@@ -53,7 +53,8 @@ fewest-refused out is es ts p = record { text = answers-refused out (rw p); inpu
 
 -- ---- questions 11, 13, 22 and 14
 
-module _ {h : Header} {t : Tables} {is os : List ℕ} {N : Netlist} (a : Read h t is os N) (codes wanted : List ℕ) (budget : ℕ) (out ins ends tal : List ℕ) where
+module _ {h : Header} {t : Tables} {is os : List ℕ} {N : Netlist} (a : Read h t h.gates is os N) (codes wanted : List ℕ) (budget : ℕ)
+    (out ins ends tal : List ℕ) where
   codes-good : (b : Bool) → list_good is_call_code h.input_bits codes ≡ b → list_good is_call_code (input_bits N) codes ≡ b
   codes-good b e = ap (λ (n : ℕ). list_good is_call_code n codes) a.holds.ins ∙ e
 
@@ -125,7 +126,7 @@ module _ {h : Header} {t : Tables} {is os : List ℕ} {N : Netlist} (a : Read h 
         its-codes : take (length codes) ys ≡ chosen_inputs codes d
         its-codes = C.inputs
 
-        read-chosen : Read h t' is os (chosen_source N (choice N codes (given_number N codes wanted budget)))
+        read-chosen : Read h t' h.gates is os (chosen_source N (choice N codes (given_number N codes wanted budget)))
         read-chosen = record {
           holds = record {
             gates = sym (C.gates ∙ ap (λ (n : ℕ). Rattle.fewest.specs.Choice.chosen_gates d n N.gates) its-number);
@@ -145,12 +146,11 @@ module _ {h : Header} {t : Tables} {is os : List ℕ} {N : Netlist} (a : Read h 
             ∙ is_true _ (pair (eqb (length (chosen_inputs codes d)) h.input_bits) (every is_input_code (chosen_inputs codes d))
             (true-T _ (eq-eqb (length (chosen_inputs codes d)) h.input_bits (chosen-length ∙ lengths))) I.codes_good)
 
-        pub chosen-source : (is' : List ℕ) → is' ≡ set is h.input_values 2 → h.input_values < length is
-            → MaskSource t' h.gates h.wires (length codes) (length wanted) (take (h.input_values + 1) is') (take h.output_values os)
+        pub chosen-source : MaskSource t' h.gates h.wires (length codes) (length wanted) (is ++ (2 ∷ [])) os
             (chosen_source N (choice N codes (given_number N codes wanted budget)))
-        chosen-source is' w l =
+        chosen-source =
             let n : length (take (length codes) ys) ≡ length codes = ap length its-codes ∙ chosen-length in
-            rw n at (source_of read-chosen (take (length codes) ys) wanted good-codes q is' w l)
+            rw n at (source_of read-chosen (take (length codes) ys) wanted good-codes q)
 
         pub chosen-masked : WellFormed (mask_netlist (chosen_source N (choice N codes (given_number N codes wanted budget))) (take (length codes) ys) wanted).netlist
         chosen-masked = masked-formed read-chosen (take (length codes) ys) wanted good-codes q
@@ -188,7 +188,8 @@ module _ (s : Sizes) (text codes wanted : List ℕ) (budget : ℕ) (out ins ends
 
   pub call-read : {out' ins' ends' tal' is os : List ℕ} {t : Tables} {h : Header} {a : std.Result ℕ Question}
       → (tables_long (small s) lengths' ≡ true) × ReadAt (small s) text is os t h
-      → ((N : Netlist) → Read h t is os N → FewestAnswers (fewest_outcome codes wanted budget (room out ins ends tal) N) out out' ins ins' ends ends' tal tal' a)
+      → ((N : Netlist) → Read h t h.gates (take h.input_values is) (take h.output_values os) N
+      → FewestAnswers (fewest_outcome codes wanted budget (room out ins ends tal) N) out out' ins ins' ends ends' tal tal' a)
       → FewestAnswers (call s text codes wanted budget (room out ins ends tal) o r w m y b z) out out' ins ins' ends ends' tal tal' a
   unfolding fewest_call
   call-read k d =

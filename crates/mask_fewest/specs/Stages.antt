@@ -17,19 +17,20 @@ use Rattle.fewest.specs.Call.{Result, Room as Rooms}
 use Rattle.fewest_search.specs.declared.search.Tally.{Tally}
 use Rattle.fewest_search.specs.Search.{Source}
 
--- the tables of a netlist that was read: Mask's, with room for the width of the mask pair, and those of ways, best ways and spans
+-- the tables of a netlist that was read: Mask's, and those of ways, best ways and spans; and the widths of its values, is and os, with room
+-- for the width of the mask pair
 pub record Room (h : Header) (t : Tables) (is os ws ms ys bs ss : List ℕ) : Type 0 where
-  pub fronts : Fronts h t ws ms
-  pub widths : h.input_values ≤ 16
+  pub fronts : Fronts h t h.gates ws ms
+  pub widths : length is ≤ 16
   pub ways : h.wires ≤ length ys
   pub best : h.wires ≤ length bs
   pub spans : h.wires ≤ length ss
   pub netlist : Netlist
-  pub read : Read h t is os netlist
+  pub read : Read h t h.gates is os netlist
 
 -- .. with codes for its inputs and its outputs
 pub record Choosable (h : Header) (t : Tables) (codes wanted ws ms ys bs ss : List ℕ) : Type 0 where
-  pub fronts : Fronts h t ws ms
+  pub fronts : Fronts h t h.gates ws ms
   pub ways : h.wires ≤ length ys
   pub best : h.wires ≤ length bs
   pub spans : h.wires ≤ length ss
@@ -43,13 +44,13 @@ pub record Chose (N : Netlist) (codes wanted : List ℕ) (budget : ℕ) (t : Tab
   pub changes : r.changes ≡ changes_at N codes wanted (given_number N codes wanted budget)
   pub floor : r.floor ≡ floor_of N codes wanted budget
 
--- .. and the buffers of the input codes and of the tally have room
-pub record Givable (h : Header) (t : Tables) (n : ℕ) (wanted ws ms ys is ts : List ℕ) : Type 0 where
-  pub fronts : Fronts h t ws ms
-  pub codes : n ≤ h.wires
+-- .. with the widths ns of its input values; and the buffers of the input codes and of the tally have room
+pub record Givable (h : Header) (t : Tables) (count : ℕ) (codes wanted ns ws ms is ts : List ℕ) : Type 0 where
+  pub fronts : Fronts h t count ws ms
+  pub widths : length ns ≤ 16
+  pub ins : length codes ≤ h.wires
   pub outs : length wanted ≤ h.wires
-  pub ways : h.wires ≤ length ys
-  pub inputs : n ≤ length is
+  pub inputs : length codes ≤ length is
   pub tally : 2 ≤ length ts
 
 -- the result of a source with these codes and this tally

@@ -2,11 +2,12 @@
 // the order of the operands of each AND. Questions 1 to 9 with the small limits, 11 with codes 0 to 4, 13, 22 and 14.
 #![tactic(auto)]
 
-ghost use Rattle.std.specs.Prelude.{◌+◌, ◌≤◌, length, take};
+ghost use Rattle.std.specs.Prelude.{◌≤◌, [], ◌∷◌, ◌++◌, length};
 ghost use Rattle.netlist.specs.Netlist.{Netlist};
 ghost use Rattle.netlist.specs.Read.{WellFormed};
 ghost use Rattle.netlist.specs.Mask.{mask_netlist};
 ghost use Rattle.netlist.specs.Table.{tables, Wired};
+ghost use Rattle.gate_table.specs.Gates.{tables_of};
 ghost use Rattle.mask_text.specs.Whole.{Source as MaskSource};
 ghost use Rattle.mask.specs.Fronts.{Read};
 ghost use Rattle.fewest.specs.Call.{deliver as delivery, fewest_outcome};
@@ -69,7 +70,9 @@ fn choose<'a>(
     r
 }
 
-// The masked text and the output codes of the source in the tables, and where question 14 gets a yes also its first n codes and the tally.
+// The masked text and the output codes of a source, and where question 14 gets a yes also the codes and the tally. The buffers
+// and tables are parameters of their own: C lends them one by one, and a struct of `&mut` slices would have to promise at each call that
+// it still holds them.
 fn give(
     out: &mut [u8],
     ins: &mut [u8],
@@ -77,39 +80,27 @@ fn give(
     tally: &mut [u64],
     h: Header,
     r: Tally,
-    n: usize,
+    codes: &[u8],
     wanted: &[u8],
-    inputs: [u32; 17],
-    outputs: [u32; 16],
-    operands: &[u64],
-    results: &[u64],
+    inputs: &[u32],
+    outputs: &[u32],
+    gates: Gates,
     wires: &mut [u32],
     marks: &mut [u8],
-    ways: &[u8],
 ) -> Answer
-    requires { Givable h (tables operands.now results.now) n wanted.now wires.old marks.old ways.now ins.old tally.old }
+    requires { Givable h (tables_of gates) gates.count codes.now wanted.now inputs.now wires.old marks.old ins.old tally.old }
     ensures { (N : Netlist)
-        → MaskSource (tables operands.now results.now) h.gates h.wires n (length wanted.now)
-        (take (h.input_values + 1) inputs) (take h.output_values outputs) N
-        → WellFormed (mask_netlist N (take n ways.now) wanted.now).netlist
+        → MaskSource (tables_of gates.entry) gates.entry.count h.wires (length codes.now) (length wanted.now)
+        (inputs.now ++ (2 ∷ [])) outputs.now N
+        → WellFormed (mask_netlist N codes.now wanted.now).netlist
         → FewestAnswers (delivery (room out.old ins.old ends.old tally.old)
-        (given N (take n ways.now) wanted.now r)) out.old out.new ins.old
+        (given N codes.now wanted.now r)) out.old out.new ins.old
         ins.new ends.old ends.new tally.old tally.new result }
 {
     let size = mask::deliver(
-        out,
-        ends,
-        h,
-        &ways[..n],
-        wanted,
-        inputs,
-        outputs,
-        operands,
-        results,
-        wires,
-        marks,
+        out, ends, h, codes, wanted, inputs, outputs, gates, wires, marks,
     )?;
-    ins[..n].copy_from_slice(&ways[..n]);
+    ins[..codes.len()].copy_from_slice(codes);
     tally[0] = r.changes as u64;
     tally[1] = r.floor as u64;
     Ok(size)
@@ -125,8 +116,8 @@ fn deliver(
     codes: &[u8],
     wanted: &[u8],
     budget: u64,
-    mut inputs: [u32; 17],
-    outputs: [u32; 16],
+    inputs: &[u32],
+    outputs: &[u32],
     operands: &mut [u64],
     results: &[u64],
     wires: &mut [u32],
@@ -135,9 +126,9 @@ fn deliver(
     best: &mut [u8],
     spans: &mut [u64],
 ) -> Answer
-    requires { Room h (tables operands.old results.now) inputs outputs wires.old marks.old ways.old best.old spans.old }
+    requires { Room h (tables operands.old results.now) inputs.now outputs.now wires.old marks.old ways.old best.old spans.old }
     ensures { (N : Netlist)
-        → Read h (tables operands.old results.now) inputs outputs N
+        → Read h (tables operands.old results.now) h.gates inputs.now outputs.now N
         → FewestAnswers (fewest_outcome codes.now wanted.now budget
         (room out.old ins.old ends.old tally.old) N) out.old out.new
         ins.old ins.new ends.old ends.new tally.old tally.new result }
@@ -157,10 +148,14 @@ fn deliver(
     if tally.len() < 2 {
         return Err(Question::Room);
     }
-    inputs[h.input_values] = 2;
     let r = choose(
         codes, wanted, budget, h, operands, results, wires, marks, ways, best, spans,
     );
+    let gates = Gates {
+        operands,
+        results,
+        count: h.gates as usize,
+    };
     give(
         out,
         ins,
@@ -168,15 +163,13 @@ fn deliver(
         tally,
         h,
         r,
-        codes.len(),
+        &ways[..codes.len()],
         wanted,
         inputs,
         outputs,
-        operands,
-        results,
+        gates,
         wires,
         marks,
-        ways,
     )
 }
 
@@ -219,8 +212,23 @@ fn answer(
         l,
     )?;
     deliver(
-        out, ins, ends, tally, h, codes, wanted, budget, inputs, outputs, operands, results, wires,
-        marks, ways, best, spans,
+        out,
+        ins,
+        ends,
+        tally,
+        h,
+        codes,
+        wanted,
+        budget,
+        &inputs[..h.input_values],
+        &outputs[..h.output_values],
+        operands,
+        results,
+        wires,
+        marks,
+        ways,
+        best,
+        spans,
     )
 }
 

@@ -10,6 +10,8 @@ use mask_codes::{Masks, Next};
 use write_wires::table::Words;
 
 // A source gate of these parts, at the wires from c: the next place, and the next wire. Its result's twin is the one that changes.
+// `wire` and `code` are two tables, since C lends them as two. `d` and `masks` are two parameters, here and in `mask_gate`: a line takes
+// `d` and the wire of a mask takes `masks`, so with a struct j of them the bodies would say `j.d` and `j.masks`: no plainer.
 fn step(
     d: Words,
     out: &mut [u8],

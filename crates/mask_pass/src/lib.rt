@@ -29,7 +29,7 @@ fn mask_gates(d: Words, out: &mut [u8], at: usize, masks: Masks) -> usize
 }
 
 // The gates of the masked netlist: the next place, and the next wire. The tables `wire` and `code` have an entry for each source wire,
-// and may hold anything.
+// and may hold anything. They are two, and no table of twins, since C lends them as two.
 pub fn pass(
     d: Words,
     out: &mut [u8],

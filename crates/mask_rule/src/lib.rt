@@ -1,18 +1,20 @@
 // The masking rule of one source gate, by value: its mask change, its masked gates one by one, how many they are, and the twin of its
 // result. Mask writes by it, Mask and Twins count by it, and a session stores what it gives.
+// The twins a and b of a gate's operands are two parameters: with a struct t of them the bodies would say `t.a.code != t.b.code` for
+// `a.code != b.code`, and each caller outside, which looks up one and then the other, would put it together: no plainer.
 #![tactic(auto)]
 
 ghost use Rattle.std.specs.Prelude.{◌≡◌, map, ◌+◌, ◌<◌, length, get_or};
 ghost use Rattle.netlist.specs.declared.Gate.TheVariants.{Xor};
 ghost use Rattle.netlist.specs.Leak.{bit};
 ghost use Rattle.netlist.specs.Mask.{after, mask_wire, changes, changed as changed_twin, past as past_wire, xor_gates, xor_twin, and_gates, and_twin};
-ghost use Rattle.gate_records.specs.Records.{blank, record_of, record4};
+ghost use Rattle.gate_records.specs.Records.{blank, record_of};
 ghost use Rattle.mask_rule.specs.Rule.{steps_of, twin_of, At, Many};
 
 use gate_records::GateRecord;
 use gate_table::Kind;
 use mask_codes::{Masks, Next, code_after, third_code};
-use netlist::Twin;
+use netlist::{Gate, Twin};
 
 // The second operand behind its mask change, if there is one. It holds for this gate alone: the caller's twin of the operand stays
 // as it is.
@@ -100,12 +102,7 @@ fn change(masks: Masks, c: u32, b: Twin) -> GateRecord
     ensures { result ≡ record_of (Xor b.wire (mask_wire masks.first (after b.code)) c) }
 {
     let f = code_after(b.code);
-    GateRecord {
-        kind: 1,
-        first: b.wire,
-        second: masks.wire(f),
-        result: c,
-    }
+    GateRecord::from(Gate::Xor(b.wire, masks.wire(f), c))
 }
 
 // Gate k of XOR's.
@@ -117,12 +114,7 @@ fn xor(masks: Masks, c: Next, a: Twin, b: Twin, k: usize) -> GateRecord
         return change(masks, c.wire, b);
     }
     let second = changed(c.wire, a, b);
-    GateRecord {
-        kind: 1,
-        first: a.wire,
-        second: second.wire,
-        result: past(c, a, b),
-    }
+    GateRecord::from(Gate::Xor(a.wire, second.wire, past(c, a, b)))
 }
 
 // Gate k of AND's: the steps follow the mask change.
@@ -142,18 +134,6 @@ fn and(masks: Masks, c: Next, a: Twin, b: Twin, k: usize) -> GateRecord
     mask_and::step(a.wire, second.wire, p, q, or, next, k - from)
 }
 
-// A gate of one operand.
-fn one(kind: u32, a: u32, c: u32) -> GateRecord
-    ensures { result ≡ record4 kind a 0 c }
-{
-    GateRecord {
-        kind,
-        first: a,
-        second: 0,
-        result: c,
-    }
-}
-
 // Masked gate k of a source gate.
 pub fn gate(masks: Masks, c: Next, kind: Kind, a: Twin, b: Twin, k: usize) -> GateRecord
     requires { k < length (steps_of masks.first c.wire kind a b) }
@@ -162,9 +142,9 @@ pub fn gate(masks: Masks, c: Next, kind: Kind, a: Twin, b: Twin, k: usize) -> Ga
     match kind {
         Kind::Xor => xor(masks, c, a, b, k),
         Kind::And => and(masks, c, a, b, k),
-        Kind::Inv => one(3, a.wire, c.wire),
-        Kind::Eqw => one(4, a.wire, c.wire),
-        Kind::Eq(0) => one(4, masks.first, c.wire),
-        Kind::Eq(_) => one(3, masks.first, c.wire),
+        Kind::Inv => GateRecord::from(Gate::Inv(a.wire, c.wire)),
+        Kind::Eqw => GateRecord::from(Gate::Eqw(a.wire, c.wire)),
+        Kind::Eq(0) => GateRecord::from(Gate::Eqw(masks.first, c.wire)),
+        Kind::Eq(_) => GateRecord::from(Gate::Inv(masks.first, c.wire)),
     }
 }

@@ -59,7 +59,8 @@ fn fill<'a>(
     size
 }
 
-// Question 14 of the text: yes where lines of the longest kind would fit, and otherwise as it is measured.
+// Question 14 of the text: yes where lines of the longest kind would fit, and otherwise as it is measured. This and `answer` stand beside
+// those of `write_netlist`: one function for both would need a trait with the laws of both texts, which is longer than the two.
 fn holds<'a>(d: Words, room: usize, j: Job<'a>, wire: &mut [u32], code: &mut [u8]) -> bool
     requires ready { ReadyFor j wire.old code.old × (room < top) }
     ensures { (N : Netlist) → SourceOf j.entry (length wire.old) N → NumbersOf j.entry N
@@ -101,8 +102,8 @@ fn answer<'a>(
 }
 
 // Question 14, and the text and the codes where it gets a yes. `ins` are the widths of the masked input values, the last of
-// them 2, and `outs` those of the output values; `wire` and `code` have an entry for each source wire, and may hold anything.
-// No line on a hundred wires or fewer is stored by words, so there the table is not filled.
+// them 2, and `outs` those of the output values; `wire` and `code`, two tables as C lends them, have an entry for each source wire, and
+// may hold anything.
 pub fn deliver(
     out: &mut [u8],
     out_codes: &mut [u8],
@@ -137,10 +138,10 @@ pub fn deliver(
         wanted,
         shape,
     };
-    if wires <= 100 {
-        return answer(Words { entries: &[] }, out, out_codes, j, wire, code);
+    if let Some(none) = Words::none_for(wires) {
+        return answer(none, out, out_codes, j, wire, code);
     }
     let mut table = [0u64; 2000];
-    write_wires::table::fill(&mut table, 100);
-    answer(Words { entries: &table }, out, out_codes, j, wire, code)
+    let words = Words::of(&mut table, wires);
+    answer(words, out, out_codes, j, wire, code)
 }

@@ -1,5 +1,5 @@
 // The twins of a source's wires, in two tables: entry w of one is the wire that source wire w stands on, entry w of the other
-// its code.
+// its code. The tables are two, and no slice of `Twin`s, since C lends one of numbers of 32 bits and one of bytes.
 #![tactic(auto)]
 
 pub mod inputs;

@@ -38,7 +38,7 @@ good-below W ws e i l =
 abbrev answers_of : Netlist → List ℕ → List ℕ → BothAnswers Found
 answers_of N codes ws = record { leak = leak N codes; pairs = first_bad (clean_pair N codes) ws }
 
-pub told : (N : Netlist) (codes ws : List ℕ) (f : PairsFound) → (found_of f.leak ≡ leak N codes) × (bad_of f.pair ≡ first_bad (clean_pair N codes) ws)
+pub told : (N : Netlist) (codes ws : List ℕ) (f : PairsFound ℕ) → (found_of f.leak ≡ leak N codes) × (bad_of f.pair ≡ first_bad (clean_pair N codes) ws)
     → ◌≡◌ {A = Outcome (BothAnswers Found)} (done (both_of f)) (done (answers_of N codes ws))
 told N codes ws f g = ap₂ (λ (l : Option Found) (b : Option ℕ). done (record { leak = l; pairs = b })) g.0 g.1
 

@@ -36,7 +36,7 @@ use Rattle.pairs_search.proofs.Uneven.{uneven-as, uneven-more}
 
 -- ---- what one block shows
 
-pub look-law : (words bases base ws : List ℕ) (limit block : ℕ) {best : PairsFound} {found next : Option Leak} (k : Option ℕ)
+pub look-law : (words bases base ws : List ℕ) (limit block : ℕ) {best : PairsFound ℕ} {found next : Option (Leak ℕ)} (k : Option ℕ)
     → LowestDifference (nibbles_of base) (ones_of words) (wire_of limit best.leak) 16 found
     → FirstUneven (LevelAt (held_base bases base) (held_in words) ws) (unwrap_or best.pair (length ws / 2)) 16 k
     → ((f g : ℕ → ℕ → ℕ) (W : ℕ) → LowestDifference f g W (block * 16) best.leak → LowestDifference (from (block * 16) f) (from (block * 16) g)
@@ -67,7 +67,7 @@ abbrev setting_counts : Tables → ℕ → ℕ → List ℕ → Counts
 setting_counts t n W ps = counts_of (bare t n W) true ps
 
 -- the blocks before this one are searched, and the tables keep their lengths
-pub record Finding (t : Tables) (n W limit : ℕ) (ps ws : List ℕ) (publics : Bool) (blocks : ℕ) (words bases base : List ℕ) (best : PairsFound) (block : ℕ) : Type 0 where
+pub record Finding (t : Tables) (n W limit : ℕ) (ps ws : List ℕ) (publics : Bool) (blocks : ℕ) (words bases base : List ℕ) (best : PairsFound ℕ) (block : ℕ) : Type 0 where
   pub passed : block ≤ blocks
   pub long_words : length words ≡ W
   pub long_bases : length bases ≡ W
@@ -76,9 +76,9 @@ pub record Finding (t : Tables) (n W limit : ℕ) (ps ws : List ℕ) (publics : 
   pub found : Found (base_counts t n W ps) (setting_counts t n W ps) ws limit (length ws / 2) (block * 16) best
 
 -- a block is run and looked at
-pub find-more : {t : Tables} {n W limit : ℕ} {ps ws : List ℕ} {publics : Bool} {blocks : ℕ} {words bases base : List ℕ} {best : PairsFound} {block : ℕ}
+pub find-more : {t : Tables} {n W limit : ℕ} {ps ws : List ℕ} {publics : Bool} {blocks : ℕ} {words bases base : List ℕ} {best : PairsFound ℕ} {block : ℕ}
     → Finding t n W limit ps ws publics blocks words bases base best block → block < blocks
-    → (us vs zs : List ℕ) (next : PairsFound) → length us ≡ length words → length vs ≡ length bases → length zs ≡ length base
+    → (us vs zs : List ℕ) (next : PairsFound ℕ) → length us ≡ length words → length vs ≡ length bases → length zs ≡ length base
     → Evaluated (bare t n (length words)) true ps us block × Based (bare t n (length words)) ps vs zs block
     × HeldOn publics (bare t n (length words)) ps vs zs (block + 1)
     → ((based counts : Counts) → Alike (held_base vs zs) (on_from (block * 16) based) → Alike (held_in us) (on_from (block * 16) counts)

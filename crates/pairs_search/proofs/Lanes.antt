@@ -2,12 +2,11 @@
 use mathlib.Core.Path.{◌≡◌, sym, ap, ap₂, ◌∙◌}
 use mathlib.Core.Bool.{Bool, true, false}
 use mathlib.Core.List.{List}
-use Prim.Native.Nat.{ℕ, ◌+◌, ◌*◌, ◌/◌, ◌%◌, ◌^◌, ◌≤◌, ◌<◌}
+use Prim.Native.Nat.{ℕ, ◌+◌, ◌*◌, ◌/◌, ◌%◌, ◌^◌, ◌<◌}
 use native.Mathlib.Omega.{arith}
 use lib.Dec.{ltb}
-use lib.ListN.{length, get_or, set, length-set, length-map, get_or-eq_default}
-use lib.Seq.{get_or-set_same, get_or-set_other, ext_get_or}
-use borrow.Author.Count.{below_more}
+use lib.ListN.{length, get_or, length-map, get_or-eq_default}
+use lib.Seq.{ext_get_or}
 use borrow.Author.Tests.{ltb-true, ltb-false}
 use Rattle.netlist.specs.Netlist.{Netlist}
 use Rattle.netlist.specs.Eval.{wire_bits}
@@ -31,37 +30,23 @@ nibble-lane w s m l =
     ap (λ (j : ℕ). lane j w) e ∙ sym (lane-shift (4 * s) m w) ∙ ap (lane m) d ∙ low-lane 4 m (x / 16) (x % 16) l
 
 -- a word whose nibbles are all the lowest of another
-pub repeat-lanes : (r d : ℕ) → ((s : ℕ) → s < 16 → nibble r s ≡ nibble d 0) → (j : ℕ) → j < 64 → lane j r ≡ lane (j % 4) d
+repeat-lanes : (r d : ℕ) → ((s : ℕ) → s < 16 → nibble r s ≡ nibble d 0) → (j : ℕ) → j < 64 → lane j r ≡ lane (j % 4) d
 repeat-lanes r d h j l =
     let e : j ≡ 4 * (j / 4) + j % 4 = omega arith in
     let z : 4 * 0 + j % 4 ≡ j % 4 = omega arith in
     ap (λ (k : ℕ). lane k r) e ∙ nibble-lane r (j / 4) (j % 4) (omega arith) ∙ ap (lane (j % 4)) (h (j / 4) (omega arith))
     ∙ sym (nibble-lane d 0 (j % 4) (omega arith)) ∙ ap (λ (k : ℕ). lane k d) z
 
--- ---- the loop
-
--- the words of wires below w repeat the first setting's lanes
-pub record Repeated (words bases₀ bases : List ℕ) (w : ℕ) : Type 0 where
-  pub long : length bases ≡ length bases₀
-  pub done : (v : ℕ) → v < w → (j : ℕ) → j < 64 → lane j (get_or bases v 0) ≡ lane (j % 4) (get_or words v 0)
-
-pub repeated-more : {words bases₀ bases : List ℕ} {w : ℕ} (x : ℕ) → Repeated words bases₀ bases w → w < length bases₀
-    → ((s : ℕ) → s < 16 → nibble x s ≡ nibble (get_or words w 0) 0) → Repeated words bases₀ (set bases w x) (w + 1)
-repeated-more {words} {bases₀} {bases} {w} x r l h = record {
-  long = length-set bases w x ∙ r.long;
-  done = below_more (λ v. (j : ℕ) → j < 64 → lane j (get_or (set bases w x) v 0) ≡ lane (j % 4) (get_or words v 0)) w
-      (λ v m j k. ap (lane j) (get_or-set_other bases w v x 0 (λ e. omega arith)) ∙ r.done v m j k)
-      (λ j k. ap (lane j) (get_or-set_same bases w x 0 (omega (arith, r.long))) ∙ repeat-lanes x (get_or words w 0) h j k);
-}
-
-pub repeated-all : {words bases₀ bases : List ℕ} {w : ℕ} → Repeated words bases₀ bases w → length bases₀ ≡ length words → length words ≤ w
+-- so are the words of all wires, and past them the lanes are zero
+pub repeated-all : (words bases : List ℕ) → length bases ≡ length words
+    → ((v : ℕ) → v < length words → (s : ℕ) → s < 16 → nibble (get_or bases v 0) s ≡ nibble (get_or words v 0) 0)
     → (v j : ℕ) → j < 64 → lane j (get_or bases v 0) ≡ lane (j % 4) (get_or words v 0)
-repeated-all {words} {bases₀} {bases} {w} r e l v j k =
-    on_bool (ltb v w) (λ t. r.done v (ltb-true v w t) j k)
+repeated-all words bases e told v j k =
+    on_bool (ltb v (length words)) (λ t. repeat-lanes (get_or bases v 0) (get_or words v 0) (told v (ltb-true v (length words) t)) j k)
     (λ t.
-    let m = ltb-false v w t in
-    ap (lane j) (get_or-eq_default bases 0 {n = v} (omega (arith, r.long))) ∙ lane-zero j
-    ∙ sym (ap (lane (j % 4)) (get_or-eq_default words 0 {n = v} (omega arith)) ∙ lane-zero (j % 4)))
+    let m = ltb-false v (length words) t in
+    ap (lane j) (get_or-eq_default bases 0 {n = v} (omega arith)) ∙ lane-zero j
+    ∙ sym (ap (lane (j % 4)) (get_or-eq_default words 0 {n = v} m) ∙ lane-zero (j % 4)))
 
 -- ---- without public bits all bases are the setting of number 0
 

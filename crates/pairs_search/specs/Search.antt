@@ -12,6 +12,6 @@ bad_of None = none
 bad_of (Some k) = some k
 
 -- the lowest leak on wires below W and the first bad one of n pairs, over the settings below S
-pub record Found (base counts : Counts) (ws : List ℕ) (W n S : ℕ) (b : PairsFound) : Type 0 where
+pub record Found (base counts : Counts) (ws : List ℕ) (W n S : ℕ) (b : PairsFound ℕ) : Type 0 where
   pub lowest : LowestDifference base.one counts.one W S b.leak
   pub uneven : FirstUneven (LevelAt base counts ws) n S b.pair

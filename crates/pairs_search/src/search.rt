@@ -1,4 +1,5 @@
-// The search for a leak on a wire and for a bad pair, block by block.
+// The search for a leak on a wire and for a bad pair, block by block. The words, their bases and the counts are parameters of their own:
+// C lends them one by one, and a struct of `&mut` slices would have to promise at each call that it still holds the same ones.
 ghost use Rattle.std.specs.Prelude.{◌≡◌, true, false, ℕ, ◌+◌, ◌*◌, ◌/◌, ◌<◌, ◌≤◌, length, get_or};
 ghost use Rattle.std.specs.Option.{unwrap_or};
 ghost use Rattle.netlist.specs.Netlist.{Netlist};
@@ -15,6 +16,7 @@ ghost use Rattle.pairs_search.specs.Bases.{Based, HeldOn};
 ghost use Rattle.pairs_search.specs.Search.{bad_of, Found};
 
 use crate::{base, pair};
+use check_counts::block::Blocks;
 use check_counts::{block, paint};
 use check_leak::difference;
 use check_leak::difference::Leak;
@@ -23,32 +25,24 @@ use lists::codes::Codes;
 
 // The lowest leak, and how many pairs stand before the first bad one; none where all are clean.
 #[derive(Clone, Copy, Debug, PartialEq, Eq)]
-pub struct PairsFound {
-    pub leak: Option<Leak>,
+pub struct PairsFound<S = u64> {
+    pub leak: Option<Leak<S>>,
     pub pair: Option<usize>,
 }
 
 // A block is run: the words of its settings, the words of their bases, and the counts of these.
-fn run(
-    gates: Gates,
-    paints: &[u8],
-    publics: bool,
-    block: u64,
-    words: &mut [u64],
-    bases: &mut [u64],
-    base: &mut [u64],
-)
-    requires wired { WiredGates gates (length words.old) }
-    requires paints_in_bounds { (length paints.now + 2 ≤ length words.old) × (length bases.old ≡ length words.old)
+fn run(b: Blocks, block: u64, words: &mut [u64], bases: &mut [u64], base: &mut [u64])
+    requires wired { WiredGates b.gates (length words.old) }
+    requires paints_in_bounds { (length b.paints.now + 2 ≤ length words.old) × (length bases.old ≡ length words.old)
         × (length base.old ≡ length words.old)
-        × HeldOn publics (bare_of gates (length words.old)) paints.now bases.old base.old block }
-    ensures { let N = bare_of gates.entry (length words.old) in
-        Evaluated N true paints.now words.new block
-        × Based N paints.now bases.new base.new block
-        × HeldOn publics N paints.now bases.new base.new (block + 1) }
+        × HeldOn b.publics (bare_of b.gates (length words.old)) b.paints.now bases.old base.old block }
+    ensures { let N = bare_of b.entry.gates (length words.old) in
+        Evaluated N true b.entry.paints.now words.new block
+        × Based N b.entry.paints.now bases.new base.new block
+        × HeldOn b.entry.publics N b.entry.paints.now bases.new base.new (block + 1) }
 {
-    block::run_block(gates, paints, true, block, words);
-    base::refresh(gates, paints, publics, block, words, bases, base);
+    b.run(true, block, words);
+    base::refresh(b, block, words, bases, base);
 }
 
 // The better of the best so far, of wires below a limit, and what a block shows. Wires above the lowest leak, and pairs behind the first
@@ -102,12 +96,17 @@ pub fn find(
         (length pairs.now / 2) (blocks * 16) result }
 {
     let publics = block::public(paints);
+    let b = Blocks {
+        gates,
+        paints,
+        publics,
+    };
     let mut best = PairsFound {
         leak: None,
         pair: None,
     };
     for block in 0..blocks {
-        run(gates, paints, publics, block, words, bases, base);
+        run(b, block, words, bases, base);
         best = look(words, bases, base, pairs, limit, best, block);
     }
     best

@@ -5,9 +5,23 @@ use mathlib.Core.List.{List, [], ◌∷◌, ◌++◌, map}
 use native.Mathlib.Numerals.{add-one}
 use native.Mathlib.Omega.{arith}
 use lib.ListN.{length, get_or, set, take, drop, length-set, length-append}
+use Rattle.std.proofs.lemmas.List.{take-take}
 use lib.Seq.{take_all, take_at, length-take-le, drop-cons, take-suc, take-suc-set, drop-set-lt}
-use Rattle.netlist.specs.Programs.{list_bytes, entry, list_file}
+use Rattle.netlist.specs.Text.{without_end}
+use Rattle.read_text.proofs.LineEnds.{end_front, end_within}
+use Rattle.netlist.specs.Programs.{file_limit, list_bytes, entry, list_file}
 use Rattle.program_text.specs.Front.{Front}
+
+-- the end comes off the bytes that are read
+pub counted-front : (file w : List ℕ) (n : ℕ) → Front file n (take file_limit file) → w ≡ without_end (take n file) → Front file (length w) (list_bytes file)
+counted-front file w n f e =
+    let l = end_within (take n file) in
+    let m = length-take-le n file f.within in
+    record {
+      within = omega (arith, l, m, f.within, ap length e);
+      same = ap (λ u. take (length u) file) e ∙ sym (take-take (length (without_end (take n file))) n file (omega (arith, l, m)))
+          ∙ end_front (take n file) ∙ ap without_end f.same;
+    }
 
 -- the first i bytes are entries, the others as they were
 pub record Listing (xs₀ xs : List ℕ) (i : ℕ) : Type 0 where

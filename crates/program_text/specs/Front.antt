@@ -4,10 +4,10 @@ use Rattle.netlist.specs.declared.Question.{Question}
 use Rattle.netlist.specs.Outcome.{Outcome}
 use Rattle.netlist.specs.Services.{outcome_of}
 
--- the first r bytes of a buffer are these
-pub record Front (buffer : List ℕ) (r : ℕ) (bytes : List ℕ) : Type 0 where
+-- the first r entries of a buffer are these
+pub record Front {A : Type 0} (buffer : List A) (r : ℕ) (entries : List A) : Type 0 where
   pub within : r ≤ length buffer
-  pub same : take r buffer ≡ bytes
+  pub same : take r buffer ≡ entries
 
 -- an answer counts no more entries than its buffer has
 abbrev pub Counted : List ℕ → Result ℕ Question → Type 0

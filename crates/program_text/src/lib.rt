@@ -30,8 +30,8 @@ fn entry(b: u8) -> u8
     }
 }
 
-// How many bytes of a buffer its first n are.
-pub fn front(buffer: &[u8], n: usize) -> usize
+// How many entries of a buffer its first n are.
+pub fn front<T>(buffer: &[T], n: usize) -> usize
     ensures value { (result ≡ min n (length buffer.now)) × Front buffer.now result (take n buffer.now) }
     ensures within { result ≤ length buffer.now }
     ensures front { result ≡ length (take result buffer.now) }
@@ -44,7 +44,7 @@ fn counted(file: &[u8]) -> usize
     ensures { Front file.now result (list_bytes file.now) }
 {
     let n = front(file, FILE_LIMIT);
-    without_end(file, n)
+    without_end(&file[..n]).len()
 }
 
 // The list in a file, in place of its bytes; answers how many entries it has. The bytes behind them are free.

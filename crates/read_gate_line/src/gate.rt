@@ -24,7 +24,8 @@ fn numbers(kind: Kind, left: u32, right: u32, wire: u32) -> GateNumbers
     }
 }
 
-// The gate of one operand that a name stands for; EQ has a constant for it.
+// The gate of one operand that a name stands for; EQ has a constant for it. The names are told apart by `same`, here and below: it is the
+// one comparer that document 01 names.
 #[tactic(auto, unfolding(crate::specs::GateAnswers::named_for))]
 fn gate1(name: &[u8], a: u32, c: u32) -> Option<GateNumbers>
     ensures { result ≡ named_for (the_gate1 name.now a c) }
@@ -65,7 +66,8 @@ fn last_word(at: Cursor, named: Option<GateNumbers>) -> Option<(GateNumbers, Cur
     Some((g, next))
 }
 
-// The operand, the result and the name of a gate of one operand.
+// The operand, the result and the name of a gate of one operand. Apart from `two_operands`: one function of both would ask twice which of
+// the two it reads, for the second operand and for the name.
 fn one_operand(at: Cursor) -> Option<(GateNumbers, Cursor)>
     ensures { LineIs at.entry (one (line_words (left at.entry))) result }
 {

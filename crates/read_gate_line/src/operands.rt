@@ -3,7 +3,8 @@ ghost use Rattle.read_gate_line.specs.OperandAnswers.{OperandsIs, UsualIs};
 
 use read_text::cursor::Cursor;
 
-// The counts as most lines have them, one digit and a space each: how many operands, with the place behind.
+// The counts as most lines have them, one digit and a space each: how many operands, with the place behind. Apart from `any_operands`, and
+// no function of the reader of a number: a no here says nothing of the line, so such a function would need both promises as parameters.
 fn usual_operands(at: Cursor) -> Option<(u32, Cursor)>
     ensures { UsualIs at.entry result }
 {
@@ -27,13 +28,13 @@ fn any_operands(at: Cursor) -> Option<(u32, Cursor)>
     Some((operands, at2))
 }
 
-// The counts of the line from a place, first as most lines have them.
+// The counts of the line from a place, first as most lines have them. A `match` and no `or_else`: its closure would need a contract of its
+// own, which is longer.
 pub fn read_operands(at: Cursor) -> Option<(u32, Cursor)>
     ensures { OperandsIs at.entry result }
 {
-    let usual = usual_operands(at);
-    if usual.is_some() {
-        return usual;
+    match usual_operands(at) {
+        Some(usual) => Some(usual),
+        None => any_operands(at),
     }
-    any_operands(at)
 }

@@ -21,7 +21,7 @@ within_numbers L h =
     leb h.wires L.wires && leb h.input_values L.inputs && leb h.output_values L.outputs && leb h.input_bits h.wires && leb
     h.output_bits h.wires
 
--- the numbers of a header that it admits
+-- the numbers of a header, without its law
 abbrev pub header_numbers : Header → HeaderNumbers
 header_numbers h = record {
   gates = h.gates;
@@ -32,7 +32,7 @@ header_numbers h = record {
   output_bits = h.output_bits;
 }
 
--- its answer: the numbers again where it gets a yes
+-- the answer to question 5: the numbers again where it gets a yes
 abbrev pub WithinIs : Limits → HeaderNumbers → Option Header → Type 0
 WithinIs L h (Some g) = (within_numbers L h ≡ true) × (h ≡ header_numbers g)
 WithinIs L h None = within_numbers L h ≡ false

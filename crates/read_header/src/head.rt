@@ -12,7 +12,7 @@ use old_form::Dialect;
 use read_text::allowed::all_allowed;
 use read_text::cursor::Cursor;
 
-// Question 5.
+// Question 5: the numbers as a header, where the wires and the values are few enough, and the bits of the values no more than the wires.
 #[tactic(auto, unfolding(crate::specs::HeadAnswers::within_numbers))]
 fn within(l: Limits, h: HeaderNumbers) -> Option<Header>
     ensures { WithinIs l h result }
@@ -86,12 +86,8 @@ pub fn read_opening_in<'t>(
     ensures { HeadSays d l text.now inputs.new outputs.new result }
 {
     ask_bytes(text, l)?;
-    let Some((said, at)) = read_header_in(text, inputs, outputs, d) else {
-        return Err(Question::Header);
-    };
-    let Some(h) = within(l, said) else {
-        return Err(Question::Limits);
-    };
+    let (said, at) = read_header_in(text, inputs, outputs, d).ok_or(Question::Header)?;
+    let h = within(l, said).ok_or(Question::Limits)?;
     if !gates_counted(h) {
         return Err(Question::Count);
     }

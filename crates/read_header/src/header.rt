@@ -1,4 +1,4 @@
-// The header of a netlist that question 5 admits.
+// The numbers of a header, with one fact of question 5 as their law; `HeadOf` in specs/ has what else the questions say of them.
 ghost use Rattle.std.specs.Prelude.{◌≤◌};
 
 // What such a header says, besides the widths themselves. Its law: there are no more input bits than wires.

@@ -13,7 +13,8 @@ ghost use Rattle.read_header.specs.HeaderAnswers.{positives, CountsIs, WidthsIs,
 use lists::put;
 use read_text::cursor::Cursor;
 
-// What the header says, besides the widths themselves. The sums of widths from a lent text fit 128 bits, and not 64.
+// What the header says, besides the widths themselves. The sums of the widths fit 128 bits, and need not fit 64. Apart from `Header`, whose
+// law holds behind question 5 alone.
 #[derive(Clone, Copy)]
 pub struct HeaderNumbers {
     // the gate count
@@ -39,28 +40,26 @@ fn counts_line(at: Cursor) -> Option<(u32, u32, Cursor)>
 }
 
 // The numbers up to the line's end, each 1 or more: how many, their sum, and the start of the next line. Those past the table's end
-// are read too.
+// are read too. A `loop` and no `for`: it goes from a cursor to the one behind each number, and how many there are is known at the end alone.
 fn read_widths<'t>(at: Cursor<'t>, table: &mut [u32]) -> Option<(usize, u128, Cursor<'t>)>
     ensures { WidthsIs at.entry (positives (numbers (line_words (left at.entry))))
         table.new result }
 {
-    let text = at.text;
-    let mut here = at.at;
+    let mut here = at;
     let mut n: usize = 0;
     let mut sum: u128 = 0;
     loop {
-        let c = Cursor { text, at: here };
-        if let Some(next) = c.line_end() {
+        if let Some(next) = here.line_end() {
             return Some((n, sum, next));
         }
-        let (width, on) = c.next_number()?;
+        let (width, on) = here.next_number()?;
         if width == 0 {
             return None;
         }
         put(table, n, width);
         n += 1;
         sum += width as u128;
-        here = on.at;
+        here = on;
     }
 }
 

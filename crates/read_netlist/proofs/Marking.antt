@@ -1,13 +1,14 @@
 -- The table of given wires as lines are read.
-use Prim.Native.Nat.{ℕ, ◌+◌, ◌<◌, ◌≤◌}
-use mathlib.Core.Path.{◌≡◌, refl, sym, ap, ap₂, ◌∙◌, subst}
+use Prim.Native.Nat.{ℕ, ◌+◌, ◌-◌, ◌<◌, ◌≤◌}
+use mathlib.Core.Path.{◌≡◌, refl, sym, ap, ap₂, ◌∙◌}
 use mathlib.Core.Bool.{Bool, true, false, ◌&&◌, ◌||◌, not}
-use mathlib.Core.List.{List, [], ◌∷◌}
+use mathlib.Core.List.{List, [], ◌∷◌, ◌++◌}
 use native.Mathlib.Omega.{arith}
 use lib.Dec.{eqb, leb, ltb}
-use lib.ListN.{length, get_or, set, replicate, length-set, length-replicate, get_or-eq_default, get_or-replicate}
-use lib.Seq.{get_or-set_same, get_or-set_other}
-use borrow.Author.Tests.{eqb-true, eqb-false, leb-true, le-ltb, lt-ltb, ltb-true, ltb-false}
+use lib.ListN.{length, take, drop, get_or, set, replicate, length-set, length-drop, length-append, length-replicate, get_or-eq_default, get_or-replicate, get_or-append}
+use Rattle.std.proofs.lemmas.List.{get_or-append_right, get_or-drop}
+use lib.Seq.{length-take-le, get_or-set_same, get_or-set_other}
+use borrow.Author.Tests.{eqb-true, eqb-false, leb-true, le-ltb, ltb-true, ltb-false}
 use Rattle.netlist.specs.declared.Gate.{Gate}
 use Rattle.netlist.specs.declared.Gate.TheVariants.{Xor, And, Inv, Eqw, Eq}
 use Rattle.netlist.specs.Lists.{member}
@@ -62,10 +63,6 @@ marks-names m (Inv a c) o l = (marked-below m a o, l)
 marks-names m (Eqw a c) o l = (marked-below m a o, l)
 marks-names m (Eq v c) o l = (ltb-true v 2 o, l)
 
-or-false : (b : Bool) → (b || false) ≡ b
-or-false true = refl
-or-false false = refl
-
 marked-set : (table : List ℕ) (c x : ℕ) → c < length table → marked (set table c 1) x ≡ (eqb x c || marked table x)
 unfolding marked
 marked-set table c x h = on_bool (eqb x c)
@@ -88,49 +85,28 @@ marks-on {table} {rs} {n} {W} c h m = record {
   room = rw length-set m.room;
 }
 
--- the first i inputs of n are marked
-pub record Inputs (table₀ table : List ℕ) (n W i : ℕ) : Type 0 where
-  pub passed : i ≤ n
-  pub long : length table ≡ length table₀
-  pub marks : Marks table i W []
-
-pub inputs-none : (table : List ℕ) (n W : ℕ) → W ≤ length table → table ≡ replicate (length table) 0 → Inputs table table n W 0
+-- the n inputs in a table that marks nothing
+pub inputs-marked : {table u : List ℕ} {n W : ℕ} → n ≤ W → W ≤ length table → table ≡ replicate (length table) 0 → u ≡ replicate (length (take n table)) 1
+    → Marks (u ++ drop n table) n W []
 unfolding marked
-inputs-none table n W h e = record {
-  passed = omega arith;
-  long = refl;
-  marks = record {
-    each =
-        λ x. ap (λ (l : List ℕ). eqb (get_or l x 0) 1) e ∙ ap (λ (v : ℕ). eqb v 1) (zero-at (length table) x) ∙ sym (or-false (ltb x 0)
-        ∙ le-ltb x 0 (omega arith));
-    inputs = omega arith;
-    below = empty;
-    room = h;
-  };
+inputs-marked {table} {u} {n} {W} l h e f = record {
+  each =
+      λ x. on_bool (ltb x n)
+      (λ t. let k = ltb-true x n t in rw (t, get_or-append u (drop n table) 0 x (omega (arith, size)) ∙ in_front x k))
+      (λ t. let k = ltb-false x n t in rw (t, get_or-append_right u (drop n table) n x 0 size k ∙ get_or-drop n table (x - n) 0 ∙ behind (n + (x - n))));
+  inputs = l;
+  below = empty;
+  room = omega (arith, size, length-append u (drop n table), length-drop n table);
 }
   where
-    zero-at : (k x : ℕ) → get_or {A = ℕ} (replicate k 0) x 0 ≡ 0
-    zero-at k x = on_bool (ltb x k)
-        (λ l. get_or-replicate k x 0 0 (ltb-true x k l))
-        (λ l. let g : k ≤ x = ltb-false x k l in get_or-eq_default {A = ℕ} (replicate k 0) 0 (rw length-replicate g))
+    size : length u ≡ n
+    size = ap length f ∙ length-replicate _ _ ∙ length-take-le n table (omega arith)
 
-less-suc : (x i : ℕ) → (eqb x i || ltb x i) ≡ ltb x (i + 1)
-less-suc x i = on_bool (eqb x i)
-    (λ e. let q : x ≡ i = eqb-true x i e in rw (e, lt-ltb x (i + 1) (omega arith)))
-    (λ e. let d : x ≡ i → ⊥ = eqb-false x i e in on_bool (ltb x i)
-    (λ l. let k = ltb-true x i l in rw (e, l, lt-ltb x (i + 1) (omega arith)))
-    (λ l. let k = ltb-false x i l in rw (e, l, le-ltb x (i + 1) (omega arith))))
+    in_front : (x : ℕ) → x < n → get_or u x 0 ≡ 1
+    in_front x k = ap (λ s. get_or s x 0) f ∙ get_or-replicate (length (take n table)) x 1 0 (omega (arith, length-take-le n table (omega arith)))
 
-pub inputs-more : {table₀ table u : List ℕ} {n W i : ℕ} → Inputs table₀ table n W i → i < n → n ≤ W → u ≡ set table i 1 → Inputs table₀ u n W (i + 1)
-inputs-more {table₀} {table} {u} {n} {W} {i} s h l e = subst (λ (v : List ℕ). Inputs table₀ v n W (i + 1)) (sym e) (record {
-  passed = omega arith;
-  long = length-set table i 1 ∙ s.long;
-  marks = record {
-    each =
-        λ x. marked-set table i x (omega (arith, s.marks.room)) ∙ ap (λ (b : Bool). eqb x i || b) (s.marks.each x ∙ or-false (ltb x i)) ∙ less-suc x i ∙ sym
-        (or-false (ltb x (i + 1)));
-    inputs = omega arith;
-    below = empty;
-    room = rw length-set s.marks.room;
-  };
-})
+    behind : (x : ℕ) → get_or table x 0 ≡ 0
+    behind x =
+        ap (λ s. get_or s x 0) e
+        ∙ on_bool (ltb x (length table)) (λ t. get_or-replicate (length table) x 0 0 (ltb-true x (length table) t))
+        (λ t. let g : length table ≤ x = ltb-false x (length table) t in get_or-eq_default {A = ℕ} (replicate (length table) 0) 0 (rw length-replicate g))

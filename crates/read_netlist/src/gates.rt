@@ -13,27 +13,25 @@ ghost use Rattle.gate_table.specs.Entry.{Stored};
 
 use crate::marks::{mark, operands_given, result_free};
 use crate::names::has_gate;
-use gate_table::{GateNumbers, entry_of, put};
+use gate_table::{Entry, GateNumbers, put};
 use netlist::Question;
 use old_form::Dialect;
 use read_gate_line::gate::gate_line;
+use read_header::header::Header;
 use read_text::count::count_lines;
 use read_text::cursor::Cursor;
 
 // Questions 7 to 9 of one line in a dialect: its gate, with the start of the next line. The gate's result is then marked.
 fn one_gate<'t>(
     at: Cursor<'t>,
-    n: u32,
-    w: u32,
+    h: Header,
     marks: &mut [u8],
     d: Dialect,
 ) -> Result<(GateNumbers, Cursor<'t>), Question>
-    requires { w ≤ length marks.old }
-    ensures { (rs : List ℕ) → Marks marks.old n w rs → GateStepIs d at.entry n w rs marks.new result }
+    requires { h.wires ≤ length marks.old }
+    ensures { (rs : List ℕ) → Marks marks.old h.input_bits h.wires rs → GateStepIs d at.entry h.input_bits h.wires rs marks.new result }
 {
-    let Some((g, next)) = gate_line(at) else {
-        return Err(Question::Line);
-    };
+    let (g, next) = gate_line(at).ok_or(Question::Line)?;
     if !has_gate(g, d) {
         return Err(Question::Line);
     }
@@ -41,7 +39,7 @@ fn one_gate<'t>(
         return Err(Question::Operands);
     }
     let c = g.result;
-    if !result_free(marks, c, n, w) {
+    if !result_free(marks, c, h) {
         return Err(Question::Wire);
     }
     mark(marks, c);
@@ -54,7 +52,7 @@ fn store(operands: &mut [u64], results: &mut [u64], at: usize, g: GateNumbers)
     ensures { (W : ℕ) → Names W (gate_said g) → Stored W (tables operands.old results.old) at (gate_said g)
         (tables operands.new results.new) }
 {
-    put(operands, results, at, entry_of(g));
+    put(operands, results, at, Entry::from(g));
 }
 
 // The question that refuses the text where one refuses a line: unless the lines from it on are as many as are left, question 6 comes
@@ -69,28 +67,27 @@ fn first(at: Cursor, left: usize, question: Question) -> Question
     }
 }
 
-// The lines from a place on, of which there must be as many as `count`: gates of a netlist with n input bits and w wires, in a dialect.
+// The lines from a place on, of which there must be as many as the header says: gates of a netlist with that header, in a dialect.
 pub fn read_gates(
     from: Cursor,
-    count: usize,
-    n: u32,
-    w: u32,
+    h: Header,
     marks: &mut [u8],
     operands: &mut [u64],
     results: &mut [u64],
     d: Dialect,
 ) -> Result<(), Question>
-    requires { (count ≤ length operands.old) × (count ≤ length results.old) × Marks marks.old n w [] }
-    ensures { GatesIs d (rest from.entry) count n w (tables operands.new results.new) result }
+    requires { (h.gates ≤ length operands.old) × (h.gates ≤ length results.old) × Marks marks.old h.input_bits h.wires [] }
+    ensures { GatesIs d (rest from.entry) h.gates h.input_bits h.wires (tables operands.new results.new) result }
 {
     let text = from.text;
+    let count = h.gates as usize;
     let mut at = from;
     for i in 0..count {
         let start = at.skip_blanks();
         if text.len() <= start.at {
             return Err(Question::Count);
         }
-        match one_gate(start, n, w, marks, d) {
+        match one_gate(start, h, marks, d) {
             Ok((g, next)) => {
                 store(operands, results, i, g);
                 at = next;

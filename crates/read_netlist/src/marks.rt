@@ -5,14 +5,14 @@ ghost use Rattle.gate_table.specs.Numbers.{gate_said};
 ghost use Rattle.read_netlist.specs.Marks.{marked, Marks};
 
 use gate_table::{GateNumbers, Kind, second};
+use read_header::header::Header;
 
 // Whether a wire is marked. Past the table's end none is.
 #[tactic(auto, unfolding(crate::specs::Marks::marked))]
 fn is_marked(table: &[u8], x: u32) -> bool
     ensures { result ≡ marked table.now x }
 {
-    let i = x as usize;
-    i < table.len() && table[i] == 1
+    table.get(x as usize) == Some(&1)
 }
 
 // Question 8: each operand is marked, or the constant is a bit.
@@ -25,11 +25,11 @@ pub fn operands_given(table: &[u8], g: GateNumbers) -> bool
     }
 }
 
-// Question 9: at least n, below w and not marked.
-pub fn result_free(table: &[u8], c: u32, n: u32, w: u32) -> bool
-    ensures { result ≡ (leb n c && ltb c w && not (marked table.now c)) }
+// Question 9: no input, below the header's wires and not marked.
+pub fn result_free(table: &[u8], c: u32, h: Header) -> bool
+    ensures { result ≡ (leb h.input_bits c && ltb c h.wires && not (marked table.now c)) }
 {
-    n <= c && c < w && !is_marked(table, c)
+    h.input_bits <= c as u64 && c < h.wires && !is_marked(table, c)
 }
 
 // Marks a wire.
@@ -41,12 +41,10 @@ pub fn mark(table: &mut [u8], c: u32)
     table[i] = 1;
 }
 
-// Marks the n inputs in a table that marks nothing, for a netlist of w wires.
-pub fn mark_inputs(table: &mut [u8], n: u32, w: u32)
-    requires { (n ≤ w) × (w ≤ length table.old) × (table.old ≡ replicate (length table.old) 0) }
-    ensures { Marks table.new n w [] }
+// Marks the inputs of a header in a table that marks nothing.
+pub fn mark_inputs(table: &mut [u8], h: Header)
+    requires { (h.wires ≤ length table.old) × (table.old ≡ replicate (length table.old) 0) }
+    ensures { Marks table.new h.input_bits h.wires [] }
 {
-    for i in 0..n {
-        mark(table, i);
-    }
+    table[..h.input_bits as usize].fill(1);
 }

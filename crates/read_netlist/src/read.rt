@@ -29,20 +29,9 @@ fn read_text(
         (tables operands.new results.new) result }
 {
     let (h, at) = read_opening_in(text, l, inputs, outputs, d)?;
-    let n = h.input_bits as u32;
-    let count = h.gates as usize;
-    mark_inputs(marks, n, h.wires);
+    mark_inputs(marks, h);
     // the place in `text` itself: with the text that came back beside it, reading takes a twentieth longer
-    read_gates(
-        Cursor { text, at: at.at },
-        count,
-        n,
-        h.wires,
-        marks,
-        operands,
-        results,
-        d,
-    )?;
+    read_gates(Cursor { text, at: at.at }, h, marks, operands, results, d)?;
     Ok(h)
 }
 

@@ -12,6 +12,7 @@ use lib.Seq.{drop-cons}
 use Rattle.netlist.specs.Lists.{every}
 use Rattle.netlist.specs.Text.{lf, cr, at_lf}
 use Rattle.netlist.specs.Read.{byte_allowed, bytes_allowed}
+use Rattle.netlist.proofs.Tests.{clash}
 use Rattle.netlist.proofs.LineEnds.{allowed-step}
 use Rattle.read_text.specs.Answers.{allowed_before, fault_of}
 
@@ -85,6 +86,14 @@ module _ (t : List ℕ) where
       testing-end bytes_allowed t (bit_or faults fault) (last + 1) refl (omega arith)
       (testing-on bytes_allowed t faults fault last (allowed_before (get_or t last 0) 0) (omega arith) (with-next last false (omega arith) (ap at_lf none)) e k)
 
-pub none_allowed : (t : List ℕ) → length t ≡ 0 → bytes_allowed t ≡ true
-none_allowed [] h = refl
-none_allowed (x ∷ xs) h = absurd (omega arith)
+-- ---- what two iterators have left, the one a byte ahead of the other
+
+-- the next byte
+pub next_byte : (t : List ℕ) (i x : ℕ) (xs : List ℕ) → drop i t ≡ x ∷ xs → (x ≡ get_or t i 0) × (xs ≡ drop (i + 1) t) × (i < length t)
+next_byte [] zero x xs e = clash (cc)
+next_byte [] (suc i) x xs e = clash (cc)
+next_byte (y ∷ t) zero x xs e = (sym (ap (λ l. get_or l 0 0) e), sym (ap (drop 1) e), omega arith)
+next_byte (y ∷ t) (suc i) x xs e =
+    let n = next_byte t i x xs e in
+    let z : suc (i + 1) ≡ suc i + 1 = omega arith in
+    (n.0, n.1 ∙ ap (λ k. drop k (y ∷ t)) z, omega (arith, n.2))

@@ -1,85 +1,71 @@
 -- One line end at the end of some bytes comes off.
-use Prim.Native.Nat.{ℕ, zero, suc, ◌+◌, ◌-◌, ◌≤◌, ◌<◌}
-use mathlib.Core.Path.{◌≡◌, sym, ap, ◌∙◌, subst}
-use mathlib.Core.Bool.{true, false, and-false}
-use mathlib.Core.List.{List, [], ◌∷◌}
+use Rattle.std.specs.Prelude.{Option, Some, None}
+use Rattle.std.specs.Option.{MatchOption, unwrap_or}
+use denote.Ref.{Bor}
+use mathlib.Core.Logic.{◌≢◌}
+use mathlib.Core.Path.{◌≡◌, refl, sym, ap, ◌∙◌}
+use mathlib.Core.Bool.{Bool, true, false, cond, and-false}
+use mathlib.Core.List.{List, [], ◌∷◌, ◌++◌}
+use Prim.Native.Nat.{ℕ, suc, ◌≤◌}
 use native.Mathlib.Omega.{arith}
 use lib.Dec.{eqb}
-use lib.ListN.{length, get_or, take}
-use Rattle.netlist.specs.Text.{lf, cr, is_line_end, without_end}
-use Rattle.read_text.specs.Line.{WithoutEnd}
+use lib.ListN.{length, take}
+use borrow.Author.Tests.{eqb-true}
+use Rattle.netlist.proofs.Tests.{on_bool}
+use Rattle.netlist.specs.Text.{lf, cr, is_end, without_end}
 
--- ---- by what the last bytes are
+-- three bytes or more are no end
+peel : (x y z : ℕ) (s : List ℕ) → without_end (x ∷ (y ∷ (z ∷ s))) ≡ x ∷ without_end (y ∷ (z ∷ s))
+peel x y z s = ap (λ (b : Bool). cond b [] (x ∷ without_end (y ∷ (z ∷ s)))) no_end
+  where
+    no_end : is_end (x ∷ (y ∷ (z ∷ s))) ≡ false
+    no_end = rw (and-false (eqb x lf), and-false (eqb y lf), and-false (eqb x cr))
 
--- more than two bytes are no end
-peel : (b : ℕ) (s : List ℕ) (k : ℕ) → k + 1 < length s → without_end (b ∷ take (suc (suc k)) s) ≡ b ∷ without_end (take (suc (suc k)) s)
-peel b [] k h = absurd (omega arith)
-peel b (c ∷ []) k h = absurd (omega arith)
-peel b (c ∷ (d ∷ s)) k h = rw (and-false (eqb b lf), and-false (eqb c lf), and-false (eqb b cr))
+-- there is no LF
+pub end_none : (s : List ℕ) → ((front : List ℕ) → s ≡ front ++ (lf ∷ []) → ⊥) → without_end s ≡ s
+end_none [] h = refl
+end_none (x ∷ []) h = on_bool (eqb x lf) (λ e. absurd (h [] (ap (λ b. b ∷ []) (eqb-true x lf e)))) (λ e. rw (e, and-false (eqb x cr)))
+end_none (x ∷ (y ∷ [])) h =
+    on_bool (eqb y lf) (λ e. absurd (h (x ∷ []) (ap (λ b. x ∷ b ∷ []) (eqb-true y lf e))))
+    (λ e. rw (e, and-false (eqb x lf), and-false (eqb x cr), and-false (eqb y cr)))
+end_none (x ∷ (y ∷ (z ∷ s))) h = peel x y z s ∙ ap (λ l. x ∷ l) (end_none (y ∷ (z ∷ s)) (λ front e. h (x ∷ front) (ap (λ l. x ∷ l) e)))
 
--- the last is no LF
-end_none : (s : List ℕ) (n : ℕ) → n < length s → is_line_end (get_or s n 0) ≡ false → without_end (take (suc n) s) ≡ take (suc n) s
-end_none [] n h e = absurd (omega arith)
-end_none (b ∷ s) zero h e = rw (e, and-false (eqb b cr))
-end_none (b ∷ []) (suc n) h e = absurd (omega arith)
-end_none (b ∷ (c ∷ s)) (suc zero) h e = rw (e, and-false (eqb b lf), and-false (eqb b cr), and-false (eqb c cr))
-end_none (b ∷ (c ∷ s)) (suc (suc n)) h e = peel b (c ∷ s) n (omega arith) ∙ ap (λ (l : List ℕ). b ∷ l) (end_none (c ∷ s) (suc n) (omega arith) e)
+-- LF behind another byte than CR
+end-lf : (s : List ℕ) → ((front : List ℕ) → s ≡ front ++ (cr ∷ []) → ⊥) → without_end (s ++ (lf ∷ [])) ≡ s
+end-lf [] h = refl
+end-lf (x ∷ []) h =
+    on_bool (eqb x cr) (λ e. absurd (h [] (ap (λ b. b ∷ []) (eqb-true x cr e)))) (λ e. rw (e, and-false (eqb x lf)))
+end-lf (x ∷ (y ∷ [])) h = peel x y lf [] ∙ ap (λ l. x ∷ l) (end-lf (y ∷ []) (λ front e. h (x ∷ front) (ap (λ l. x ∷ l) e)))
+end-lf (x ∷ (y ∷ (z ∷ s))) h =
+    peel x y z (s ++ (lf ∷ [])) ∙ ap (λ l. x ∷ l) (end-lf (y ∷ (z ∷ s)) (λ front e. h (x ∷ front) (ap (λ l. x ∷ l) e)))
 
--- it is, and the only byte
-end-alone : (s : List ℕ) → 0 < length s → is_line_end (get_or s 0 0) ≡ true → without_end (take 1 s) ≡ []
-end-alone [] h e = absurd (omega arith)
-end-alone (b ∷ s) h e = rw e
+-- LF behind CR
+end-crlf : (s : List ℕ) → without_end ((s ++ (cr ∷ [])) ++ (lf ∷ [])) ≡ s
+end-crlf [] = refl
+end-crlf (x ∷ []) = peel x cr lf [] ∙ ap (λ l. x ∷ l) (end-crlf [])
+end-crlf (x ∷ (y ∷ [])) = peel x y cr (lf ∷ []) ∙ ap (λ l. x ∷ l) (end-crlf (y ∷ []))
+end-crlf (x ∷ (y ∷ (z ∷ s))) = peel x y z ((s ++ (cr ∷ [])) ++ (lf ∷ [])) ∙ ap (λ l. x ∷ l) (end-crlf (y ∷ (z ∷ s)))
 
--- it is, behind another byte than CR
-end-lf : (s : List ℕ) (n : ℕ) → suc n < length s → is_line_end (get_or s (suc n) 0) ≡ true → eqb (get_or s n 0) cr ≡ false
-    → without_end (take (suc (suc n)) s) ≡ take (suc n) s
-end-lf [] n h e f = absurd (omega arith)
-end-lf (b ∷ []) n h e f = absurd (omega arith)
-end-lf (b ∷ (c ∷ s)) zero h e f = rw (f, and-false (eqb b lf), e)
-end-lf (b ∷ (c ∷ s)) (suc n) h e f = peel b (c ∷ s) n (omega arith) ∙ ap (λ (l : List ℕ). b ∷ l) (end-lf (c ∷ s) n (omega arith) e f)
+-- LF, and CR before it where one stands there
+pub end_either : (s : List ℕ) (line : Bor (List ℕ)) (r : Option (Bor (List ℕ))) → s ≡ line.now ++ (lf ∷ [])
+    → MatchOption r ((front : List ℕ) → line.now ≢ front ++ (cr ∷ [])) (λ x. line.now ≡ x.now ++ (cr ∷ [])) → (unwrap_or r line).now ≡ without_end s
+end_either s line (Some x) e m = sym (ap without_end (e ∙ ap (λ l. l ++ (lf ∷ [])) m) ∙ end-crlf x.now)
+end_either s line None e m = sym (ap without_end e ∙ end-lf line.now m)
 
--- it is, behind CR
-end-crlf : (s : List ℕ) (n : ℕ) → suc n < length s → is_line_end (get_or s (suc n) 0) ≡ true → eqb (get_or s n 0) cr ≡ true
-    → without_end (take (suc (suc n)) s) ≡ take n s
-end-crlf [] n h e f = absurd (omega arith)
-end-crlf (b ∷ []) n h e f = absurd (omega arith)
-end-crlf (b ∷ (c ∷ s)) zero h e f = rw (and-false (eqb b lf), f, e)
-end-crlf (b ∷ (c ∷ s)) (suc n) h e f = peel b (c ∷ s) n (omega arith) ∙ ap (λ (l : List ℕ). b ∷ l) (end-crlf (c ∷ s) n (omega arith) e f)
+-- what comes off stands at the end
+pub end_front : (s : List ℕ) → take (length (without_end s)) s ≡ without_end s
+end_front [] = refl
+end_front (x ∷ xs) = go (is_end (x ∷ xs)) (end_front xs)
+  where
+    go : (b : Bool) → take (length (without_end xs)) xs ≡ without_end xs
+        → take (length (cond b [] (x ∷ without_end xs))) (x ∷ xs) ≡ cond b [] (x ∷ without_end xs)
+    go true e = refl
+    go false e = ap (λ l. x ∷ l) e
 
--- ---- by their number
-
-module _ (s : List ℕ) (n : ℕ) (w : n ≤ length s) where
-  pub left-none : n ≡ 0 → WithoutEnd s n 0
-  left-none z = record { same = sym (ap (λ (k : ℕ). without_end (take k s)) z); within = omega arith }
-
-  pub left-all : (n ≡ 0 → ⊥) → is_line_end (get_or s (n - 1) 0) ≡ false → WithoutEnd s n n
-  left-all z e =
-      let k : suc (n - 1) ≡ n = omega arith in
-      record { same = sym (subst (λ (m : ℕ). without_end (take m s) ≡ take m s) k (end_none s (n - 1) (omega arith) e)); within = omega arith }
-
-  pub left_alone : n ≡ 1 → is_line_end (get_or s (n - 1) 0) ≡ true → WithoutEnd s n 0
-  left_alone z e =
-      let k : n - 1 ≡ 0 = omega arith in
-      record {
-        same = sym (ap (λ (m : ℕ). without_end (take m s)) z ∙ end-alone s (omega arith) (ap (λ (m : ℕ). is_line_end (get_or s m 0)) (sym k) ∙ e));
-        within = omega arith;
-      }
-
-  module _ (y : n ≡ 0 → ⊥) (z : n ≡ 1 → ⊥) (e : is_line_end (get_or s (n - 1) 0) ≡ true) where
-    two : suc (suc (n - 2)) ≡ n
-    two = omega arith
-
-    last : is_line_end (get_or s (suc (n - 2)) 0) ≡ true
-    last = let k : suc (n - 2) ≡ n - 1 = omega arith in ap (λ (m : ℕ). is_line_end (get_or s m 0)) k ∙ e
-
-    pub left-crlf : eqb (get_or s (n - 2) 0) cr ≡ true → WithoutEnd s n (n - 2)
-    left-crlf f =
-        record { same = sym (ap (λ (m : ℕ). without_end (take m s)) (sym two) ∙ end-crlf s (n - 2) (omega arith) last f); within = omega arith }
-
-    pub left-lf : eqb (get_or s (n - 2) 0) cr ≡ false → WithoutEnd s n (n - 1)
-    left-lf f =
-        let k : suc (n - 2) ≡ n - 1 = omega arith in
-        record {
-          same = sym (ap (λ (m : ℕ). without_end (take m s)) (sym two) ∙ end-lf s (n - 2) (omega arith) last f ∙ ap (λ (m : ℕ). take m s) k);
-          within = omega arith;
-        }
+pub end_within : (s : List ℕ) → length (without_end s) ≤ length s
+end_within [] = omega arith
+end_within (x ∷ xs) = go (is_end (x ∷ xs)) (end_within xs)
+  where
+    go : (b : Bool) → length (without_end xs) ≤ length xs → length (cond b [] (x ∷ without_end xs)) ≤ suc (length xs)
+    go true h = omega arith
+    go false h = omega arith

@@ -6,7 +6,8 @@ use mathlib.Core.List.{List, [], ◌∷◌, ◌++◌}
 use native.Mathlib.Numerals.{add-one}
 use native.Mathlib.Omega.{arith}
 use lib.ListN.{length, take, drop, get_or, length-append, length-drop, drop_of_length-le}
-use lib.Seq.{drop-cons, take_at, drop-drop}
+use Rattle.std.proofs.lemmas.List.{get_or-drop}
+use lib.Seq.{drop-cons, take_at, take_all, drop-drop}
 use Rattle.netlist.specs.Text.{is_space, is_line_end}
 use Rattle.netlist.proofs.Tests.{clash}
 use Rattle.read_text.specs.Line.{in_word, take_while, drop_while, next_word, past_word, Scanned, ThreeBytes, WordAt}
@@ -109,3 +110,10 @@ three-word t at w =
     (scan-to in_word t at (at + 2) (at + 3) (omega arith) (omega arith) w.third
     (scan-to in_word t at (at + 1) (at + 2) (omega arith) (omega arith) w.second
     (scan-to in_word t at at (at + 1) refl (omega arith) w.first (scan-start in_word t at (omega arith))))))
+
+-- ---- a byte of what is left of a text
+
+pub byte_of_rest : (t : List ℕ) (at k i : ℕ) → at + k ≡ i → get_or (take (length t - at) (drop at t)) k 0 ≡ get_or t i 0
+byte_of_rest t at k i e =
+    let l : length (drop at t) ≤ length t - at = rw length-drop (omega arith) in
+    rw (take_all (length t - at) (drop at t) l) (get_or-drop at t k 0 ∙ ap (λ n. get_or t n 0) e)

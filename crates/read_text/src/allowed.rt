@@ -21,11 +21,11 @@ fn byte_allowed(b: u8) -> bool
     is_digit(b) || is_capital(b) || b == b' ' || is_line_end(b)
 }
 
-// 1 for a byte that is not allowed, and 0 for one that is.
-fn fault(b: u8) -> u8
-    ensures { result ≡ fault_of (byte_allowed b) }
+// 1 where a test fails, and 0 where it holds.
+fn failed(holds: bool) -> u8
+    ensures { result ≡ fault_of holds }
 {
-    u8::from(!byte_allowed(b))
+    u8::from(!holds)
 }
 
 // Whether a text has no byte but these, so no CR. The loop does not stop at the first fault, so that it can be compiled to
@@ -35,16 +35,9 @@ fn all_plain(text: &[u8]) -> bool
 {
     let mut faults: u8 = 0;
     for b in text {
-        faults = faults | fault(*b);
+        faults |= failed(byte_allowed(*b));
     }
     faults == 0
-}
-
-// 1 where a test fails, and 0 where it holds.
-fn failed(holds: bool) -> u8
-    ensures { result ≡ fault_of holds }
-{
-    u8::from(!holds)
 }
 
 // Question 3 of a byte and the one behind it: it is allowed by itself, or they are CR LF. Every test is made, so that this
@@ -52,22 +45,21 @@ fn failed(holds: bool) -> u8
 fn fault_before(b: u8, next: u8) -> u8
     ensures { result ≡ fault_of (allowed_before b next) }
 {
-    fault(b) & (failed(is_cr(b)) | failed(is_line_end(next)))
+    failed(byte_allowed(b)) & (failed(is_cr(b)) | failed(is_line_end(next)))
 }
 
 // Question 3 of a text with CRs: each byte with the one behind it.
 fn all_before(text: &[u8]) -> bool
     ensures { result ≡ bytes_allowed text.now }
 {
-    if text.len() == 0 {
+    let [_, behind @ ..] = text else {
         return true;
-    }
-    let last = text.len() - 1;
+    };
     let mut faults: u8 = 0;
-    for i in 0..last {
-        faults = faults | fault_before(text[i], text[i + 1]);
+    for (b, next) in text.iter().zip(behind) {
+        faults |= fault_before(*b, *next);
     }
-    faults | fault_before(text[last], 0) == 0
+    faults | fault_before(text[behind.len()], 0) == 0
 }
 
 // Question 3. Few texts have CRs, so a second look is rare.

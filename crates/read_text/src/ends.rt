@@ -1,7 +1,6 @@
 // What ends a line: LF or CR LF.
-ghost use Rattle.std.specs.Prelude.{◌≡◌, ◌≤◌, eqb, length};
-ghost use Rattle.netlist.specs.Text.{cr, is_space, is_line_end};
-ghost use Rattle.read_text.specs.Line.{WithoutEnd};
+ghost use Rattle.std.specs.Prelude.{◌≡◌, eqb};
+ghost use Rattle.netlist.specs.Text.{cr, is_space, is_line_end, without_end};
 
 // The CR of CR LF.
 pub fn is_cr(b: u8) -> bool
@@ -24,22 +23,12 @@ pub fn is_space(b: u8) -> bool
     b == b' ' || is_cr(b)
 }
 
-// How many of the first n bytes are left when one LF or CR LF at their end comes off.
-pub fn without_end(text: &[u8], n: usize) -> usize
-    requires { n ≤ length text.now }
-    ensures { WithoutEnd text.now n result }
+// The bytes without the one LF or CR LF at their end.
+pub fn without_end(text: &[u8]) -> &[u8]
+    ensures { result.now ≡ without_end text.now }
 {
-    if n == 0 {
-        return 0;
+    match text.strip_suffix(b"\n") {
+        None => text,
+        Some(line) => line.strip_suffix(b"\r").unwrap_or(line),
     }
-    if !is_line_end(text[n - 1]) {
-        return n;
-    }
-    if n == 1 {
-        return 0;
-    }
-    if is_cr(text[n - 2]) {
-        return n - 2;
-    }
-    n - 1
 }

@@ -4,7 +4,6 @@ ghost use Rattle.netlist.specs.Number.{is_digit};
 ghost use Rattle.read_text.specs.Answers.{WholeIs, is_full};
 
 use crate::cursor::Cursor;
-use crate::ends::is_space;
 use crate::words::is_blank;
 
 // How many digits may follow the first.
@@ -34,7 +33,7 @@ fn is_full(v: u32, more: usize) -> bool
 
 // Takes the word at a place as a number, with the place behind it, its value made while its end is looked for. The one space that
 // mostly stands behind it is passed with it; below a space stand the other bytes that end a word. The digits are counted, so that
-// the loop can be compiled without jumping back.
+// the loop can be compiled without jumping back. It stands beside the method, since it takes any place, also one behind the text's end.
 pub fn take_number(text: &[u8], start: usize) -> Option<(u32, usize)>
     ensures { WholeIs text.now start result }
 {
@@ -85,35 +84,22 @@ impl Cursor<'_> {
     pub fn next_number(self) -> Option<(u32, Self)>
         ensures { NumberIs self.entry result }
     {
-        let text = self.text;
-        for i in self.at..text.len() {
-            let b = text[i];
-            if is_digit(b) {
-                return (Cursor { text, at: i }).take_number();
-            }
-            if !is_space(b) {
-                return None;
-            }
-        }
-        None
+        self.skip_spaces().take_number()
     }
 
     // The number of one digit with a space behind it, as the counts of a gate line are.
     pub fn take_digit(self) -> Option<(u32, Self)>
         ensures { DigitIs self.entry result }
     {
-        let text = self.text;
-        let at = self.at;
-        if text.len() - at < 2 {
-            return None;
+        match &self.text[self.at..] {
+            [b, b' ', ..] if is_digit(*b) => Some((
+                digit_value(*b),
+                Cursor {
+                    text: self.text,
+                    at: self.at + 2,
+                },
+            )),
+            _ => None,
         }
-        let b = text[at];
-        if !is_digit(b) {
-            return None;
-        }
-        if text[at + 1] != b' ' {
-            return None;
-        }
-        Some((digit_value(b), Cursor { text, at: at + 2 }))
     }
 }

@@ -13,7 +13,7 @@ pub fn is_blank(b: u8) -> bool
     is_space(b) || is_line_end(b)
 }
 
-// Whether it is.
+// Whether a byte is part of a word.
 fn in_word(b: u8) -> bool
     ensures { result ≡ in_word b }
 {
@@ -24,27 +24,17 @@ fn in_word(b: u8) -> bool
 fn is_three_bytes(c: Cursor) -> bool
     ensures { result ≡ true → ThreeBytes c.entry.text.now c.entry.at }
 {
-    let text = c.text;
-    let at = c.at;
-    if text.len() - at < 4 {
-        return false;
+    match &c.text[c.at..] {
+        [x, y, z, behind, ..] => *x > b' ' && *y > b' ' && *z > b' ' && is_blank(*behind),
+        _ => false,
     }
-    if text[at] <= b' ' {
-        return false;
-    }
-    if text[at + 1] <= b' ' {
-        return false;
-    }
-    if text[at + 2] <= b' ' {
-        return false;
-    }
-    is_blank(text[at + 3])
 }
 
 impl<'t> Cursor<'t> {
     ghost use Rattle.read_text.specs.Cursors.{Scanned, WordIs, EndIs, LineTaken};
 
-    // Past the bytes that pass a test.
+    // Past the bytes that pass a test. A loop and no `position`: that promises a run of calls of a closure over `test`, from which the proof
+    // of the scan did not close.
     pub fn pass<F: Fn(u8) -> bool>(self, test: F) -> Self
         requires { F.IsAlwaysCallable test }
         ensures { (p : ℕ → Bool) → ((b : ℕ) (r : Bool) → F.post test b r → r ≡ p b) → Scanned p self.entry result }
@@ -122,15 +112,13 @@ impl<'t> Cursor<'t> {
     pub fn next_line(self) -> Self
         ensures { LineTaken self.entry result }
     {
-        let text = self.text;
-        for i in self.at..text.len() {
-            if is_line_end(text[i]) {
-                return Cursor { text, at: i + 1 };
-            }
+        let end = self.pass(|b| !is_line_end(b));
+        if end.at < end.text.len() {
+            return Cursor {
+                text: end.text,
+                at: end.at + 1,
+            };
         }
-        Cursor {
-            text,
-            at: text.len(),
-        }
+        end
     }
 }

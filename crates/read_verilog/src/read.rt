@@ -1,4 +1,5 @@
-// A text of equations into lent tables: questions 2, 16, 17, 18 and 5.
+// A text of equations into lent tables: questions 2, 16, 17, 18 and 5. The tables stay parameters of their own: C lends them one by one,
+// and a struct of `&mut` slices would have to promise at each call that it still holds the same ones.
 ghost use Rattle.std.specs.Prelude.{◌≡◌, ◌+◌, ◌*◌, ◌≤◌, ◌<◌, length, replicate};
 ghost use Rattle.netlist.specs.Table.{half, tables};
 ghost use Rattle.verilog.specs.Call.{read_equations};

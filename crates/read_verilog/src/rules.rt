@@ -1,4 +1,5 @@
-// Question 17 of a text that question 16 admits.
+// Question 17 of a text that question 16 admits. The tables stay parameters of their own: C lends them one by one, and a struct of `&mut`
+// slices would have to promise at each call that it still holds the same ones.
 ghost use Rattle.std.specs.Prelude.{◌≡◌, ◌+◌, ◌*◌, ◌≤◌, ◌<◌, length, replicate};
 ghost use Rattle.netlist.specs.Table.{half};
 ghost use Rattle.verilog_rules.specs.Ports.{ported};

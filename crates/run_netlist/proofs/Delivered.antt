@@ -1,56 +1,46 @@
--- Questions 11 and 14 of a netlist that the tables hold.
-use Rattle.std.specs.Prelude.{Err, Ok}
-use Prim.Native.Nat.{ℕ, ◌≤◌, ◌<◌}
-use mathlib.Core.Path.{◌≡◌, refl, sym, ap, ◌∙◌, subst}
+-- Questions 11 and 14 of a netlist that the tables hold, over entries of any type.
+use Rattle.std.specs.Prelude.{Ok, Result}
+use Prim.Native.Nat.{ℕ, ◌≤◌}
+use mathlib.Core.Path.{◌≡◌, refl, sym, ap, ◌∙◌}
 use mathlib.Core.Bool.{Bool, true}
 use mathlib.Core.List.{List}
 use native.Mathlib.Omega.{arith}
-use lib.Dec.{eqb, eqb→eq}
-use lib.ListN.{length, length-append, length-replicate, length-drop, length-map}
-use lib.Seq.{sets}
-use Rattle.netlist.specs.declared.Question.TheVariants as Q
-use Rattle.netlist.specs.Lists.{every}
+use lib.ListN.{length, take}
+use lib.Seq.{sets, sets-eq, take_at}
+use borrow.Author.Tests.{le-leb}
+use Rattle.netlist.specs.declared.Question.{Question}
 use Rattle.netlist.specs.Netlist.{Netlist, input_bits}
-use Rattle.netlist.specs.Eval.{wire_bits, outputs_of}
-use Rattle.netlist.specs.Services.{list_good, is_bit, output_list, run_outcome, Answers}
+use Rattle.netlist.specs.Outcome.{Outcome, refused, done}
+use Rattle.netlist.specs.Services.{Answers}
 use Rattle.netlist.specs.Table.{Tables, Holds}
-use Rattle.netlist.proofs.Tests.{both, true-T}
-use Rattle.netlist.proofs.Models.{length-run_gates}
-use Rattle.netlist.proofs.Answering.{answers-as, delivers-short, delivers-done}
-
--- a list that question 11 admits has one entry for each input bit
-pub list_length : (n : ℕ) (list : List ℕ) → list_good is_bit n list ≡ true → length list ≡ n
-list_length n list g = eqb→eq (length list) n (both (eqb (length list) n) (every is_bit list) (true-T (list_good is_bit n list) g)).0
-
-pub holds-ins : {t : Tables} {count W n m o : ℕ} {N : Netlist} → m ≡ n → Holds t count W n o N → Holds t count W m o N
-holds-ins e h = rw e h
-
-module _ {t : Tables} {count W n o : ℕ} {N : Netlist} (h : Holds t count W n o N) (list : List ℕ) where
-  -- there is one output bit for each output wire
-  length-outputs : list_good is_bit n list ≡ true → n ≤ W → o ≤ W → length (output_list N list) ≡ o
-  unfolding wire_bits outputs_of
-  length-outputs g i u =
-      let l = list_length n list g in
-      let w = h.wires in
-      let q = h.outs in
-      simp (length-map, length-drop, length-run_gates, length-append, length-replicate) (omega arith)
-
-  good : (b : Bool) → list_good is_bit n list ≡ b → list_good is_bit (input_bits N) list ≡ b
-  good b e = ap (λ (k : ℕ). list_good is_bit k list) h.ins ∙ e
-
-  module _ (e : list_good is_bit n list ≡ true) (i : n ≤ W) (u : o ≤ W) where
-    pub run-14 : (out : List ℕ) → length out < o → Answers (run_outcome list (length out) N) out out (Err Q.Room)
-    run-14 out l =
-        let k = length-outputs e i u in
-        answers-as (sym (rw (good true e) refl)) (delivers-short (output_list N list) out (omega arith)).answers
-
-    pub run-done : {out out' : List ℕ} → o ≤ length out → out' ≡ sets out 0 (output_list N list)
-        → Answers (run_outcome list (length out) N) out out' (Ok o)
-    run-done {out} {out'} l p =
-        let k = length-outputs e i u in
-        let r = (delivers-done (output_list N list) out out' (omega arith) p).answers in
-        let s : Answers (run_outcome list (length out) N) out out' (Ok (length (output_list N list))) = answers-as (sym (rw (good true e) refl)) r in
-        subst (λ (m : ℕ). Answers (run_outcome list (length out) N) out out' (Ok m)) k s
+use Rattle.run_netlist.specs.Entries.{Gives, EntryLaws, list_outcome}
 
 pub holds-wires : {t : Tables} {count W W' n o : ℕ} {N : Netlist} → W' ≡ W → Holds t count W n o N → Holds t count W' n o N
 holds-wires e h = rw e h
+
+module _ {A : Type 0} {admits : List A → ℕ → Bool} {outputs : Netlist → List A → List A} (laws : EntryLaws admits outputs) (list : List A)
+    {n : ℕ} (e : true ≡ admits list n) {t : Tables} {count W o : ℕ} {N : Netlist} (h : Holds t count W n o N) where
+  -- a list that is admitted has an entry for each input bit
+  pub holds-list : Holds t count W (length list) o N
+  holds-list = rw (laws.ins list n (sym e)) h
+
+  -- a result at the front of a buffer that can hold it
+  take-sets : (bs out : List A) → length bs ≤ length out → take (length bs) (sets out 0 bs) ≡ bs
+  take-sets bs out l = ap (take (length bs)) (sets-eq bs out 0 (omega arith)) ∙ take_at bs _ (length bs) refl
+
+  pub gives-done : n ≤ W → o ≤ W → {out out' : List A} → o ≤ length out → out' ≡ sets out 0 (outputs N list)
+      → Gives (list_outcome admits outputs list (length out) N) out out' (Ok o)
+  gives-done i u {out} {out'} l p =
+      let w = h.wires in
+      let ins = h.ins in
+      let outs = h.outs in
+      let result = outputs N list in
+      let admitted : admits list (input_bits N) ≡ true = ap (admits list) ins ∙ sym e in
+      let k : length result ≡ o = laws.outs N list admitted (omega arith) (omega arith) ∙ outs in
+      let s : take o out' ≡ result = ap (λ (m : ℕ). take m out') (sym k) ∙ ap (take (length result)) p ∙ take-sets result out (omega arith) in
+      rw (admitted, le-leb (length result) (length out) (omega arith)) (record { answer = ap done (sym k); outcome = ap done s; buffer = p })
+
+-- over numbers, `Gives` is what `Answers` says
+pub gives-answers : (c : Outcome (List ℕ)) {before after : List ℕ} {a : Result ℕ Question} → Gives c before after a → Answers c before after a
+gives-answers (refused q) h = record { answer = h.answer; outcome = h.outcome; buffer = h.buffer }
+gives-answers (done result) h = record { answer = h.answer; outcome = h.outcome; buffer = h.buffer }

@@ -17,6 +17,7 @@ use Rattle.netlist.specs.declared.Question.TheVariants as Q
 use Rattle.netlist.specs.declared.Sizes.{Sizes}
 use Rattle.netlist.specs.declared.Sizes.TheVariants.{Old, Whole}
 use Rattle.netlist.specs.declared.Twin.{Twin}
+use Rattle.netlist.specs.Question.{number_of}
 use Rattle.netlist.specs.Netlist.{small, result}
 use Rattle.netlist.specs.Outcome.{Outcome, refused, done, ask, and_then, given}
 use Rattle.netlist.specs.Read.{operands_given}
@@ -27,7 +28,7 @@ use Rattle.netlist.proofs.GateCount.{next-emit, next-most}
 use Rattle.netlist.proofs.PublicGates.{length-input_twins}
 use Rattle.gate_records.specs.declared.GateRecord.{GateRecord}
 use Rattle.gate_records.specs.declared.SourceRecord.{SourceRecord}
-use Rattle.gate_records.specs.Records.{record_of, gate_of, single, record4, source_record, blank_source, twin_in}
+use Rattle.gate_records.specs.Records.{record_of, gate_of, gate_as, single, record4, source_record, blank_source, twin_in}
 use Rattle.gate_table.specs.declared.Kind.{Kind}
 use Rattle.gate_table.specs.declared.Kind.TheVariants as kind
 use Rattle.gate_table.specs.Kind.{gate_for}
@@ -35,9 +36,8 @@ use Rattle.mask_rule.specs.Rule.{operands, steps_of, twin_of, Many}
 use Rattle.session.specs.declared.Session.{Session}
 use Rattle.session.specs.Asked.{gate_good, place_left}
 use Rattle.session.specs.Lists.{Lists, lists_of, session_of, present, steps, room_for, most_masked, asked}
-use Rattle.session_plan.specs.Plan.{NoIs, Yes, kind_in, first_asked, PlanIs}
+use Rattle.session_plan.specs.Plan.{first_asked, PlanIs}
 use Rattle.session_plan.proofs.Openings.{past-count}
-use Rattle.session_plan.proofs.Plans.{gate-one, gate-two, gate-three, gate-four, gate-five}
 
 -- the six cases of a record's kind
 kinds : {P : Type 0} (r : GateRecord) → (r.kind ≡ 1 → P) → (r.kind ≡ 2 → P) → (r.kind ≡ 3 → P) → (r.kind ≡ 4 → P) → (r.kind ≡ 5 → P) → (gate_of r ≡ none → P) → P
@@ -98,29 +98,23 @@ module _ (codes : List ℕ) (source : List SourceRecord) (w : ℕ) where
   pub twin-record : n ≤ w → twin_in (get_or source (w - n) blank_source) ≡ found
   twin-record l = sym (record-is l ∙ get_or-map twin_in source (w - n) blank_source)
 
--- what a record's gate is by its kind
-pub record Is (r : GateRecord) (g : Gate) : Type 0 where
-  pub same : record_of g ≡ r
-  pub kind : g ≡ gate_for (kind_in r) r.first r.second r.result
-
-pub is-by : (r : GateRecord) (g : Gate) → gate_of r ≡ some g → Is r g
-is-by r g is = kinds r
-    (λ e. let s : ◌≡◌ {A = Option Gate} (some (Xor r.first r.second r.result)) (some g) = sym (gate-one r e) ∙ is in
-    let i : Xor r.first r.second r.result ≡ g = cc in
-    record { same = rw (← i) (record_is r (sym e) refl); kind = rw (← i, e) refl })
-    (λ e. let s : ◌≡◌ {A = Option Gate} (some (And r.first r.second r.result)) (some g) = sym (gate-two r e) ∙ is in
-    let i : And r.first r.second r.result ≡ g = cc in
-    record { same = rw (← i) (record_is r (sym e) refl); kind = rw (← i, e) refl })
-    (λ e. single-is (Inv r.first r.result) e (gate-three r e) refl (rw e refl))
-    (λ e. single-is (Eqw r.first r.result) e (gate-four r e) refl (rw e refl))
-    (λ e. single-is (Eq r.first r.result) e (gate-five r e) refl (rw e refl))
+-- the record of a record's gate is that record
+record-of : (r : GateRecord) (g : Gate) → gate_of r ≡ some g → record_of g ≡ r
+record-of r g is = kinds r
+    (λ e. let i : Xor r.first r.second r.result ≡ g = some-same (sym (rw e refl) ∙ is) in rw (← i) (record_is r (sym e) refl))
+    (λ e. let i : And r.first r.second r.result ≡ g = some-same (sym (rw e refl) ∙ is) in rw (← i) (record_is r (sym e) refl))
+    (λ e. single-is (Inv r.first r.result) e (rw e refl) refl)
+    (λ e. single-is (Eqw r.first r.result) e (rw e refl) refl)
+    (λ e. single-is (Eq r.first r.result) e (rw e refl) refl)
     (λ e. never g (sym e ∙ is))
   where
-    single-is : (h : Gate) {k : ℕ} → r.kind ≡ k → gate_of r ≡ single r.second h → record_of h ≡ record4 k r.first 0 r.result
-        → h ≡ gate_for (kind_in r) r.first r.second r.result → Is r g
-    single-is h e f i k =
+    some-same : {h : Gate} → ◌≡◌ {A = Option Gate} (some h) (some g) → h ≡ g
+    some-same e = cc
+
+    single-is : (h : Gate) {k : ℕ} → r.kind ≡ k → gate_of r ≡ single r.second h → record_of h ≡ record4 k r.first 0 r.result → record_of g ≡ r
+    single-is h e f i =
         let q = single-named r.second h g (sym f ∙ is) in
-        record { same = rw (← q.0) (i ∙ record_is r (sym e) (sym q.1)); kind = rw (← q.0) k }
+        rw (← q.0) (i ∙ record_is r (sym e) (sym q.1))
 
 module _ (n : ℕ) (P : State) (a b c : ℕ) where
   steps-by : (k : Kind) → emit n P (gate_for k a b c) ≡ steps_of n P.next k (twin P a) (twin P b)
@@ -160,18 +154,18 @@ module _ (z : Sizes) (codes : List ℕ) (s : Session) (source : List SourceRecor
       ask-then true x = refl
       ask-then false x = refl
 
-  pub first-refused : (q : Question) → NoIs first (Err q) → PlanIs z codes L r (Err q)
-  first-refused q e = then-14 ∙ ap (λ (o : Outcome Gate). and_then o ask14) e
+  pub first-refused : (q : Question) → refused (number_of q) ≡ first → PlanIs z codes L r (Err q)
+  first-refused q e = then-14 ∙ ap (λ (o : Outcome Gate). and_then o ask14) (sym e)
 
-  module _ (y : Yes first) where
+  module _ (k : Kind) (y : done (gate_as r k) ≡ first) where
     abbrev g : Gate
-    g = y.value
+    g = gate_as r k
 
     abbrev left24 : Bool
     left24 = place_left z s.gates (length codes + s.gates) (length source)
 
     abbrev q24 : T left24 × (gate_good (length codes + s.gates) r ≡ done g)
-    q24 = ask-done 24 left24 (gate_good (length codes + s.gates) r) g y.is
+    q24 = ask-done 24 left24 (gate_good (length codes + s.gates) r) g (sym y)
 
     yes24 : T (ltb s.gates (length source)) × T (ltb (length codes + s.gates) (small z).wires)
     yes24 = both (ltb s.gates (length source)) (ltb (length codes + s.gates) (small z).wires) q24.0
@@ -203,15 +197,12 @@ module _ (z : Sizes) (codes : List ℕ) (s : Session) (source : List SourceRecor
             rw s at i
 
     asks14 : asked z codes L r ≡ ask14 g
-    asks14 = then-14 ∙ ap (λ (o : Outcome Gate). and_then o ask14) y.is
+    asks14 = then-14 ∙ ap (λ (o : Outcome Gate). and_then o ask14) (sym y)
 
-    module _ {k : Kind} {many : ℕ} {A B : Twin} (ek : k ≡ kind_in r) (ea : A ≡ twin (present codes L) r.first) (eb : B ≡ twin (present codes L) r.second)
+    module _ {many : ℕ} {A B : Twin} (ea : A ≡ twin (present codes L) r.first) (eb : B ≡ twin (present codes L) r.second)
         (m : Many k A B many) where
-      Y : Is r g
-      Y = is-by r g is-gate
-
       steps-at : steps codes L g ≡ steps_of (length codes) (present codes L).next k A B
-      steps-at = rw (Y.kind, ek, ea, eb) (steps-by (length codes) (present codes L) r.first r.second r.result (kind_in r))
+      steps-at = rw (ea, eb) (steps-by (length codes) (present codes L) r.first r.second r.result k)
 
       count-is : length (steps codes L g) ≡ many
       count-is = ap length steps-at ∙ sym (m (length codes) (present codes L).next)
@@ -235,7 +226,7 @@ module _ (z : Sizes) (codes : List ℕ) (s : Session) (source : List SourceRecor
         next-is = omega (arith, ec)
 
         twin-is : result_twin (present codes L) g ≡ t
-        twin-is = rw (Y.kind, et, ek, ea, eb, next-is) (twin-by (length codes) (present codes L) r.first r.second r.result (kind_in r))
+        twin-is = rw (et, ea, eb, next-is) (twin-by (length codes) (present codes L) r.first r.second r.result k)
 
         pub admits : PlanIs z codes L r (Ok (record {
           keep = source_record r t s.masked;
@@ -246,7 +237,7 @@ module _ (z : Sizes) (codes : List ℕ) (s : Session) (source : List SourceRecor
           gate = g;
           admitted = asks14 ∙ rw (room-is, le-leb (s.masked + many) (length masked) room, le-leb (s.masked + many) most_masked most) refl;
           place = place-left;
-          keep = sym (ap₂ (λ (x : GateRecord) (u : Twin). source_record x u s.masked) Y.same twin-is);
+          keep = sym (ap₂ (λ (x : GateRecord) (u : Twin). source_record x u s.masked) (record-of r g is-gate) twin-is);
           made = sym (steps-at ∙ rw (← next-is) refl);
           places = record { count = m (length codes) c; fits = room; inputs = omega (arith, few); next = omega (arith, ec, few, most) };
           session = ap (λ (x : ℕ). session_of (s.gates + 1) (s.masked + x)) (sym count-is);

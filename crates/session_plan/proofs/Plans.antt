@@ -1,90 +1,46 @@
 -- Questions 7 to 9 of a record.
 use Prim.Native.Nat.{ℕ}
-use mathlib.Core.Path.{◌≡◌, refl, sym, ◌∙◌}
-use mathlib.Core.Bool.{Bool, true, false, cond}
-use mathlib.Core.Option.{Option, none, some}
+use mathlib.Core.Path.{◌≡◌, refl, sym, ap, ap₂, ◌∙◌}
+use mathlib.Core.Bool.{Bool, true, false}
 use lib.Dec.{eqb, ltb}
-use borrow.Author.Tests.{eq-eqb, ne_eqb}
-use Rattle.std.specs.Prelude.{Err, Ok}
+use borrow.Author.Tests.{ne_eqb, eq-eqb}
 use Rattle.netlist.specs.declared.Gate.{Gate}
-use Rattle.netlist.specs.declared.Gate.TheVariants.{Xor, And, Inv, Eqw, Eq}
-use Rattle.netlist.specs.declared.Question.TheVariants as Q
 use Rattle.netlist.specs.Netlist.{result}
-use Rattle.netlist.specs.Outcome.{Outcome, done, ask, given, and_then}
+use Rattle.netlist.specs.Outcome.{Outcome, refused, done, ask, given, and_then}
 use Rattle.netlist.specs.Read.{operands_given}
-use Rattle.netlist.proofs.Tests.{clash}
+use Rattle.gate_table.specs.declared.Kind.{Kind}
+use Rattle.gate_table.specs.declared.Kind.TheVariants.{Xor, And, Inv, Eqw, Eq}
 use Rattle.gate_records.specs.declared.GateRecord.{GateRecord}
-use Rattle.gate_records.specs.Records.{gate_of, single}
+use Rattle.gate_records.specs.Records.{gate_of, gate_as}
 use Rattle.session.specs.Asked.{gate_good}
-use Rattle.session_plan.specs.Plan.{NoIs, OperandsAre, is_some, is_gate}
 
--- the kind of a record is known
-module _ (r : GateRecord) where
-  pub gate-one : r.kind ≡ 1 → gate_of r ≡ some (Xor r.first r.second r.result)
-  gate-one e = rw e
+result-as : (r : GateRecord) (k : Kind) → result (gate_as r k) ≡ r.result
+result-as r Xor = refl
+result-as r And = refl
+result-as r Inv = refl
+result-as r Eqw = refl
+result-as r (Eq v) = refl
 
-  pub gate-two : r.kind ≡ 2 → gate_of r ≡ some (And r.first r.second r.result)
-  gate-two e = rw e
-
-  pub gate-three : r.kind ≡ 3 → gate_of r ≡ single r.second (Inv r.first r.result)
-  gate-three e = rw e
-
-  pub gate-four : r.kind ≡ 4 → gate_of r ≡ single r.second (Eqw r.first r.result)
-  gate-four e = rw e
-
-  pub gate-five : r.kind ≡ 5 → gate_of r ≡ single r.second (Eq r.first r.result)
-  gate-five e = rw e
-
-  single-same : (b : ℕ) (g h : Gate) → single b g ≡ some h → g ≡ h
-  single-same b g h = go (eqb b 0)
-    where
-      go : (t : Bool) → cond t (some g) none ≡ some h → g ≡ h
-      go true e = cc
-      go false e = clash (cc)
-
--- the first no of questions 7 to 9
+-- what follows question 7
 module _ (next : ℕ) (r : GateRecord) where
-  abbrev rest : Option Gate → Outcome Gate
-  rest o = and_then (given 7 o) λ g. ask 8 (operands_given (λ w. ltb w next) g) (ask 9 (eqb (result g) next) (done g))
+  abbrev rest : Gate → Outcome Gate
+  rest g = ask 8 (operands_given (λ w. ltb w next) g) (ask 9 (eqb (result g) next) (done g))
 
-  result-is : (g : Gate) → gate_of r ≡ some g → result g ≡ r.result
-  result-is g = go (eqb r.kind 1) (eqb r.kind 2) (eqb r.kind 3) (eqb r.kind 4) (eqb r.kind 5)
-    where
-      only : (h : Gate) → result h ≡ r.result → single r.second h ≡ some g → result g ≡ r.result
-      only h i e = let t = single-same r r.second h g e in rw (← t) i
+  pub no-seven : {o : Outcome Gate} → o ≡ given 7 (gate_of r) → and_then o rest ≡ gate_good next r
+  no-seven e = ap (λ (o : Outcome Gate). and_then o rest) e
 
-      go : (a b c d e : Bool) → cond a (some (Xor r.first r.second r.result))
-          (cond b (some (And r.first r.second r.result)) (cond c (single r.second (Inv r.first r.result))
-          (cond d (single r.second (Eqw r.first r.result)) (cond e (single r.second (Eq r.first r.result)) none)))) ≡ some g → result g ≡ r.result
-      go true b c d e k = let t : Xor r.first r.second r.result ≡ g = cc in rw (← t)
-      go false true c d e k = let t : And r.first r.second r.result ≡ g = cc in rw (← t)
-      go false false true d e k = only (Inv r.first r.result) refl k
-      go false false false true e k = only (Eqw r.first r.result) refl k
-      go false false false false true k = only (Eq r.first r.result) refl k
-      go false false false false false k = clash (cc)
+  module _ (k : Kind) (e : done (gate_as r k) ≡ given 7 (gate_of r)) {b : Bool} (o : b ≡ operands_given (λ w. ltb w next) (gate_as r k)) where
+    abbrev nine : Bool → Outcome Gate
+    nine t = ask 9 t (done (gate_as r k))
 
-  module _ (is : is_gate r ≡ true) {b : Bool} (operands : OperandsAre next r b) where
-    pub no-eight : b ≡ false → NoIs (gate_good next r) (Err Q.Operands)
-    no-eight f = go (gate_of r) is operands
-      where
-        go : (o : Option Gate) → is_some o ≡ true → ((g : Gate) → o ≡ some g → b ≡ operands_given (λ w. ltb w next) g) → NoIs (rest o) (Err Q.Operands)
-        go none e h = clash (cc)
-        go (some g) e h = let k : operands_given (λ w. ltb w next) g ≡ false = sym (h g refl) ∙ f in rw k
+    asks-eight : ask 8 b (nine (eqb r.result next)) ≡ gate_good next r
+    asks-eight = ap₂ (λ (t : Bool) (w : ℕ). ask 8 t (nine (eqb w next))) o (sym (result-as r k)) ∙ no-seven e
 
-    -- question 9, and then the gate
-    abbrev Asks9 : Outcome Gate → Type 0
-    Asks9 o = (g : Gate) × (o ≡ ask 9 (eqb r.result next) (done g))
+    pub no-eight : b ≡ false → refused 8 ≡ gate_good next r
+    no-eight f = ap (λ (t : Bool). ask 8 t (nine (eqb r.result next))) (sym f) ∙ asks-eight
 
-    asks9 : b ≡ true → Asks9 (gate_good next r)
-    asks9 f = go (gate_of r) result-is is operands
-      where
-        go : (o : Option Gate) → ((g : Gate) → o ≡ some g → result g ≡ r.result) → is_some o ≡ true → ((g : Gate) → o ≡ some g → b ≡ operands_given (λ w. ltb w next) g)
-            → Asks9 (rest o)
-        go none i e h = clash (cc)
-        go (some g) i e h = let k : operands_given (λ w. ltb w next) g ≡ true = sym (h g refl) ∙ f in (g, rw (k, i g refl))
+    pub no-nine : b ≡ true → (r.result ≡ next → ⊥) → refused 9 ≡ gate_good next r
+    no-nine t n = ap₂ (λ (t u : Bool). ask 8 t (nine u)) (sym t) (sym (ne_eqb r.result next n)) ∙ asks-eight
 
-    pub no_nine : b ≡ true → (r.result ≡ next → ⊥) → NoIs (gate_good next r) (Err Q.Wire)
-    no_nine f n = (asks9 f).1 ∙ rw (ne_eqb r.result next n)
-
-    pub no_none : b ≡ true → r.result ≡ next → NoIs (gate_good next r) (Ok tt)
-    no_none f n = record { value = (asks9 f).0; is = (asks9 f).1 ∙ rw (eq-eqb r.result next n) }
+    pub good : b ≡ true → r.result ≡ next → done (gate_as r k) ≡ gate_good next r
+    good t n = ap₂ (λ (t u : Bool). ask 8 t (nine u)) (sym t) (sym (eq-eqb r.result next n)) ∙ asks-eight

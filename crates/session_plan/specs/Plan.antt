@@ -1,17 +1,13 @@
 -- What the questions of a step answer, and the plan of what it writes.
-use Rattle.std.specs.Prelude.{ℕ, ◌+◌, ◌^◌, ◌≤◌, ◌<◌, ◌≡◌, Bool, true, false, cond, Result, Ok, Err, List, [], eqb, ltb, length}
-use Rattle.std.proofs.Math.Option.{Option, none, some}
+use Rattle.std.specs.Prelude.{ℕ, ◌+◌, ◌^◌, ◌≤◌, ◌<◌, ◌≡◌, Result, Ok, Err, List, [], length}
 use Rattle.netlist.specs.declared.Gate.{Gate}
 use Rattle.netlist.specs.declared.Question.{Question}
 use Rattle.netlist.specs.declared.Sizes.{Sizes}
 use Rattle.netlist.specs.Question.{number_of}
 use Rattle.netlist.specs.Outcome.{Outcome, refused, done, ask}
-use Rattle.netlist.specs.Read.{operands_given}
 use Rattle.netlist.specs.Mask.{result_twin}
 use Rattle.gate_records.specs.declared.GateRecord.{GateRecord}
-use Rattle.gate_records.specs.Records.{gate_of, record_of, source_record}
-use Rattle.gate_table.specs.declared.Kind.{Kind}
-use Rattle.gate_table.specs.declared.Kind.TheVariants.{Xor, And, Inv, Eqw, Eq}
+use Rattle.gate_records.specs.Records.{record_of, source_record}
 use Rattle.mask_rule.specs.Rule.{steps_of}
 use Rattle.session.specs.Afresh.{open_gates}
 use Rattle.session.specs.Asked.{opening, gate_good, place_left}
@@ -28,21 +24,6 @@ pub record Yes {A : Type 0} (o : Outcome A) : Type 0 where
 abbrev pub NoIs : {A : Type 0} → Outcome A → Result (Unit {0}) Question → Type 0
 NoIs o (Err q) = o ≡ refused (number_of q)
 NoIs o (Ok u) = Yes o
-
-abbrev pub is_some : Option Gate → Bool
-is_some none = false
-is_some (some g) = true
-
-abbrev pub is_gate : GateRecord → Bool
-is_gate r = is_some (gate_of r)
-
--- question 8 of the gate of a record, if it is one's
-abbrev pub OperandsAre : ℕ → GateRecord → Bool → Type 0
-OperandsAre next r b = (g : Gate) → gate_of r ≡ some g → b ≡ operands_given (λ w. ltb w next) g
-
--- the kind of a record that is a gate's
-abbrev pub kind_in : GateRecord → Kind
-kind_in r = cond (eqb r.kind 1) Xor (cond (eqb r.kind 2) And (cond (eqb r.kind 3) Inv (cond (eqb r.kind 4) Eqw (Eq r.first))))
 
 -- questions 24 and 7 to 9
 abbrev pub first_asked : Sizes → ℕ → ℕ → ℕ → GateRecord → Outcome Gate

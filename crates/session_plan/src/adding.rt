@@ -1,15 +1,18 @@
 // Adding a gate: questions 24, 7 to 9 and 14, and what is written.
-ghost use Rattle.std.specs.Prelude.{◌≡◌, List, ◌++◌, map, ◌+◌, ◌<◌, ◌^◌, length, get_or};
+ghost use Rattle.std.specs.Prelude.{◌≡◌, List, ◌++◌, map, ◌+◌, ◌<◌, ◌^◌, length, get_or, ltb};
 ghost use Rattle.netlist.specs.Mask.{no_twin, input_twins};
+ghost use Rattle.netlist.specs.Read.{operands_given};
+ghost use Rattle.netlist.specs.Services.{stands_for};
 ghost use Rattle.gate_records.specs.declared.GateRecord.{GateRecord as Record};
-ghost use Rattle.gate_records.specs.Records.{twin_in};
+ghost use Rattle.gate_records.specs.Records.{gate_as, twin_in};
 ghost use Rattle.session.specs.Asked.{gate_good};
 ghost use Rattle.session.specs.Lists.{lists_of};
-ghost use Rattle.session_plan.specs.Plan.{NoIs, OperandsAre, is_gate, kind_in, first_asked, PlanIs};
+ghost use Rattle.session_plan.specs.Plan.{first_asked, PlanIs};
 
-use crate::{publics, record};
+use crate::publics;
 use gate_records::{GateRecord, SourceRecord};
 use gate_table::Kind;
+use lists::entry;
 use mask_codes::Next;
 use netlist::{Question, Sizes, Twin};
 use session::Session;
@@ -35,54 +38,41 @@ pub struct Plan {
 // The most masked gates of a session.
 const MOST: usize = 1073741824;
 
-// Question 7: a gate with one operand has 0 as its second.
-fn known(g: GateRecord) -> bool
-    ensures { result ≡ is_gate g }
-{
-    match g.kind {
-        1 | 2 => true,
-        3 | 4 | 5 => g.second == 0,
-        _ => false,
-    }
-}
-
-// Question 8, of a record that is a gate's.
-fn operands(g: GateRecord, next: usize) -> bool
-    ensures { OperandsAre next g result }
+// Question 8, of a record of a gate of this kind.
+fn operands(kind: Kind, g: GateRecord, next: usize) -> bool
+    ensures { result ≡ operands_given (λ w. ltb w next) (gate_as g kind) }
 {
     let given = |w: u32| (w as usize) < next;
-    match g.kind {
-        1 | 2 => given(g.first) && given(g.second),
-        5 => g.first < 2,
-        _ => given(g.first),
+    match kind {
+        Kind::Xor | Kind::And => given(g.first) && given(g.second),
+        Kind::Inv | Kind::Eqw => given(g.first),
+        Kind::Eq(v) => v < 2,
     }
 }
 
-// Questions 7 to 9 of a record that is to give the next wire.
-pub fn gate_good(g: GateRecord, next: usize) -> Result<(), Question>
-    ensures { NoIs (gate_good next g) result }
+// Questions 7 to 9 of a record that is to give the next wire, and the kind of its gate.
+pub fn gate_good(g: GateRecord, next: usize) -> Result<Kind, Question>
+    ensures { stands_for (gate_as g) result ≡ gate_good next g }
 {
-    if !known(g) {
-        return Err(Question::Line);
-    }
-    if !operands(g, next) {
+    let kind = Kind::try_from(g)?;
+    if !operands(kind, g, next) {
         return Err(Question::Operands);
     }
     if g.result as usize != next {
         return Err(Question::Wire);
     }
-    Ok(())
+    Ok(kind)
 }
 
-// Questions 24 and 7 to 9, with the number of input bits and the length of the list of records.
+// Questions 24 and 7 to 9, with the number of input bits and the length of the list of records, and the kind of the record's gate.
 fn questions(
     s: Session,
     g: GateRecord,
     inputs: usize,
     places: usize,
     sizes: Sizes,
-) -> Result<(), Question>
-    ensures { NoIs (first_asked sizes inputs s.gates places g) result }
+) -> Result<Kind, Question>
+    ensures { stands_for (gate_as g) result ≡ first_asked sizes inputs s.gates places g }
 {
     let most = sizes.small().wires as usize;
     let gates = s.gates as usize;
@@ -109,20 +99,7 @@ fn twin(codes: &[u8], source: &[SourceRecord], w: u32) -> Twin
             code: 1,
         };
     }
-    record(source, wire - inputs).twin()
-}
-
-// The kind of a record that is a gate's, which holds the constant of an EQ.
-pub fn kind_in(g: GateRecord) -> Kind
-    ensures { result ≡ kind_in g }
-{
-    match g.kind {
-        1 => Kind::Xor,
-        2 => Kind::And,
-        3 => Kind::Inv,
-        4 => Kind::Eqw,
-        _ => Kind::Eq(g.first),
-    }
+    entry(source, wire - inputs).twin()
 }
 
 // The first question that gets a no, or the plan of adding a gate, with the length of the list of masked gates.
@@ -136,8 +113,7 @@ pub fn planned(
 ) -> Result<Plan, Question>
     ensures { (masked : List Record) → length masked ≡ room → PlanIs sizes codes.now (lists_of s source.now masked) g result }
 {
-    questions(s, g, codes.len(), source.len(), sizes)?;
-    let kind = kind_in(g);
+    let kind = questions(s, g, codes.len(), source.len(), sizes)?;
     let a = twin(codes, source, g.first);
     let b = twin(codes, source, g.second);
     let many = mask_rule::count(kind, a, b);

@@ -3,8 +3,8 @@ ghost use Rattle.std.specs.Prelude.{◌≡◌};
 ghost use Rattle.netlist.specs.Services.{stands_for};
 ghost use Rattle.session.specs.Lists.{off_asked};
 
-use crate::record;
 use gate_records::SourceRecord;
+use lists::entry;
 use netlist::Question;
 use session::Session;
 
@@ -19,6 +19,6 @@ pub fn off(s: Session, source: &[SourceRecord]) -> Result<Session, Question>
     let last = s.gates as usize - 1;
     Ok(Session {
         gates: s.gates - 1,
-        masked: record(source, last).from,
+        masked: entry(source, last).from,
     })
 }

@@ -1,64 +1,54 @@
 -- From the results of the parts to what is promised.
-use Rattle.std.specs.Prelude.{Result}
+use Rattle.std.specs.Prelude.{Result, Ok, Err}
 use Prim.Native.Nat.{ℕ, ◌+◌}
 use mathlib.Core.Path.{◌≡◌, refl, sym, ap, ap₂, ◌∙◌, subst}
-use mathlib.Core.Bool.{Bool, true, false, ◌&&◌}
 use mathlib.Core.List.{List, [], ◌∷◌, ◌++◌}
-use lib.Dec.{leb}
 use lib.ListN.{length, take}
 use Rattle.netlist.specs.declared.Question.{Question}
-use Rattle.netlist.specs.declared.Limits.{Limits}
 use Rattle.netlist.specs.declared.Sizes.{Sizes}
 use Rattle.netlist.specs.Netlist.{Netlist, small}
-use Rattle.netlist.specs.Outcome.{Outcome, done, and_then}
+use Rattle.netlist.specs.Question.{number_of}
+use Rattle.netlist.specs.Outcome.{Outcome, refused, done, and_then}
 use Rattle.netlist.specs.Read.{read_netlist}
 use Rattle.netlist.specs.Write.{write_netlist, gate_text}
 use Rattle.netlist.specs.Services.{tables_long, holds, rewrite_outcome, mask_outcome, mask_call, outcome_of, Answers, Delivers}
 use Rattle.netlist.specs.Table.{Tables}
 use Rattle.netlist.proofs.Questions.{ask-done, done-same, and_then-done}
-use Rattle.netlist.proofs.Answering.{answers-as, call-goes-on}
+use Rattle.netlist.proofs.Answering.{answers-as, answers-refused, call-goes-on}
 use Rattle.netlist.proofs.Puts.{length-gates}
 use Rattle.netlist.proofs.Size.{roomy-small, reads-back}
 use Rattle.gate_records.specs.declared.SourceRecord.{SourceRecord}
 use Rattle.write_header.specs.Header.{header_text}
 use Rattle.write_header.proofs.Headers.{header-gates}
 use Rattle.write_netlist.specs.Form.{form_text}
-use Rattle.mask_text.specs.Whole.{text_in}
-use Rattle.mask.proofs.Promised.{mask-as, call-masks}
+use Rattle.mask_text.specs.Whole.{text_in, MaskAnswers}
+use Rattle.mask.specs.Promise.{Masks}
+use Rattle.mask.proofs.Promised.{mask-as, mask-refused, call-masks}
 use Rattle.session.specs.declared.Session.{Session}
-use Rattle.session_text.specs.declared.asking.Shown.{Shown}
+use Rattle.session_text.specs.declared.shown.Shown.{Shown}
 use Rattle.session_text.specs.Shown.{netlist_shown, text_call, masked_call}
-use Rattle.session_text.specs.Parts.{NetlistAt, TextIs, MaskedIs}
-use Rattle.session_text.specs.Promise.{Shows, TextPromise, MaskedPromise}
+use Rattle.session_text.specs.Parts.{NetlistAt}
+use Rattle.session_text.specs.Promise.{text, masked, Shows}
 use Rattle.session_text.proofs.Showing.{shown-made, shown-formed, shown-within}
 
 -- ---- the text of tables that hold a netlist
 
-form-same : {o : Outcome Netlist} {widths outputs : List ℕ} {q : Shown} {t : Tables} (a : NetlistAt o widths outputs t q)
-    → form_text q.count (q.inputs + q.count) widths outputs t ≡ write_netlist a.is
-form-same {o} {widths} {outputs} {q} {t} a =
+form-same : {o : Outcome Netlist} {q : Shown} {t : Tables} (a : NetlistAt o t q)
+    → form_text q.count (q.input_bits + q.count) q.widths.now q.outputs.now t ≡ write_netlist a.is
+form-same {o} {q} {t} a =
     let N = a.is in
     let g : length N.gates ≡ q.count = ap length a.gates ∙ length-gates t q.count in
-    let p : header_text q.count (q.inputs + q.count) widths outputs ≡ header_text (length N.gates) N.wires N.inputs N.outputs
+    let p : header_text q.count (q.input_bits + q.count) q.widths.now q.outputs.now ≡ header_text (length N.gates) N.wires N.inputs N.outputs
     = λ i. header_text (sym g i) (sym a.wires i) (sym a.inputs i) (sym a.outputs i) in
     ap₂ ◌++◌ p (ap gate_text (sym a.gates)) ∙ header-gates N
 
-pub text-written : {o : Outcome Netlist} {widths outputs : List ℕ} {q : Shown} {t : Tables} {e x : List ℕ} {r : Result ℕ Question} → NetlistAt o widths outputs t q
-    → Delivers (form_text q.count (q.inputs + q.count) widths outputs t) e x r → Answers (and_then o (rewrite_outcome (length e))) e x r
+pub text-written : {o : Outcome Netlist} {q : Shown} {t : Tables} {e x : List ℕ} {r : Result ℕ Question} → NetlistAt o t q
+    → Delivers (form_text q.count (q.input_bits + q.count) q.widths.now q.outputs.now t) e x r → Answers (and_then o (rewrite_outcome (length e))) e x r
 text-written {o} {e = e} {x = x} {r = r} a d =
     let k : Delivers (write_netlist a.is) e x r = subst (λ (bs : List ℕ). Delivers bs e x r) (form-same a) d in
     answers-as (sym (ap (λ (o : Outcome Netlist). and_then o (rewrite_outcome (length e))) a.outcome)) k.answers
 
 -- ---- the text's call
-
--- two tables asked for once more
-asked_twice : (L : Limits) (a b : ℕ) → tables_long L (a ∷ b ∷ a ∷ b ∷ []) ≡ tables_long L (a ∷ b ∷ [])
-asked_twice L a b = go (leb L.table a) (leb L.table b)
-  where
-    go : (s t : Bool) → (s && (t && (s && (t && true)))) ≡ (s && (t && true))
-    go true true = refl
-    go true false = refl
-    go false t = refl
 
 module _ (z : Sizes) (widths outputs : List ℕ) (s : Session) (source : List SourceRecord) where
   abbrev shown : List ℕ → Outcome Netlist
@@ -80,20 +70,15 @@ module _ (z : Sizes) (widths outputs : List ℕ) (s : Session) (source : List So
       let w : write_netlist N ≡ result = done-same (write_netlist N) result q.1 in
       record { netlist = N; shown = k.1; written = sym w; back = ap (read_netlist (small z)) (sym w) ∙ shown-back lengths N k.1 }
 
-  twice : (a b : ℕ) → shown (a ∷ b ∷ a ∷ b ∷ []) ≡ shown (a ∷ b ∷ [])
-  twice a b = rw (asked_twice (small z) a b) refl
+  pub text-shows : {out out' : List ℕ} (o r : List ℕ) {a : Result ℕ Question} → Answers (text z widths outputs s source out o r) out out' a → (n : ℕ) → a ≡ Ok n
+      → Shows z (length o ∷ length r ∷ []) widths outputs s source (take n out')
+  text-shows {out} {out'} o r h n p = written-shows (length o ∷ length r ∷ []) (length out) (take n out') (sym h.outcome ∙ ap (outcome_of out') p)
 
-  pub text-promised : {out out' o o' r r' : List ℕ} {a : Result ℕ Question} → TextIs (shown (length o ∷ length r ∷ length o ∷ length r ∷ [])) out out' o o' r r' a
-      → TextPromise z widths outputs s source out out' o o' r r' a
+  -- a no
+  pub text-no : (out o r : List ℕ) {q : Question} → shown (length o ∷ length r ∷ []) ≡ refused (number_of q)
+      → Answers (text z widths outputs s source out o r) out out (Err q)
   unfolding text_call
-  text-promised {out} {out'} {o} {o'} {r} {r'} {a} h =
-      let k = answers-as (ap (λ (u : Outcome Netlist). and_then u (rewrite_outcome (length out))) (twice (length o) (length r))) h.answers in
-      record {
-        answers = k;
-        shows = λ n p. written-shows (length o ∷ length r ∷ []) (length out) (take n out') (sym k.outcome ∙ ap (outcome_of out') p);
-        operands = h.operands;
-        results = h.results;
-      }
+  text-no out o r e = answers-refused out (ap (λ (u : Outcome Netlist). and_then u (rewrite_outcome (length out))) e)
 
   -- ---- the masked text's call
 
@@ -107,27 +92,24 @@ module _ (z : Sizes) (widths outputs : List ℕ) (s : Session) (source : List So
       ∙ sym (call-goes-on (tables_long (small z) lengths) (read_netlist (small z) (write_netlist N)) (mask_outcome codes wanted text_room code_room)
       (shown-made (small z) lengths widths outputs s.gates source N e).yes.long (shown-back lengths N e))
 
-  pub masked-promised : {codes wanted out out' oc oc' o o' r r' w w' m m' : List ℕ} {a : Result ℕ Question}
-      → MaskedIs (shown (length o ∷ length r ∷ length m ∷ length w ∷ [])) codes wanted out out' oc oc' o o' r r' w w' m m' a
-      → MaskedPromise z widths outputs s source codes wanted out out' oc oc' o o' r r' w w' m m' a
+  pub masked-no : (codes wanted out oc o r w m : List ℕ) {q : Question} → shown (length o ∷ length r ∷ length m ∷ length w ∷ []) ≡ refused (number_of q)
+      → MaskAnswers (masked z widths outputs s source codes wanted out oc o r w m) out out oc oc (Err q)
   unfolding masked_call
-  masked-promised {codes} {wanted} {out} {out'} {oc} {oc'} {o} {o'} {r} {r'} {w} {w'} {m} {m'} {a} h =
+  masked-no codes wanted out oc o r w m e =
+      mask-refused out oc (ap (λ (u : Outcome Netlist). and_then u (mask_outcome codes wanted (length out) (length oc))) e)
+
+  pub masked-masks : (codes wanted : List ℕ) {out out' oc oc' : List ℕ} (o r w m : List ℕ) {a : Result ℕ Question}
+      → MaskAnswers (masked z widths outputs s source codes wanted out oc o r w m) out out' oc oc' a → (n : ℕ) → a ≡ Ok n
+      → (t : List ℕ) × Shows z (length o ∷ length r ∷ length m ∷ length w ∷ []) widths outputs s source t × Masks z t codes wanted (take n out') oc'
+  unfolding masked_call
+  masked-masks codes wanted {out} {out'} {oc} {oc'} o r w m h n p =
       let lengths = length o ∷ length r ∷ length m ∷ length w ∷ [] in
       let call = and_then (shown lengths) (mask_outcome codes wanted (length out) (length oc)) in
-      record {
-        answers = h.answers;
-        masks = λ n p.
-            let t : text_in call ≡ done (take n out') = sym (ap (outcome_of out') (sym p) ∙ h.answers.text.outcome) in
-            let d = and_then-done call (λ R. done R.text) (take n out') t in
-            let k = and_then-done (shown lengths) (mask_outcome codes wanted (length out) (length oc)) d.0 d.1 in
-            let N : Netlist = k.0 in (
-              write_netlist N,
-              record { netlist = N; shown = k.1; written = refl; back = shown-back lengths N k.1 },
-              call-masks z (write_netlist N) codes wanted out oc o r w m (mask-as (masked-as-text lengths codes wanted (length out) (length oc) N k.1)
-                  h.answers) n p,
-            );
-        operands = h.operands;
-        results = h.results;
-        wires = h.wires;
-        marks = h.marks;
-      }
+      let t : text_in call ≡ done (take n out') = sym (ap (outcome_of out') (sym p) ∙ h.text.outcome) in
+      let d = and_then-done call (λ R. done R.text) (take n out') t in
+      let k = and_then-done (shown lengths) (mask_outcome codes wanted (length out) (length oc)) d.0 d.1 in
+      let N : Netlist = k.0 in (
+        write_netlist N,
+        record { netlist = N; shown = k.1; written = refl; back = shown-back lengths N k.1 },
+        call-masks z (write_netlist N) codes wanted out oc o r w m (mask-as (masked-as-text lengths codes wanted (length out) (length oc) N k.1) h) n p,
+      )

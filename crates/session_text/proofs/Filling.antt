@@ -16,14 +16,14 @@ use Rattle.gate_records.specs.Records.{blank_source, gate_in}
 use Rattle.gate_table.specs.declared.Entry.{Entry}
 use Rattle.gate_table.proofs.Entries.{stored}
 use Rattle.session.specs.Asked.{gate_good}
-use Rattle.session_text.specs.declared.asking.Shown.{Shown}
+use Rattle.session_text.specs.declared.shown.Shown.{Shown}
 use Rattle.session_text.specs.Shown.{record_gates}
 use Rattle.session_text.specs.Parts.{GateIs}
 
 -- the gates of the first k records lie in the tables
 pub record Filled (source : List SourceRecord) (s : Shown) (k : ℕ) (t : Tables) : Type 0 where
-  pub gates : record_gates s.inputs source k ≡ done (gates_of t k)
-  pub wired : Wired t (s.inputs + s.count) k
+  pub gates : record_gates s.input_bits source k ≡ done (gates_of t k)
+  pub wired : Wired t (s.input_bits + s.count) k
 
 -- a no of a record is one of all behind it
 stays : (n : ℕ) (source : List SourceRecord) (k m : ℕ) {q : ℕ} → record_gates n source k ≡ refused q → record_gates n source (k + m) ≡ refused q
@@ -32,7 +32,7 @@ stays n source k (suc m) e = let z : k + suc m ≡ suc (k + m) = omega arith in 
 
 module _ (source : List SourceRecord) (s : Shown) (k : ℕ) (t : Tables) (f : Filled source s k t) (l : k < s.count) where
   abbrev n : ℕ
-  n = s.inputs
+  n = s.input_bits
 
   abbrev good : Outcome Gate
   good = gate_good (n + k) (gate_in (get_or source k blank_source))

@@ -1,5 +1,4 @@
 -- A record's gate, and its entries.
-use Rattle.std.specs.Prelude.{Ok}
 use Prim.Native.Nat.{ℕ, ◌<◌}
 use mathlib.Core.Path.{◌≡◌, sym, subst}
 use mathlib.Core.Option.{some}
@@ -15,15 +14,14 @@ use Rattle.netlist.proofs.Tests.{both}
 use Rattle.netlist.proofs.Questions.{ask-done, given-done, and_then-done, done-same}
 use Rattle.gate_records.specs.declared.GateRecord.{GateRecord}
 use Rattle.gate_records.specs.declared.SourceRecord.{SourceRecord}
-use Rattle.gate_records.specs.Records.{gate_of, gate_in}
+use Rattle.gate_records.specs.Records.{gate_of, gate_in, gate_as}
 use Rattle.gate_table.specs.declared.GateNumbers.{GateNumbers}
+use Rattle.gate_table.specs.declared.Kind.{Kind}
 use Rattle.gate_table.specs.declared.Entry.{Entry}
-use Rattle.gate_table.specs.Numbers.{gate_said, Names}
-use Rattle.gate_table.specs.Entry.{entry_of, Entered}
+use Rattle.gate_table.specs.Numbers.{Names}
+use Rattle.gate_table.specs.Entry.{entry_of}
 use Rattle.gate_table.proofs.Entries.{gate-entered}
 use Rattle.session.specs.Asked.{gate_good}
-use Rattle.session_plan.specs.Plan.{NoIs, kind_in}
-use Rattle.session_plan.proofs.Adds.{is-by}
 use Rattle.session_text.specs.Parts.{GateIs}
 
 -- what questions 7 to 9 say of a gate that they admit
@@ -45,9 +43,9 @@ admitted next r g e =
       result = eqb→eq (result h) next q9.0;
     })
 
--- the gate of the record's numbers
-abbrev pub numbers_of : SourceRecord → GateNumbers
-numbers_of r = record { kind = kind_in (gate_in r); left = r.first; right = r.second; result = r.result }
+-- the record's gate, of a kind
+abbrev pub numbers_of : Kind → SourceRecord → GateNumbers
+numbers_of k r = record { kind = k; left = r.first; right = r.second; result = r.result }
 
 -- its wires
 names : (W next : ℕ) (g : Gate) → T (operands_given (λ w. ltb w next) g) → result g ≡ next → next < W → Names W g
@@ -64,16 +62,9 @@ names W next (Eq v c) t e l = (ltb→lt v 2 t, omega (arith, e))
 -- ---- what `entry` answers
 
 -- a record's gate is the one that its numbers say
-pub record-yes : (r : SourceRecord) (next : ℕ) {e : Entry} → NoIs (gate_good next (gate_in r)) (Ok tt) → e ≡ entry_of (numbers_of r) → r.first < half
-    → r.result < half → GateIs r next e
-record-yes r next {e} h p fa fc =
-    let g = h.value in
-    let a = admitted next (gate_in r) g h.is in
-    let s = sym (is-by (gate_in r) g a.gate).kind in
-    record {
-      gate = g;
-      admitted = h.is;
-      entered = λ W l.
-          let n : Names W (gate_said (numbers_of r)) = rw s (names W next g a.operands a.result l) in
-          subst (λ (g : Gate). Entered W g e.operands e.results) s (gate-entered (numbers_of r) fa fc W p n);
-    }
+pub record-yes : (r : SourceRecord) (next : ℕ) (k : Kind) {e : Entry} → done (gate_as (gate_in r) k) ≡ gate_good next (gate_in r)
+    → e ≡ entry_of (numbers_of k r) → r.first < half → r.result < half → GateIs r next e
+record-yes r next k h p fa fc =
+    let g = gate_as (gate_in r) k in
+    let a = admitted next (gate_in r) g (sym h) in
+    record { gate = g; admitted = sym h; entered = λ W l. gate-entered (numbers_of k r) fa fc W p (names W next g a.operands a.result l) }

@@ -1,31 +1,28 @@
 -- The netlist that a session's records stand for is well formed, and is the one that the tables hold.
-use Prim.Native.Nat.{ℕ, zero, suc, ◌+◌, ◌≤◌}
+use Prim.Native.Nat.{ℕ, zero, suc, ◌+◌}
 use mathlib.Core.Path.{◌≡◌, refl, sym, ap, ◌∙◌, subst}
 use mathlib.Core.List.{List, [], ◌∷◌, ◌++◌}
 use native.Mathlib.Omega.{arith}
-use lib.Dec.{leb, leb→le, lit<}
+use lib.Dec.{leb, leb→le}
 use lib.ListN.{length, get_or}
-use Rattle.std.specs.Prelude.{Result, Ok, Err}
-use Rattle.netlist.specs.declared.Question.{Question}
 use Rattle.netlist.specs.declared.Gate.{Gate}
 use Rattle.netlist.specs.declared.Limits.{Limits}
 use Rattle.netlist.specs.declared.Sizes.{Sizes}
 use Rattle.netlist.specs.Lists.{every, sum}
 use Rattle.netlist.specs.Netlist.{Netlist, small}
 use Rattle.netlist.specs.Header.{Header}
-use Rattle.netlist.specs.Outcome.{Outcome, done, and_then}
+use Rattle.netlist.specs.Outcome.{Outcome, refused, done, and_then}
 use Rattle.netlist.specs.Read.{netlist_of, WellFormed, Within}
 use Rattle.netlist.specs.Table.{Tables, gates_of}
 use Rattle.netlist.proofs.Tests.{true-T, both}
 use Rattle.netlist.proofs.Questions.{done-same, and_then-done}
-use Rattle.netlist.proofs.Answering.{table_at}
 use Rattle.netlist.proofs.Order.{Ordered, end, step, ordered-append, ordered-length, ordered-good}
 use Rattle.gate_records.specs.declared.SourceRecord.{SourceRecord}
 use Rattle.gate_records.specs.Records.{blank_source, gate_in}
 use Rattle.session.specs.Asked.{widths_good, gate_good}
-use Rattle.session_text.specs.declared.asking.Shown.{Shown}
+use Rattle.session_text.specs.declared.shown.Shown.{Shown}
 use Rattle.session_text.specs.Shown.{head_of, head_asked, record_gates, netlist_shown}
-use Rattle.session_text.specs.Parts.{ShownIs, AskedIs, GatesAt, FilledIs, NetlistAt, Stands, Fits, Fit, Long}
+use Rattle.session_text.specs.Parts.{ShownIs, GatesAt, NetlistAt}
 use Rattle.session_text.proofs.Askings.{Yes, head-yes}
 use Rattle.session_text.proofs.Gates.{admitted}
 
@@ -95,71 +92,43 @@ module _ (L : Limits) (lengths widths outputs : List ℕ) (gates : ℕ) (source 
 
 -- ---- from the answers of the parts
 
-module _ (z : Sizes) (a b c d : ℕ) (widths outputs : List ℕ) (gates : ℕ) (source : List SourceRecord) where
-  abbrev lengths : List ℕ
-  lengths = a ∷ b ∷ c ∷ d ∷ []
+module _ (z : Sizes) (lengths widths outputs : List ℕ) (gates : ℕ) (source : List SourceRecord) {s : Shown}
+    (A : ShownIs z lengths widths outputs gates (length source) s) where
+  yes : Yes (small z) lengths widths outputs gates (length source)
+  yes = head-yes (small z) lengths widths outputs gates (length source) A.head.is
 
-  abbrev o : Outcome Netlist
-  o = netlist_shown (small z) lengths widths outputs gates source
+  bits-same : s.input_bits ≡ sum widths
+  bits-same = s.counted.input_bits ∙ ap sum A.widths
 
-  module _ (s : Shown) (t : Tables) (A : ShownIs z a b c d widths outputs gates (length source) s) where
-    yes : Yes (small z) lengths widths outputs gates (length source)
-    yes = head-yes (small z) lengths widths outputs gates (length source) A.head.is
+  same-records : record_gates (sum widths) source gates ≡ record_gates s.input_bits source s.count
+  same-records = ap (λ (n : ℕ). record_gates n source gates) (sym bits-same) ∙ ap (record_gates s.input_bits source) (sym A.count)
 
-    same-records : record_gates (sum widths) source gates ≡ record_gates s.inputs source s.count
-    same-records = ap (λ (n : ℕ). record_gates n source gates) (sym A.inputs) ∙ ap (record_gates s.inputs source) (sym A.count)
+  -- what follows the records
+  records : {r : Outcome (List Gate)} → record_gates s.input_bits source s.count ≡ r
+      → netlist_shown (small z) lengths widths outputs gates source ≡ (and_then r λ gs. done (netlist_of (head_of widths outputs gates) gs))
+  records e = goes_on (small z) lengths widths outputs gates source yes
+      ∙ ap (λ (o : Outcome (List Gate)). and_then o λ gs. done (netlist_of (head_of widths outputs gates) gs)) (same-records ∙ e)
 
-    -- what follows the records
-    records : {r : Outcome (List Gate)} → record_gates s.inputs source s.count ≡ r → o ≡ (and_then r λ gs. done (netlist_of (head_of widths outputs gates) gs))
-    records e = goes_on (small z) lengths widths outputs gates source yes
-        ∙ ap (λ (o : Outcome (List Gate)). and_then o λ gs. done (netlist_of (head_of widths outputs gates) gs)) (same-records ∙ e)
+  -- a no of the records
+  pub records-no : {n : ℕ} → record_gates s.input_bits source s.count ≡ refused n → netlist_shown (small z) lengths widths outputs gates source ≡ refused n
+  records-no e = records e
 
-    stands-at : GatesAt source s t → NetlistAt o widths outputs t s
-    stands-at G =
-        let gs = gates_of t s.count in
-        record {
-          is = netlist_of (head_of widths outputs gates) gs;
-          outcome = records G.gates;
-          wires = omega (arith, A.inputs, A.count);
-          inputs = refl;
-          outputs = refl;
-          gates = refl;
-          input_bits = sym A.inputs;
-          output_bits = sym A.outputs;
-          formed = made-formed (small z) lengths widths outputs gates source gs yes (same-records ∙ G.gates);
-        }
+  -- all of them are admitted
+  pub stands-at : {t : Tables} → GatesAt source s t → NetlistAt (netlist_shown (small z) lengths widths outputs gates source) t s
+  stands-at {t} G =
+      let gs = gates_of t s.count in
+      record {
+        is = netlist_of (head_of widths outputs gates) gs;
+        outcome = records G.gates;
+        wires = omega (arith, bits-same, A.count);
+        inputs = sym A.widths;
+        outputs = sym A.outputs;
+        gates = refl;
+        formed = made-formed (small z) lengths widths outputs gates source gs yes (same-records ∙ G.gates);
+      }
 
-    fits-at : GatesAt source s t → Fits widths outputs t s
-    fits-at G =
-        let w = yes.within in
-        record {
-          wired = G.wired;
-          few = A.few;
-          inputs = w.inputs;
-          outputs = w.outputs;
-          bits = omega (arith, w.bits, A.inputs, A.outputs, A.count);
-        }
-
-    -- the other two tables are long enough
-    long-at : (s.inputs + s.count ≤ d) × (s.inputs + s.count ≤ c)
-    long-at = (
-      omega (arith, yes.within.wires, A.inputs, A.count, table_at (small z) lengths 3 yes.long (lit< tt)),
-      omega (arith, yes.within.wires, A.inputs, A.count, table_at (small z) lengths 2 yes.long (lit< tt)),
-    )
-
-  pub stands : (t : Tables) (q r : Result Shown Question) → AskedIs z a b c d widths outputs gates (length source) q → FilledIs source q t r
-      → Stands o widths outputs t r
-  stands t (Err e) r A F = rw F (ap (λ (o : Outcome Header). and_then o λ H. and_then (record_gates (sum widths) source gates) λ gs. done (netlist_of H gs)) A)
-  stands t (Ok s) (Err e) A F = records s t A F
-  stands t (Ok s) (Ok s') A F = rw F.0 (stands-at s t A F.1)
-
-  pub fits : (t : Tables) (q r : Result Shown Question) → AskedIs z a b c d widths outputs gates (length source) q → FilledIs source q t r → Fit widths outputs t r
-  fits t (Err e) r A F = rw F tt
-  fits t (Ok s) (Err e) A F = tt
-  fits t (Ok s) (Ok s') A F = rw F.0 (fits-at s t A F.1)
-
-  pub long : (t : Tables) (q r : Result Shown Question) → AskedIs z a b c d widths outputs gates (length source) q → FilledIs source q t r
-      → (ws ms : List ℕ) → length ws ≡ d → length ms ≡ c → Long ws ms r
-  long t (Err e) r A F ws ms i j = rw F tt
-  long t (Ok s) (Err e) A F ws ms i j = tt
-  long t (Ok s) (Ok s') A F ws ms i j = rw (i, j, F.0) (long-at s t A)
+-- a no of the questions before the records
+pub head-no : (L : Limits) (lengths widths outputs : List ℕ) (gates : ℕ) (source : List SourceRecord) {n : ℕ}
+    → head_asked L lengths widths outputs gates (length source) ≡ refused n → netlist_shown L lengths widths outputs gates source ≡ refused n
+head-no L lengths widths outputs gates source e =
+    ap (λ (o : Outcome Header). and_then o λ H. and_then (record_gates (sum widths) source gates) λ gs. done (netlist_of H gs)) e

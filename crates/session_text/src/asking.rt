@@ -6,16 +6,9 @@ ghost use Rattle.session_plan.specs.Plan.{NoIs};
 ghost use Rattle.session_text.specs.Shown.{head_of, head_asked};
 ghost use Rattle.session_text.specs.Parts.{AskedIs};
 
+use crate::shown::Shown;
 use netlist::{Limits, Question, Sizes};
 use session_plan::opening::{positive, total};
-
-// How many input bits, output bits and gates an admitted session has.
-#[derive(Clone, Copy)]
-pub struct Shown {
-    pub inputs: usize,
-    pub outputs: usize,
-    pub count: usize,
-}
 
 // Question 5.
 fn within(l: Limits, widths: &[u32], outputs: &[u32], gates: u32) -> bool
@@ -69,24 +62,23 @@ fn question(
     Ok(())
 }
 
-// Questions 1 and 4 to 6 of a session with so many gates, whose list has so many places, and of tables of the lengths a to d.
-pub fn ask(
-    widths: &[u32],
-    outputs: &[u32],
+// Questions 1 and 4 to 6 of a session with so many gates, whose list has so many places, and of tables of these lengths.
+pub fn ask<'a>(
+    widths: &'a [u32],
+    outputs: &'a [u32],
     gates: u32,
     places: usize,
-    a: usize,
-    b: usize,
-    c: usize,
-    d: usize,
+    lengths: &[usize],
     sizes: Sizes,
-) -> Result<Shown, Question>
-    ensures { AskedIs sizes a b c d widths.now outputs.now gates places result }
+) -> Result<Shown<'a>, Question>
+    ensures { AskedIs sizes lengths.now widths.now outputs.now gates places result }
 {
-    question(widths, outputs, gates, places, &[a, b, c, d], sizes)?;
+    question(widths, outputs, gates, places, lengths, sizes)?;
     Ok(Shown {
-        inputs: total(widths) as usize,
-        outputs: total(outputs) as usize,
+        widths,
+        outputs,
+        input_bits: total(widths) as usize,
+        output_bits: total(outputs) as usize,
         count: gates as usize,
     })
 }

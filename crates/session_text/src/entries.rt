@@ -2,18 +2,18 @@
 ghost use Rattle.session_text.specs.Parts.{RecordIs};
 
 use gate_records::{GateRecord, SourceRecord};
-use gate_table::{Entry, GateNumbers, entry_of};
+use gate_table::{Entry, GateNumbers};
 use netlist::Question;
-use session_plan::adding::{gate_good, kind_in};
+use session_plan::adding::gate_good;
 
 // Questions 7 to 9 of a record that is to give the next wire, and the entries of its gate.
 pub fn entry(r: SourceRecord, next: usize) -> Result<Entry, Question>
     ensures { RecordIs r next result }
 {
     let g = GateRecord::from(r);
-    gate_good(g, next)?;
-    Ok(entry_of(GateNumbers {
-        kind: kind_in(g),
+    let kind = gate_good(g, next)?;
+    Ok(Entry::from(GateNumbers {
+        kind,
         left: r.first,
         right: r.second,
         result: r.result,

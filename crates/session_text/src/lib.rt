@@ -5,30 +5,30 @@
 pub mod asking;
 pub mod entries;
 pub mod results;
+pub mod shown;
 
 ghost use Rattle.netlist.specs.Table.{tables};
-ghost use Rattle.session_text.specs.Parts.{Placed, FilledIs};
+ghost use Rattle.session_text.specs.Parts.{Places, GatesAre};
 
-use crate::asking::Shown;
 use crate::entries::entry;
+use crate::shown::Shown;
 use gate_records::SourceRecord;
 use netlist::Question;
 
-// The gates of the first records into the tables, and questions 7 to 9 of each. A no that is handed in is kept.
+// The gates of the first records into the tables, and questions 7 to 9 of each.
 pub fn fill(
     source: &[SourceRecord],
-    q: Result<Shown, Question>,
+    s: Shown,
     operands: &mut [u64],
     results: &mut [u64],
-) -> Result<Shown, Question>
-    requires { Placed source.now operands.old results.old q }
-    ensures { FilledIs source.now q (tables operands.new results.new) result }
+) -> Result<(), Question>
+    requires { Places source.now operands.old results.old s }
+    ensures { GatesAre source.now s.entry (tables operands.new results.new) result }
 {
-    let s = q?;
     for i in 0..s.count {
-        let e = entry(source[i], s.inputs + i)?;
+        let e = entry(source[i], s.input_bits + i)?;
         operands[i] = e.operands;
         results[i] = e.results;
     }
-    Ok(s)
+    Ok(())
 }

@@ -5,33 +5,37 @@
 ghost use Rattle.std.specs.Prelude.{◌≤◌, length};
 ghost use Rattle.netlist.specs.declared.Sizes.TheVariants.{Whole};
 ghost use Rattle.netlist.specs.Netlist.{Netlist, small};
-ghost use Rattle.gate_table.specs.Gates.{WiredGates, HoldsGates};
+ghost use Rattle.netlist_tables.specs.Tables.{HoldsNetlist};
 ghost use Rattle.twins.specs.Promise.{twins_outcome, TwinsAnswers, call, Promise};
 
-use gate_table::Gates;
 use netlist::{Answer, Question, Sizes};
-use read_header::header::Header;
+use netlist_tables::tables::NetlistTables;
 use read_netlist::read::read;
 
-// Questions 11 and 14, and the twins at the fronts of the buffers, from a header's numbers and its netlist's gates: the pass over the
-// gates works in the buffers, and needs no table of its own.
-fn deliver(wires: &mut [u32], out_codes: &mut [u8], h: Header, codes: &[u8], gates: Gates) -> Answer
-    requires { WiredGates gates h.wires × (h.wires ≤ (small Whole).wires) × (gates.count ≤ h.wires) }
-    ensures { (N : Netlist) → HoldsGates gates.entry h.wires h.input_bits h.output_bits N
+// Questions 11 and 14, and the twins at the fronts of the buffers, of a netlist that was read: the pass over the gates works in the
+// buffers, and needs no table of its own.
+fn deliver(wires: &mut [u32], out_codes: &mut [u8], netlist: NetlistTables, codes: &[u8]) -> Answer
+    requires { (netlist.header.wires ≤ (small Whole).wires) × (netlist.gates.count ≤ netlist.header.wires) }
+    ensures { (N : Netlist) → HoldsNetlist netlist.entry N
         → TwinsAnswers (twins_outcome codes.now (length wires.old) (length out_codes.old) N)
         wires.old wires.new out_codes.old out_codes.new result }
 {
-    if !lists::valid_codes(codes, h.input_bits as usize) {
+    if !lists::valid_codes(codes, netlist.header.input_bits as usize) {
         return Err(Question::Inputs);
     }
-    let all = h.wires as usize;
+    let all = netlist.header.wires as usize;
     if wires.len() < all {
         return Err(Question::Room);
     }
     if out_codes.len() < all {
         return Err(Question::Room);
     }
-    mask_twins::place::place_twins(gates, codes, &mut wires[..all], &mut out_codes[..all]);
+    mask_twins::place::place_twins(
+        netlist.gates,
+        codes,
+        &mut wires[..all],
+        &mut out_codes[..all],
+    );
     Ok(all)
 }
 
@@ -63,16 +67,12 @@ fn answer(
         &[],
         l,
     )?;
-    let gates = Gates {
-        operands,
-        results,
-        count: h.gates as usize,
-    };
-    deliver(wires, out_codes, h, codes, gates)
+    let netlist = NetlistTables::new(h, &inputs, operands, results);
+    deliver(wires, out_codes, netlist, codes)
 }
 
 // The masked wire of each source wire at the front of `wires`, and its code at the front of `out_codes`. The tables, of any content,
-// are zero on return.
+// are zero on return. Buffers and tables are parameters of their own: C lends each by itself.
 pub fn twins(
     text: &[u8],
     codes: &[u8],

@@ -20,7 +20,8 @@ pub(crate) fn take(list: &mut [u64], bytes: &[u8]) {
     }
 }
 
-// The bytes of all words of a table.
+// The bytes of all words of a table. It and the next are two, since one would be handed what gives an entry's bytes, and the check does
+// not cover a function parameter whose array has its length by a const parameter (tried).
 pub(crate) fn put(out: &mut [u8], words: &[u64]) {
     let mut at = 0;
     for word in words {

@@ -1,5 +1,6 @@
 // Buffers and tables. An array that a function answers is lent at no cost to the proofs; one that is made in place has its length computed
 // each time that it is lent.
+// A function for each length, and none generic in it: the name stands for a length that each caller would else write out.
 use crate::second::{Gate, NO_GATE};
 
 // As long as the list of the circuits' names may be.

@@ -25,6 +25,7 @@ pub(crate) fn part(s: &[u8], from: usize, to: usize) -> &[u8] {
     &s[0..0]
 }
 
+// A reader of its own: the second evaluator, which it serves, shares nothing with the tool's readers, so that a slip of theirs shows.
 // The first place, not before `from`, of a byte from `low` to `high`; the end where there is none.
 pub(crate) fn find(s: &[u8], from: usize, low: u8, high: u8) -> usize {
     for i in from..s.len() {

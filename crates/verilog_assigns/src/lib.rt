@@ -28,7 +28,7 @@ fn passes(names: Names, states: &[u32], token: Token) -> bool
     }
 }
 
-// The place behind the next semicolon, if each name before it may be read.
+// The place behind the next semicolon, if each name before it may be read. No `for`: the place moves by as much as a token is long.
 fn reads(names: Names, states: &[u32], at: usize) -> Option<usize>
     requires { (names.count ≤ length states.now) × (at ≤ length names.text.now) }
     ensures { PartIs names.entry.text.now (readable names.entry.text.now names.entry.words.now states.now names.entry.count) at result }
@@ -58,7 +58,8 @@ pub fn past(text: &[u8], at: usize) -> usize
     token.to
 }
 
-// Makes a name one that may be read; says whether it was a wire or an output not yet assigned.
+// Makes a name one that may be read; says whether it was a wire or an output not yet assigned. The states, which are written, are lent beside
+// the names: a struct of `&mut` slices would have to promise at each call that it still holds them.
 fn target(names: Names, states: &mut [u32], w: &[u8]) -> bool
     requires { names.count ≤ length states.old }
     ensures { TargetIs names.entry.text.now names.entry.words.now names.entry.count w.now states.old states.new result }

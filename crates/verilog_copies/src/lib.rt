@@ -1,4 +1,5 @@
-// The outputs, copied in port order behind all other gates.
+// The outputs, copied in port order behind all other gates. The tables that are written stay parameters of their own: C lends them one
+// by one, and a struct of `&mut` slices would have to promise at each call that it still holds the same ones.
 #![tactic(auto)]
 
 ghost use Rattle.std.specs.Prelude.{◌+◌, ◌≤◌, ◌<◌, length};
@@ -35,7 +36,7 @@ fn copy(
     free + 1
 }
 
-// Copies the outputs among the ports from a place on.
+// Copies the outputs among the ports from a place on. No `for`: the place moves by as much as a token is long.
 pub fn copies(
     names: Names,
     states: &[u32],

@@ -46,12 +46,13 @@ pub struct Scan {
 
 // The phase and the open parentheses behind a token, where it may come: a parenthesis closes one that is open, and at the end of
 // an assignment none is.
-fn behind(phase: Phase, depth: usize, kind: Kind) -> Option<Step>
-    requires { depth < half }
-    ensures step { said result ≡ stepped (phase_of phase) (number_of kind) depth }
-    ensures grows { IfSome result (λ s. s.depth ≤ depth + 1) }
+fn behind(s: Step, kind: Kind) -> Option<Step>
+    requires { s.depth < half }
+    ensures step { said result ≡ stepped (phase_of s.phase) (number_of kind) s.depth }
+    ensures grows { IfSome result (λ t. t.depth ≤ s.depth + 1) }
 {
-    let (phase, depth) = match (phase, kind) {
+    let depth = s.depth;
+    let (phase, depth) = match (s.phase, kind) {
         (Phase::OnOperand | Phase::OnNegated, Kind::Name) => (Phase::BehindOperand, depth),
         (Phase::OnOperand | Phase::OnNegated, Kind::Open) => (Phase::OnOperand, depth + 1),
         (Phase::OnOperand, Kind::Not) => (Phase::OnNegated, depth),
@@ -88,25 +89,25 @@ fn operators(kind: Kind) -> usize
     }
 }
 
-// Question 16 of a text.
+// Question 16 of a text. No `for`: the place moves by as much as a token is long.
 pub fn walk(text: &[u8]) -> Option<Scan>
     requires { length text.now < half }
     ensures { ScanIs text.now result }
 {
     let mut token = next(text, 0);
-    let mut phase = Phase::OnModule;
-    let mut depth = 0;
+    let mut s = Step {
+        phase: Phase::OnModule,
+        depth: 0,
+    };
     let mut deepest = 0;
     let mut count = 0;
     while token.kind != Kind::End {
-        let step = behind(phase, depth, token.kind)?;
-        phase = step.phase;
-        depth = step.depth;
-        deepest = deepest.max(depth);
+        s = behind(s, token.kind)?;
+        deepest = deepest.max(s.depth);
         count += operators(token.kind);
         token = next(text, token.to);
     }
-    if phase != Phase::OnNothing {
+    if s.phase != Phase::OnNothing {
         return None;
     }
     Some(Scan {

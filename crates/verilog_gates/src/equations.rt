@@ -1,4 +1,5 @@
-// The assignments of a text, one after another.
+// The assignments of a text, one after another. The tables that are written are lent one by one: a struct of `&mut` slices would have to
+// promise at each call that it still holds them.
 ghost use Rattle.netlist.specs.Table.{tables};
 ghost use Rattle.verilog_gates.specs.Operands.{Ready};
 ghost use Rattle.verilog_gates.specs.Equations.{EquationsIs};
@@ -8,7 +9,8 @@ use crate::wires::give;
 use verilog_names::Names;
 use verilog_tokens::{Kind, next as token_at};
 
-// Puts the gates of the assignments from a place on into the tables, and gives each target its wire; answers the next free wire.
+// Puts the gates of the assignments from a place on into the tables, and gives each target its wire; answers the next free wire. No `for`:
+// the place moves by as much as an assignment is long.
 pub fn equations(
     names: Names,
     wires: &mut [u32],

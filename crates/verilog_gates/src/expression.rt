@@ -22,7 +22,9 @@ pub struct Value {
 }
 
 // An expression: terms with `^` between them.
-// No one function for it and a term: a closure for what stands between the signs would hide the measure of the cycle.
+// No one function for it and a term. With the level as a const parameter (tried) the cycle gets no proof: the borrow checker does not cover
+// a call in a cycle at another value of it than the caller's own. With an enum for the level it is longer, 96 lines in place of 57: one more
+// function for an operand of either level, one each for its sign and its gate, and clauses by cases.
 #[cycle(expression_factor_term)]
 pub fn expression(
     names: Names,

@@ -9,7 +9,8 @@ ghost use Rattle.verilog_names.specs.Names.{number, found, entry_number, chain_o
 
 use read_text::bytes::same;
 
-// Names found by chains of equal numbers in lent tables, which are read: so many chains, and so many names of a text.
+// Names found by chains of equal numbers in lent tables, which are read: so many chains, and so many names of a text. The links are
+// places in a table, since there is no heap and C lends the tables.
 #[derive(Clone, Copy)]
 pub struct Names<'a> {
     pub text: &'a [u8],
@@ -72,7 +73,8 @@ impl Names<'_> {
     }
 }
 
-// The name between two places as the next entry, newest of its chain.
+// The name between two places as the next entry, newest of its chain. The tables are lent one by one: a struct of `&mut` slices would have
+// to promise at each call that it still holds them.
 pub fn add(
     text: &[u8],
     from: usize,

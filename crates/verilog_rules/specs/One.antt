@@ -3,6 +3,7 @@ use Rattle.std.specs.Prelude.{ℕ, ◌+◌, ◌≡◌, Option, Some, None, Bool,
 use Rattle.verilog_tokens.specs.Next.{between}
 use Rattle.verilog_names.specs.Names.{found, Added}
 use Rattle.verilog_rules.specs.Stages.{kind_behind}
+use Rattle.verilog_rules.specs.States.{kind_number}
 use Rattle.verilog_rules.specs.declared.declarations.Loaded.{Loaded}
 
 -- a name is new and has room, or not; a new one becomes an entry with a kind
@@ -22,4 +23,4 @@ abbrev pub OneIs : List ℕ → ℕ → ℕ → ℕ → ℕ → ℕ → ℕ → 
 OneIs t size most count kind code from to heads heads' words words' links links' st st' None =
     OneSays t size most count kind code from to heads heads' words words' links links' st st' false (count + 1) kind
 OneIs t size most count kind code from to heads heads' words words' links links' st st' (Some r) =
-    OneSays t size most count kind code from to heads heads' words words' links links' st st' true r.count r.kind
+    OneSays t size most count kind code from to heads heads' words words' links links' st st' true r.count (kind_number r.kind)

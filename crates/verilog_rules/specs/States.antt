@@ -1,5 +1,5 @@
 -- States of names in a lent table, entry i that of the i-th name.
-use Rattle.std.specs.Prelude.{ℕ, ◌-◌, Bool, cond, List, eqb, leb, set, take}
+use Rattle.std.specs.Prelude.{ℕ, ◌-◌, Option, Some, None, Bool, cond, List, eqb, leb, set, take}
 use Rattle.netlist.specs.Lists.{every}
 use Rattle.verilog_names.specs.Names.{found}
 use Rattle.verilog_rules.specs.declared.states.State.{State}
@@ -13,6 +13,11 @@ state_number S.Wire = 3
 state_number S.Port = 4
 state_number S.Readable = 5
 state_number S.ReadableOutput = 6
+
+-- the number of a declared name's state, 0 where none was said
+abbrev pub kind_number : Option State → ℕ
+kind_number None = 0
+kind_number (Some s) = state_number s
 
 -- the states behind a move of a name from one state to another, where it is in the first
 abbrev pub becomes : List ℕ → List ℕ → List ℕ → ℕ → List ℕ → ℕ → ℕ → List ℕ

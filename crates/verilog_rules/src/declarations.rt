@@ -5,6 +5,7 @@ ghost use Rattle.netlist.specs.Table.{half};
 ghost use Rattle.verilog_tokens.specs.Kind.{number_of};
 ghost use Rattle.verilog_names.specs.Names.{Chained};
 ghost use Rattle.verilog_rules.specs.Stages.{declares as declaresIs, kind_behind, DeclaredIs};
+ghost use Rattle.verilog_rules.specs.States.{kind_number};
 ghost use Rattle.verilog_rules.specs.One.{NameIs, OneIs};
 
 use crate::states::State;
@@ -18,11 +19,11 @@ pub struct Declared {
     pub at: usize,
 }
 
-// How many names there are so far, and the number of the state of the next one.
+// How many names there are so far, and the state of the next one: none before the first word that declares one.
 #[derive(Clone, Copy)]
 pub struct Loaded {
     pub count: usize,
-    pub kind: u32,
+    pub kind: Option<State>,
 }
 
 // Whether a token may stand among declarations.
@@ -45,13 +46,13 @@ fn name(
     size: usize,
     most: usize,
     count: usize,
-    kind: u32,
+    kind: Option<State>,
     from: usize,
     to: usize,
 ) -> bool
     requires { Chained text.now heads.old words.old links.old size count × (most ≤ length words.old)
         × (most ≤ length links.old) × (most ≤ length states.old) × (from ≤ to) × (to ≤ length text.now) }
-    ensures { NameIs text.now size most count kind from to heads.old heads.new words.old
+    ensures { NameIs text.now size most count (kind_number kind) from to heads.old heads.new words.old
         words.new links.old links.new states.old states.new result }
 {
     if most <= count {
@@ -69,19 +70,19 @@ fn name(
         return false;
     }
     verilog_names::add(text, from, to, heads, words, links, size, count);
-    states[count] = kind;
+    states[count] = kind.map_or(0, State::number);
     true
 }
 
-// The number of the state of the names behind a token that is no name.
-fn kind_behind(state: u32, kind: Kind) -> u32
+// The state of the names behind a token that is no name.
+fn kind_behind(state: Option<State>, kind: Kind) -> Option<State>
     requires { declaresIs (number_of kind) ≡ true }
-    ensures { result ≡ kind_behind state (number_of kind) }
+    ensures { kind_number result ≡ kind_behind (kind_number state) (number_of kind) }
 {
     match kind {
-        Kind::Input => State::Input.number(),
-        Kind::Output => State::Output.number(),
-        Kind::Wire => State::Wire.number(),
+        Kind::Input => Some(State::Input),
+        Kind::Output => Some(State::Output),
+        Kind::Wire => Some(State::Wire),
         _ => state,
     }
 }
@@ -101,7 +102,7 @@ fn one(
     requires { Chained text.now heads.old words.old links.old size so_far.count × (most ≤ length words.old)
         × (most ≤ length links.old) × (most ≤ length states.old) × (token.from ≤ token.to) × (token.to ≤ length text.now)
         × (declaresIs (number_of token.kind) ≡ true) × (so_far.count < half) }
-    ensures { OneIs text.now size most so_far.count so_far.kind (number_of token.kind) token.from token.to heads.old heads.new
+    ensures { OneIs text.now size most so_far.count (kind_number so_far.kind) (number_of token.kind) token.from token.to heads.old heads.new
         words.old words.new links.old links.new states.old states.new result }
 {
     let Loaded { count, kind } = so_far;
@@ -122,7 +123,8 @@ fn one(
     })
 }
 
-// The declarations from a place on; none if a name stands twice, or the tables have no room for all.
+// The declarations from a place on; none if a name stands twice, or the tables have no room for all. No `for`: the place moves by as much
+// as a token is long.
 pub fn declarations(
     text: &[u8],
     heads: &mut [u64],
@@ -140,7 +142,10 @@ pub fn declarations(
 {
     let mut token = next(text, at);
     let mut place = at;
-    let mut so_far = Loaded { count: 0, kind: 0 };
+    let mut so_far = Loaded {
+        count: 0,
+        kind: None,
+    };
     while declares(token.kind) {
         so_far = one(text, heads, words, links, states, size, most, so_far, token)?;
         place = token.to;

@@ -1,4 +1,5 @@
-// The port list: every name an input or an output, each once; inputs get the first wires.
+// The port list: every name an input or an output, each once; inputs get the first wires. The tables that are written are lent one by one:
+// a struct of `&mut` slices would have to promise at each call that it still holds them.
 ghost use Rattle.std.specs.Prelude.{◌+◌, ◌≤◌, ◌<◌, length};
 ghost use Rattle.netlist.specs.Table.{half};
 ghost use Rattle.verilog_rules.specs.Ports.{PortIs, PortsIs};
@@ -37,7 +38,7 @@ fn port(names: Names, states: &mut [u32], wires: &mut [u32], w: &[u8], p: Ports)
     })
 }
 
-// The ports from a place on, up to the end of their list.
+// The ports from a place on, up to the end of their list. No `for`: the place moves by as much as a token is long.
 pub fn port_list(names: Names, states: &mut [u32], wires: &mut [u32], at: usize) -> Option<Ports>
     requires { (names.count ≤ length states.old) × (names.count ≤ length wires.old) × (at ≤ length names.text.now)
         × (length names.text.now + 1 < half) }

@@ -6,7 +6,7 @@ ghost use Rattle.verilog_rules.specs.States.{state_number, becomes, all_from};
 use verilog_names::Names;
 
 // An input, an output or a wire as declared; an output that is a port, not yet assigned; a name that may be read, and an output
-// that may be read. A lent table of states has their numbers.
+// that may be read. A table of states has their numbers, since C lends it.
 #[derive(Clone, Copy)]
 pub enum State {
     Input = 1,

@@ -1,5 +1,5 @@
 -- White bytes skipped, and the token that follows.
-use Prim.Native.Nat.{ℕ, ◌+◌, ◌-◌, ◌≤◌, ◌<◌}
+use Prim.Native.Nat.{ℕ, zero, suc, ◌+◌, ◌-◌, ◌≤◌, ◌<◌}
 use mathlib.Core.Path.{◌≡◌, refl, subst, sym, ap, ◌∙◌}
 use mathlib.Core.Bool.{Bool, true, false, cond, ◌&&◌}
 use mathlib.Core.List.{List, [], ◌∷◌}
@@ -10,6 +10,8 @@ use lib.Dec.{T, eqb, leb}
 use borrow.Author.Tests.{leb-true, leb-false}
 use lib.ListN.{length, take, drop, get_or, drop_of_length-le}
 use lib.Seq.{drop-cons}
+use Rattle.std.specs.Prelude as P
+use Rattle.std.specs.Option.{MatchOption, unwrap_or}
 use Rattle.netlist.specs.Lists.{every, same_bytes, ascii}
 use Rattle.netlist.proofs.Tests.{on_bool, pair, is_true, true-T}
 use Rattle.read_text.specs.Line.{take_while, drop_while, Scanned}
@@ -22,20 +24,20 @@ use Rattle.verilog_tokens.proofs.Classes.{never, sign, Sign, white-only}
 
 -- ---- white bytes
 
-pub record Skipping (t : List ℕ) (at i : ℕ) : Type 0 where
+record Skipping (t : List ℕ) (at i : ℕ) : Type 0 where
   pub same : tokens (drop at t) ≡ tokens (drop i t)
   pub on : at ≤ i
   pub within : i ≤ length t
 
 module _ (t : List ℕ) where
-  pub skip-start : (i : ℕ) → i ≤ length t → Skipping t i i
+  skip-start : (i : ℕ) → i ≤ length t → Skipping t i i
   skip-start i h = record { same = refl; on = omega arith; within = h }
 
   -- the byte at a place, and what follows it
   pub here : (i : ℕ) → i < length t → drop i t ≡ get_or t i 0 ∷ drop (i + 1) t
   here i h = rw (add-one, drop-cons t i 0)
 
-  pub skip-on : (at i : ℕ) → i < length t → is_white (get_or t i 0) (drop (i + 1) t) ≡ true → Skipping t at i → Skipping t at (i + 1)
+  skip-on : (at i : ℕ) → i < length t → is_white (get_or t i 0) (drop (i + 1) t) ≡ true → Skipping t at i → Skipping t at (i + 1)
   skip-on at i h e s =
       let n = white-only (get_or t i 0) (drop (i + 1) t) e in
       record {
@@ -44,13 +46,40 @@ module _ (t : List ℕ) where
         within = omega arith;
       }
 
-  pub skip_stop : (at i : ℕ) → is_white (get_or t i 0) (drop (i + 1) t) ≡ false → Skipping t at i → White t at i
+  skip_stop : (at i : ℕ) → is_white (get_or t i 0) (drop (i + 1) t) ≡ false → Skipping t at i → White t at i
   skip_stop at i e s = record { same = s.same; solid = λ h. e; on = s.on; within = s.within }
 
-  pub skip-end : (at i : ℕ) → length t ≤ i → Skipping t at i → White t at (length t)
+  skip-end : (at i : ℕ) → length t ≤ i → Skipping t at i → White t at (length t)
   skip-end at i h s =
       let e : i ≡ length t = omega (arith, s.within) in
       record { same = s.same ∙ ap (λ (k : ℕ). tokens (drop k t)) e; solid = λ k. absurd (omega (arith, k)); on = omega (arith, s.on); within = omega arith }
+
+module _ (t : List ℕ) (at : ℕ) where
+  WhiteAt : ℕ → Type 0
+  WhiteAt i = is_white (get_or t i 0) (drop (i + 1) t) ≡ true
+
+  skip-more : (n : ℕ) → at + n ≤ length t → ((k : ℕ) → at ≤ k → k < at + n → WhiteAt k) → Skipping t at (at + n)
+  unfolding WhiteAt
+  skip-more zero h w = let e : at ≡ at + zero = omega arith in subst (Skipping t at) e (skip-start t at (omega arith))
+  skip-more (suc n) h w =
+      let e : (at + n) + 1 ≡ at + suc n = omega arith in
+      subst (Skipping t at) e
+      (skip-on t at (at + n) (omega arith) (w (at + n) (omega arith) (omega arith)) (skip-more n (omega arith) (λ k a b. w k a (omega arith))))
+
+  skip-to : (i : ℕ) → at ≤ i → i ≤ length t → ((k : ℕ) → at ≤ k → k < i → WhiteAt k) → Skipping t at i
+  skip-to i a h w =
+      let e : at + (i - at) ≡ i = omega arith in
+      subst (Skipping t at) e (skip-more (i - at) (omega arith) (λ k b c. w k b (omega arith)))
+
+  -- the first place from here on whose byte is not white, or the end
+  pub skipped : at ≤ length t → (r : P.Option ℕ)
+      → MatchOption r ((k : ℕ) → at ≤ k → k < length t → is_white (get_or t k 0) (drop (k + 1) t) ≡ true)
+      (λ i. (at ≤ i) × (i < length t) × (is_white (get_or t i 0) (drop (i + 1) t) ≡ false)
+      × ((k : ℕ) → at ≤ k → k < i → is_white (get_or t k 0) (drop (k + 1) t) ≡ true))
+      → White t at (unwrap_or r (length t))
+  unfolding WhiteAt
+  skipped h P.None w = skip-end t at (length t) (omega arith) (skip-to (length t) h (omega arith) w)
+  skipped h (P.Some i) w = skip_stop t at i w.2 (skip-to i w.0 (let l = w.1 in omega arith) w.3)
 
 -- ---- the code of a word
 

@@ -2,13 +2,13 @@
 #![tactic(auto)]
 
 ghost use Rattle.std.specs.Prelude.{◌≡◌, ◌≤◌, ◌<◌, ◌+◌, length, drop, get_or};
-ghost use Rattle.read_text.specs.Line.{Scanned};
-ghost use Rattle.netlist.specs.Number.{is_digit};
+ghost use Rattle.read_text.specs.Cursors.{Scanned};
 ghost use Rattle.verilog.specs.Tokens.{is_letter, in_word, is_white};
 ghost use Rattle.verilog_tokens.specs.Kind.{number_of};
 ghost use Rattle.verilog_tokens.specs.Next.{sign_code, word_code, White, TokenAt};
 
 use read_text::bytes::same;
+use read_text::cursor::Cursor;
 
 // What a token is: a reserved word, a sign, a name, the end of the text, or none of these.
 #[derive(Clone, Copy, PartialEq, Eq)]
@@ -32,7 +32,7 @@ pub enum Kind {
     Other,
 }
 
-// A token: what it is, its first byte, and the one behind its last.
+// A token: what it is, its first byte, and the one behind its last. Places and no slice, since the tables of names store places.
 #[derive(Clone, Copy)]
 pub struct Token {
     pub kind: Kind,
@@ -46,20 +46,14 @@ const LONGEST: usize = 16;
 fn is_letter(b: u8) -> bool
     ensures { result ≡ is_letter b }
 {
-    matches!(b, b'A'..=b'Z' | b'a'..=b'z')
-}
-
-fn is_digit(b: u8) -> bool
-    ensures { result ≡ is_digit b }
-{
-    matches!(b, b'0'..=b'9')
+    b.is_ascii_alphabetic()
 }
 
 // Whether a byte is part of a word.
 fn in_word(b: u8) -> bool
     ensures { result ≡ in_word b }
 {
-    is_letter(b) || is_digit(b)
+    b.is_ascii_alphanumeric()
 }
 
 // Whether the byte at a place is white: space, LF, or CR directly before LF.
@@ -79,28 +73,20 @@ fn skip_white(text: &[u8], at: usize) -> usize
     requires { at ≤ length text.now }
     ensures { White text.now at result }
 {
-    for i in at..text.len() {
-        if !is_white(text, i) {
-            return i;
-        }
-    }
-    text.len()
+    (at..text.len())
+        .find(|i| !is_white(text, *i))
+        .unwrap_or(text.len())
 }
 
 // Past the bytes of a word.
-fn word_end(text: &[u8], from: usize) -> usize
-    requires { from ≤ length text.now }
-    ensures { Scanned in_word text.now from result }
+fn take_word(at: Cursor) -> Cursor
+    ensures { Scanned in_word at.entry result }
 {
-    for i in from..text.len() {
-        if !in_word(text[i]) {
-            return i;
-        }
-    }
-    text.len()
+    at.pass(in_word)
 }
 
-// What a word is.
+// What a word is. No match of byte strings: it looks at byte after byte, and the proof for the words that are none of the six, which it
+// finds in 42 ways, did not close.
 #[tactic(auto, unfolding(crate::specs::Next::word_code))]
 fn word(w: &[u8]) -> Kind
     requires { 0 < length w.now }
@@ -168,7 +154,8 @@ pub fn next(text: &[u8], at: usize) -> Token
             to: from + 1,
         };
     }
-    let to = word_end(text, from);
+    let end = take_word(Cursor { text, at: from });
+    let to = end.at;
     Token {
         kind: word(&text[from..to]),
         from,

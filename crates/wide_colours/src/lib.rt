@@ -1,21 +1,16 @@
-// Colours of inputs: given to the members of sets, and compared. A paint is an input's code and, times four, its colour.
+// Colours of inputs: given to the members of sets, and compared. A paint is an input's code and, times four, its colour; that of a number
+// that is no input is 0.
 #![tactic(auto)]
 
 ghost use Rattle.std.specs.Prelude.{◌≡◌, true, ℕ, ◌+◌, ◌*◌, ◌%◌, ◌≤◌, ◌<◌, length, get_or, set, take};
 ghost use Rattle.wide.specs.Rule.{Different};
 ghost use Rattle.wide_colours.specs.Colours.{Upto, Kept, Seeded};
 
+use lists::entry;
 use wide_sets::members::InputSet;
 
 // The most colours, one for each of the members that a set can have.
 pub const MOST: usize = 12;
-
-// The paint of an input; that of any other number is 0.
-fn at(paints: &[u8], i: usize) -> u8
-    ensures { result ≡ get_or paints.now i 0 }
-{
-    paints.get(i).copied().unwrap_or(0)
-}
 
 // An input gets a colour, and keeps its code.
 fn put(paints: &mut [u8], i: usize, colour: u8)
@@ -33,7 +28,7 @@ fn different(m: InputSet, paints: &[u8]) -> bool
 {
     let mut seen = [false; 13];
     for item in &m.items[..m.count] {
-        let c = (at(paints, *item as usize) / 4) as usize;
+        let c = (entry(paints, *item as usize) / 4) as usize;
         if c == 0 || MOST < c || seen[c] {
             return false;
         }
@@ -63,7 +58,7 @@ fn colour(paint: u8) -> usize
 fn taken(members: &[u32], paints: &[u8]) -> [u8; 13] {
     let mut times = [0u8; 13];
     for item in members {
-        let c = colour(at(paints, *item as usize));
+        let c = colour(entry(paints, *item as usize));
         times[c] = times[c].saturating_add(1);
     }
     times
@@ -81,7 +76,7 @@ fn next(paints: &mut [u8], i: usize, times: [u8; 13], from: usize) -> usize
     requires { from ≤ 13 }
     ensures { (result ≤ 13) × Kept paints.old paints.new }
 {
-    if 4 <= at(paints, i) {
+    if 4 <= entry(paints, i) {
         return from;
     }
     match free(times, from) {

@@ -6,8 +6,7 @@ use Rattle.netlist.specs.Services.{stands_for}
 use Rattle.pairs.specs.Call.{BothAnswers}
 use Rattle.pairs_search.specs.Search.{bad_of}
 use Rattle.wide.specs.Wide.{WideLeak}
-use Rattle.wide_search.specs.Told.{told_of}
-use Rattle.wide_search.specs.declared.search.WideFound.{WideFound}
+use Rattle.wide_search.specs.Told.{WideFound, told_of}
 
 -- both answers
 abbrev pub both_of : WideFound → BothAnswers WideLeak

@@ -2,11 +2,11 @@
 #![tactic(auto)]
 
 ghost use Rattle.std.specs.Prelude.{◌≡◌, true, false, ℕ, ◌+◌, ◌<◌, ◌≤◌, length, get_or};
-ghost use Rattle.netlist.specs.Lists.{sum};
 ghost use Rattle.netlist.specs.Netlist.{Netlist};
 ghost use Rattle.netlist.specs.Outcome.{done, ask};
 ghost use Rattle.netlist.specs.Read.{WellFormed};
 ghost use Rattle.gate_table.specs.Gates.{WiredGates, HoldsGates};
+ghost use Rattle.netlist_tables.specs.Tables.{HoldsNetlist};
 ghost use Rattle.wide.specs.Wide.{few_reach, wide_answers, wide_outcome};
 ghost use Rattle.wide_sets.specs.WireSets.{sets_of};
 ghost use Rattle.wide_search.specs.Items.{PairsFew};
@@ -15,7 +15,7 @@ ghost use Rattle.wide_judge.specs.Judge.{outcome_of};
 use gate_table::Gates;
 use lists::codes::Codes;
 use netlist::Question;
-use read_header::header::Header;
+use netlist_tables::tables::NetlistTables;
 use wide_search::item;
 use wide_search::items::Items;
 use wide_search::search::WideFound;
@@ -81,13 +81,11 @@ fn within(
     Ok(found)
 }
 
-// Questions 10, 11, 21 and 12 and both verdicts, from a header, its input widths and its gates.
+// Questions 10, 11, 21 and 12 and both verdicts, of a netlist that was read.
 pub fn judge(
-    h: Header,
-    widths: &[u32],
+    netlist: NetlistTables,
     codes: &[u8],
     pairs: &[u32],
-    gates: Gates,
     marks: &mut [u8],
     words: &mut [u64],
     base: &mut [u64],
@@ -98,21 +96,21 @@ pub fn judge(
     set3: &mut [u64],
     paints: &mut [u8],
 ) -> CheckedWide
-    requires wired { WiredGates gates h.wires }
-    requires input_bits_sum { (h.input_bits ≡ sum widths.now) × (h.wires ≤ length words.old) × (h.wires ≤ length base.old) × (h.wires ≤ length bases.old)
-        × (h.wires ≤ length set0.old) × (h.wires ≤ length set1.old) × (h.wires ≤ length set2.old)
-        × (h.wires ≤ length set3.old) × (h.wires ≤ length paints.old) × (h.wires ≤ 1048576) }
-    ensures { (N : Netlist) → HoldsGates gates.entry h.wires h.input_bits h.output_bits N → WellFormed N
-        → widths.now ≡ N.inputs → outcome_of result ≡ wide_outcome codes.now pairs.now N }
+    requires { (netlist.header.wires ≤ length words.old) × (netlist.header.wires ≤ length base.old)
+        × (netlist.header.wires ≤ length bases.old) × (netlist.header.wires ≤ length set0.old)
+        × (netlist.header.wires ≤ length set1.old) × (netlist.header.wires ≤ length set2.old)
+        × (netlist.header.wires ≤ length set3.old) × (netlist.header.wires ≤ length paints.old)
+        × (netlist.header.wires ≤ 1048576) }
+    ensures { (N : Netlist) → HoldsNetlist netlist.entry N → WellFormed N → outcome_of result ≡ wide_outcome codes.now pairs.now N }
 {
-    let admitted = check_netlist::ask_codes(h.input_bits, widths, codes)?;
-    let wires = h.wires as usize;
+    let admitted = check_netlist::ask_codes(netlist.header.input_bits, netlist.widths, codes)?;
+    let wires = netlist.header.wires as usize;
     if !pairs_judge::pairs_good(pairs, wires) {
         return Err(Question::Pairs);
     }
     let n = codes.len();
     within(
-        gates,
+        netlist.gates,
         admitted,
         pairs,
         marks,

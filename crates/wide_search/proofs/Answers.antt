@@ -118,7 +118,7 @@ seeded-wire {N = N} codes G wire inside is ps₀ ps known long same seeded B k c
 module _ {t : Tables} {m W o : ℕ} {S : Sets} {N : Netlist} {codes ws : List ℕ} {wire pair : ℕ} (G : Given t m W (length codes) S o N)
     (L : Lowest N codes ws W wire pair) (inside : wire < W) (room : length codes + 2 ≤ W) (ps : List ℕ) (plain : codes_of ps ≡ codes)
     (ranked : (a : ℕ) → a < length (reach_set N (length ps) wire) → colour_at (reach_set N (length ps) wire) ps a ≡ a + 1) (B : ℕ)
-    (blocks : 2 ^ length (reach_set N (length ps) wire) ≤ B * 16) (r : Option Leak)
+    (blocks : 2 ^ length (reach_set N (length ps) wire) ≤ B * 16) (r : Option (Leak ℕ))
     (F : LowestDifference (count_in (bare t m W) false ps) (count_in (bare t m W) true ps) (wire + 1) (B * 16) r) where
   cs : List ℕ
   cs = codes_of ps
@@ -133,7 +133,7 @@ module _ {t : Tables} {m W o : ℕ} {S : Sets} {N : Netlist} {codes ws : List �
   uncode w = subst (λ (es : List ℕ). Level N es w) (sym plain)
 
   -- the search passes no lower wire, and that one not
-  not_lower : (p : Leak) → r ≡ Some p → p.wire < wire → ⊥
+  not_lower : (p : Leak ℕ) → r ≡ Some p → p.wire < wire → ⊥
   not_lower p is l =
       let d = F.differs p is in
       d.other (same-one false p.wire p.setting ∙ level-painted N ps p.wire (uncode p.wire (L.level p.wire l)) p.setting
@@ -148,12 +148,12 @@ module _ {t : Tables} {m W o : ℕ} {S : Sets} {N : Netlist} {codes ws : List �
       sym (same-one false wire s) ∙ F.lower wire l s b ∙ same-one true wire s)))
 
   -- it ends there
-  ends : (p : Leak) → r ≡ Some p → p.wire ≡ wire
+  ends : (p : Leak ℕ) → r ≡ Some p → p.wire ≡ wire
   ends p is =
       on_bool (ltb p.wire wire) (λ a. absurd (not_lower p is (ltb-true p.wire wire a)))
       (λ a. let x = ltb-false p.wire wire a in let y = F.inside p is in omega arith)
 
-  pub leak-told : (p : Leak) → r ≡ Some p → listed (length codes) (leak N codes)
+  pub leak-told : (p : Leak ℕ) → r ≡ Some p → listed (length codes) (leak N codes)
       ≡ some (record { wire = wire; ones = picked (reach_set N (length ps) wire) p.setting; base = p.base; own = p.own })
   leak-told p is =
       let e = ends p is in

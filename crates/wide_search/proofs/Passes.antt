@@ -87,7 +87,7 @@ module _ {t : Tables} {m W : ℕ} {S : Sets} {o : ℕ} {N : Netlist} {n : ℕ} (
 -- a search of the settings that paints give
 module _ (t : Tables) (m W : ℕ) (S : Sets) (codes ws : List ℕ) (below : (i : ℕ) → i < length ws → get_or ws i 0 < W)
     (room : length codes + 2 ≤ W) (ps : List ℕ) (plain : codes_of ps ≡ codes) (K B wire pair : ℕ) (upto : Upto K ps) (blocks : 2 ^ K ≤ B * 16)
-    (even : 2 * pair ≤ length ws) (found : PairsFound)
+    (even : 2 * pair ≤ length ws) (found : PairsFound ℕ)
     (F : Found (counts_of (bare t m W) false ps) (counts_of (bare t m W) true ps) (take (2 * pair) ws) wire (length (take (2 * pair) ws) / 2) (B * 16) found)
   where
     abbrev cs : List ℕ
@@ -143,7 +143,7 @@ module _ (t : Tables) (m W : ℕ) (S : Sets) (codes ws : List ℕ) (below : (i :
       pub wire-leaks : wire' < wire → Level N codes wire' → ⊥
       wire-leaks = go found.leak refl
         where
-          go : (r : Option Leak) → found.leak ≡ r → wire_of wire r < wire → Level N codes (wire_of wire r) → ⊥
+          go : (r : Option (Leak ℕ)) → found.leak ≡ r → wire_of wire r < wire → Level N codes (wire_of wire r) → ⊥
           go None e l h = absurd (omega arith)
           go (Some p) e l h =
               let d = F.lowest.differs p e in

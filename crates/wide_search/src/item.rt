@@ -1,5 +1,5 @@
-// One of the items that are to be served, by its number: first the wires are counted, then the listed pairs. An item's set are the
-// inputs that reach it.
+// The items that are to be served, by their numbers: the wires come first, then the listed pairs. An item's set is that of the inputs
+// that reach it.
 ghost use Rattle.std.specs.Prelude.{◌≡◌, ℕ, ◌+◌, ◌*◌, ◌/◌, ◌<◌, length, get_or, take, set as put};
 ghost use Rattle.wide_sets.specs.Packed.{set_at};
 ghost use Rattle.wide_sets.specs.WireSets.{sets_of};

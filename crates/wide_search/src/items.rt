@@ -5,8 +5,9 @@ ghost use Rattle.wide_search.specs.Items.{PairsFew};
 
 use wide_sets::tables::WireSets;
 
-// The wires, by their sets, and the listed pairs of them; at most twelve inputs reach each. Sets and pairs have a lifetime each: with one
-// for both, the sets would be stored at a shorter one than their own, and the check has no proof of that for a struct that holds references.
+// The wires, by their sets, and the listed pairs of wires; at most twelve inputs reach each wire and each pair. Sets and pairs have a
+// lifetime each: with one for both, the sets would be stored at a shorter one than their own, and the check has no proof of that for a
+// struct that holds references.
 #[derive(Clone, Copy)]
 pub struct Items<'s, 'p> {
     pub sets: WireSets<'s>,

@@ -1,4 +1,6 @@
-// Passes: the inputs are coloured for as many items as they can serve, and one search over the painted settings judges those.
+// Passes: the inputs are coloured for as many items as they can serve, and one search over the painted settings judges those. The tables
+// that are written are parameters of their own: C lends them one by one, and a struct of `&mut` slices would have to promise at each call
+// that it still holds the same ones.
 ghost use Rattle.std.specs.Prelude.{◌≡◌, ℕ, ◌+◌, ◌*◌, ◌/◌, ◌≤◌, ◌<◌, length};
 ghost use Rattle.netlist.specs.Netlist.{Netlist};
 ghost use Rattle.gate_table.specs.Gates.{WiredGates};
@@ -60,8 +62,8 @@ fn pass(
 ) -> Worst
     requires wired { WiredGates gates (length words.old)
         × (start + x < count_of items) }
-    requires paints_len { (length paints.old ≡ length codes.list.now) × (length items.sets.set0.now ≡ length words.old) × (length codes.list.now + 2 ≤ length words.old)
-        × (length bases.old ≡ length words.old) × (length base.old ≡ length words.old)
+    requires paints_len { (length paints.old ≡ length codes.list.now) × (length items.sets.set0.now ≡ length words.old)
+        × (length codes.list.now + 2 ≤ length words.old) × (length bases.old ≡ length words.old) × (length base.old ≡ length words.old)
         × (worst.wire ≤ length words.old) × (worst.pair ≤ length items.pairs.now / 2) }
     ensures { (result.wire ≤ worst.wire) × (result.pair ≤ worst.pair) × ((o n : ℕ) (N : Netlist)
         → GivenGates gates.entry (length words.old) (length codes.entry.list.now) items.entry.sets o N → x < n
@@ -112,8 +114,8 @@ pub fn passes(
 ) -> Worst
     requires wired { WiredGates gates (length words.old)
         × (start + total ≤ count_of items) }
-    requires paints_len { (length paints.old ≡ length codes.list.now) × (length items.sets.set0.now ≡ length words.old) × (length codes.list.now + 2 ≤ length words.old)
-        × (length bases.old ≡ length words.old) × (length base.old ≡ length words.old)
+    requires paints_len { (length paints.old ≡ length codes.list.now) × (length items.sets.set0.now ≡ length words.old)
+        × (length codes.list.now + 2 ≤ length words.old) × (length bases.old ≡ length words.old) × (length base.old ≡ length words.old)
         × (worst.wire ≤ length words.old) × (worst.pair ≤ length items.pairs.now / 2) }
     ensures { (result.wire ≤ worst.wire) × (result.pair ≤ worst.pair) × ((o : ℕ) (N : Netlist)
         → GivenGates gates.entry (length words.old) (length codes.entry.list.now) items.entry.sets o N

@@ -1,4 +1,5 @@
-// The verdicts on wires and pairs of a netlist with many inputs.
+// The verdicts on wires and pairs of a netlist with many inputs. The tables that are written are parameters of their own: C lends them one
+// by one, and a struct of `&mut` slices would have to promise at each call that it still holds the same ones.
 ghost use Rattle.std.specs.Prelude.{◌≡◌, ℕ, ◌+◌, ◌/◌, ◌≤◌, ◌<◌, length, take, List};
 ghost use Rattle.netlist.specs.Netlist.{Netlist};
 ghost use Rattle.gate_table.specs.Gates.{WiredGates};
@@ -13,26 +14,18 @@ ghost use Rattle.wide_search.specs.Told.{told_of};
 use crate::items::Items;
 use crate::pass;
 use crate::pass::Worst;
+use check_leak::difference::Leak;
 use gate_table::Gates;
 use lists::codes::Codes;
+use pairs_search::search::PairsFound;
 use wide_sets::members::{InputSet, Members};
 use wide_sets::tables::WireSets;
 
-// A leak: its wire, the input bits that are one in its setting, its base's count and its own.
-#[derive(Clone, Copy)]
-pub struct WideLeak {
-    pub wire: usize,
-    pub ones: Members,
-    pub base: u8,
-    pub own: u8,
-}
+// A leak, whose setting is told by the input bits that are one in it.
+pub type WideLeak = Leak<Members>;
 
-// The lowest leak, and how many pairs stand before the first bad one; none where all are clean.
-#[derive(Clone, Copy)]
-pub struct WideFound {
-    pub leak: Option<WideLeak>,
-    pub pair: Option<usize>,
-}
+// What was found on wires and pairs, with such a leak.
+pub type WideFound = PairsFound<Members>;
 
 // Of the members of a set, those whose bit of a number is one. Each is written, and the next written over it where its bit is zero.
 fn pick(m: InputSet, number: u64) -> Members
@@ -61,8 +54,8 @@ fn lowest(
     bases: &mut [u64],
 ) -> Worst
     requires wired { WiredGates gates (length words.old) }
-    requires paints_len { (length paints.old ≡ length codes.list.now) × (length items.sets.set0.now ≡ length words.old) × (length codes.list.now + 2 ≤ length words.old)
-        × (length bases.old ≡ length words.old) × (length base.old ≡ length words.old) }
+    requires paints_len { (length paints.old ≡ length codes.list.now) × (length items.sets.set0.now ≡ length words.old)
+        × (length codes.list.now + 2 ≤ length words.old) × (length bases.old ≡ length words.old) × (length base.old ≡ length words.old) }
     ensures { (result.wire ≤ length words.old) × (result.pair ≤ length items.entry.pairs.now / 2) × ((o : ℕ) (N : Netlist)
         → GivenGates gates.entry (length words.old) (length codes.entry.list.now) items.entry.sets o N
         → Lowest N codes.entry.list.now items.entry.pairs.now (length words.old) result.wire result.pair) }
@@ -106,8 +99,8 @@ fn tell(
 ) -> Option<WideLeak>
     requires wired { WiredGates gates (length words.old)
         × (wire < length words.old) }
-    requires paints_len { (length paints.old ≡ length codes.list.now) × (length sets.set0.now ≡ length words.old) × (length codes.list.now + 2 ≤ length words.old)
-        × (length bases.old ≡ length words.old) × (length base.old ≡ length words.old) }
+    requires paints_len { (length paints.old ≡ length codes.list.now) × (length sets.set0.now ≡ length words.old)
+        × (length codes.list.now + 2 ≤ length words.old) × (length bases.old ≡ length words.old) × (length base.old ≡ length words.old) }
     ensures { (o pair : ℕ) (ws : List ℕ) (N : Netlist) → GivenGates gates.entry (length words.old) (length codes.entry.list.now) sets.entry o N
         → Lowest N codes.entry.list.now ws (length words.old) wire pair
         → told_of result ≡ listed (length codes.entry.list.now) (leak_of N codes.entry.list.now) }
@@ -130,7 +123,7 @@ fn tell(
     let leak = found.leak?;
     Some(WideLeak {
         wire,
-        ones: pick(m, leak.setting),
+        setting: pick(m, leak.setting),
         base: leak.base,
         own: leak.own,
     })
@@ -148,8 +141,8 @@ pub fn search(
     bases: &mut [u64],
 ) -> WideFound
     requires wired { WiredGates gates (length words.old) }
-    requires paints_len { (length paints.old ≡ length codes.list.now) × (length items.sets.set0.now ≡ length words.old) × (length codes.list.now + 2 ≤ length words.old)
-        × (length bases.old ≡ length words.old) × (length base.old ≡ length words.old) }
+    requires paints_len { (length paints.old ≡ length codes.list.now) × (length items.sets.set0.now ≡ length words.old)
+        × (length codes.list.now + 2 ≤ length words.old) × (length bases.old ≡ length words.old) × (length base.old ≡ length words.old) }
     ensures { (o : ℕ) (N : Netlist) → GivenGates gates.entry (length words.old) (length codes.entry.list.now) items.entry.sets o N
         → (told_of result.leak ≡ listed (length codes.entry.list.now) (leak_of N codes.entry.list.now))
         × (bad_of result.pair ≡ first_bad (clean_pair N codes.entry.list.now) items.entry.pairs.now) }

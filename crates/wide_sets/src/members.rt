@@ -6,14 +6,14 @@ ghost use Rattle.wide_sets.specs.WireSets.{sets_of};
 
 use crate::tables::WireSets;
 
-// The first `count` items, rising.
+// A list of inputs: the first `count` items of an array, since there is no heap.
 #[derive(Clone, Copy)]
 pub struct Members {
     pub items: [u32; 12],
     pub count: usize,
 }
 
-// Such members, of a set: at most twelve, and each fits in twenty bits.
+// Members as a set holds them: at most twelve, and each fits in twenty bits.
 #[derive(Clone, Copy)]
 pub struct InputSet {
     pub items: [u32; 12],

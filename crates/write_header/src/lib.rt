@@ -2,11 +2,12 @@
 // and answers the next place in any case.
 #![tactic(auto)]
 
-ghost use Rattle.std.specs.Prelude.{[], ◌∷◌, ◌≡◌, length, get_or};
+ghost use Rattle.std.specs.Prelude.{[], ◌∷◌, ◌≡◌, length};
 ghost use Rattle.netlist.specs.Write.{line, decimals};
 ghost use Rattle.write_buffer.specs.Wrote.{Wrote};
 ghost use Rattle.write_header.specs.Header.{spaced, header_text, old_header_text, header_text_in};
 
+use lists::entry;
 use old_form::Dialect;
 
 // What a header says: how many gates and wires there are, and the widths of the input and of the output values.
@@ -73,20 +74,14 @@ pub fn header(out: &mut [u8], at: usize, s: Shape) -> usize
     write_buffer::put(out, blank, b'\n')
 }
 
-// The width of a value, or 0 where there is no such value.
-fn width_at(ws: &[u32], i: usize) -> u32
-    ensures { result ≡ get_or ws.now i 0 }
-{
-    ws.get(i).copied().unwrap_or(0)
-}
-
-// The two lines of the older dialect, of at most two input values and one output value, and the blank line behind them.
+// The two lines of the older dialect, of at most two input values and one output value, and the blank line behind them. The width of a
+// value that there is not is 0.
 pub fn old_header(out: &mut [u8], at: usize, s: Shape) -> usize
     ensures { let h = s.entry in Wrote out.old at (old_header_text h.gates h.wires h.ins.now h.outs.now) out.new result }
 {
     let second = counts(out, at, s.gates, s.wires);
-    let others = [width_at(s.ins, 1), width_at(s.outs, 0)];
-    let blank = numbers(out, second, width_at(s.ins, 0) as usize, &others);
+    let others = [entry(s.ins, 1), entry(s.outs, 0)];
+    let blank = numbers(out, second, entry(s.ins, 0) as usize, &others);
     write_buffer::put(out, blank, b'\n')
 }
 

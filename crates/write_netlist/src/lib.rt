@@ -83,8 +83,7 @@ fn answer(d: Words, out: &mut [u8], f: Form) -> Answer
     }
 }
 
-// Question 14 and the text. No line on a hundred wires or fewer is stored by words, so there no table is filled, and on few more
-// only the words of these.
+// Question 14 and the text.
 pub fn deliver_in(
     out: &mut [u8],
     gates: Gates,
@@ -104,18 +103,11 @@ pub fn deliver_in(
         outs,
         dialect,
     };
-    if wires <= 100 {
-        return answer(Words { entries: &[] }, out, f);
+    if let Some(none) = Words::none_for(wires) {
+        return answer(none, out, f);
     }
     let mut table = [0u64; 2000];
-    if wires <= 1000 {
-        let tens = (wires + 9) / 10;
-        write_wires::table::fill(&mut table, tens);
-        let front = &table[..10 * tens];
-        return answer(Words { entries: front }, out, f);
-    }
-    write_wires::table::fill(&mut table, 100);
-    answer(Words { entries: &table }, out, f)
+    answer(Words::of(&mut table, wires), out, f)
 }
 
 // Question 14 and the written form of document 01.

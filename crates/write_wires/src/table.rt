@@ -1,6 +1,6 @@
 // The table of words.
-ghost use Rattle.std.specs.Prelude.{◌≡◌, ◌<◌, ◌≤◌, ◌+◌, ◌*◌, length};
-ghost use Rattle.write_wires.specs.Packed.{packed, Filled, Tens, WordTable, Worded};
+ghost use Rattle.std.specs.Prelude.{◌≡◌, ◌<◌, ◌≤◌, ◌+◌, ◌*◌, length, None, IfSome};
+ghost use Rattle.write_wires.specs.Packed.{packed, Filled, Tens, WordTable, Worded, entries_for};
 
 use crate::TOP;
 
@@ -49,6 +49,34 @@ pub struct Words<'t> {
 }
 
 impl<'t> Words<'t> {
+    // The empty table, for a netlist of up to a hundred wires, where no line is stored by words: so a small call clears no array for them.
+    pub fn none_for(wires: usize) -> Option<Self>
+        ensures none { result ≡ None → 100 < wires }
+        ensures some { IfSome result (λ w. (wires ≤ 100) × (length w.entries.now ≡ 0)) }
+    {
+        if wires <= 100 {
+            Some(Words { entries: &[] })
+        } else {
+            None
+        }
+    }
+
+    // The words that the lines of a netlist of so many wires take, in a lent array of any content: none up to a hundred wires, those of the
+    // wires up to a thousand, and else all.
+    pub fn of(table: &'t mut [u64; 2000], wires: usize) -> Self
+        ensures { length result.entries.now ≡ entries_for wires }
+    {
+        let entries = match wires {
+            0..=100 => 0,
+            101..=1000 => (wires + 9) / 10 * 10,
+            _ => 2000,
+        };
+        fill(table, usize::min(entries, 1000) / 10);
+        Words {
+            entries: &table[..entries],
+        }
+    }
+
     // The word of a number.
     pub fn look(self, n: u32) -> u64
         requires { Worded (length self.entries.now) n }

@@ -8,9 +8,9 @@ use Rattle.certify_netlist.proofs.decide.Goals as goal
 pub returns : goal.returns
 returns c = λ n o N H M.
     let a = c.args in
-    let s = c.certified-sure in
+    let s = c.certified in
     let m = length-take-le a.wires a.marks.now c.requires.2 in
     let h = length-take-le a.wires a.words.now c.requires.3 in
     let w = length-take-le a.wires (s.new.hints ++ drop a.wires a.words.now)
     (rw (length-append s.new.hints (drop a.wires a.words.now)) (omega (arith, s.auto.hints, h))) in
-    c.witness.ensures n o N (rw w H) M (s.ensures.1 n o N (rw m H) M)
+    c.witness.ensures n o N (rw w H) M (c.in-Some.ensures.lower n o N (rw m H) M)

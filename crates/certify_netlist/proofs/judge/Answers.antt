@@ -7,9 +7,11 @@ use Rattle.certify_netlist.proofs.judge.Goals as goal
 
 pub decide-requires : goal.decide-requires
 decide-requires c =
-    let p = c.requires.input_bits_sum in
-    let b = asked-bits c.args.widths.now c.args.codes.now (sym c.in_ok-ask_codes.ensures.asked) in
-    (c.requires.wired, omega (arith, b, p.0, c.args.h.inputs_are_wires), p.1, p.2, p.3, p.4)
+    let p = c.requires in
+    let n = c.args.netlist in
+    let b = asked-bits n.widths.now c.args.codes.now (sym c.in_ok-ask_codes.ensures.asked) in
+    (n.wired, omega (arith, b, n.bits, n.header.inputs_are_wires), p.0, p.1, p.2, p.3)
 
 pub returns : goal.returns
-returns c = λ N H w F. judged-passed c.args.codes.now c.args.widths.now w F c.in_ok-ask_codes.ensures.asked (c.decide.ensures _ _ N H)
+returns c = λ N H F.
+    judged-passed c.args.codes.now c.args.netlist.widths.now H.widths F c.in_ok-ask_codes.ensures.asked (c.decide.ensures _ _ N H.gates)

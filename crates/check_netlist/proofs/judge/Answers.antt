@@ -7,9 +7,9 @@ use Rattle.check_netlist.proofs.judge.Goals as goal
 pub leaks-found-requires-clause-codes_len_bound : goal.leaks-found-requires-clause-codes_len_bound
 leaks-found-requires-clause-codes_len_bound c =
     let a = c.args in
-    let p = c.requires.input_bits_sum in
+    let p = c.requires in
     let same = ap length c.in_ok-admitted.ensures.given in
-    let bits = asked-bits a.widths.now a.codes.now (sym c.in_ok-admitted.ensures.asked) in
-    let w = length-take-le a.h.wires a.words.now p.1 in
-    let b = length-take-le a.h.wires a.base.now p.2 in
-    (omega (arith, same, c.if-codes-gt-MOST_BITS.false), omega (arith, same, bits, p.0, a.h.inputs_are_wires, w), b ∙ sym w)
+    let bits = asked-bits a.netlist.widths.now a.codes.now (sym c.in_ok-admitted.ensures.asked) in
+    let w = length-take-le a.netlist.header.wires a.words.now p.0 in
+    let b = length-take-le a.netlist.header.wires a.base.now p.1 in
+    (omega (arith, same, c.if-codes-gt-MOST_BITS.false), omega (arith, same, bits, a.netlist.bits, a.netlist.header.inputs_are_wires, w), b ∙ sym w)

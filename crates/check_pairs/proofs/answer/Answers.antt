@@ -16,4 +16,4 @@ returns c =
     let s = c.args in
     let k = rw c.large-l.ensures at c.in_ok-h.ensures in
     call-read s.sizes s.text.now s.codes.now s.pairs.now s.operands.now s.results.now s.marks.now s.words.now s.base.now s.bases.now k
-    c.judge.ensures
+    c.new-netlist.ensures c.judge.ensures

@@ -5,8 +5,8 @@ use native.Mathlib.Omega.{arith}
 use borrow.Author.Rules.{rules}
 use Rattle.check_wide.proofs.answer.Goals as goal
 
-pub judge-requires-clause-input_bits_sum : goal.judge-requires-clause-input_bits_sum
-judge-requires-clause-input_bits_sum c =
+pub judge-requires : goal.judge-requires
+judge-requires c =
     let a = (rw c.large-l.ensures at c.in_ok-h.ensures).1 in (
       search rules,
       search rules,
@@ -16,8 +16,7 @@ judge-requires-clause-input_bits_sum c =
       search rules,
       search rules,
       search rules,
-      search rules,
-      omega (arith, a.wires, wires-upto c.args.sizes),
+      rw c.new-netlist.ensures.header (omega (arith, a.wires, wires-upto c.args.sizes)),
     )
 
 pub returns-in_err-h : goal.returns-in_err-h
@@ -33,4 +32,4 @@ returns c =
     let s = c.args in
     let k = rw c.large-l.ensures at c.in_ok-h.ensures in
     call-read s.sizes s.text.now s.codes.now s.pairs.now s.operands.now s.results.now s.marks.now s.words.now s.base.now
-    s.bases.now s.set0.now s.set1.now s.set2.now s.set3.now s.paints.now k c.judge.ensures
+    s.bases.now s.set0.now s.set1.now s.set2.now s.set3.now s.paints.now k c.new-netlist.ensures c.judge.ensures

@@ -1,7 +1,7 @@
 -- `answer`: the source read, and its masked netlist.
 use mathlib.Core.List.{[], ◌∷◌}
 use lib.Dec.{lit<}
-use lib.ListN.{length}
+use lib.ListN.{length, length-take}
 use Rattle.std.proofs.lemmas.Result.{err_from_is_err_and}
 use Rattle.netlist.specs.Netlist.{small}
 use Rattle.netlist.proofs.Answering.{table_at}
@@ -24,12 +24,10 @@ deliver-requires c =
         few = omega (arith, a.wires, (small-fits s.sizes).1);
         gates = omega (arith, a.gates);
         outs = a.out_bits;
-        inputs = omega (arith, a.many_in);
-        outputs = a.many_out;
         wires = omega (arith, a.wires, long 3 k.0 (lit< tt));
         marks = omega (arith, a.wires, long 2 k.0 (lit< tt), c.read.auto.marks);
       };
-      widths = a.many_in;
+      widths = omega (arith, a.many_in, length-take c.in_ok-h.h.input_values c.read.new.inputs);
       ways = omega (arith, a.wires, long 4 k.0 (lit< tt));
       best = omega (arith, a.wires, long 5 k.0 (lit< tt));
       spans = omega (arith, a.wires, long 6 k.0 (lit< tt));

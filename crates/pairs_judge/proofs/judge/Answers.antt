@@ -11,26 +11,28 @@ use Rattle.pairs_judge.proofs.judge.Goals as goal
 
 pub search-found-requires-clause-codes_len_bound : goal.search-found-requires-clause-codes_len_bound
 search-found-requires-clause-codes_len_bound c =
-    let p = c.requires.input_bits_sum in
+    let p = c.requires in
     let a = c.args in
+    let m = a.netlist in
     let same = ap length c.in_ok-admitted.ensures.given in
-    let bits = asked-bits a.widths.now a.codes.now (sym c.in_ok-admitted.ensures.asked) in
-    let good : pairs_good a.h.wires a.pairs.now ≡ true = sym c.pairs_good.ensures ∙ c.if-not-pairs_good.false in
-    let w = length-take-le a.h.wires a.words.now p.1 in
-    let b = length-take-le a.h.wires a.base.now p.2 in
-    let z = length-take-le a.h.wires a.bases.now p.3 in (
+    let bits = asked-bits m.widths.now a.codes.now (sym c.in_ok-admitted.ensures.asked) in
+    let good : pairs_good m.header.wires a.pairs.now ≡ true = sym c.pairs_good.ensures ∙ c.if-not-pairs_good.false in
+    let w = length-take-le m.header.wires a.words.now p.0 in
+    let b = length-take-le m.header.wires a.base.now p.1 in
+    let z = length-take-le m.header.wires a.bases.now p.2 in (
       omega (arith, same, c.if-codes-gt-MOST_BITS.false),
-      omega (arith, same, bits, p.0, a.h.inputs_are_wires, w),
+      omega (arith, same, bits, m.bits, m.header.inputs_are_wires, w),
       z ∙ sym w,
       b ∙ sym w,
-      λ i l. omega (arith, good-below a.h.wires a.pairs.now good i l, w),
+      λ i l. omega (arith, good-below m.header.wires a.pairs.now good i l, w),
     )
 
 pub returns : goal.returns
-returns c N h e =
+returns c N h =
     let a = c.args in
-    let w = length-take-le a.h.wires a.words.now c.requires.input_bits_sum.1 in
-    answered N a.codes.now a.pairs.now a.widths.now e c.in_ok-admitted.ensures.asked
-    c.if-codes-gt-MOST_BITS.false h.wires (sym c.pairs_good.ensures ∙ c.if-not-pairs_good.false)
+    let m = a.netlist in
+    let w = length-take-le m.header.wires a.words.now c.requires.0 in
+    answered N a.codes.now a.pairs.now m.widths.now h.widths c.in_ok-admitted.ensures.asked
+    c.if-codes-gt-MOST_BITS.false h.gates.wires (sym c.pairs_good.ensures ∙ c.if-not-pairs_good.false)
     (rw c.in_ok-admitted.ensures.given at (told N c.in_ok-admitted.admitted.list.now a.pairs.now c.search-found.result
-    (c.search-found.ensures a.h.input_bits a.h.output_bits N (rw w h))))
+    (c.search-found.ensures m.header.input_bits m.header.output_bits N (rw w h.gates))))

@@ -6,7 +6,8 @@ use Rattle.read_header.proofs.WidthLines.{Widening}
 use Rattle.read_header.proofs.read_widths.Given as goal
 
 abbrev pub invariant-loop-next : goal.invariant-loop-next
-invariant-loop-next l = Widening l.fn.at l.table l.here l.n l.sum × (length l.table ≡ length l.initial.table)
+invariant-loop-next l =
+    (l.here.text ≡ l.fn.at.text) × Widening l.fn.at l.table l.here.at l.n l.sum × (length l.table ≡ length l.initial.table)
 
 abbrev pub decreases-loop-next : goal.decreases-loop-next
-decreases-loop-next l = length l.text - l.here
+decreases-loop-next l = length l.here.text.now - l.here.at

@@ -14,4 +14,5 @@ pub returns : goal.returns
 returns c =
     let s = c.args in
     let k = rw c.small-l.ensures at c.in_ok-h.ensures in
-    call-read s.sizes s.text.now s.codes.now s.wires.now s.out_codes.now s.operands.now s.results.now s.marks.now k c.deliver.ensures
+    call-read s.sizes s.text.now s.codes.now s.wires.now s.out_codes.now s.operands.now s.results.now s.marks.now k
+    c.new-netlist.ensures c.deliver.ensures

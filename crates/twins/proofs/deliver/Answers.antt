@@ -12,14 +12,18 @@ returns-then-wires-all c =
     let codes = c.args.codes.now in
     let q = sym c.valid_codes.ensures ∙ c.if-not-valid_codes.false in
     let k = codes-length is_input_code _ codes q in
-    λ N h. twins-14 h codes q (short-wires codes (holds-codes h codes q) (omega (arith, k, c.args.h.inputs_are_wires)) _ _ c.if-wires-all.true)
+    λ N m.
+    twins-14 m.gates codes q
+    (short-wires codes (holds-codes m.gates codes q) (omega (arith, k, c.args.netlist.header.inputs_are_wires)) _ _ c.if-wires-all.true)
 
 pub returns-then-out_codes-all : goal.returns-then-out_codes-all
 returns-then-out_codes-all c =
     let codes = c.args.codes.now in
     let q = sym c.valid_codes.ensures ∙ c.if-not-valid_codes.false in
     let k = codes-length is_input_code _ codes q in
-    λ N h. twins-14 h codes q (short-codes codes (holds-codes h codes q) (omega (arith, k, c.args.h.inputs_are_wires)) _ _ c.if-out_codes-all.true)
+    λ N m.
+    twins-14 m.gates codes q
+    (short-codes codes (holds-codes m.gates codes q) (omega (arith, k, c.args.netlist.header.inputs_are_wires)) _ _ c.if-out_codes-all.true)
 
 pub returns : goal.returns
 returns c =
@@ -29,8 +33,9 @@ returns c =
     let k = codes-length is_input_code _ codes q in
     let a = c.if-wires-all.false in
     let b = c.if-out_codes-all.false in
-    let w = length-take-le c.args.h.wires c.args.wires.now a in
-    let v = length-take-le c.args.h.wires c.args.out_codes.now b in
-    λ N h. twins-14 h codes q
-    (placed codes (holds-codes h codes q) (omega (arith, k, c.args.h.inputs_are_wires)) a b (t.auto.wire ∙ w) (t.auto.code ∙ v)
+    let w = length-take-le c.args.netlist.header.wires c.args.wires.now a in
+    let v = length-take-le c.args.netlist.header.wires c.args.out_codes.now b in
+    λ N m.
+    twins-14 m.gates codes q
+    (placed codes (holds-codes m.gates codes q) (omega (arith, k, c.args.netlist.header.inputs_are_wires)) a b (t.auto.wire ∙ w) (t.auto.code ∙ v)
     (finished-same (sym w) t.ensures))

@@ -12,15 +12,15 @@ use Rattle.verilog_form.proofs.walk.Goals as goal
 max-same : (a b : ℕ) → ord_max nat_cmp a b ≡ max a b
 max-same a b = grind (arith, nat_tests)
 
-pub returns-in_err-step : goal.returns-in_err-step
-returns-in_err-step c =
-    rw c.from_residual.ensures (walk-stuck _ c.loop-token.invariant (other_kind c.loop-token.token.kind End c.loop-token-test.ensures) c.in_err-step.ensures.step)
+pub returns-in_err-s : goal.returns-in_err-s
+returns-in_err-s c =
+    rw c.from_residual.ensures (walk-stuck _ c.loop-token.invariant (other_kind c.loop-token.token.kind End c.loop-token-test.ensures) c.in_err-s.ensures.step)
 
 pub loop-token-preserved : goal.loop-token-preserved
 loop-token-preserved c =
-    rw (c.max-deepest.ensures ∙ max-same c.loop-token.deepest c.in_ok-step.step.depth, c.operators-count.ensures)
+    rw (c.max-deepest.ensures ∙ max-same c.loop-token.deepest c.in_ok-s.s.depth, c.operators-count.ensures)
     (walk-on _ c.loop-token.invariant (other_kind c.loop-token.token.kind End c.loop-token-test.ensures) (number_low c.loop-token.token.kind) _ _
-    c.in_ok-step.ensures.step c.in_ok-step.ensures.grows c.next-token-in-loop-token.ensures)
+    c.in_ok-s.ensures.step c.in_ok-s.ensures.grows c.next-token-in-loop-token.ensures)
 
 pub returns-then-ne : goal.returns-then-ne
 returns-then-ne c =

@@ -1,5 +1,7 @@
 -- The end, a word, or a sign.
 use Rattle.std.proofs.Common.{rules, ℕ, subst, sym, ◌∙◌, ◌+◌}
+use Rattle.verilog.specs.Tokens.{in_word}
+use Rattle.read_text.proofs.Cursors.{places}
 use Rattle.verilog_tokens.specs.Next.{TokenAt}
 use Rattle.verilog_tokens.proofs.Nexts.{at-end, at-word, at_sign, word_on}
 use Rattle.verilog_tokens.proofs.next.Goals as goal
@@ -17,12 +19,12 @@ returns-then-not-in_word c =
 pub word-requires : goal.word-requires
 word-requires c =
     let on = word_on _ _ _ c.skip_white-from.ensures c.if-text-from.false
-    (sym c.in_word.ensures ∙ c.if-not-in_word.false) _ c.word_end-to.ensures in search rules
+    (sym c.in_word.ensures ∙ c.if-not-in_word.false) _ (places in_word _ _ c.take_word-end.ensures) in search rules
 
 pub returns : goal.returns
 returns c =
     let t = c.args.text.now in
     let from = c.skip_white-from.result in
-    let to = c.word_end-to.result in
+    let to = c.take_word-end.result.at in
     subst (λ (k : ℕ). TokenAt t c.args.at k from to) (sym c.word.ensures)
-    (at-word _ _ _ c.skip_white-from.ensures c.if-text-from.false (sym c.in_word.ensures ∙ c.if-not-in_word.false) _ c.word_end-to.ensures)
+    (at-word _ _ _ c.skip_white-from.ensures c.if-text-from.false (sym c.in_word.ensures ∙ c.if-not-in_word.false) _ (places in_word _ _ c.take_word-end.ensures))

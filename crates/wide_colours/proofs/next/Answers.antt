@@ -10,5 +10,5 @@ returns-in-Some c =
     let a = c.args in
     let l = c.in-Some.ensures c.in-Some.c refl in (
       omega (arith, l),
-      subst (Kept a.paints.now) (sym c.put.ensures) (kept-one a.paints.now a.i c.in-Some.c (omega (arith, c.if-at-ge4.false, c.at.ensures)) l),
+      subst (Kept a.paints.now) (sym c.put.ensures) (kept-one a.paints.now a.i c.in-Some.c (omega (arith, c.if-entry-ge4.false, c.entry.ensures 0 (λ x p. p))) l),
     )

@@ -8,8 +8,8 @@ returns c =
     let s = c.args.s in
     wrote_then c.counts-second.ensures
     (wrote_then
-    (wrote-parties s.ins.now s.outs.now c.width_at-3.ensures
-    c.width_at.ensures
-    c.width_at-2.ensures
+    (wrote-parties s.ins.now s.outs.now (c.entry-3.ensures 0 (λ x p. p))
+    (c.entry.ensures 0 (λ x p. p))
+    (c.entry-2.ensures 0 (λ x p. p))
     c.numbers-blank.ensures)
     c.put.ensures)

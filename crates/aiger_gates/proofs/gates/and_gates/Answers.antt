@@ -8,7 +8,7 @@ returns c = (
   and-added c.args.first
       c.args.second
       c.operand-l.ensures.0 c.operand-r.ensures.0
-      c.and_gate.ensures,
+      c.keep.ensures,
   omega (
     arith,
     c.operand-l.ensures.1,

@@ -1,20 +1,18 @@
--- The literals so far can be read.
-use mathlib.Core.Path.{sym, ◌∙◌}
-use Rattle.aiger_gates.proofs.Placing.{not_so}
-use Rattle.aiger_outputs.proofs.KeptLines.{looking-more, looking-no, looking-all}
+-- A test of each literal.
+use Rattle.std.proofs.Common.{rules, tests, arith, ◌<◌, ◌^◌}
+use Rattle.std.proofs.lemmas.Iterator.{YieldsList-from_slice, cases_from_all}
+use Rattle.std.proofs.lemmas.Iterator.Adapters.{serves_from_places}
+use Rattle.std.proofs.lemmas.Grind.{get_or_default_zero}
+use Rattle.aiger_outputs.proofs.KeptLines.{Good, Bad, all-readable}
 use Rattle.aiger_outputs.proofs.kept.are_readable.Goals as goal
 
-pub returns-then-not-is_readable : goal.returns-then-not-is_readable
-returns-then-not-is_readable c = (
-  looking-no c.loop-x.invariant c.loop-x-test.true (λ given wires P. sym c.if-not-is_readable.true ∙ c.is_readable.ensures.0 given wires P),
-  λ e. not_so e,
-)
-
-pub loop-x-preserved : goal.loop-x-preserved
-loop-x-preserved c =
-    looking-more c.loop-x.invariant c.loop-x-test.true
-    (λ given wires P. sym c.if-not-is_readable.false ∙ c.is_readable.ensures.0 given wires P)
-    (c.is_readable.ensures.1 c.if-not-is_readable.false)
+pub all-requires-clause-callable : goal.all-requires-clause-callable
+all-requires-clause-callable c =
+    serves_from_places (YieldsList-from_slice c.args.kept.now cc) (λ x q k. search (rules, tests)) (λ x k l e.
+    let low : x.now < 2 ^ 32 = omega (arith, c.requires k l, e, get_or_default_zero c.args.kept.now k x.now l) in search rules)
 
 pub returns : goal.returns
-returns c = let k = looking-all c.loop-x.invariant c.loop-x-test.false in (k.0, λ e. k.1)
+returns c =
+    let t = c.args.table.now in
+    all-readable t c.args.kept.now c.all.result
+    (cases_from_all _ _ _ (Good t) (Bad t) c.all.ensures.ran (YieldsList-from_slice c.args.kept.now cc) (λ x q k. search (rules, tests)) (λ x q k. search (rules, tests)))

@@ -1,8 +1,14 @@
--- The variables below v that have a mark are given.
-use native.Mathlib.Omega.{arith}
-use Rattle.aiger_outputs.proofs.MarkedLines.{seen_more, seen_all}
+-- A test of each variable's wire and mark.
+use Rattle.std.proofs.Common.{rules, tests, take, ◌+◌}
+use Rattle.std.proofs.lemmas.Iterator.{YieldsList-from_slice, YieldsList-from_zip, cases_from_all}
+use Rattle.aiger_outputs.proofs.MarkedLines.{Lets, Misses, given_from}
 use Rattle.aiger_outputs.proofs.marks.are_given.Goals as goal
 
-pub returns-else-is_missing : goal.returns-else-is_missing
-returns-else-is_missing c = λ given wires are P O.
-    seen_all P O (λ u l. seen_more _ _ _ c.loop-v.invariant (c.is_missing.ensures.1 c.if-is_missing.false) u (omega arith))
+pub returns : goal.returns
+returns c = λ given wires are P O.
+    let a = c.args in
+    given_from P O c.requires.0 c.requires.1 c.all.result
+    (cases_from_all c.all.new.self _ _ Lets Misses c.all.ensures.ran
+    (YieldsList-from_zip (YieldsList-from_slice (take (a.most + 1) a.table.now) cc) (YieldsList-from_slice (take (a.most + 1) a.marks.now) cc))
+    (λ x q k. search (rules, tests))
+    (λ x q k. search (rules, tests)))

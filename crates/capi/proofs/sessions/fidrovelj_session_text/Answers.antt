@@ -1,14 +1,11 @@
--- `fidrovelj_session_text`: from what the parts say to what is promised.
-use Rattle.std.proofs.Common.{rules}
-use Rattle.capi.proofs.Showing.{ready, text-told}
+-- `capi::sessions::fidrovelj_session_text`: what the text promises, and its number.
+use Rattle.capi.proofs.Counts.{countable}
+use native.Mathlib.Omega.{arith}
+use borrow.Author.Rules.{rules}
 use Rattle.capi.proofs.sessions.fidrovelj_session_text.Goals as goal
 
-pub text-requires : goal.text-requires
-text-requires c = let q = c.asked-q in let f = c.fill-filled in ready _ _ _ _ _ _ _ _ c.args.source.now _ q.result f.result q.ensures f.ensures
+pub number-requires : goal.number-requires
+number-requires c = countable c.text.ensures.answers (omega (arith, c.well_formed))
 
 pub returns : goal.returns
-returns c =
-    let q = c.asked-q in
-    let f = c.fill-filled in
-    let told = text-told c.args.s c.args.source.now q.result f.result q.ensures f.ensures f.auto.operands f.auto.results c.text.ensures in
-    record { answer = told.answer; promise = told.promise; told = search rules }
+returns c = record { answer = c.text.result; promise = rw c.sizes.ensures at c.text.ensures; told = search rules }

@@ -13,26 +13,26 @@ use Rattle.check_leak.proofs.search.search_block.Goals as goal
 
 pub refresh-requires : goal.refresh-requires
 refresh-requires c =
-    let run-block = c.run_block in
-    let t = tables_of c.args.gates in
-    let k = run-block.auto.words in
+    let run = c.run in
+    let t = tables_of c.args.b.gates in
+    let k = run.auto.words in
     record {
       wired = wired-same k c.requires.wired;
       paints_in_bounds = (omega (arith, c.requires.paints_in_bounds.0, k), c.requires.paints_in_bounds.1 ∙ sym k);
       fact = subst
-          (λ (W : ℕ). Counted (bare t c.args.gates.count W) true c.args.paints.now (ones_of run-block.new.words) c.args.block
-          × Ready c.args.publics (bare t c.args.gates.count W) c.args.paints.now c.args.base.now c.args.block)
-          (sym k) (run-block-law run-block.ensures, c.requires.paints_in_bounds.3);
+          (λ (W : ℕ). Counted (bare t c.args.b.gates.count W) true c.args.b.paints.now (ones_of run.new.words) c.args.block
+          × Ready c.args.b.publics (bare t c.args.b.gates.count W) c.args.b.paints.now c.args.base.now c.args.block)
+          (sym k) (run-block-law run.ensures, c.requires.paints_in_bounds.3);
     }
 
 pub returns : goal.returns
 returns c =
-    let run-block = c.run_block in
+    let run = c.run in
     let refresh = c.refresh in
     let base = refresh.new.base in
-    let t = tables_of c.args.gates in
+    let t = tables_of c.args.b.gates in
     let based = subst
-    (λ (W : ℕ). Counted (bare t c.args.gates.count W) false c.args.paints.now (nibbles_of base) c.args.block
-    × Ready c.args.publics (bare t c.args.gates.count W) c.args.paints.now base (c.args.block + 1))
-    run-block.auto.words refresh.ensures in
-    (search-block-law (run-block-law run-block.ensures) based.0 c.scan.ensures, based.1)
+    (λ (W : ℕ). Counted (bare t c.args.b.gates.count W) false c.args.b.paints.now (nibbles_of base) c.args.block
+    × Ready c.args.b.publics (bare t c.args.b.gates.count W) c.args.b.paints.now base (c.args.block + 1))
+    run.auto.words refresh.ensures in
+    (search-block-law (run-block-law run.ensures) based.0 c.scan.ensures, based.1)

@@ -3,6 +3,7 @@ use Prim.Native.Nat.{◌-◌, ◌≤◌, ◌<◌}
 use mathlib.Core.Path.{◌≡◌}
 use lib.ListN.{length, set, length-set}
 use Rattle.fewest_search.proofs.Turning.{low_first, low-room, entered-most, begun-whole, begun_all}
+use Rattle.fewest_walk.proofs.Spanning.{spanned-cut}
 use native.Mathlib.Omega.{arith}
 use Rattle.gate_table.specs.Gates.{tables_of}
 use Rattle.fewest_search.proofs.search.start.Goals as goal
@@ -49,6 +50,6 @@ returns c =
     let E = c.enter in
     let e = begun-whole E.ensures low few in
     begun_all (c.fill.ensures.after (λ y e. e))
-    c.spans.ensures
+    (spanned-cut c.args.job.codes.now c.args.job.gates.results.now c.args.job.gates.count p.wired.results c.spans.ensures)
     c.twices.ensures e
     E.ensures c.copy_from_slice.ensures.after c.weigh.ensures

@@ -1,5 +1,5 @@
 -- `turn::weigh`.
-use lib.ListN.{drop, length}
+use lib.ListN.{take, drop, length}
 use Prim.Native.Nat.{◌-◌}
 use Rattle.fewest_walk.proofs.Ending.{ends-most}
 use native.Mathlib.Omega.{arith}
@@ -7,6 +7,7 @@ use Rattle.fewest_search.proofs.turn.weigh.Goals as goal
 
 pub overflow_add-result : goal.overflow_add-result
 overflow_add-result c =
-    let a = c.args in let h = ends-most
-    (drop (length a.code.now - length a.job.wanted.now) a.code.now) a.job.wanted.now in
-    omega (arith, c.outputs.ensures, c.requires.2, c.requires.3)
+    let a = c.args in
+    let from = length a.code.now - length a.job.wanted.now in
+    let h = ends-most (take (length a.code.now - from) (drop from a.code.now)) a.job.wanted.now in
+    omega (arith, h, c.outputs.ensures, c.requires.2, c.requires.3)

@@ -6,4 +6,4 @@ use Rattle.fewest_walk.proofs.Advancing.{Advancing}
 use Rattle.fewest_walk.proofs.next.next.Given as goal
 
 abbrev pub invariant-loop-p : goal.invariant-loop-p
-invariant-loop-p l = Advancing (ways_at l.codes l.results) (length l.codes + l.count) l.initial.way l.way l.p
+invariant-loop-p l = Advancing (ways_at l.codes l.results) (length l.codes + length l.results) l.initial.way l.way l.p

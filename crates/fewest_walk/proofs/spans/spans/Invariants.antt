@@ -6,4 +6,4 @@ use Rattle.fewest_walk.proofs.Spanning.{Spanning}
 use Rattle.fewest_walk.proofs.spans.spans.Given as goal
 
 abbrev pub invariant-loop-p : goal.invariant-loop-p
-invariant-loop-p l = Spanning (ways_at l.codes l.results) (length l.codes + l.count) l.initial.spans l.spans l.p l.span
+invariant-loop-p l = Spanning (ways_at l.codes l.results) (length l.codes + length l.results) l.initial.spans l.spans l.p l.span

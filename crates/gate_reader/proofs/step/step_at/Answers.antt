@@ -15,5 +15,5 @@ returns-in_default c = no_step _ _ c.skip_blanks-line.ensures c.if-text-line.fal
 
 pub returns : goal.returns
 returns c =
-    on_step _ _ c.skip_blanks-line.ensures c.if-text-line.false _ _ (ap some c.gate_of.ensures ∙ c.in-Some.ensures.gate)
+    on_step _ _ c.skip_blanks-line.ensures c.if-text-line.false _ _ (ap some c.from.ensures ∙ c.in-Some.ensures.gate)
     c.in-Some.ensures.next

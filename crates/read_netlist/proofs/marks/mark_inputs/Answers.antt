@@ -1,11 +1,6 @@
--- `mark_inputs`: the first i inputs are marked.
-use Rattle.read_netlist.proofs.Marking.{inputs-none, inputs-more}
+-- `mark_inputs`: the first n entries are 1, and the others 0.
+use Rattle.read_netlist.proofs.Marking.{inputs-marked}
 use Rattle.read_netlist.proofs.marks.mark_inputs.Goals as goal
 
-pub loop-i-init : goal.loop-i-init
-loop-i-init c = inputs-none _ _ _ c.requires.1 c.requires.2
-
-pub loop-i-preserved : goal.loop-i-preserved
-loop-i-preserved c =
-    inputs-more c.loop-i.invariant c.loop-i-test.true
-    c.requires.0 c.mark.ensures
+pub returns : goal.returns
+returns c = inputs-marked c.args.h.inputs_are_wires c.requires.0 c.requires.1 (c.fill.ensures.after (λ y e. e))

@@ -1,24 +1,33 @@
 -- The faults tell of the bytes tested, each with the one behind it.
-use Prim.Native.Nat.{◌-◌}
-use mathlib.Core.Path.{◌≡◌, sym, subst}
+use Prim.Native.Nat.{◌+◌, ◌-◌}
+use mathlib.Core.Path.{◌≡◌, sym, ap, ap₂, ◌∙◌, subst}
+use Rattle.std.proofs.Common.{inl, inr}
 use native.Mathlib.Omega.{arith}
-use lib.ListN.{length}
-use borrow.Author.Rules.{rules}
+use lib.ListN.{length, take, drop, get_or, length-drop, length-append}
+use lib.Seq.{length-take-le}
 use Rattle.netlist.specs.Read.{bytes_allowed}
-use Rattle.read_text.proofs.AllowedBytes.{Testing, testing-start, before_on, before-end, none_allowed}
+use Rattle.read_text.specs.Answers.{fault_of, allowed_before}
+use Rattle.read_text.proofs.AllowedBytes.{Testing, before_on, before-end, next_byte}
 use Rattle.read_text.proofs.allowed.all_before.Goals as goal
 
-pub returns-then-text-eq0 : goal.returns-then-text-eq0
-returns-then-text-eq0 c = sym (none_allowed c.args.text.now c.if-text-eq0.true)
-
-pub loop-i-init : goal.loop-i-init
-loop-i-init c = (search rules, testing-start _ _)
-
-pub loop-i-preserved : goal.loop-i-preserved
-loop-i-preserved c = (search rules, before_on _ _ _ _ (search rules) c.fault_before-faults.ensures c.loop-i.invariant.1)
+pub loop-b-preserved : goal.loop-b-preserved
+loop-b-preserved c =
+    let s = c.in-Some.ensures.steps in
+    let i = c.loop-b.invariant in
+    let t = c.args.text.now in
+    let k = length c.loop-b.yielded in
+    let a = next_byte t k _ _ (sym i.0 ∙ s.0) in
+    let b = next_byte t (k + 1) _ _ (sym i.1 ∙ s.1) in
+    rw (length-append c.loop-b.yielded)
+    (a.1, b.1, omega (arith, b.2), before_on t _ _ k a.2 (c.fault_before-faults.ensures ∙ ap₂ (λ x y. fault_of (allowed_before x y)) a.0 b.0) i.3)
 
 pub returns : goal.returns
 returns c =
     let t = c.args.text.now in
-    let z : c.loop-i.i ≡ length t - 1 = omega arith in
-    before-end t _ _ (length t - 1) (omega arith) c.fault_before.ensures (subst (Testing bytes_allowed t c.loop-i.faults) z c.loop-i.invariant.1)
+    let i = c.loop-b.invariant in
+    let k = length c.loop-b.yielded in
+    let l = ap length i.0 ∙ length-drop k t in
+    let m = ap length i.1 ∙ length-drop (k + 1) t in
+    let z : k ≡ length t - 1 = elim c.in-None.ensures.steps [ inl x ↦ omega (arith, l, x.1.0, i.2) | inr x ↦ omega (arith, m, x.1.0, i.2) ] in
+    let w : length (take (length t - 1) (drop 1 t)) ≡ length t - 1 = length-take-le (length t - 1) (drop 1 t) (rw length-drop (omega arith)) in
+    before-end t _ _ (length t - 1) (omega (arith, i.2)) (c.fault_before.ensures ∙ ap (λ n. fault_of (allowed_before (get_or t n 0) 0)) w) (subst (Testing bytes_allowed t c.loop-b.faults) z i.3)

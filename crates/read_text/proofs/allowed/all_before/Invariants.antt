@@ -1,8 +1,12 @@
 -- The faults tell of the bytes tested, each with the one behind it.
-use Prim.Native.Nat.{◌≤◌}
+use Prim.Native.Nat.{◌≤◌, ◌+◌}
+use mathlib.Core.Path.{◌≡◌}
+use lib.ListN.{length, drop}
 use Rattle.netlist.specs.Read.{bytes_allowed}
 use Rattle.read_text.proofs.AllowedBytes.{Testing}
 use Rattle.read_text.proofs.allowed.all_before.Given as goal
 
-abbrev pub invariant-loop-i : goal.invariant-loop-i
-invariant-loop-i l = (l.i ≤ l.last) × Testing bytes_allowed l.text l.faults l.i
+abbrev pub invariant-loop-b : goal.invariant-loop-b
+invariant-loop-b l =
+    (l.b-iterator.a.rest.now ≡ drop (length l.yielded) l.text) × (l.b-iterator.b.rest.now ≡ drop (length l.yielded + 1) l.text)
+    × (length l.yielded + 1 ≤ length l.text) × Testing bytes_allowed l.text l.faults (length l.yielded)

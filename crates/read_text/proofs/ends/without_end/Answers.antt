@@ -1,25 +1,19 @@
--- By the last two bytes.
-use mathlib.Core.Path.{sym, ◌∙◌}
-use Rattle.read_text.proofs.LineEnds.{left-none, left-all, left_alone, left-crlf, left-lf}
+-- By what comes off.
+use Rattle.std.specs.Prelude.{None, Some}
+use mathlib.Core.Path.{sym, ap, ◌∙◌}
+use mathlib.Core.List.{[], ◌∷◌}
+use Rattle.std.proofs.lemmas.Slice.Eq.{strip_suffix_is}
+use Rattle.std.proofs.lemmas.Bool.Decides.{Decides-eqb}
+use Rattle.netlist.specs.Text.{lf, cr}
+use Rattle.read_text.proofs.LineEnds.{end_none, end_either}
 use Rattle.read_text.proofs.ends.without_end.Goals as goal
 
-pub returns-then-n-eq0 : goal.returns-then-n-eq0
-returns-then-n-eq0 c = left-none _ _ c.requires c.if-n-eq0.true
+pub returns-in-None : goal.returns-in-None
+returns-in-None c = sym (end_none _ (strip_suffix_is Decides-eqb _ (lf ∷ []) None c.in-None.ensures.cases))
 
-pub returns-then-not-is_line_end : goal.returns-then-not-is_line_end
-returns-then-not-is_line_end c = left-all _ _ c.requires c.if-n-eq0.false (sym c.is_line_end.ensures ∙ c.if-not-is_line_end.true)
-
-pub returns-then-n-eq1 : goal.returns-then-n-eq1
-returns-then-n-eq1 c = left_alone _ _ c.requires c.if-n-eq1.true (sym c.is_line_end.ensures ∙ c.if-not-is_line_end.false)
-
-pub returns-then-is_cr : goal.returns-then-is_cr
-returns-then-is_cr c =
-    left-crlf _ _ c.requires c.if-n-eq0.false c.if-n-eq1.false
-    (sym c.is_line_end.ensures ∙ c.if-not-is_line_end.false)
-    (sym c.is_cr.ensures ∙ c.if-is_cr.true)
-
-pub returns : goal.returns
-returns c =
-    left-lf _ _ c.requires c.if-n-eq0.false c.if-n-eq1.false
-    (sym c.is_line_end.ensures ∙ c.if-not-is_line_end.false)
-    (sym c.is_cr.ensures ∙ c.if-is_cr.false)
+pub returns-in-Some : goal.returns-in-Some
+returns-in-Some c =
+    let a = strip_suffix_is Decides-eqb _ (lf ∷ []) (Some c.in-Some.line) c.in-Some.ensures.cases in
+    let r = c.strip_suffix-in-Some.result in
+    let b = strip_suffix_is Decides-eqb c.in-Some.line.now (cr ∷ []) r c.strip_suffix-in-Some.ensures.cases in
+    ap (λ x. x.now) c.unwrap_or.ensures ∙ end_either _ c.in-Some.line r a b

@@ -1,13 +1,18 @@
--- `gate_good`: the first no, or the gate.
-use mathlib.Core.Path.{refl, sym}
-use Rattle.session_plan.proofs.Plans.{no-eight, no_nine, no_none}
+-- `gate_good`: the first no, or the kind of the gate.
+use Rattle.std.proofs.lemmas.Result.{err_from_is_err_and}
+use Rattle.session_plan.proofs.Plans.{no-seven, no-eight, no-nine, good}
 use Rattle.session_plan.proofs.adding.gate_good.Goals as goal
 
+pub returns-in_err-kind : goal.returns-in_err-kind
+returns-in_err-kind c =
+    let p = err_from_is_err_and c.from_residual.result c.from_residual.ensures.1 in
+    rw (p.1, p.2) (no-seven c.args.next c.args.g c.in_err-kind.ensures)
+
 pub returns-then-not-operands : goal.returns-then-not-operands
-returns-then-not-operands c = no-eight _ c.args.g (sym c.if-not-known.ensures) c.if-not-operands.ensures refl
+returns-then-not-operands c = no-eight c.args.next c.args.g c.in_ok-kind.kind c.in_ok-kind.ensures c.operands.ensures c.if-not-operands.true
 
 pub returns-then-g-next : goal.returns-then-g-next
-returns-then-g-next c = no_nine _ c.args.g (sym c.if-not-known.ensures) c.if-not-operands.ensures refl c.if-g-next.true
+returns-then-g-next c = no-nine c.args.next c.args.g c.in_ok-kind.kind c.in_ok-kind.ensures c.operands.ensures c.if-not-operands.false c.if-g-next.true
 
 pub returns : goal.returns
-returns c = no_none _ c.args.g (sym c.if-not-known.ensures) c.if-not-operands.ensures refl c.if-g-next.false
+returns c = good c.args.next c.args.g c.in_ok-kind.kind c.in_ok-kind.ensures c.operands.ensures c.if-not-operands.false c.if-g-next.false

@@ -1,6 +1,6 @@
 -- `twin`: a secret input's, a public one's, or a record's.
-use Rattle.std.proofs.Common.{ap, ◌∙◌, arith}
-use Rattle.gate_records.specs.Records.{twin_in}
+use Rattle.std.proofs.Common.{rules, ap, ◌∙◌, arith}
+use Rattle.gate_records.specs.Records.{blank_source, twin_in}
 use Rattle.session_plan.proofs.Adds.{twin-record, twin-secret, twin-public}
 use Rattle.session_plan.proofs.adding.twin.Goals as goal
 
@@ -11,4 +11,4 @@ pub returns-then-wire-inputs : goal.returns-then-wire-inputs
 returns-then-wire-inputs c = let a = c.args in rw c.publics.ensures (twin-public a.codes.now a.source.now a.w (omega arith) (omega arith))
 
 pub returns : goal.returns
-returns c = let a = c.args in c.twin.ensures ∙ ap twin_in c.record.ensures ∙ twin-record a.codes.now a.source.now a.w (omega arith)
+returns c = let a = c.args in c.twin.ensures ∙ ap twin_in (c.entry.ensures blank_source (λ x p. search rules)) ∙ twin-record a.codes.now a.source.now a.w (omega arith)

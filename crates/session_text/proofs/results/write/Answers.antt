@@ -1,6 +1,6 @@
--- `write`: a no, or the text.
+-- `write`: the text.
 use Rattle.session_text.proofs.Calling.{text-written}
 use Rattle.session_text.proofs.results.write.Goals as goal
 
 pub returns : goal.returns
-returns c = λ o s. text-written (rw c.in_ok-s.was at s) c.deliver.ensures
+returns c = λ o s. text-written s c.deliver.ensures

@@ -1,0 +1,2 @@
+-- What contracts say of a netlist that was read.
+pub mod Tables
