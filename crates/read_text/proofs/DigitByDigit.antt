@@ -1,14 +1,14 @@
 -- A number read digit by digit, its value made while its end is looked for.
 use Prim.Native.Nat.{ℕ, suc, ◌+◌, ◌-◌, ◌*◌, ◌^◌, ◌<◌, ◌≤◌}
 use mathlib.Core.Path.{◌≡◌, sym, ap, ◌∙◌, subst}
-use mathlib.Core.Bool.{true, false, not}
+use mathlib.Core.Bool.{true, false, not, and-false}
 use mathlib.Core.List.{List, [], ◌∷◌}
 use mathlib.Core.Option.{none, some}
 use native.Mathlib.Numerals.{add-one}
 use native.Mathlib.Omega.{arith}
 use native.Mathlib.Nat.{pow-suc, pow-le-pow_right}
 use lib.Dec.{eqb}
-use lib.ListN.{length, drop, get_or, drop_of_length-le}
+use lib.ListN.{length, drop, get_or, drop_of_length-le, get_or-eq_default}
 use lib.Seq.{drop-cons}
 use borrow.Author.Tests.{ne_eqb}
 use Rattle.netlist.specs.Number.{is_digit, all_digits, value_from, no_leading_zero, max_digits, number}
@@ -17,7 +17,7 @@ use Rattle.netlist.specs.Text.{space, is_space}
 use Rattle.read_text.specs.Line.{is_blank, in_word, take_while, drop_while, next_word, past_word, past_space, Scanned}
 use Rattle.read_text.specs.Answers.{word_from, behind_word, is_full, WholeAt, NumberAt, one_digit}
 use Rattle.read_text.proofs.Numbers.{no-digits, ill-led, too_long, a-number, led-filled, digit-word, above-space, digit-range, full-or, not_full}
-use Rattle.read_text.proofs.Scans.{Scanning, scan-start, scan-stop, word-no-space}
+use Rattle.read_text.proofs.Scans.{Scanning, scan-start, scan-stop, scan-end, word-no-space}
 
 -- ---- a word byte by byte
 
@@ -194,9 +194,25 @@ module _ (t : List ℕ) (at i : ℕ) (s : Scanning is_space t at i) where
   pub at-digit : i < length t → is_digit (get_or t i 0) ≡ true → Scanned is_space t at i
   at-digit h d = scan-stop is_space t at i h (word-no-space (get_or t i 0) (digit-word (get_or t i 0) d)) s
 
+  -- another byte
+  pub number-other : i < length t → is_space (get_or t i 0) ≡ false → is_digit (get_or t i 0) ≡ false → number (next_word (drop at t)) ≡ none
+  number-other h n d = none-next t at i (scan-stop is_space t at i h n s) (first-other t i h d)
+
+  -- nothing
+  pub number-missing : length t ≤ i → number (next_word (drop at t)) ≡ none
+  number-missing h = none-next t at i (scan-end is_space t at i h s) (first-none t i h)
+
 -- ---- one digit and a space behind it
 
 module _ (t : List ℕ) (at : ℕ) where
+  -- the text ends before
+  pub digit-short : length t ≤ at + 1 → one_digit t at ≡ false
+  digit-short h = rw (get_or-eq_default t 0 h) (and-false (is_digit (get_or t at 0)))
+
+  -- another byte stands behind
+  pub digit-longer : (get_or t (at + 1) 0 ≡ space → ⊥) → one_digit t at ≡ false
+  digit-longer n = rw (ne_eqb (get_or t (at + 1) 0) space n) (and-false (is_digit (get_or t at 0)))
+
   pub digit-number : (x : ℕ) → at + 1 < length t → is_digit (get_or t at 0) ≡ true → get_or t (at + 1) 0 ≡ space → x ≡ get_or t at 0 - 48
       → (one_digit t at ≡ true) × NumberAt t at x (at + 2)
   digit-number x h d e v =

@@ -20,14 +20,26 @@ fn in_word(b: u8) -> bool
     !is_blank(b)
 }
 
-// Whether three bytes above the space start at a place and a blank stands behind them, as the name of a gate mostly does.
+// Whether three bytes above the space start at a place and a blank stands behind them, as the name of a gate mostly does. By places, and
+// no slice pattern: as in `next_number`.
 fn is_three_bytes(c: Cursor) -> bool
     ensures { result ≡ true → ThreeBytes c.entry.text.now c.entry.at }
 {
-    match &c.text[c.at..] {
-        [x, y, z, behind, ..] => *x > b' ' && *y > b' ' && *z > b' ' && is_blank(*behind),
-        _ => false,
+    let text = c.text;
+    let at = c.at;
+    if text.len() - at < 4 {
+        return false;
     }
+    if text[at] <= b' ' {
+        return false;
+    }
+    if text[at + 1] <= b' ' {
+        return false;
+    }
+    if text[at + 2] <= b' ' {
+        return false;
+    }
+    is_blank(text[at + 3])
 }
 
 impl<'t> Cursor<'t> {
