@@ -1,5 +1,6 @@
 // Certify: whether a netlist of any number of input bits, whose last input value is the mask pair, leaks on one wire. Questions 1 to
-// 11 with the large limits, and 14.
+// 11 with the large limits, and 14. Lists and tables are parameters of their own: C lends them one by one, and a struct of `&mut` slices would
+// have to promise at each call that it still holds them.
 #![tactic(auto)]
 
 ghost use Rattle.certify.specs.Promise.{call, Answers, Promise};

@@ -20,7 +20,8 @@ use netlist::Question;
 use netlist_tables::tables::NetlistTables;
 
 // What the certifier says of a netlist: every wire is clean; or a leak, whose numbers and input bits are told; or the lowest wire not
-// known to be clean is told.
+// known to be clean is told. What is told goes to lists, and not into the variants: the input bits that are one may be as many as there are
+// inputs (no heap), C lends both lists, and question 14 asks for room in both before either is written.
 #[derive(Clone, Copy, Debug, PartialEq, Eq)]
 pub enum Verdict {
     Clean,

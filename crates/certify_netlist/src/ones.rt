@@ -8,11 +8,10 @@ pub fn count(words: &[u64], place: u64) -> usize
     requires { place < 64 }
     ensures { result ≡ length (ones_at place words.now) }
 {
-    let mut many = 0;
-    for word in words {
-        many += ((*word >> place) & 1) as usize;
-    }
-    many
+    words
+        .iter()
+        .filter(|word| (**word >> place) & 1 == 1)
+        .count()
 }
 
 // Those words' numbers, over the front of `out`.

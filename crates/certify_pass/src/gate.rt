@@ -3,8 +3,8 @@ ghost use Rattle.std.specs.Prelude.{◌≡◌, List, ℕ, ◌+◌, ◌*◌, ◌/
 ghost use Rattle.netlist.specs.Netlist.{Netlist};
 ghost use Rattle.gate_table.specs.Parts.{Within};
 ghost use Rattle.certify_wires.specs.Known.{Known};
-ghost use Rattle.certify_wires.specs.Store.{Recorded, Marked};
-ghost use Rattle.certify_pass.specs.Pass.{byte_of, Shows, Holding, KnownIf, GateStep, PairStep};
+ghost use Rattle.certify_wires.specs.Store.{Recorded, Marked, KnownIf};
+ghost use Rattle.certify_pass.specs.Pass.{byte_of, Shows, Holding, GateStep, PairStep};
 
 use certify_records::{Record, leaf};
 use certify_wires::{hints, keep, marks, store};
@@ -44,7 +44,7 @@ fn add(records: &mut [u64], marks: &mut [u8], w: usize, r: Record)
     if marks[w] & 1 == 1 {
         return;
     }
-    if marks::clean(marks, r) {
+    if marks::shows_clean(marks, r) {
         mark(marks, w, Shown::Clean);
     }
 }
@@ -122,7 +122,7 @@ fn settle(records: &mut [u64], marks: &mut [u8], hints: &mut [u64], w: usize, k:
         return false;
     };
     store::put(records, 5 * w, s);
-    if marks::public(marks, r) {
+    if marks::shows_public(marks, r) {
         mark(marks, w, Shown::Public);
     }
     true

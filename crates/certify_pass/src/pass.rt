@@ -27,12 +27,7 @@ fn lowest(marks: &[u8]) -> Option<usize>
     ensures bound { IfSome result (λ w. w < length marks.now) }
     ensures lower { (w : ℕ) → w < sure (length marks.now) result → lane 0 (get_or marks.now w 0) ≡ true }
 {
-    for (w, mark) in marks.iter().enumerate() {
-        if *mark & 1 == 0 {
-            return Some(w);
-        }
-    }
-    None
+    (0..marks.len()).find(|w| marks[*w] & 1 == 0)
 }
 
 // The lowest wire that is not known to be clean. The records, fifteen entries for each wire, and the marks, one for each, are working
