@@ -37,7 +37,7 @@ pub fn evaluate<T: Entry>(
         return Err(Question::Room);
     }
     let words = &mut words[..h.wires as usize];
-    T::outputs(gates, outs, list, words, out);
+    T::outputs(gates, list, words, &mut out[..outs]);
     Ok(outs)
 }
 
