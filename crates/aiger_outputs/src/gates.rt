@@ -1,6 +1,6 @@
 // The gates of outputs, whose literals stand at the end of the table of results. The tables are lent one by one: a struct of `&mut`
 // slices would have to promise at each call that it still holds them.
-ghost use Rattle.std.specs.Prelude.{◌+◌, ◌^◌, ◌<◌, ◌≤◌, length, drop};
+ghost use Rattle.std.specs.Prelude.{◌+◌, ◌^◌, ◌<◌, ◌≤◌, length, drop, is_some};
 ghost use Rattle.netlist.specs.Table.{tables};
 ghost use Rattle.aiger_outputs.specs.OutAnswers.{Low, HaveWires, OutputsPut, OutputsIs};
 
@@ -29,8 +29,8 @@ fn put_outputs(
     }
 }
 
-// Whether the literals from `room` on can be read. Then their gates are put behind n inputs and `count` gates, which stand before them,
-// if the table has room for all.
+// Where the literals from `room` on can be read, their gates are put behind n inputs and `count` gates, which stand before them, if the
+// table has room for all.
 pub fn outputs(
     table: &[u32],
     operands: &mut [u64],
@@ -38,16 +38,16 @@ pub fn outputs(
     room: usize,
     n: u32,
     count: usize,
-) -> bool
+) -> Option<()>
     requires { (room ≤ length results.old) × (n + count + length (drop room results.old) + 1 < 2 ^ 32) × Low (drop room results.old) }
     ensures { OutputsIs table.now operands.old results.old
-        (tables operands.new results.new) room n count result }
+        (tables operands.new results.new) room n count (is_some result) }
 {
     if !are_readable(table, &results[room..]) {
-        return false;
+        return None;
     }
     if count <= room {
         put_outputs(table, operands, results, room, n, count);
     }
-    true
+    Some(())
 }

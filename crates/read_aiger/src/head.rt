@@ -35,10 +35,10 @@ pub fn head(text: &[u8], l: Limits) -> Result<(HeadNumbers, Lines<'_>), Question
     if !is_opening(text) {
         return Err(Question::Aiger);
     }
-    let mut numbers = [0u32; 5];
     let lines = Lines { text, at: 4 };
-    let next = lines.numbers(&mut numbers).ok_or(Question::Aiger)?;
-    let [most, inputs, latches, outputs, ands] = numbers;
+    let ([most, inputs, latches, outputs, ands], next) = lines
+        .numbers::<5>()
+        .ok_or(Question::Aiger)?;
     let h = HeadNumbers {
         most,
         inputs,

@@ -50,10 +50,7 @@ pub fn read(
         return Err(Question::Depth);
     }
     let gates = form.operators + k.outputs as usize;
-    let all = k.inputs as usize + gates;
-    if (l.wires as usize) < all || l.inputs < 1 || l.outputs < 1 {
-        return Err(Question::Limits);
-    }
+    let numbers = NetlistNumbers::admitted(k.inputs, gates, k.outputs, l)?;
     let names = Names {
         text,
         heads,
@@ -69,10 +66,5 @@ pub fn read(
     copies(
         names, states, wires, operands, results, k.inputs, k.ports, first,
     );
-    Ok(NetlistNumbers {
-        gates,
-        wires: all,
-        inputs: k.inputs,
-        outputs: k.outputs,
-    })
+    Ok(numbers)
 }
