@@ -35,7 +35,7 @@ fn step(
     (end, t.wire + 1)
 }
 
-// All the gates, at the wires from c, likewise.
+// All the gates, at the wires from c: the next place, and the next wire.
 pub fn write_all(
     d: Words,
     out: &mut [u8],

@@ -53,6 +53,15 @@ pub fn pass(
     let third = crate::publics::publics(d, out, second, n, n + 5, codes);
     let (place, next) = crate::gates::write_all(d, out, third, masks, first, gates, wire, code);
     let from = wire.len() - wanted.len();
-    let end = crate::outs::outs(d, out, place, masks, next, wire, code, from, wanted);
+    let end = crate::outs::outs(
+        d,
+        out,
+        place,
+        masks,
+        next,
+        &wire[from..],
+        &code[from..],
+        wanted,
+    );
     (end, next + wanted.len() as u32)
 }

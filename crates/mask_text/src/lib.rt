@@ -55,7 +55,7 @@ fn fill<'a>(
 {
     let size = write(d, out, j, wire, code);
     let from = code.len() - j.wanted.len();
-    mask_pass::outs::codes(code, from, j.wanted, out_codes);
+    mask_pass::outs::codes(&code[from..], j.wanted, out_codes);
     size
 }
 
