@@ -14,8 +14,8 @@ use verilog_tokens::{Kind, Token, next};
 
 // Whether a token may stand in an expression: the end of the text may not, and a name only if it may be read.
 fn passes(names: Names, states: &[u32], token: Token) -> bool
-    requires { (names.count ≤ length states.now) × (token.from ≤ token.to) × (token.to ≤ length names.text.now) }
-    ensures { result ≡ token_passes (readable names.entry.text.now names.entry.words.now states.now names.entry.count)
+    requires { (length names.words.now ≤ length states.now) × (token.from ≤ token.to) × (token.to ≤ length names.text.now) }
+    ensures { result ≡ token_passes (readable names.entry.text.now names.entry.words.now states.now (length names.entry.words.now))
         (number_of token.kind) (between names.entry.text.now token.from token.to) }
 {
     match token.kind {
@@ -30,8 +30,8 @@ fn passes(names: Names, states: &[u32], token: Token) -> bool
 
 // The place behind the next semicolon, if each name before it may be read. No `for`: the place moves by as much as a token is long.
 fn reads(names: Names, states: &[u32], at: usize) -> Option<usize>
-    requires { (names.count ≤ length states.now) × (at ≤ length names.text.now) }
-    ensures { PartIs names.entry.text.now (readable names.entry.text.now names.entry.words.now states.now names.entry.count) at result }
+    requires { (length names.words.now ≤ length states.now) × (at ≤ length names.text.now) }
+    ensures { PartIs names.entry.text.now (readable names.entry.text.now names.entry.words.now states.now (length names.entry.words.now)) at result }
 {
     let mut token = next(names.text, at);
     while token.kind != Kind::Semicolon {
@@ -61,8 +61,8 @@ pub fn past(text: &[u8], at: usize) -> usize
 // Makes a name one that may be read; says whether it was a wire or an output not yet assigned. The states, which are written, are lent beside
 // the names: a struct of `&mut` slices would have to promise at each call that it still holds them.
 fn target(names: Names, states: &mut [u32], w: &[u8]) -> bool
-    requires { names.count ≤ length states.old }
-    ensures { TargetIs names.entry.text.now names.entry.words.now names.entry.count w.now states.old states.new result }
+    requires { length names.words.now ≤ length states.old }
+    ensures { TargetIs names.entry.text.now names.entry.words.now (length names.entry.words.now) w.now states.old states.new result }
 {
     advance(names, states, w, State::Wire, State::Readable)
         || advance(names, states, w, State::Port, State::ReadableOutput)
@@ -71,8 +71,8 @@ fn target(names: Names, states: &mut [u32], w: &[u8]) -> bool
 // The assignments from a place on: whether each reads only names that may be read, and assigns a wire or an output that is not
 // yet assigned.
 pub fn assigns(names: Names, states: &mut [u32], at: usize) -> bool
-    requires { (names.count ≤ length states.old) × (at ≤ length names.text.now) }
-    ensures { AssignsIs names.entry.text.now names.entry.words.now names.entry.count at states.old states.new result }
+    requires { (length names.words.now ≤ length states.old) × (at ≤ length names.text.now) }
+    ensures { AssignsIs names.entry.text.now names.entry.words.now (length names.entry.words.now) at states.old states.new result }
 {
     let text = names.text;
     let mut token = next(text, at);

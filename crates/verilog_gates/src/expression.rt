@@ -35,8 +35,8 @@ pub fn expression(
     from: usize,
     next: u32,
 ) -> Value
-    requires { Ready names.text.now wires.now names.count n from next }
-    ensures { ExprIs (wire_of names.entry.text.now names.entry.words.now wires.now names.entry.count) names.entry.text.now n from next
+    requires { Ready names.text.now wires.now (length names.words.now) n from next }
+    ensures { ExprIs (wire_of names.entry.text.now names.entry.words.now wires.now (length names.entry.words.now)) names.entry.text.now n from next
         (tables operands.old results.old) (tables operands.new results.new) result }
 {
     let mut left = term(names, wires, operands, results, n, from, next);
@@ -63,8 +63,8 @@ fn term(
     from: usize,
     next: u32,
 ) -> Value
-    requires { Ready names.text.now wires.now names.count n from next }
-    ensures { TermIs (wire_of names.entry.text.now names.entry.words.now wires.now names.entry.count) names.entry.text.now n from next
+    requires { Ready names.text.now wires.now (length names.words.now) n from next }
+    ensures { TermIs (wire_of names.entry.text.now names.entry.words.now wires.now (length names.entry.words.now)) names.entry.text.now n from next
         (tables operands.old results.old) (tables operands.new results.new) result }
 {
     let mut left = factor(names, wires, operands, results, n, from, next);
@@ -129,8 +129,8 @@ fn factor(
     from: usize,
     next: u32,
 ) -> Value
-    requires { Ready names.text.now wires.now names.count n from next }
-    ensures { FactorIs (wire_of names.entry.text.now names.entry.words.now wires.now names.entry.count) names.entry.text.now n from next
+    requires { Ready names.text.now wires.now (length names.words.now) n from next }
+    ensures { FactorIs (wire_of names.entry.text.now names.entry.words.now wires.now (length names.entry.words.now)) names.entry.text.now n from next
         (tables operands.old results.old) (tables operands.new results.new) result }
 {
     let text = names.text;

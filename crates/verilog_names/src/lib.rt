@@ -9,17 +9,15 @@ ghost use Rattle.verilog_names.specs.Names.{number, found, entry_number, chain_o
 
 use read_text::bytes::same;
 
-// Names found by chains of equal numbers in lent tables, which are read: so many chains, and so many names of a text. The links are
-// places in a table, since there is no heap and C lends the tables.
+// Names found by chains of equal numbers in lent tables, which are read: a chain for each of `heads`, and a name of the text for each of
+// `words`. The links are places in a table, since there is no heap and C lends the tables.
 #[derive(Clone, Copy)]
 pub struct Names<'a> {
     pub text: &'a [u8],
     pub heads: &'a [u64],
     pub words: &'a [u64],
     pub links: &'a [u64],
-    pub size: usize,
-    pub count: usize,
-    ghost chained: { Chained text.now heads.now words.now links.now size count },
+    ghost chained: { Chained text.now heads.now words.now links.now (length heads.now) (length words.now) },
 }
 
 // 2^32: the numbers of names are below it, and a name's end stands in the upper half of its entry of words, above its start.
@@ -58,10 +56,10 @@ fn is_name(text: &[u8], entry: u64, w: &[u8]) -> bool
 impl Names<'_> {
     // The newest entry with the name w.
     pub fn find(self, w: &[u8]) -> Option<usize>
-        ensures entry { entry_number result ≡ found self.entry.text.now self.entry.words.now w.now self.entry.count }
-        ensures within { IfSome result (λ i. i < self.entry.count) }
+        ensures entry { entry_number result ≡ found self.entry.text.now self.entry.words.now w.now (length self.entry.words.now) }
+        ensures within { IfSome result (λ i. i < length self.entry.words.now) }
     {
-        let mut p = self.heads[chain_of(w, self.size)];
+        let mut p = self.heads[chain_of(w, self.heads.len())];
         while 0 < p {
             let i = (p - 1) as usize;
             if is_name(self.text, self.words[i], w) {
@@ -73,8 +71,8 @@ impl Names<'_> {
     }
 }
 
-// The name between two places as the next entry, newest of its chain. The tables are lent one by one: a struct of `&mut` slices would have
-// to promise at each call that it still holds them.
+// The name between two places as the next entry behind the first `count`, newest of its chain. The tables are lent one by one: a struct of
+// `&mut` slices would have to promise at each call that it still holds them.
 pub fn add(
     text: &[u8],
     from: usize,
@@ -82,15 +80,14 @@ pub fn add(
     heads: &mut [u64],
     words: &mut [u64],
     links: &mut [u64],
-    size: usize,
     count: usize,
 )
-    requires { Chained text.now heads.old words.old links.old size count × (from ≤ to) × (to ≤ length text.now)
+    requires { Chained text.now heads.old words.old links.old (length heads.old) count × (from ≤ to) × (to ≤ length text.now)
         × (count < length words.old) × (count < length links.old) }
     ensures { Added text.now heads.old heads.new words.old words.new
-        links.old links.new size count from to }
+        links.old links.new (length heads.old) count from to }
 {
-    let k = chain_of(&text[from..to], size);
+    let k = chain_of(&text[from..to], heads.len());
     words[count] = (from as u64) + (to as u64) * HALF;
     links[count] = heads[k];
     heads[k] = (count as u64) + 1;

@@ -27,9 +27,10 @@ impl State {
 
 // Takes a name from one state to another; says whether it was in the first.
 pub fn advance(names: Names, states: &mut [u32], w: &[u8], old: State, new: State) -> bool
-    requires { names.count ≤ length states.old }
-    ensures said { result ≡ eqb (wire_of names.entry.text.now names.entry.words.now states.old names.entry.count w.now) (state_number old) }
-    ensures moved { states.new ≡ becomes names.entry.text.now names.entry.words.now states.old names.entry.count w.now (state_number old) (state_number new) }
+    requires { length names.words.now ≤ length states.old }
+    ensures said { result ≡ eqb (wire_of names.entry.text.now names.entry.words.now states.old (length names.entry.words.now) w.now) (state_number old) }
+    ensures moved { states.new ≡ becomes names.entry.text.now names.entry.words.now states.old (length names.entry.words.now) w.now (state_number old)
+        (state_number new) }
 {
     match names.find(w) {
         Some(i) if states[i] == old.number() => {
