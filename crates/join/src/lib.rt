@@ -15,7 +15,9 @@ ghost use Rattle.join.specs.Promise.{call, Promise};
 use gate_table::Gates;
 use join_gates::seam::SeamNumbers;
 use netlist::{Answer, Question, Sizes};
+use old_form::Dialect;
 use read_header::header::Header;
+use write_netlist::form::Form;
 
 // Questions 1 to 11 of a text with its input codes, as `read_netlist::read::read` puts 1 to 9.
 fn read_block(
@@ -57,14 +59,14 @@ fn seam_holds(a: Header, out_codes: &[u8], b: Header, codes: &[u8]) -> bool
 }
 
 // Questions 25, 5 and 14 and the joined text, of two blocks that were read: the second's gates go behind the first's.
-fn deliver(
+fn deliver<'w>(
     out_codes: &[u8],
     codes: &[u8],
     out: &mut [u8],
     a: Header,
     b: Header,
-    inputs: &[u32],
-    outputs: &[u32],
+    inputs: &'w [u32],
+    outputs: &'w [u32],
     operands: &mut [u64],
     results: &mut [u64],
     words: &[u64],
@@ -104,7 +106,14 @@ fn deliver(
         results,
         count: count + second.count,
     };
-    write_netlist::deliver(out, gates, wires as usize, inputs, outputs)
+    let f = Form {
+        gates,
+        wires: wires as usize,
+        ins: inputs,
+        outs: outputs,
+        dialect: Dialect::Fashion,
+    };
+    write_netlist::deliver(out, f)
 }
 
 // The answer once the first text is read: questions 2 to 11 of the second, and then 25, 5 and 14.

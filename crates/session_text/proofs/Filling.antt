@@ -22,17 +22,17 @@ use Rattle.session_text.specs.Parts.{GateIs}
 
 -- the gates of the first k records lie in the tables
 pub record Filled (source : List SourceRecord) (s : Shown) (k : ℕ) (t : Tables) : Type 0 where
-  pub gates : record_gates s.input_bits source k ≡ done (gates_of t k)
-  pub wired : Wired t (s.input_bits + s.count) k
+  pub gates : record_gates s.header.input_bits source k ≡ done (gates_of t k)
+  pub wired : Wired t s.header.wires k
 
 -- a no of a record is one of all behind it
 stays : (n : ℕ) (source : List SourceRecord) (k m : ℕ) {q : ℕ} → record_gates n source k ≡ refused q → record_gates n source (k + m) ≡ refused q
 stays n source k zero e = let z : k + 0 ≡ k = omega arith in rw z e
 stays n source k (suc m) e = let z : k + suc m ≡ suc (k + m) = omega arith in rw (z, stays n source k m e) refl
 
-module _ (source : List SourceRecord) (s : Shown) (k : ℕ) (t : Tables) (f : Filled source s k t) (l : k < s.count) where
+module _ (source : List SourceRecord) (s : Shown) (k : ℕ) (t : Tables) (f : Filled source s k t) (l : k < s.header.gates) where
   abbrev n : ℕ
-  n = s.input_bits
+  n = s.header.input_bits
 
   abbrev good : Outcome Gate
   good = gate_good (n + k) (gate_in (get_or source k blank_source))
@@ -41,17 +41,17 @@ module _ (source : List SourceRecord) (s : Shown) (k : ℕ) (t : Tables) (f : Fi
   goes_on : record_gates n source (k + 1) ≡ (and_then good λ g. done (gates_of t k ++ (g ∷ [])))
   goes_on = ap (record_gates n source) (add-one k) ∙ ap (λ (o : Outcome (List Gate)). and_then o λ gs. and_then good λ g. done (gs ++ (g ∷ []))) f.gates
 
-  pub filled_no : (q : Question) → good ≡ refused (number_of q) → record_gates n source s.count ≡ refused (number_of q)
+  pub filled_no : (q : Question) → good ≡ refused (number_of q) → record_gates n source s.header.gates ≡ refused (number_of q)
   filled_no q e =
-      let m : ℕ = s.count - (k + 1) in
-      let z : k + 1 + m ≡ s.count = omega (arith, l) in
+      let m : ℕ = s.header.gates - (k + 1) in
+      let z : k + 1 + m ≡ s.header.gates = omega (arith, l) in
       subst (λ (j : ℕ). record_gates n source j ≡ refused (number_of q)) z
       (stays n source (k + 1) m (goes_on ∙ ap (λ (o : Outcome Gate). and_then o λ g. done (gates_of t k ++ (g ∷ []))) e))
 
   module _ (e : Entry) (room : Room t k) (r : GateIs (get_or source k blank_source) (n + k) e) where
     pub filled_more : Filled source s (k + 1) (put_entry t k e.operands e.results)
     filled_more =
-        let p = stored t room (r.entered (n + s.count) (omega (arith, l))) refl in
+        let p = stored t room (r.entered s.header.wires (omega (arith, l, s.counted.wires))) refl in
         record {
           gates = goes_on ∙ ap (λ (o : Outcome Gate). and_then o λ g. done (gates_of t k ++ (g ∷ []))) r.admitted ∙ ap done (sym p.gates);
           wired = p.wired f.wired;

@@ -13,11 +13,12 @@ use Rattle.netlist.specs.Netlist.{Netlist, small}
 use Rattle.netlist.specs.Header.{Header}
 use Rattle.netlist.specs.Outcome.{Outcome, refused, done, and_then}
 use Rattle.netlist.specs.Read.{netlist_of, WellFormed, Within}
-use Rattle.netlist.specs.Table.{Tables, gates_of}
 use Rattle.netlist.proofs.Tests.{true-T, both}
 use Rattle.netlist.proofs.Questions.{done-same, and_then-done}
 use Rattle.netlist.proofs.Order.{Ordered, end, step, ordered-append, ordered-length, ordered-good}
 use Rattle.gate_records.specs.declared.SourceRecord.{SourceRecord}
+use Rattle.gate_table.specs.declared.Gates.{Gates}
+use Rattle.gate_table.specs.Gates.{gates_in}
 use Rattle.gate_records.specs.Records.{blank_source, gate_in}
 use Rattle.session.specs.Asked.{widths_good, gate_good}
 use Rattle.session_text.specs.declared.shown.Shown.{Shown}
@@ -97,30 +98,30 @@ module _ (z : Sizes) (lengths widths outputs : List ℕ) (gates : ℕ) (source :
   yes : Yes (small z) lengths widths outputs gates (length source)
   yes = head-yes (small z) lengths widths outputs gates (length source) A.head.is
 
-  bits-same : s.input_bits ≡ sum widths
+  bits-same : s.header.input_bits ≡ sum widths
   bits-same = s.counted.input_bits ∙ ap sum A.widths
 
-  same-records : record_gates (sum widths) source gates ≡ record_gates s.input_bits source s.count
-  same-records = ap (λ (n : ℕ). record_gates n source gates) (sym bits-same) ∙ ap (record_gates s.input_bits source) (sym A.count)
+  same-records : record_gates (sum widths) source gates ≡ record_gates s.header.input_bits source s.header.gates
+  same-records = ap (λ (n : ℕ). record_gates n source gates) (sym bits-same) ∙ ap (record_gates s.header.input_bits source) (sym A.count)
 
   -- what follows the records
-  records : {r : Outcome (List Gate)} → record_gates s.input_bits source s.count ≡ r
+  records : {r : Outcome (List Gate)} → record_gates s.header.input_bits source s.header.gates ≡ r
       → netlist_shown (small z) lengths widths outputs gates source ≡ (and_then r λ gs. done (netlist_of (head_of widths outputs gates) gs))
   records e = goes_on (small z) lengths widths outputs gates source yes
       ∙ ap (λ (o : Outcome (List Gate)). and_then o λ gs. done (netlist_of (head_of widths outputs gates) gs)) (same-records ∙ e)
 
   -- a no of the records
-  pub records-no : {n : ℕ} → record_gates s.input_bits source s.count ≡ refused n → netlist_shown (small z) lengths widths outputs gates source ≡ refused n
+  pub records-no : {n : ℕ} → record_gates s.header.input_bits source s.header.gates ≡ refused n → netlist_shown (small z) lengths widths outputs gates source ≡ refused n
   records-no e = records e
 
   -- all of them are admitted
-  pub stands-at : {t : Tables} → GatesAt source s t → NetlistAt (netlist_shown (small z) lengths widths outputs gates source) t s
-  stands-at {t} G =
-      let gs = gates_of t s.count in
+  pub stands-at : {g : Gates} → GatesAt source s g → NetlistAt (netlist_shown (small z) lengths widths outputs gates source) g s
+  stands-at {g} G =
+      let gs = gates_in g in
       record {
         is = netlist_of (head_of widths outputs gates) gs;
         outcome = records G.gates;
-        wires = omega (arith, bits-same, A.count);
+        wires = omega (arith, bits-same, A.count, s.counted.wires);
         inputs = sym A.widths;
         outputs = sym A.outputs;
         gates = refl;

@@ -8,6 +8,7 @@ ghost use Rattle.session_text.specs.Parts.{AskedIs};
 
 use crate::shown::Shown;
 use netlist::{Limits, Question, Sizes};
+use read_header::header::Header;
 use session_plan::opening::{positive, total};
 
 // Question 5.
@@ -74,11 +75,17 @@ pub fn ask<'a>(
     ensures { AskedIs sizes lengths.now widths.now outputs.now gates places result }
 {
     question(widths, outputs, gates, places, lengths, sizes)?;
+    let bits = total(widths);
     Ok(Shown {
+        header: Header {
+            gates,
+            wires: bits as u32 + gates,
+            input_values: widths.len(),
+            input_bits: bits,
+            output_values: outputs.len(),
+            output_bits: total(outputs),
+        },
         widths,
         outputs,
-        input_bits: total(widths) as usize,
-        output_bits: total(outputs) as usize,
-        count: gates as usize,
     })
 }

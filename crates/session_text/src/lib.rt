@@ -7,28 +7,32 @@ pub mod entries;
 pub mod results;
 pub mod shown;
 
-ghost use Rattle.netlist.specs.Table.{tables};
 ghost use Rattle.session_text.specs.Parts.{Places, GatesAre};
 
 use crate::entries::entry;
 use crate::shown::Shown;
 use gate_records::SourceRecord;
+use gate_table::{Gates, put};
 use netlist::Question;
 
-// The gates of the first records into the tables, and questions 7 to 9 of each.
-pub fn fill(
+// The gates of a session's records, which are put into the tables, and questions 7 to 9 of each.
+pub fn fill<'t>(
     source: &[SourceRecord],
     s: Shown,
-    operands: &mut [u64],
-    results: &mut [u64],
-) -> Result<(), Question>
+    operands: &'t mut [u64],
+    results: &'t mut [u64],
+) -> Result<Gates<'t>, Question>
     requires { Places source.now operands.old results.old s }
-    ensures { GatesAre source.now s.entry (tables operands.new results.new) result }
+    ensures { GatesAre source.now s.entry result }
 {
-    for i in 0..s.count {
-        let e = entry(source[i], s.input_bits + i)?;
-        operands[i] = e.operands;
-        results[i] = e.results;
+    let count = s.header.gates as usize;
+    for i in 0..count {
+        let e = entry(source[i], s.header.input_bits as usize + i)?;
+        put(operands, results, i, e);
     }
-    Ok(())
+    Ok(Gates {
+        operands,
+        results,
+        count,
+    })
 }

@@ -15,6 +15,6 @@ pub loop-i-preserved : goal.loop-i-preserved
 loop-i-preserved c =
     let l = c.loop-i in
     let q = c.requires in
-    filled_more c.args.source.now c.args.s l.i (tables l.operands l.results) l.invariant c.loop-i-test.true c.in_ok-e.e
+    rw c.put.ensures (filled_more c.args.source.now c.args.s l.i (tables l.operands l.results) l.invariant c.loop-i-test.true c.in_ok-e.e
     (record { operands = omega (arith, c.loop-i-test.true, q.operands, l.auto.operands); results = omega (arith, c.loop-i-test.true, q.results, l.auto.results) })
-    c.in_ok-e.ensures
+    c.in_ok-e.ensures)
