@@ -77,7 +77,7 @@ impl<'a> Blocks<'a> {
     pub fn refresh(self, block: u64, words: &[u64], base: &mut [u64])
         requires wired { WiredGates self.gates (length words.now) }
         requires paints_in_bounds { (length self.paints.now + 2 ≤ length words.now) × (length base.old ≡ length words.now) }
-        requires fact { let N = bare_of self.gates (length words.now) in
+        requires held { let N = bare_of self.gates (length words.now) in
             Counted N true self.paints.now (ones_of words.now) block × Ready self.publics N self.paints.now base.old block }
         ensures { let N = bare_of self.entry.gates (length words.now) in
             Counted N false self.entry.paints.now (nibbles_of base.new) block

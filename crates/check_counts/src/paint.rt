@@ -1,4 +1,4 @@
-// Paints: an input's code and, times four, its colour.
+// Paints: an input's code and, times four, its colour. Codes and paints are bytes and no types of their own, since C lends the tables of both.
 ghost use Rattle.std.specs.Prelude.{◌≡◌, ◌≤◌, length, take};
 ghost use Rattle.check_counts.specs.Paint.{paint_each};
 

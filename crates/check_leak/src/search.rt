@@ -8,7 +8,7 @@ ghost use Rattle.gate_table.specs.Gates.{WiredGates, HoldsGates};
 ghost use Rattle.evaluate.specs.Bare.{bare_of};
 ghost use Rattle.check_counts.specs.Base.{count_in};
 ghost use Rattle.check_counts.specs.Block.{Ready};
-ghost use Rattle.check_leak.specs.Difference.{LowestDifference, from};
+ghost use Rattle.check_leak.specs.Difference.{LowestDifference, from, max_blocks};
 ghost use Rattle.check_leak.specs.Search.{found_of};
 
 use crate::difference;
@@ -49,7 +49,7 @@ fn find(
 ) -> Option<Leak>
     requires wired { WiredGates gates (length words.old) }
     requires paints_in_bounds { (length paints.now + 2 ≤ length words.old) × (length base.old ≡ length words.old)
-        × (blocks < 65536) }
+        × (blocks < max_blocks) }
     ensures { let N = bare_of gates.entry (length words.old) in LowestDifference
         (count_in N false paints.now) (count_in N true paints.now) (length words.old) (blocks * 16) result }
 {
@@ -71,7 +71,7 @@ fn find(
 // How many blocks hold the settings of k input bits, sixteen in each.
 pub fn blocks_of(k: usize) -> u64
     requires { k < 20 }
-    ensures { (2 ^ k ≤ result * 16) × (result < 65536) }
+    ensures { (2 ^ k ≤ result * 16) × (result < max_blocks) }
 {
     if k < 4 { 1 } else { 1 << (k - 4) }
 }

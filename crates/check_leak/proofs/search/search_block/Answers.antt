@@ -19,7 +19,7 @@ refresh-requires c =
     record {
       wired = wired-same k c.requires.wired;
       paints_in_bounds = (omega (arith, c.requires.paints_in_bounds.0, k), c.requires.paints_in_bounds.1 ∙ sym k);
-      fact = subst
+      held = subst
           (λ (W : ℕ). Counted (bare t c.args.b.gates.count W) true c.args.b.paints.now (ones_of run.new.words) c.args.block
           × Ready c.args.b.publics (bare t c.args.b.gates.count W) c.args.b.paints.now c.args.base.now c.args.block)
           (sym k) (run-block-law run.ensures, c.requires.paints_in_bounds.3);
