@@ -31,7 +31,7 @@ pub fn refresh(b: Blocks, block: u64, words: &[u64], bases: &mut [u64], base: &m
     requires wired { WiredGates b.gates (length words.now) }
     requires paints_in_bounds { (length b.paints.now + 2 ≤ length words.now) × (length bases.old ≡ length words.now)
         × (length base.old ≡ length words.now) }
-    requires fact { let N = bare_of b.gates (length words.now) in
+    requires held { let N = bare_of b.gates (length words.now) in
         Evaluated N true b.paints.now words.now block × HeldOn b.publics N b.paints.now bases.old base.old block }
     ensures { let N = bare_of b.entry.gates (length words.now) in
         Based N b.entry.paints.now bases.new base.new block

@@ -8,13 +8,14 @@ ghost use Rattle.netlist.specs.Services.{max_checked};
 ghost use Rattle.gate_table.specs.Gates.{WiredGates, HoldsGates};
 ghost use Rattle.evaluate.specs.Bare.{bare_of};
 ghost use Rattle.check_counts.specs.Block.{Evaluated};
-ghost use Rattle.check_leak.specs.Difference.{wire_of};
+ghost use Rattle.check_leak.specs.Difference.{wire_of, max_blocks};
 ghost use Rattle.check_leak.specs.Search.{found_of};
 ghost use Rattle.pairs.specs.Pairs.{clean_pair, first_bad};
 ghost use Rattle.pairs_search.specs.Level.{Counts, counts_of, held_in, held_base, on_from, Alike};
 ghost use Rattle.pairs_search.specs.Bases.{Based, HeldOn};
 ghost use Rattle.pairs_search.specs.Search.{bad_of, Found};
 
+use crate::held::Held;
 use crate::{base, pair};
 use check_counts::block::Blocks;
 use check_counts::{block, paint};
@@ -24,7 +25,7 @@ use gate_table::Gates;
 use lists::codes::Codes;
 
 // The lowest leak, and how many pairs stand before the first bad one; none where all are clean.
-#[derive(Clone, Copy, Debug, PartialEq, Eq)]
+#[derive(Clone, Copy, Debug, Default, PartialEq, Eq)]
 pub struct PairsFound<S = u64> {
     pub leak: Option<Leak<S>>,
     pub pair: Option<usize>,
@@ -47,29 +48,20 @@ fn run(b: Blocks, block: u64, words: &mut [u64], bases: &mut [u64], base: &mut [
 
 // The better of the best so far, of wires below a limit, and what a block shows. Wires above the lowest leak, and pairs behind the first
 // bad one, are looked at no more.
-fn look(
-    words: &[u64],
-    bases: &[u64],
-    base: &[u64],
-    pairs: &[u32],
-    limit: usize,
-    best: PairsFound,
-    block: u64,
-) -> PairsFound
-    requires { (block < 65536) × (wire_of limit best.leak ≤ length words.now)
+fn look(h: Held, pairs: &[u32], limit: usize, best: PairsFound, block: u64) -> PairsFound
+    requires { (block < max_blocks) × (wire_of limit best.leak ≤ length h.words.now)
         × (unwrap_or best.pair (length pairs.now / 2) ≤ length pairs.now / 2)
-        × (length bases.now ≡ length words.now) × (length base.now ≡ length words.now)
-        × ((i : ℕ) → i < length pairs.now → get_or pairs.now i 0 < length words.now) }
-    ensures { (based counts : Counts) → Alike (held_base bases.now base.now) (on_from (block * 16) based)
-        → Alike (held_in words.now) (on_from (block * 16) counts)
+        × ((i : ℕ) → i < length pairs.now → get_or pairs.now i 0 < length h.words.now) }
+    ensures { (based counts : Counts) → Alike (held_base h.entry.bases.now h.entry.base.now) (on_from (block * 16) based)
+        → Alike (held_in h.entry.words.now) (on_from (block * 16) counts)
         → Found based counts pairs.now limit (length pairs.now / 2) (block * 16) best
         → Found based counts pairs.now limit (length pairs.now / 2) (block * 16 + 16) result }
 {
     let wires = difference::limit(best.leak, limit);
-    let found = difference::scan(words, base, wires);
-    let agreed = wires == words.len() && found.is_none();
+    let found = difference::scan(h.words, h.base, wires);
+    let agreed = wires == h.words.len() && found.is_none();
     let before = best.pair.unwrap_or(pairs.len() / 2);
-    let pair = pair::scan(pairs, before, words, bases, base, agreed);
+    let pair = pair::scan(&pairs[..2 * before], h, agreed);
     PairsFound {
         leak: difference::better(best.leak, found, block),
         pair: pair.or(best.pair),
@@ -89,7 +81,7 @@ pub fn find(
 ) -> PairsFound
     requires wired { WiredGates gates (length words.old) }
     requires paints_in_bounds { (length paints.now + 2 ≤ length words.old) × (length bases.old ≡ length words.old)
-        × (length base.old ≡ length words.old) × (blocks < 65536) × (limit ≤ length words.old)
+        × (length base.old ≡ length words.old) × (blocks < max_blocks) × (limit ≤ length words.old)
         × ((i : ℕ) → i < length pairs.now → get_or pairs.now i 0 < length words.old) }
     ensures { let N = bare_of gates.entry (length words.old) in
         Found (counts_of N false paints.now) (counts_of N true paints.now) pairs.now limit
@@ -101,13 +93,10 @@ pub fn find(
         paints,
         publics,
     };
-    let mut best = PairsFound {
-        leak: None,
-        pair: None,
-    };
+    let mut best = PairsFound::default();
     for block in 0..blocks {
         run(b, block, words, bases, base);
-        best = look(words, bases, base, pairs, limit, best, block);
+        best = look(Held { words, bases, base }, pairs, limit, best, block);
     }
     best
 }
