@@ -1,7 +1,7 @@
 -- Two rising lists put together, number by number.
 use Rattle.std.specs.Prelude.{ℕ, ◌+◌, ◌≤◌, ◌<◌, List, ◌∷◌, ◌≡◌, Option, Some, None, length, take, drop}
-use Rattle.wide.specs.Sets.{merge}
-use Rattle.wide_sets.specs.Packed.{second, Small}
+use Rattle.wide.specs.Sets.{merge, members_end}
+use Rattle.wide_sets.specs.Packed.{Small}
 use Rattle.wide_sets.specs.declared.members.InputSet.{InputSet}
 use Rattle.wide_sets.specs.declared.unite.Head.{Head}
 
@@ -10,7 +10,7 @@ pub record Next (x : List ℕ) (i : ℕ) (y : List ℕ) (j : ℕ) (r : Head) : T
   pub left : r.i ≤ length x
   pub right : r.j ≤ length y
   pub further : i + j < r.i + r.j
-  pub small : Small x → Small y → r.value < second
+  pub small : Small x → Small y → r.value < members_end
   pub value : merge (drop i x) (drop j y) ≡ r.value ∷ merge (drop r.i x) (drop r.j y)
 
 -- all numbers stand at the front of a list, or are more than it can hold

@@ -1,8 +1,8 @@
 -- `reach::reach`: line by line.
 use mathlib.Core.Path.{refl, sym, ap, subst, ◌∙◌}
 use Prim.Native.Nat.{ℕ, ◌+◌}
-use lib.Dec.{T}
 use Rattle.netlist.specs.Table.{Holds}
+use Rattle.netlist.proofs.Tests.{clash}
 use Rattle.wide_sets.specs.Packed.{sets, start_set, Sized}
 use Rattle.wide_sets.proofs.Reaching.{reaching-none, reaching-all, line-more, line-full}
 use Rattle.gate_table.specs.Gates.{tables_of}
@@ -20,7 +20,7 @@ pub returns-then-not-line : goal.returns-then-not-line
 returns-then-not-line c =
     let line = c.line in
     let a = c.args in (
-      λ e. absurd (subst T (sym e) tt),
+      λ e. clash (cc),
       λ o N H F. line-full c.loop-i.invariant
           c.loop-i-test.true c.at-gate.ensures
           line.ensures (c.if-not-line.true) o N
