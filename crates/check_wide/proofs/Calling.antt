@@ -30,6 +30,7 @@ use Rattle.netlist_tables.specs.Tables.{TakenFrom, HoldsNetlist}
 use Rattle.netlist_tables.proofs.Taken.{taken-holds}
 use Rattle.pairs.specs.Call.{BothAnswers, pairs_good}
 use Rattle.pairs.proofs.PairCheck.{pairs-judged}
+use Rattle.wide.specs.Sets.{members_end}
 use Rattle.wide.specs.Wide.{WideLeak, listed, few_reach, wide_answers, wide_outcome, wide_call}
 use Rattle.wide_search.specs.Told as search
 use Rattle.wide_search.specs.Told.{WideFound, told_of}
@@ -37,7 +38,7 @@ use Rattle.wide_judge.specs.Judge.{both_of, outcome_of}
 use Rattle.check_wide.specs.Promise.{call, WiresJudged, Judged}
 
 -- numbers of wires fit in twenty bits
-pub wires-upto : (s : Sizes) → (large s).table ≤ 1048576
+pub wires-upto : (s : Sizes) → (large s).table ≤ members_end
 wires-upto Old = omega arith
 wires-upto Whole = omega arith
 

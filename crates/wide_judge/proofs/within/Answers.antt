@@ -39,7 +39,7 @@ returns c =
     let y = c.if-not-reach.false in
     λ o N H F.
     let R = r.ensures.1 o N (subst (λ (Y : ℕ). Holds t a.gates.count Y (length a.codes.list.now + 2) o N) (sym q.4) H) F in
-    let g = c.search-found.ensures o N
+    let g = c.search.ensures o N
     (given S a.codes.list.now a.pairs.now H c.requires.wired.1 y R) in
     all-few S a.codes.list.now a.pairs.now H c.requires.wired.1 y R (subst (Sized S) q.4 (r.ensures.0 y))
     (c.pairs_few.ensures.0

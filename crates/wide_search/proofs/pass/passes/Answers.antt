@@ -23,6 +23,6 @@ returns c =
     let z : c.loop-x.x ≡ 0 = omega (arith, c.loop-x-test.false) in (
       h.lower,
       h.fewer,
-      λ o N G J. subst (λ (y : ℕ). Judging N a.codes.list.now a.items.pairs.now at.marks (length a.words.now) a.start a.total y
+      λ o N G J. subst (λ (y : ℕ). Judging N a.job.codes.list.now a.job.items.pairs.now at.marks (length a.words.now) a.start a.total y
           at.worst.wire at.worst.pair) z (h.judged o N G J),
     )
