@@ -1,5 +1,5 @@
 // The AND lines: each puts its gates behind the others and gives its variable the last one's wire. The tables are lent one by one: a
-// struct of `&mut` slices would have to promise at each call that it still holds them.
+// struct of `&mut` slices would have to promise at each call that it still holds them. `2 ^ 32` is the range of a wire's u32.
 ghost use Rattle.std.specs.Prelude.{◌≡◌, List, [], ℕ, ◌+◌, ◌*◌, ◌^◌, ◌<◌, ◌≤◌, length};
 ghost use Rattle.netlist.specs.declared.Gate.{Gate};
 ghost use Rattle.aiger_lines.specs.LineAnswers.{lines_left, OneBehind};

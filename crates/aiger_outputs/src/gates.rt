@@ -1,5 +1,6 @@
 // The gates of outputs, whose literals stand at the end of the table of results. The tables are lent one by one: a struct of `&mut`
-// slices would have to promise at each call that it still holds them.
+// slices would have to promise at each call that it still holds them. `room` is a place and no length: the gates of outputs go on both sides
+// of it. `2 ^ 32` is the range of a wire's u32.
 ghost use Rattle.std.specs.Prelude.{◌+◌, ◌^◌, ◌<◌, ◌≤◌, length, drop, is_some};
 ghost use Rattle.netlist.specs.Table.{tables};
 ghost use Rattle.aiger_outputs.specs.OutAnswers.{Low, HaveWires, OutputsPut, OutputsIs};
@@ -8,7 +9,7 @@ use crate::kept::are_readable;
 use aiger_gates::gates::out_gate;
 
 // The gates of the literals from `room` on, behind n inputs and `count` gates. Each gate is put before the literals that are left, or
-// in the place of its own.
+// in the place of its own, so the loop goes by places.
 fn put_outputs(
     table: &[u32],
     operands: &mut [u64],
