@@ -19,7 +19,9 @@ refuses t q = record { text = t; outcome = refused q }
 
 -- every text has its outcome, with tables as short as question 1 admits and a result buffer as long as question 2's longest text
 abbrev pub Shown : List Example → Type 0
-Shown es = map (λ e. aiger_call (small Old) (small_wires Old ∷ small_wires Old ∷ small_wires Old ∷ []) (ascii e.text) (small_text Old)) es ≡ map (λ e. e.outcome) es
+Shown es =
+    map (λ e. aiger_call (small Old) (small_wires Old ∷ small_wires Old ∷ small_wires Old ∷ []) (ascii e.text) (small_text Old)) es
+    ≡ map (λ e. e.outcome) es
 
 -- an AND; an OR by inverses, its input lines not in the order of their variables, with blank lines; constants; an output that is an
 -- input and one that is its inverse; one variable inverse twice; what stands behind; CR LF; then the refusals
