@@ -7,9 +7,8 @@ ghost use Rattle.pairs_judge.specs.Judge.{outcome_of};
 ghost use Rattle.check_pairs.specs.Promise.{call, Promise};
 
 use netlist::Sizes;
-use netlist_tables::tables::NetlistTables;
 use pairs_judge::CheckedPairs;
-use read_netlist::read::read;
+use read_tables::read;
 
 // The answer, with tables that are still to be cleared.
 fn answer(
@@ -27,20 +26,16 @@ fn answer(
     ensures { outcome_of result ≡ call sizes text.now codes.now pairs.now operands.old
         results.old marks.old words.old base.old bases.old }
 {
-    let l = sizes.large();
-    let mut inputs = [0u32; 17];
-    let mut outputs = [0u32; 16];
-    let h = read(
+    let mut widths = [0u32; 17];
+    let netlist = read(
         text,
-        &mut inputs,
-        &mut outputs,
+        &mut widths,
         operands,
         results,
         marks,
         &[words.len(), base.len(), bases.len()],
-        l,
+        sizes.large(),
     )?;
-    let netlist = NetlistTables::new(h, &inputs, operands, results);
     pairs_judge::judge(netlist, codes, pairs, words, base, bases)
 }
 
