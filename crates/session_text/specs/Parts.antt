@@ -1,5 +1,5 @@
 -- What the parts of a call say: the questions' answers, a record's entries, the tables filled, and the results.
-use Rattle.std.specs.Prelude.{Result, Ok, Err, ℕ, ◌≤◌, ◌<◌, ◌≡◌, List, length, get_or}
+use Rattle.std.specs.Prelude.{Result, Ok, Err, ℕ, ◌+◌, ◌≤◌, ◌<◌, ◌≡◌, List, length, get_or}
 use Rattle.netlist.specs.declared.Question.{Question}
 use Rattle.netlist.specs.declared.Gate.{Gate}
 use Rattle.netlist.specs.declared.Sizes.{Sizes}
@@ -43,22 +43,16 @@ abbrev pub RecordIs : SourceRecord → ℕ → Result Entry Question → Type 0
 RecordIs r next (Err q) = gate_good next (gate_in r) ≡ refused (number_of q)
 RecordIs r next (Ok e) = GateIs r next e
 
--- each gate of an admitted session has a record and places in the tables
-pub record Places (source : List SourceRecord) (ops res : List ℕ) (s : Shown) : Type 0 where
-  pub records : s.header.gates ≤ length source
-  pub operands : s.header.gates ≤ length ops
-  pub results : s.header.gates ≤ length res
+-- the gates of records behind n input bits, in tables
+pub record GatesAt (n : ℕ) (source : List SourceRecord) (g : Gates) : Type 0 where
+  pub gates : record_gates n source (length source) ≡ done (gates_in g)
+  pub wired : WiredGates g (n + length source)
+  pub count : g.count ≡ length source
 
--- the records' gates, in tables
-pub record GatesAt (source : List SourceRecord) (s : Shown) (g : Gates) : Type 0 where
-  pub gates : record_gates s.header.input_bits source s.header.gates ≡ done (gates_in g)
-  pub wired : WiredGates g s.header.wires
-  pub count : g.count ≡ s.header.gates
-
--- the first no of an admitted session's records, or their gates in the tables
-abbrev pub GatesAre : List SourceRecord → Shown → Result Gates Question → Type 0
-GatesAre source s (Err e) = record_gates s.header.input_bits source s.header.gates ≡ refused (number_of e)
-GatesAre source s (Ok g) = GatesAt source s g
+-- the first no of these records, or their gates in the tables
+abbrev pub GatesAre : ℕ → List SourceRecord → Result Gates Question → Type 0
+GatesAre n source (Err e) = record_gates n source (length source) ≡ refused (number_of e)
+GatesAre n source (Ok g) = GatesAt n source g
 
 -- the netlist of an outcome has these gates
 pub record NetlistAt (o : Outcome Netlist) (g : Gates) (s : Shown) : Type 0 where

@@ -1,4 +1,5 @@
-// Questions 1 and 4 to 6 of a session that is to be shown, over numbers and widths.
+// Questions 1 and 4 to 6 of a session that is to be shown. They are asked of widths and of numbers, and not of a `Given`: the records are not
+// looked at.
 ghost use Rattle.std.specs.Prelude.{◌≡◌, ◌≤◌};
 ghost use Rattle.netlist.specs.Netlist.{small};
 ghost use Rattle.netlist.specs.Header.{within_limits};

@@ -7,28 +7,26 @@ ghost use Rattle.session_text.specs.Promise.{text as text_outcome, masked as mas
 
 use crate::asking::ask;
 use crate::fill;
-use gate_records::SourceRecord;
+use crate::given::Given;
 use netlist::{Answer, Sizes};
 use old_form::Dialect;
-use session::Session;
 use write_netlist::form::Form;
 
 // The text, with tables that are still to be cleared.
-fn written<'a>(
-    s: Session,
-    widths: &'a [u32],
-    outputs: &'a [u32],
-    source: &[SourceRecord],
+fn written(
+    g: Given,
     out: &mut [u8],
     operands: &mut [u64],
     results: &mut [u64],
     sizes: Sizes,
 ) -> Answer
-    ensures { Answers (text_outcome sizes widths.now outputs.now s source.now out.old operands.old results.old) out.old out.new result }
+    ensures { Answers (text_outcome sizes g.entry.widths.now g.entry.outputs.now g.entry.session g.entry.source.now out.old operands.old results.old) out.old out.new result }
 {
     let lengths = [operands.len(), results.len()];
-    let shown = ask(widths, outputs, s.gates, source.len(), &lengths, sizes)?;
-    let gates = fill(source, shown, operands, results)?;
+    let count = g.session.gates;
+    let shown = ask(g.widths, g.outputs, count, g.source.len(), &lengths, sizes)?;
+    let records = &g.source[..count as usize];
+    let gates = fill(records, shown.header.input_bits as usize, operands, results)?;
     let f = Form {
         gates,
         wires: shown.header.wires as usize,
@@ -41,18 +39,15 @@ fn written<'a>(
 
 // The session's netlist as text at the front of `out`. The tables, of any content, are zero on return.
 pub fn text(
-    s: Session,
-    widths: &[u32],
-    outputs: &[u32],
-    source: &[SourceRecord],
+    g: Given,
     out: &mut [u8],
     operands: &mut [u64],
     results: &mut [u64],
     sizes: Sizes,
 ) -> Answer
-    ensures { TextPromise sizes widths.now outputs.now s source.now out.old out.new operands.old operands.new results.old results.new result }
+    ensures { TextPromise sizes g.entry.widths.now g.entry.outputs.now g.entry.session g.entry.source.now out.old out.new operands.old operands.new results.old results.new result }
 {
-    let answer = written(s, widths, outputs, source, out, operands, results, sizes);
+    let answer = written(g, out, operands, results, sizes);
     operands.fill(0);
     results.fill(0);
     answer
@@ -60,10 +55,7 @@ pub fn text(
 
 // What Mask gives, with tables that are still to be cleared.
 fn masked_in(
-    s: Session,
-    widths: &[u32],
-    outputs: &[u32],
-    source: &[SourceRecord],
+    g: Given,
     codes: &[u8],
     wanted: &[u8],
     out: &mut [u8],
@@ -74,12 +66,14 @@ fn masked_in(
     marks: &mut [u8],
     sizes: Sizes,
 ) -> Answer
-    ensures { MaskAnswers (masked_outcome sizes widths.now outputs.now s source.now codes.now wanted.now out.old out_codes.old
+    ensures { MaskAnswers (masked_outcome sizes g.entry.widths.now g.entry.outputs.now g.entry.session g.entry.source.now codes.now wanted.now out.old out_codes.old
         operands.old results.old wires.old marks.old) out.old out.new out_codes.old out_codes.new result }
 {
     let lengths = [operands.len(), results.len(), marks.len(), wires.len()];
-    let shown = ask(widths, outputs, s.gates, source.len(), &lengths, sizes)?;
-    let gates = fill(source, shown, operands, results)?;
+    let count = g.session.gates;
+    let shown = ask(g.widths, g.outputs, count, g.source.len(), &lengths, sizes)?;
+    let records = &g.source[..count as usize];
+    let gates = fill(records, shown.header.input_bits as usize, operands, results)?;
     mask::ask_lists(
         out,
         out_codes,
@@ -97,10 +91,7 @@ fn masked_in(
 // What Mask gives for the session's netlist: the masked text at the front of `out`, its output codes at the front of `out_codes`. The tables, of
 // any content, are zero on return.
 pub fn masked(
-    s: Session,
-    widths: &[u32],
-    outputs: &[u32],
-    source: &[SourceRecord],
+    g: Given,
     codes: &[u8],
     wanted: &[u8],
     out: &mut [u8],
@@ -111,11 +102,11 @@ pub fn masked(
     marks: &mut [u8],
     sizes: Sizes,
 ) -> Answer
-    ensures { MaskedPromise sizes widths.now outputs.now s source.now codes.now wanted.now out.old out.new out_codes.old out_codes.new
+    ensures { MaskedPromise sizes g.entry.widths.now g.entry.outputs.now g.entry.session g.entry.source.now codes.now wanted.now out.old out.new out_codes.old out_codes.new
         operands.old operands.new results.old results.new wires.old wires.new marks.old marks.new result }
 {
     let answer = masked_in(
-        s, widths, outputs, source, codes, wanted, out, out_codes, operands, results, wires, marks,
+        g, codes, wanted, out, out_codes, operands, results, wires, marks,
         sizes,
     );
     operands.fill(0);
