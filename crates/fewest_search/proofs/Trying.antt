@@ -1,4 +1,4 @@
--- A turn of the search, part by part.
+-- One choice of the search, part by part.
 use Prim.Native.Nat.{ℕ, ◌+◌, ◌-◌, ◌^◌, ◌≤◌, ◌<◌}
 use mathlib.Core.Path.{◌≡◌}
 use mathlib.Core.Bool.{true, false}
@@ -17,9 +17,11 @@ use Rattle.fewest_walk.proofs.Counting.{twices-most}
 use Rattle.fewest_walk.specs.Advance.{ways_at}
 use Rattle.fewest_walk.specs.Span.{Spanned}
 use Rattle.fewest_search.specs.Search.{Begun}
-use Rattle.fewest_search.specs.Turn.{idle_at, cost_of, Entered}
+use Rattle.fewest_search.specs.Try.{idle_at, cost_of, Entered}
+use Rattle.netlist.specs.declared.Sizes.TheVariants.{Whole}
+use Rattle.netlist.specs.Netlist.{small_wires}
 
--- ---- the turn
+-- ---- one choice
 
 pub idle-place : (o : List ℕ) (n place : ℕ) (u : List ℕ) → idle_at o n place u ≡ true → n ≤ place
 idle-place o n place u e =
@@ -45,12 +47,12 @@ twices-few t count = let h = twices-most (gates_of t count) in let l = length-ga
 pub low_first : (t : Tables) (count : ℕ) (b : List ℕ) {x : ℕ} → 0 < length b → x ≡ twices (gates_of t count) → get_or (set b 0 x) 0 0 ≤ count
 low_first t count b {x} h e = let s = get_or-set_same b 0 x 0 h in let f = twices-few t count in omega arith
 
-pub low-room : (n count : ℕ) (b : List ℕ) → get_or b 0 0 ≤ count → count ≤ 100000 → get_or b (0 - n) 0 + count < 2 ^ 32
+pub low-room : (n count : ℕ) (b : List ℕ) → get_or b 0 0 ≤ count → count ≤ small_wires Whole → get_or b (0 - n) 0 + count < 2 ^ 32
 low-room n count b h k = let z : 0 - n ≡ 0 = omega arith in rw z (omega arith)
 
 -- no choice has as many changes as the bound that the first is tried with
 pub begun-whole : {t : Tables} {count : ℕ} {codes way u₀ b₀ u b : List ℕ} {r : ℕ} → Entered t count codes way 0 (2 ^ 32 - 1) u₀ b₀ u b r
-    → get_or b₀ 0 0 ≤ count → count ≤ 100000 → r ≡ count
+    → get_or b₀ 0 0 ≤ count → count ≤ small_wires Whole → r ≡ count
 begun-whole {count = count} {codes = codes} {b₀ = b₀} {b = b} {r = r} E h k =
     let z : 0 - length codes ≡ 0 = omega arith in
     let m : get_or b r 0 ≤ get_or b₀ 0 0 + count = rw z at (entered-most E) in

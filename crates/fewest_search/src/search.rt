@@ -5,7 +5,7 @@ ghost use Rattle.fewest_search.specs.Search.{Found};
 ghost use Rattle.fewest_search.specs.Job.{FitsFor, SourceFor, SearchableFor, BegunFor};
 
 use crate::Job;
-use crate::turn::{enter, turn, weigh};
+use crate::choice::{count_changes, try_choice, walk_from};
 
 // More changes than any choice has. A number and not a `None`: the walk compares the bound with the changes at every gate.
 const MANY: u32 = u32::MAX;
@@ -22,20 +22,20 @@ fn start(
     job: Job,
     way: &mut [u8],
     best: &mut [u8],
-    code: &mut [u8],
-    lows: &mut [u32],
+    wire_codes: &mut [u8],
+    least_before: &mut [u32],
     spans: &mut [u64],
 ) -> u32
-    requires { FitsFor job way.old best.old code.old lows.old × (length spans.old ≡ length code.old) }
-    ensures { BegunFor job.entry way.old code.old lows.old spans.old way.new best.new
-        code.new lows.new spans.new result }
+    requires { FitsFor job way.old best.old wire_codes.old least_before.old × (length spans.old ≡ length wire_codes.old) }
+    ensures { BegunFor job.entry way.old wire_codes.old least_before.old spans.old way.new best.new
+        wire_codes.new least_before.new spans.new result }
 {
     way.fill(0);
     fewest_walk::spans::spans(job.codes, &job.gates.results[..job.gates.count], spans);
-    lows[0] = fewest_walk::twices::twices(job.gates);
-    enter(job, way, code, lows, 0, MANY);
+    least_before[0] = fewest_walk::twices::twices(job.gates);
+    walk_from(job, way, wire_codes, least_before, 0, MANY);
     best.copy_from_slice(way);
-    weigh(job, code, lows)
+    count_changes(job, wire_codes, least_before)
 }
 
 // The first choice with the fewest changes among as many as the budget allows, into `best`, its changes and the floor. The gate tables
@@ -47,20 +47,20 @@ pub fn search(
     budget: u64,
     way: &mut [u8],
     best: &mut [u8],
-    code: &mut [u8],
-    lows: &mut [u32],
+    wire_codes: &mut [u8],
+    least_before: &mut [u32],
     spans: &mut [u64],
 ) -> Tally
-    requires { SearchableFor job way.old best.old code.old lows.old spans.old × (1 ≤ budget) }
-    ensures { (N : Netlist) → SourceFor job.entry (length code.old) N
+    requires { SearchableFor job way.old best.old wire_codes.old least_before.old spans.old × (1 ≤ budget) }
+    ensures { (N : Netlist) → SourceFor job.entry (length wire_codes.old) N
         → Found N job.entry.codes.now job.entry.wanted.now budget best.new result }
 {
     let n = job.codes.len();
-    let mut least = start(job, way, best, code, lows, spans);
+    let mut least = start(job, way, best, wire_codes, least_before, spans);
     let mut stop = job.gates.count;
     let mut left = budget;
     loop {
-        if least <= lows[0] {
+        if least <= least_before[0] {
             return Tally {
                 changes: least,
                 floor: least,
@@ -70,7 +70,7 @@ pub fn search(
         if left < span {
             return Tally {
                 changes: least,
-                floor: lows[0],
+                floor: least_before[0],
             };
         }
         left -= span;
@@ -83,10 +83,10 @@ pub fn search(
         if left == 0 {
             return Tally {
                 changes: least,
-                floor: lows[0],
+                floor: least_before[0],
             };
         }
-        let t = turn(job, way, best, code, lows, place, least);
+        let t = try_choice(job, way, best, wire_codes, least_before, place, least);
         stop = t.stop;
         least = t.least;
     }

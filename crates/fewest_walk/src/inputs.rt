@@ -29,9 +29,9 @@ pub fn fill<F: Fn(u8, u8) -> u8>(codes: &[u8], way: &[u8], out: &mut [u8], code:
 }
 
 // The codes of all inputs.
-pub fn inputs(codes: &[u8], way: &[u8], code: &mut [u8])
-    requires { (length codes.now ≤ length way.now) × (length codes.now ≤ length code.old) }
-    ensures { Filled codes.now way.now (length codes.now) code.old code.new }
+pub fn inputs(codes: &[u8], way: &[u8], wire_codes: &mut [u8])
+    requires { (length codes.now ≤ length way.now) × (length codes.now ≤ length wire_codes.old) }
+    ensures { Filled codes.now way.now (length codes.now) wire_codes.old wire_codes.new }
 {
-    fill(codes, way, code, input);
+    fill(codes, way, wire_codes, input);
 }

@@ -65,7 +65,7 @@ fn choose<'a>(
         &mut wires[..all],
         &mut spans[..all],
     );
-    fewest_apply::swap(operands, results, count, codes.len(), best);
+    fewest_apply::swap(operands, &results[..count], &best[codes.len()..]);
     fewest_apply::codes(codes, best, ways);
     r
 }
@@ -75,8 +75,8 @@ fn choose<'a>(
 // it still holds them.
 fn give(
     out: &mut [u8],
-    ins: &mut [u8],
-    ends: &mut [u8],
+    in_codes: &mut [u8],
+    out_codes: &mut [u8],
     tally: &mut [u64],
     h: Header,
     r: Tally,
@@ -88,19 +88,19 @@ fn give(
     wires: &mut [u32],
     marks: &mut [u8],
 ) -> Answer
-    requires { Givable h (tables_of gates) gates.count codes.now wanted.now inputs.now wires.old marks.old ins.old tally.old }
+    requires { Givable h (tables_of gates) gates.count codes.now wanted.now inputs.now wires.old marks.old in_codes.old tally.old }
     ensures { (N : Netlist)
         → MaskSource (tables_of gates.entry) gates.entry.count h.wires (length codes.now) (length wanted.now)
         (inputs.now ++ (2 ∷ [])) outputs.now N
         → WellFormed (mask_netlist N codes.now wanted.now).netlist
-        → FewestAnswers (delivery (room out.old ins.old ends.old tally.old)
-        (given N codes.now wanted.now r)) out.old out.new ins.old
-        ins.new ends.old ends.new tally.old tally.new result }
+        → FewestAnswers (delivery (room out.old in_codes.old out_codes.old tally.old)
+        (given N codes.now wanted.now r)) out.old out.new in_codes.old
+        in_codes.new out_codes.old out_codes.new tally.old tally.new result }
 {
     let size = mask::deliver(
-        out, ends, h, codes, wanted, inputs, outputs, gates, wires, marks,
+        out, out_codes, h, codes, wanted, inputs, outputs, gates, wires, marks,
     )?;
-    ins[..codes.len()].copy_from_slice(codes);
+    in_codes[..codes.len()].copy_from_slice(codes);
     tally[0] = r.changes as u64;
     tally[1] = r.floor as u64;
     Ok(size)
@@ -109,8 +109,8 @@ fn give(
 // Questions 11, 13, 22 and 14, and the masked netlist.
 fn deliver(
     out: &mut [u8],
-    ins: &mut [u8],
-    ends: &mut [u8],
+    in_codes: &mut [u8],
+    out_codes: &mut [u8],
     tally: &mut [u64],
     h: Header,
     codes: &[u8],
@@ -130,8 +130,8 @@ fn deliver(
     ensures { (N : Netlist)
         → Read h (tables operands.old results.now) h.gates inputs.now outputs.now N
         → FewestAnswers (fewest_outcome codes.now wanted.now budget
-        (room out.old ins.old ends.old tally.old) N) out.old out.new
-        ins.old ins.new ends.old ends.new tally.old tally.new result }
+        (room out.old in_codes.old out_codes.old tally.old) N) out.old out.new
+        in_codes.old in_codes.new out_codes.old out_codes.new tally.old tally.new result }
 {
     if !lists::free_codes(codes, h.input_bits as usize) {
         return Err(Question::Inputs);
@@ -142,7 +142,7 @@ fn deliver(
     if budget == 0 {
         return Err(Question::Budget);
     }
-    if ins.len() < codes.len() {
+    if in_codes.len() < codes.len() {
         return Err(Question::Room);
     }
     if tally.len() < 2 {
@@ -158,8 +158,8 @@ fn deliver(
     };
     give(
         out,
-        ins,
-        ends,
+        in_codes,
+        out_codes,
         tally,
         h,
         r,
@@ -180,8 +180,8 @@ fn answer(
     wanted: &[u8],
     budget: u64,
     out: &mut [u8],
-    ins: &mut [u8],
-    ends: &mut [u8],
+    in_codes: &mut [u8],
+    out_codes: &mut [u8],
     tally: &mut [u64],
     operands: &mut [u64],
     results: &mut [u64],
@@ -193,9 +193,9 @@ fn answer(
     sizes: Sizes,
 ) -> Answer
     ensures { FewestAnswers (call sizes text.now codes.now wanted.now budget
-        (room out.old ins.old ends.old tally.old) operands.old results.old
+        (room out.old in_codes.old out_codes.old tally.old) operands.old results.old
         wires.old marks.old ways.old best.old spans.old) out.old
-        out.new ins.old ins.new ends.old ends.new tally.old
+        out.new in_codes.old in_codes.new out_codes.old out_codes.new tally.old
         tally.new result }
 {
     let l = sizes.small();
@@ -213,8 +213,8 @@ fn answer(
     )?;
     deliver(
         out,
-        ins,
-        ends,
+        in_codes,
+        out_codes,
         tally,
         h,
         codes,
@@ -233,7 +233,7 @@ fn answer(
 }
 
 // The masked netlist of `text` under the first choice with the fewest mask changes among as many as `budget` allows, at the front of
-// `out`; the codes of its input bits at the front of `ins`, those of its output bits at the front of `ends`, and its changes and the floor
+// `out`; the codes of its input bits at the front of `in_codes`, those of its output bits at the front of `out_codes`, and its changes and the floor
 // at the front of `tally`. The tables, of any content, are zero on return.
 pub fn mask_fewest(
     text: &[u8],
@@ -241,8 +241,8 @@ pub fn mask_fewest(
     wanted: &[u8],
     budget: u64,
     out: &mut [u8],
-    ins: &mut [u8],
-    ends: &mut [u8],
+    in_codes: &mut [u8],
+    out_codes: &mut [u8],
     tally: &mut [u64],
     operands: &mut [u64],
     results: &mut [u64],
@@ -254,14 +254,14 @@ pub fn mask_fewest(
     sizes: Sizes,
 ) -> Answer
     ensures { Promise sizes text.now codes.now wanted.now budget out.old
-        out.new ins.old ins.new ends.old ends.new tally.old
+        out.new in_codes.old in_codes.new out_codes.old out_codes.new tally.old
         tally.new operands.old operands.new results.old results.new
         wires.old wires.new marks.old marks.new ways.old ways.new
         best.old best.new spans.old spans.new result }
 {
     let r = answer(
-        text, codes, wanted, budget, out, ins, ends, tally, operands, results, wires, marks, ways,
-        best, spans, sizes,
+        text, codes, wanted, budget, out, in_codes, out_codes, tally, operands, results, wires,
+        marks, ways, best, spans, sizes,
     );
     operands.fill(0);
     results.fill(0);

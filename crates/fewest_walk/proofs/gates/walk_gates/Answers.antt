@@ -1,7 +1,7 @@
--- `walk::walk`: the gates from one on up to gate i are done.
+-- `gates::walk_gates`: the gates from one on up to gate i are done.
 use Rattle.fewest_walk.proofs.Walking.{walking-more, walked-cut}
 use native.Mathlib.Omega.{arith}
-use Rattle.fewest_walk.proofs.walk.walk.Goals as goal
+use Rattle.fewest_walk.proofs.gates.walk_gates.Goals as goal
 
 pub returns-then-bound-low : goal.returns-then-bound-low
 returns-then-bound-low c =
