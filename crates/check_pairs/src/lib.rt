@@ -1,5 +1,6 @@
 // Check with pairs: whether a netlist whose last input value is the mask pair leaks on one wire, and whether listed pairs of its
-// wires, as a register shows them that holds one after the other, leak together. Questions 1 to 12 with the large limits, and 21.
+// wires, as a register shows them that holds one after the other, leak together. Questions 1 to 12 with the large limits, and 21. The tables
+// are parameters of their own, since C lends them one by one.
 #![tactic(auto)]
 
 ghost use Rattle.std.specs.Prelude.{◌≡◌};

@@ -18,9 +18,7 @@ fn put(paints: &mut [u8], i: usize, colour: u8)
     requires { colour ≤ 12 }
     ensures { paints.new ≡ set paints.old i (get_or paints.old i 0 % 4 + 4 * colour) }
 {
-    if i < paints.len() {
-        paints[i] = paints[i] % 4 + 4 * colour;
-    }
+    lists::put(paints, i, entry(paints, i) % 4 + 4 * colour);
 }
 
 // A paint's colour; 0 where it is none of the twelve.
