@@ -2,8 +2,7 @@
 
 // What the programs make of a list file's bytes, and the lines that they print.
 ghost use Rattle.std.specs.Prelude.{◌≡◌, [], ◌∷◌, ◌++◌, ◌+◌, ◌*◌, ◌≤◌, min, length, take};
-ghost use Rattle.netlist.specs.Text.{space, lf};
-ghost use Rattle.netlist.specs.Number.{decimal};
+ghost use Rattle.netlist.specs.Text.{lf};
 ghost use Rattle.netlist.specs.Question.{number_of};
 ghost use Rattle.netlist.specs.Programs.{list_bytes, entry as entry_of, list_file, print_list, print_refused, print_clean, print_leak};
 ghost use Rattle.write_buffer.specs.Wrote.{Wrote, WroteFew};
@@ -11,6 +10,7 @@ ghost use Rattle.program_text.specs.Front.{Front};
 
 use netlist::Question;
 use read_text::ends::without_end;
+use write_buffer::spaced;
 
 // The most bytes that a program reads of a file.
 pub const FILE_LIMIT: usize = 60000;
@@ -72,14 +72,6 @@ pub fn clean(out: &mut [u8]) -> usize
     ensures { Wrote out.old 0 print_clean out.new result }
 {
     write_buffer::bytes(out, 0, b"clean\n")
-}
-
-// A number with a space in front.
-fn spaced(out: &mut [u8], at: usize, n: usize) -> usize
-    ensures { Wrote out.old at (space ∷ decimal n) out.new result }
-{
-    let next = write_buffer::put(out, at, b' ');
-    write_buffer::number(out, next, n)
 }
 
 // Check's line for a leak.

@@ -131,7 +131,7 @@ pub fn spell<const N: usize>(
     store(out, last, name)
 }
 
-// The place behind a line that starts behind the buffer's end.
+// The place behind a line that starts behind the buffer's end. Nine bytes stand in each: the head, the space behind the result, and the name.
 pub fn beyond<const N: usize>(at: usize, operands: [u32; N], c: u32) -> usize
     requires { N ≤ 2 }
     ensures { result ≡ cap (at + (4 + length (front_of operands.entry c))) }
