@@ -1,5 +1,6 @@
 // A netlist from a text in one dialect to its written form in another. Questions 1 to 9 with the large limits, 15 where the result
-// is in the older dialect, and 14.
+// is in the older dialect, and 14. The tables stay parameters of their own: C lends them one by one, and a struct of `&mut` slices would have
+// to promise at each call that it still holds them.
 #![tactic(auto)]
 
 mod question;

@@ -15,7 +15,8 @@ use write_buffer::spaced;
 // The most bytes that a program reads of a file.
 pub const FILE_LIMIT: usize = 60000;
 
-// The shortest tables that Mask takes, and those that Check, Run and Rewrite take.
+// The shortest tables that Mask takes, and those that Check, Run and Rewrite take. `Limits` has the same numbers; the programs' tables are arrays,
+// whose lengths must be constants.
 pub const SMALL_TABLE: usize = 2048;
 
 pub const LARGE_TABLE: usize = 18431;
@@ -32,7 +33,7 @@ fn entry(b: u8) -> u8
 
 // How many entries of a buffer its first n are.
 pub fn front<T>(buffer: &[T], n: usize) -> usize
-    ensures value { (result ≡ min n (length buffer.now)) × Front buffer.now result (take n buffer.now) }
+    ensures least { (result ≡ min n (length buffer.now)) × Front buffer.now result (take n buffer.now) }
     ensures within { result ≤ length buffer.now }
     ensures front { result ≡ length (take result buffer.now) }
 {
@@ -74,7 +75,7 @@ pub fn clean(out: &mut [u8]) -> usize
     write_buffer::bytes(out, 0, b"clean\n")
 }
 
-// Check's line for a leak.
+// Check's line for a leak. Its four numbers stand one by one: with a `Leak` of `check_leak` this crate, of texts alone, would stand on the check.
 pub fn leak(out: &mut [u8], wire: usize, setting: usize, base: usize, count: usize) -> usize
     ensures { Wrote out.old 0 (print_leak wire setting base count) out.new result }
 {

@@ -19,7 +19,8 @@ use session_plan::adding::{Steps, planned};
 use session_plan::opening::plan;
 use session_plan::taking::off;
 
-// A source gate's masked gates, from a place of the list on, with n input bits.
+// A source gate's masked gates, from a place of the list on, with n input bits. By places: each gate is made by its number, so that `iter_mut`
+// would count besides.
 fn write(list: &mut [GateRecord], at: usize, n: u32, x: Steps)
     requires { Places n x at (length list.old) }
     ensures { list.new ≡ sets list.old at (map record_of (steps_in n x)) }
