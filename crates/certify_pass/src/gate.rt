@@ -62,7 +62,7 @@ fn pair(records: &mut [u64], marks: &mut [u8], gate: Parts, x: Record, j: usize)
     }
 }
 
-// All of the right operand's records with one of the left.
+// All of the right operand's records with one of the left. By number, here and below: they lie in the table that is written.
 fn row(records: &mut [u64], marks: &mut [u8], gate: Parts, x: Record)
     requires { Within (length records.old / 15) gate × (gate.result < length marks.old) }
     ensures { PairStep gate x records.old marks.old records.new marks.new }

@@ -31,7 +31,7 @@ pub fn ways(codes: &[u8], results: &[u64], p: usize) -> u8
 }
 
 // The next choice of the inputs and of the gates with these results in the table of ways, where the places behind take their first way:
-// the place that moved, if there is one.
+// the place that moved, if there is one. By number: a place is an input's or a gate's, in lists of different types.
 pub fn next(codes: &[u8], results: &[u64], way: &mut [u8]) -> Option<usize>
     requires { length codes.now + length results.now ≤ length way.old }
     ensures { Advanced (ways_at codes.now results.now) (length codes.now + length results.now) way.old

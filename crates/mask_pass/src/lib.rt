@@ -28,7 +28,7 @@ fn mask_gates(d: Words, out: &mut [u8], at: usize, masks: Masks) -> usize
     write_gates::gate::xor(d, out, third, n + 2, n + 3, n + 4)
 }
 
-// The gates of the masked netlist: the next place, and the next wire. The tables `wire` and `code` have an entry for each source wire,
+// The gates of the masked netlist: the next place, and the next wire. The tables `twin_wires` and `twin_codes` have an entry for each source wire,
 // and may hold anything. They are two, and no table of twins, since C lends them as two.
 pub fn pass(
     d: Words,
@@ -37,30 +37,32 @@ pub fn pass(
     gates: Gates,
     codes: &[u8],
     wanted: &[u8],
-    wire: &mut [u32],
-    code: &mut [u8],
+    twin_wires: &mut [u32],
+    twin_codes: &mut [u8],
 ) -> (usize, u32)
-    requires ready { Ready (tables_of gates) gates.count codes.now wanted.now wire.old code.old }
-    ensures { (N : Netlist) → HoldsGates gates.entry (length wire.old)
+    requires ready { Ready (tables_of gates) gates.count codes.now wanted.now twin_wires.old twin_codes.old }
+    ensures { (N : Netlist) → HoldsGates gates.entry (length twin_wires.old)
         (length codes.now) (length wanted.now) N
         → WrotePass out.old at (mask_netlist N codes.now wanted.now) (length codes.now)
-        wanted.now out.new result code.new }
+        wanted.now out.new result twin_codes.new }
 {
     let n = codes.len() as u32;
-    let first = mask_twins::inputs::start(n + 5, codes, wire, code);
+    let first = mask_twins::inputs::start(n + 5, codes, twin_wires, twin_codes);
     let masks = Masks { first: n };
     let second = mask_gates(d, out, at, masks);
     let third = crate::publics::publics(d, out, second, n, n + 5, codes);
-    let (place, next) = crate::gates::write_all(d, out, third, masks, first, gates, wire, code);
-    let from = wire.len() - wanted.len();
+    let (place, next) = crate::gates::write_all(
+        d, out, third, masks, first, gates, twin_wires, twin_codes,
+    );
+    let from = twin_wires.len() - wanted.len();
     let end = crate::outs::outs(
         d,
         out,
         place,
         masks,
         next,
-        &wire[from..],
-        &code[from..],
+        &twin_wires[from..],
+        &twin_codes[from..],
         wanted,
     );
     (end, next + wanted.len() as u32)

@@ -29,17 +29,17 @@ pub fn outs(
     at: usize,
     masks: Masks,
     c: u32,
-    wire: &[u32],
-    code: &[u8],
+    twin_wires: &[u32],
+    twin_codes: &[u8],
     wanted: &[u8],
 ) -> usize
     requires c_bound { c + length wanted.now < 2 ^ 31 }
-    requires as_many { (length wire.now ≡ length wanted.now) × (length code.now ≡ length wire.now) }
-    ensures { WroteGates out.old at (out_gates masks.first c (twins_of wire.now code.now) wanted.now) out.new result }
+    requires as_many { (length twin_wires.now ≡ length wanted.now) × (length twin_codes.now ≡ length twin_wires.now) }
+    ensures { WroteGates out.old at (out_gates masks.first c (twins_of twin_wires.now twin_codes.now) wanted.now) out.new result }
 {
     let mut place = at;
     for (i, want) in wanted.iter().enumerate() {
-        let t = mask_twins::twin(wire, code, i);
+        let t = mask_twins::twin(twin_wires, twin_codes, i);
         place = one(d, out, place, masks, c + i as u32, t, *want);
     }
     place
@@ -53,11 +53,11 @@ fn pick(e: u8, want: u8) -> u8
 }
 
 // The output codes, where the twins of the output bits have these codes.
-pub fn codes(code: &[u8], wanted: &[u8], res: &mut [u8])
-    requires { length code.now ≡ length wanted.now }
-    ensures { Wrote res.old 0 (codes_of code.now wanted.now) res.new (length wanted.now) }
+pub fn codes(twin_codes: &[u8], wanted: &[u8], res: &mut [u8])
+    requires { length twin_codes.now ≡ length wanted.now }
+    ensures { Wrote res.old 0 (codes_of twin_codes.now wanted.now) res.new (length wanted.now) }
 {
     for (i, want) in wanted.iter().enumerate() {
-        write_buffer::put(res, i, pick(code[i], *want));
+        write_buffer::put(res, i, pick(twin_codes[i], *want));
     }
 }

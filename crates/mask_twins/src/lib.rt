@@ -12,12 +12,12 @@ ghost use Rattle.mask_twins.specs.State.{twins_of};
 use netlist::Twin;
 
 // The twin of source wire w.
-pub fn twin(wire: &[u32], code: &[u8], w: usize) -> Twin
-    requires { (w < length wire.now) × (length code.now ≡ length wire.now) }
-    ensures { result ≡ get_or (twins_of wire.now code.now) w no_twin }
+pub fn twin(twin_wires: &[u32], twin_codes: &[u8], w: usize) -> Twin
+    requires { (w < length twin_wires.now) × (length twin_codes.now ≡ length twin_wires.now) }
+    ensures { result ≡ get_or (twins_of twin_wires.now twin_codes.now) w no_twin }
 {
     Twin {
-        wire: wire[w],
-        code: code[w],
+        wire: twin_wires[w],
+        code: twin_codes[w],
     }
 }
