@@ -55,7 +55,7 @@ fn within(
 ) -> CheckedWide
     requires wired { WiredGates gates (length words.old)
         × ((i : ℕ) → i < length pairs.now → get_or pairs.now i 0 < length words.old) × (length codes.list.now ≤ members_end) }
-    requires paints_len { (length paints.old ≡ length codes.list.now) × (length codes.list.now + 2 ≤ length words.old)
+    requires lengths { (length paints.old ≡ length codes.list.now) × (length codes.list.now + 2 ≤ length words.old)
         × (length bases.old ≡ length words.old) × (length base.old ≡ length words.old)
         × (length set0.old ≡ length words.old) × (length set1.old ≡ length words.old) × (length set2.old ≡ length words.old)
         × (length set3.old ≡ length words.old) }

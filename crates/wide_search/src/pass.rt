@@ -60,7 +60,7 @@ fn pass(
 ) -> Worst
     requires wired { WiredGates job.gates (length words.old)
         × (start + x < count_of job.items) }
-    requires paints_len { (length paints.old ≡ length job.codes.list.now) × (length job.items.sets.set0.now ≡ length words.old)
+    requires lengths { (length paints.old ≡ length job.codes.list.now) × (length job.items.sets.set0.now ≡ length words.old)
         × (length job.codes.list.now + 2 ≤ length words.old) × (length bases.old ≡ length words.old) × (length base.old ≡ length words.old)
         × (worst.wire ≤ length words.old) × (worst.pair ≤ length job.items.pairs.now / 2) }
     ensures { (result.wire ≤ worst.wire) × (result.pair ≤ worst.pair) × ((o n : ℕ) (N : Netlist)
@@ -110,7 +110,7 @@ pub fn passes(
 ) -> Worst
     requires wired { WiredGates job.gates (length words.old)
         × (start + total ≤ count_of job.items) }
-    requires paints_len { (length paints.old ≡ length job.codes.list.now) × (length job.items.sets.set0.now ≡ length words.old)
+    requires lengths { (length paints.old ≡ length job.codes.list.now) × (length job.items.sets.set0.now ≡ length words.old)
         × (length job.codes.list.now + 2 ≤ length words.old) × (length bases.old ≡ length words.old) × (length base.old ≡ length words.old)
         × (worst.wire ≤ length words.old) × (worst.pair ≤ length job.items.pairs.now / 2) }
     ensures { (result.wire ≤ worst.wire) × (result.pair ≤ worst.pair) × ((o : ℕ) (N : Netlist)

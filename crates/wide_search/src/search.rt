@@ -49,7 +49,7 @@ fn lowest(
     bases: &mut [u64],
 ) -> Worst
     requires wired { WiredGates job.gates (length words.old) }
-    requires paints_len { (length paints.old ≡ length job.codes.list.now) × (length job.items.sets.set0.now ≡ length words.old)
+    requires lengths { (length paints.old ≡ length job.codes.list.now) × (length job.items.sets.set0.now ≡ length words.old)
         × (length job.codes.list.now + 2 ≤ length words.old) × (length bases.old ≡ length words.old) × (length base.old ≡ length words.old) }
     ensures { (result.wire ≤ length words.old) × (result.pair ≤ length job.entry.items.pairs.now / 2) × ((o : ℕ) (N : Netlist)
         → GivenJob job.entry (length words.old) o N
@@ -88,7 +88,7 @@ fn tell(
 ) -> Option<WideLeak>
     requires wired { WiredGates job.gates (length words.old)
         × (wire < length words.old) }
-    requires paints_len { (length paints.old ≡ length job.codes.list.now) × (length job.items.sets.set0.now ≡ length words.old)
+    requires lengths { (length paints.old ≡ length job.codes.list.now) × (length job.items.sets.set0.now ≡ length words.old)
         × (length job.codes.list.now + 2 ≤ length words.old) × (length bases.old ≡ length words.old) × (length base.old ≡ length words.old) }
     ensures { (o pair : ℕ) (ws : List ℕ) (N : Netlist) → GivenJob job.entry (length words.old) o N
         → Lowest N job.entry.codes.list.now ws (length words.old) wire pair
@@ -127,7 +127,7 @@ pub fn search(
     bases: &mut [u64],
 ) -> WideFound
     requires wired { WiredGates job.gates (length words.old) }
-    requires paints_len { (length paints.old ≡ length job.codes.list.now) × (length job.items.sets.set0.now ≡ length words.old)
+    requires lengths { (length paints.old ≡ length job.codes.list.now) × (length job.items.sets.set0.now ≡ length words.old)
         × (length job.codes.list.now + 2 ≤ length words.old) × (length bases.old ≡ length words.old) × (length base.old ≡ length words.old) }
     ensures { (o : ℕ) (N : Netlist) → GivenJob job.entry (length words.old) o N
         → (told_of result.leak ≡ listed (length job.entry.codes.list.now) (leak_of N job.entry.codes.list.now))

@@ -122,7 +122,7 @@ pub fn reach(
     set3: &mut [u64],
 ) -> bool
     requires wired { WiredGates gates (length set0.old) }
-    requires n_bound { (n ≤ members_end) × (length set1.old ≡ length set0.old) × (length set2.old ≡ length set0.old)
+    requires lengths { (n ≤ members_end) × (length set1.old ≡ length set0.old) × (length set2.old ≡ length set0.old)
         × (length set3.old ≡ length set0.old) }
     ensures { let S = sets set0.new set1.new set2.new set3.new in
         (result ≡ true → Sized S (length set0.old)) × ((o : ℕ) (N : Netlist)

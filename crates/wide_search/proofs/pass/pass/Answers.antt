@@ -26,7 +26,7 @@ most-requires c =
 
 pub find-found-requires-clause-paints_in_bounds : goal.find-found-requires-clause-paints_in_bounds
 find-found-requires-clause-paints_in_bounds c =
-    let p = c.requires.paints_len in
+    let p = c.requires.lengths in
     let a = c.args in
     let long = c.serve_all.auto.paints ∙
     c.seed.auto.paints ∙ c.lay.auto.paints ∙ p.0 in
@@ -43,7 +43,7 @@ find-found-requires-clause-paints_in_bounds c =
 
 pub returns : goal.returns
 returns c =
-    let p = c.requires.paints_len in
+    let p = c.requires.lengths in
     let a = c.args in
     let S = sets_of a.job.items.sets in
     let W = length a.words.now in

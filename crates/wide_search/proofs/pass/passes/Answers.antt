@@ -11,7 +11,7 @@ pub loop-x-preserved : goal.loop-x-preserved
 loop-x-preserved c =
     let h = c.loop-x.invariant in
     let r = c.pass-worst in
-    let q = c.requires.paints_len in
+    let q = c.requires.lengths in
     passing-more h c.loop-x-test.true (omega (arith, c.requires.wired.1, q.1)) r.auto.paints r.auto.marks r.auto.words r.auto.base r.auto.bases r.ensures.0 r.ensures.1
     r.ensures.2
 

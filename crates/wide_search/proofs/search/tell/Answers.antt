@@ -15,7 +15,7 @@ use Rattle.wide_search.proofs.search.tell.Goals as goal
 pub returns-in_err-leak : goal.returns-in_err-leak
 returns-in_err-leak c =
     let a = c.args in
-    let p = c.requires.paints_len in
+    let p = c.requires.lengths in
     let m = c.at-m.result in
     let ps = c.seed.new.paints in
     let cs = a.job.codes.list.now in
@@ -30,7 +30,7 @@ returns-in_err-leak c =
 pub returns : goal.returns
 returns c =
     let a = c.args in
-    let p = c.requires.paints_len in
+    let p = c.requires.lengths in
     let m = c.at-m.result in
     let ps = c.seed.new.paints in
     let cs = a.job.codes.list.now in
