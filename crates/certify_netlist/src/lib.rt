@@ -1,5 +1,7 @@
 // Questions 10, 11 and 14 of a netlist that was read, and what the certifier says of it. The working tables stay parameters of their
-// own: they are lent by C one by one, and a struct of `&mut` slices would have to promise at each call that it still holds them.
+// own: they are lent by C one by one, and a struct of `&mut` slices would have to promise at each call that it still holds them. So do the
+// gates and the codes: the words of the inputs are made of codes alone and those of the gates by the evaluator, so that one call would put
+// both together and the next take them apart.
 #![tactic(auto)]
 
 mod ones;

@@ -10,9 +10,9 @@ use crate::{gate, inputs};
 use gate_table::Gates;
 
 // Takes the gates in order.
-fn run(gates: Gates, wires: usize, records: &mut [u64], marks: &mut [u8], hints: &mut [u64])
-    requires { WiredGates gates wires × (15 * wires ≤ length records.old) × (wires ≤ length marks.old) }
-    ensures { (n o : ℕ) (N : Netlist) (codes : List ℕ) → HoldsGates gates.entry wires n o N
+fn run(gates: Gates, records: &mut [u64], marks: &mut [u8], hints: &mut [u64])
+    requires { WiredGates gates (length marks.old) × (15 * length marks.old ≤ length records.old) }
+    ensures { (n o : ℕ) (N : Netlist) (codes : List ℕ) → HoldsGates gates.entry (length marks.old) n o N
         → Masked N codes → Holding N codes records.old marks.old
         → Holding N codes records.new marks.new }
 {
@@ -49,7 +49,6 @@ pub fn certified(
     marks.fill(0);
     hints.fill(0);
     inputs::inputs(codes, records, marks);
-    let wires = marks.len();
-    run(gates, wires, records, marks, hints);
+    run(gates, records, marks, hints);
     lowest(marks)
 }
