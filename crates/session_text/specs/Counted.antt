@@ -7,8 +7,8 @@ use Rattle.read_header.specs.declared.header.Header.{Header}
 
 -- the widths of the input and of the output values, and the header of so many values, of their bits, and of a wire for each input bit and each gate
 pub record Counted (widths outs : List ℕ) (h : Header) : Type 0 where
-  pub inputs : length widths ≤ 16
-  pub outputs : length outs ≤ 16
+  pub inputs : length widths ≤ (small Whole).inputs
+  pub outputs : length outs ≤ (small Whole).outputs
   pub input_bits : h.input_bits ≡ sum widths
   pub output_bits : h.output_bits ≡ sum outs
   pub wires : h.wires ≡ h.input_bits + h.gates

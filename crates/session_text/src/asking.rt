@@ -1,6 +1,7 @@
 // Questions 1 and 4 to 6 of a session that is to be shown. They are asked of widths and of numbers, and not of a `Given`: the records are not
 // looked at.
 ghost use Rattle.std.specs.Prelude.{◌≡◌, ◌≤◌};
+ghost use Rattle.netlist.specs.declared.Sizes.TheVariants.{Whole};
 ghost use Rattle.netlist.specs.Netlist.{small};
 ghost use Rattle.netlist.specs.Header.{within_limits};
 ghost use Rattle.session_plan.specs.Plan.{NoIs};
@@ -14,7 +15,7 @@ use session_plan::opening::{positive, total};
 
 // Question 5.
 fn within(l: Limits, widths: &[u32], outputs: &[u32], gates: u32) -> bool
-    requires { (l.inputs ≤ 16) × (l.outputs ≤ 16) }
+    requires { (l.inputs ≤ (small Whole).inputs) × (l.outputs ≤ (small Whole).outputs) }
     ensures { result ≡ within_limits l (head_of widths.now outputs.now gates) }
 {
     if l.inputs < widths.len() {

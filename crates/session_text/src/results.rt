@@ -106,8 +106,7 @@ pub fn masked(
         operands.old operands.new results.old results.new wires.old wires.new marks.old marks.new result }
 {
     let answer = masked_in(
-        g, codes, wanted, out, out_codes, operands, results, wires, marks,
-        sizes,
+        g, codes, wanted, out, out_codes, operands, results, wires, marks, sizes,
     );
     operands.fill(0);
     results.fill(0);

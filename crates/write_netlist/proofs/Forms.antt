@@ -31,7 +31,7 @@ pub forming-more : {e m x : List ℕ} {at r s n i : ℕ} {t : Tables} → Formin
     → Forming e at t n x s (i + 1)
 forming-more {i = i} {t = t} f h w = record { passed = omega arith; wrote = gates-as (sym (gates-more t i)) (gates-then f.wrote w) }
 
--- the same with the entries that are left
+-- the lines of the first k gates were written, and these entries of the two tables are left
 pub record Zipped (e : List ℕ) (at : ℕ) (t : Tables) (n : ℕ) (x : List ℕ) (r k : ℕ) (os rs : List ℕ) : Type 0 where
   pub forming : Forming e at t n x r k
   pub operands : os ≡ drop k (take n t.operands)
