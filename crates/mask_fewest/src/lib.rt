@@ -199,6 +199,7 @@ fn answer(
         tally.new result }
 {
     let l = sizes.small();
+    // As many places as any limits admit values.
     let mut inputs = [0u32; 17];
     let mut outputs = [0u32; 16];
     let h = read(

@@ -47,6 +47,7 @@ pub fn pass(
         wanted.now out.new result twin_codes.new }
 {
     let n = codes.len() as u32;
+    // The gates of the public bits stand behind the inputs, the mask pair and the three gates of the masks.
     let first = mask_twins::inputs::start(n + 5, codes, twin_wires, twin_codes);
     let masks = Masks { first: n };
     let second = mask_gates(d, out, at, masks);

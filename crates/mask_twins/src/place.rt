@@ -43,6 +43,7 @@ pub fn place_twins(gates: Gates, codes: &[u8], twin_wires: &mut [u32], twin_code
         (length twin_wires.old) result twin_wires.new twin_codes.new }
 {
     let n = codes.len() as u32;
+    // The gates of the public bits stand behind the inputs, the mask pair and the three gates of the masks.
     let first = crate::inputs::start(n + 5, codes, twin_wires, twin_codes);
     place_results(first, gates, twin_wires, twin_codes)
 }
