@@ -18,8 +18,8 @@ pub struct Blocks<'a> {
     pub publics: bool,
 }
 
-// Is some input bit public?
-pub fn public(paints: &[u8]) -> bool
+// Whether some input bit is public.
+pub fn any_public(paints: &[u8]) -> bool
     ensures { (result ≡ true → Secret (codes_of paints.now) → ⊥) × (result ≡ false → Secret (codes_of paints.now)) }
 {
     paints.iter().any(|paint| *paint % 4 == 0)
@@ -64,7 +64,7 @@ impl<'a> Blocks<'a> {
     // The words of all wires in a block's settings, or in their bases.
     pub fn run(self, secrets: bool, block: u64, words: &mut [u64])
         requires wired { WiredGates self.gates (length words.old) }
-        requires paints_in_bounds { length self.paints.now + 2 ≤ length words.old }
+        requires lengths { length self.paints.now + 2 ≤ length words.old }
         ensures { let N = bare_of self.entry.gates (length words.old) in
             Evaluated N secrets self.entry.paints.now words.new block }
     {
@@ -76,7 +76,7 @@ impl<'a> Blocks<'a> {
     // settings, and its counts are taken from the first block's words.
     pub fn refresh(self, block: u64, words: &[u64], base: &mut [u64])
         requires wired { WiredGates self.gates (length words.now) }
-        requires paints_in_bounds { (length self.paints.now + 2 ≤ length words.now) × (length base.old ≡ length words.now) }
+        requires lengths { (length self.paints.now + 2 ≤ length words.now) × (length base.old ≡ length words.now) }
         requires held { let N = bare_of self.gates (length words.now) in
             Counted N true self.paints.now (ones_of words.now) block × Ready self.publics N self.paints.now base.old block }
         ensures { let N = bare_of self.entry.gates (length words.now) in

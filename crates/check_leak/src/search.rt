@@ -27,7 +27,7 @@ fn search_block(
     limit: usize,
 ) -> Option<Leak>
     requires wired { WiredGates b.gates (length words.old) }
-    requires paints_in_bounds { (length b.paints.now + 2 ≤ length words.old) × (length base.old ≡ length words.old)
+    requires lengths { (length b.paints.now + 2 ≤ length words.old) × (length base.old ≡ length words.old)
         × (limit ≤ length words.old) × Ready b.publics (bare_of b.gates (length words.old)) b.paints.now base.old block }
     ensures { let N = bare_of b.entry.gates (length words.old) in LowestDifference
         (from (block * 16) (count_in N false b.entry.paints.now)) (from (block * 16) (count_in N true b.entry.paints.now)) limit 16 result
@@ -48,12 +48,12 @@ fn find(
     base: &mut [u64],
 ) -> Option<Leak>
     requires wired { WiredGates gates (length words.old) }
-    requires paints_in_bounds { (length paints.now + 2 ≤ length words.old) × (length base.old ≡ length words.old)
+    requires lengths { (length paints.now + 2 ≤ length words.old) × (length base.old ≡ length words.old)
         × (blocks < max_blocks) }
     ensures { let N = bare_of gates.entry (length words.old) in LowestDifference
         (count_in N false paints.now) (count_in N true paints.now) (length words.old) (blocks * 16) result }
 {
-    let publics = block::public(paints);
+    let publics = block::any_public(paints);
     let b = Blocks {
         gates,
         paints,
@@ -80,7 +80,7 @@ pub fn blocks_of(k: usize) -> u64
 // the base, one entry for each wire, are working store.
 pub fn leaks(gates: Gates, codes: Codes, words: &mut [u64], base: &mut [u64]) -> Option<Leak>
     requires wired { WiredGates gates (length words.old) }
-    requires codes_len_bound { (length codes.list.now ≤ max_checked) × (length codes.list.now + 2 ≤ length words.old)
+    requires lengths { (length codes.list.now ≤ max_checked) × (length codes.list.now + 2 ≤ length words.old)
         × (length base.old ≡ length words.old) }
     ensures { (n o : ℕ) (N : Netlist) → HoldsGates gates.entry
         (length words.old) n o N → found_of result ≡ leak N codes.entry.list.now }

@@ -29,7 +29,7 @@ fn tally(bases: &[u64], base: &mut [u64])
 // words are taken from the first block's.
 pub fn refresh(b: Blocks, block: u64, words: &[u64], bases: &mut [u64], base: &mut [u64])
     requires wired { WiredGates b.gates (length words.now) }
-    requires paints_in_bounds { (length b.paints.now + 2 ≤ length words.now) × (length bases.old ≡ length words.now)
+    requires lengths { (length b.paints.now + 2 ≤ length words.now) × (length bases.old ≡ length words.now)
         × (length base.old ≡ length words.now) }
     requires held { let N = bare_of b.gates (length words.now) in
         Evaluated N true b.paints.now words.now block × HeldOn b.publics N b.paints.now bases.old base.old block }

@@ -34,7 +34,7 @@ pub struct PairsFound<S = u64> {
 // A block is run: the words of its settings, the words of their bases, and the counts of these.
 fn run(b: Blocks, block: u64, words: &mut [u64], bases: &mut [u64], base: &mut [u64])
     requires wired { WiredGates b.gates (length words.old) }
-    requires paints_in_bounds { (length b.paints.now + 2 ≤ length words.old) × (length bases.old ≡ length words.old)
+    requires lengths { (length b.paints.now + 2 ≤ length words.old) × (length bases.old ≡ length words.old)
         × (length base.old ≡ length words.old)
         × HeldOn b.publics (bare_of b.gates (length words.old)) b.paints.now bases.old base.old block }
     ensures { let N = bare_of b.entry.gates (length words.old) in
@@ -80,14 +80,14 @@ pub fn find(
     base: &mut [u64],
 ) -> PairsFound
     requires wired { WiredGates gates (length words.old) }
-    requires paints_in_bounds { (length paints.now + 2 ≤ length words.old) × (length bases.old ≡ length words.old)
+    requires lengths { (length paints.now + 2 ≤ length words.old) × (length bases.old ≡ length words.old)
         × (length base.old ≡ length words.old) × (blocks < max_blocks) × (limit ≤ length words.old)
         × ((i : ℕ) → i < length pairs.now → get_or pairs.now i 0 < length words.old) }
     ensures { let N = bare_of gates.entry (length words.old) in
         Found (counts_of N false paints.now) (counts_of N true paints.now) pairs.now limit
         (length pairs.now / 2) (blocks * 16) result }
 {
-    let publics = block::public(paints);
+    let publics = block::any_public(paints);
     let b = Blocks {
         gates,
         paints,
@@ -112,7 +112,7 @@ pub fn search(
     base: &mut [u64],
 ) -> PairsFound
     requires wired { WiredGates gates (length words.old) }
-    requires codes_len_bound { (length codes.list.now ≤ max_checked) × (length codes.list.now + 2 ≤ length words.old) × (length bases.old ≡ length words.old)
+    requires lengths { (length codes.list.now ≤ max_checked) × (length codes.list.now + 2 ≤ length words.old) × (length bases.old ≡ length words.old)
         × (length base.old ≡ length words.old) × ((i : ℕ) → i < length pairs.now → get_or pairs.now i 0 < length words.old) }
     ensures { (n o : ℕ) (N : Netlist) → HoldsGates gates.entry (length words.old) n o N
         → (found_of result.leak ≡ leak_of N codes.entry.list.now) ×

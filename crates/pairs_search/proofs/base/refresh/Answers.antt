@@ -9,7 +9,7 @@ returns-then-block-eq0 c =
     let a = c.args in
     let first = c.repeat in
     let secret = (c.requires.held.1 c.if-b.false).0 in
-    let long = first.auto.bases ∙ c.requires.paints_in_bounds.1 in
+    let long = first.auto.bases ∙ c.requires.lengths.1 in
     let zero = c.if-block-eq0.true in
     let counts = c.tally-then-block-eq0.ensures in (
       record { words = first-words a.b.paints.now secret a.block zero c.requires.held.0 long first.ensures; counts = counts },

@@ -24,8 +24,8 @@ most-requires c =
     c.lay.ensures)
     (codes-upto c.args.job.codes.list.now c.args.job.codes.small)))
 
-pub find-found-requires-clause-paints_in_bounds : goal.find-found-requires-clause-paints_in_bounds
-find-found-requires-clause-paints_in_bounds c =
+pub find-found-requires-clause-lengths : goal.find-found-requires-clause-lengths
+find-found-requires-clause-lengths c =
     let p = c.requires.lengths in
     let a = c.args in
     let long = c.serve_all.auto.paints ∙

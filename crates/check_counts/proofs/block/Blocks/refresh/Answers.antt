@@ -17,7 +17,7 @@ returns-then-self c =
     let t = tables_of c.args.self.gates in
     let ran = subst
     (λ (W : ℕ). Evaluated (bare t c.args.self.gates.count W) false c.args.self.paints.now run.new.words c.args.block)
-    c.requires.paints_in_bounds.1 run.ensures in
+    c.requires.lengths.1 run.ensures in
     let public = c.if-self.true in
     (counted_same (run-block-law ran) c.tally.ensures, λ e. clash (cc))
 

@@ -1,4 +1,4 @@
--- `block::public`: some code is public.
+-- `block::any_public`: some code is public.
 use Rattle.std.proofs.Common.{rules, arith, ◌≡◌, ◌∙◌, ap, ℕ, ◌%◌, ◌<◌, Bool, true, false, List, length, ◌↔◌, IsTrue, get_or}
 use Rattle.std.specs.List.{SomeIndex}
 use Rattle.std.proofs.lemmas.Bool.{both_ways}
@@ -7,7 +7,7 @@ use Rattle.netlist.specs.Leak.{Secret}
 use Rattle.netlist.specs.Mask.{is_public}
 use Rattle.check_counts.specs.Paint.{codes_of}
 use Rattle.check_counts.proofs.Paints.{length-codes_of, codes_of-at}
-use Rattle.check_counts.proofs.block.public.Goals as goal
+use Rattle.check_counts.proofs.block.any_public.Goals as goal
 
 public-law : (ps : List ℕ) (r : Bool) → IsTrue r ↔ SomeIndex ps (λ i. get_or ps i 0 % 4 ≡ 0)
     → (r ≡ true → Secret (codes_of ps) → ⊥) × (r ≡ false → Secret (codes_of ps))
