@@ -1,5 +1,6 @@
 // The wires of variables. Entry v of the table is 0 where variable v is not given, and otherwise one more than its wire: C lends a table of
-// numbers, and has 0 in it for none.
+// numbers, and has 0 in it for none. Each reader takes the number as it stands: of an `Option` the two that need a wire would unwrap what their
+// contracts say is there, and `can_give` would still have to tell a 0 from a variable that has no entry.
 ghost use Rattle.std.specs.Prelude.{◌≡◌, true, List, ℕ, ◌+◌, ◌/◌, ◌<◌, ◌^◌, ◌≤◌, length, set, get_or};
 ghost use Rattle.aiger.specs.File.{literal};
 ghost use Rattle.aiger.specs.Rules.{readable, can_give};

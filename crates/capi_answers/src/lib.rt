@@ -38,7 +38,8 @@ pub fn number(a: Answer) -> i64
 // How many numbers tell a leak.
 const LEAK_NUMBERS: usize = 4;
 
-// The numbers of a leak: its wire, its setting, its base's count and its own.
+// The numbers of a leak: its wire, its setting, its base's count and its own. `certify_netlist` tells its leaks by itself: this crate stands above
+// it, and there the second number is how many input bits are one, and two lists are asked for room before either is written.
 pub fn show(list: &mut [u64], leak: Leak)
     ensures { list.new ≡ sets list.old 0 (leak_numbers leak) }
 {

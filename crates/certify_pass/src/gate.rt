@@ -10,7 +10,7 @@ use certify_records::{Record, leaf};
 use certify_wires::{hints, keep, marks, store};
 use gate_table::Parts;
 
-// What a wire is marked as: clean, or public and so clean.
+// What a wire is marked as: clean, or public and so clean. Only written: C lends the marks as bytes, of which readers ask one bit.
 #[derive(Clone, Copy)]
 pub enum Shown {
     Clean = 1,
@@ -97,7 +97,8 @@ fn pairs(records: &mut [u64], marks: &mut [u8], gate: Parts)
     }
 }
 
-// A record of at most one atom that the k-th record of wire w gives.
+// A record of at most one atom that the k-th record of wire w gives. `w` and `k` are two numbers, here, in `settle` and in `hinted`: each needs
+// the wire alone too, for which one number 5 w + k would be divided again.
 fn leaf_of(records: &[u64], hints: &mut [u64], w: usize, k: usize, r: Record) -> Option<Record>
     requires { (15 * w + 15 ≤ length records.now) × (k < 5) }
     ensures { (N : Netlist) (codes : List ℕ) → Recorded N codes records.now → Known N codes w r → KnownIf N codes w result }

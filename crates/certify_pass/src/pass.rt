@@ -9,7 +9,7 @@ ghost use Rattle.certify_pass.specs.Pass.{Holding, Masked, sure};
 use crate::{gate, inputs};
 use gate_table::Gates;
 
-// Takes the gates in order.
+// Takes the gates in order. By number: a `zip` of the two tables, each cut to the count, would be longer than `gates.at(i)`.
 fn run(gates: Gates, records: &mut [u64], marks: &mut [u8], hints: &mut [u64])
     requires { WiredGates gates (length marks.old) × (15 * length marks.old ≤ length records.old) }
     ensures { (n o : ℕ) (N : Netlist) (codes : List ℕ) → HoldsGates gates.entry (length marks.old) n o N

@@ -44,8 +44,9 @@ impl Record {
     }
 }
 
-// Whether two records have the same atoms. Place by place: an array of the four would be one comparison here, and in `align` and `reduce`
-// an index where a name says which place moves.
+// Whether two records have the same atoms. Place by place: an array of the four would be one comparison here, `all` in `certify_wires`, and a
+// loop for four lines in `meet` and `reduced`, each with an invariant; but `Says`, `SameAtoms`, `Even` and `JoinIs` of specs/ name the four, and
+// would say entry 2 of a list for `third`, as `align` and `reduce` would have an index where a name says which place moves.
 pub fn have_same_atoms(r: Record, s: Record) -> bool
     ensures { result ≡ true → SameAtoms r s }
 {

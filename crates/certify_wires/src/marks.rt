@@ -1,4 +1,4 @@
-// The marks of wires: 1 for clean, 2 for public.
+// The marks of wires: 1 for clean, 2 for public. They are read as bits of a byte, since C lends the table as bytes.
 ghost use Rattle.std.specs.Prelude.{◌≡◌, true, List, ℕ};
 ghost use Rattle.netlist.specs.Netlist.{Netlist};
 ghost use Rattle.netlist.specs.Leak.{EqualCounts};

@@ -18,8 +18,8 @@ fn swapped(way: u8, operands: u64, results: u64) -> u64
     operands
 }
 
-// Exchanges the operands of the ANDs among the gates with these results that their ways take swapped. By number: behind an adapter of
-// `iter_mut` such as `zip` nothing is known of the entries afterwards.
+// Exchanges the operands of the ANDs among the gates with these results that their ways take swapped. By number: `iter_mut` would first cut the
+// operands to the gates, and with `enumerate` index the two other lists; behind a `zip` with it nothing is known of the entries afterwards.
 pub fn swap(operands: &mut [u64], results: &[u64], ways: &[u8])
     requires { (length results.now ≤ length operands.old) × (length results.now ≤ length ways.now) }
     ensures { Swapped results.now (length results.now) ways.now operands.old operands.new }

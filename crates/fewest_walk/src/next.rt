@@ -13,6 +13,8 @@ pub fn is_and(results: u64) -> bool
 }
 
 // How many ways a place has: an input by its code, a gate by its kind. A number: a way is an entry of a table that C lends as bytes.
+// `codes` and `results` are two parameters, here, in `next` and in `spans`: the search has the codes in its job and cuts the results to the
+// gates meant, so each call would put a struct of both together.
 pub fn ways(codes: &[u8], results: &[u64], p: usize) -> u8
     requires { p < length codes.now + length results.now }
     ensures { result ≡ ways_at codes.now results.now p }

@@ -50,7 +50,7 @@ pub fn step(masks: Masks, a: Twin, b: Twin, c: u32, k: usize) -> GateRecord
         c + 6,
     ];
     GateRecord {
-        // `GateRecord::from` of an XOR or an AND takes three instructions more a step: 3 percent of adding an AND to a session
+        // by the row's number: for `GateRecord::from` an XOR or an AND would first be chosen by it, and then made a record with that number again
         kind: row[0] as u32 + 1,
         first: places[row[1] as usize],
         second: places[row[2] as usize],
@@ -70,7 +70,7 @@ fn row(d: Words, out: &mut [u8], at: usize, is_and: bool, a: u32, b: u32, c: u32
 }
 
 // The steps' gates at the wires from c, of operands with the twins a and b. A loop over what `step` gives took 185 µs in place of 162, so
-// that masking, at 1.02 to 1.07 times the plain C of bench/, would miss its bar of 1.1.
+// that masking, at 1.02 to 1.08 times the plain C of bench/, would miss its bar of 1.1.
 pub fn steps(d: Words, out: &mut [u8], at: usize, masks: Masks, a: Twin, b: Twin, c: u32) -> usize
     requires c_bound { c ≤ 2 ^ 31 }
     ensures { WroteGates out.old at (row_gates rows (first_places masks.first a b) c) out.new result }

@@ -1,7 +1,8 @@
 // The masking rule of one source gate, by value: its mask change, its masked gates one by one, how many they are, and the twin of its
 // result. Mask writes by it, Mask and Twins count by it, and a session stores what it gives.
 // The twins a and b of a gate's operands are two parameters: with a struct t of them the bodies would say `t.a.code != t.b.code` for
-// `a.code != b.code`, and each caller outside, which looks up one and then the other, would put it together: no plainer.
+// `a.code != b.code`, and each caller outside, which looks up one and then the other, would put it together: no plainer. `masks` and `c` are
+// two as well: `masks` stays for a whole netlist while `c` moves with each gate, so each call would put a struct of them together again.
 #![tactic(auto)]
 
 ghost use Rattle.std.specs.Prelude.{◌≡◌, map, ◌+◌, ◌<◌, length, get_or};

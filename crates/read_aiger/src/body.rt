@@ -1,5 +1,6 @@
 // The lines behind the header. The tables are lent one by one: a struct of `&mut` slices would have to promise at each call that it
-// still holds them.
+// still holds them. Lines and header are two parameters: the lines move on while `h` stays, so with a struct of both each call would put one
+// together again.
 ghost use Rattle.std.specs.Prelude.{◌≡◌, List, ℕ, ◌+◌, ◌*◌, ◌<◌, ◌≤◌, length, replicate};
 ghost use Rattle.netlist.specs.Table.{tables};
 ghost use Rattle.aiger_lines.specs.LineAnswers.{lines_left};

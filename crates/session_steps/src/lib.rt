@@ -31,7 +31,8 @@ fn write(list: &mut [GateRecord], at: usize, n: u32, x: Steps)
     }
 }
 
-// An opening's masked gates, at the front of the list.
+// An opening's masked gates, at the front of the list. `next` is counted: a loop over `filter` gives no place in the list that it writes to but
+// by a second count.
 fn write_opening(list: &mut [GateRecord], codes: &[u8])
     requires { (length codes.now ≤ most_bits) × (length (open_gates codes.now) ≤ length list.old) }
     ensures { list.new ≡ sets list.old 0 (map record_of (open_gates codes.now)) }
@@ -49,6 +50,7 @@ fn write_opening(list: &mut [GateRecord], codes: &[u8])
     }
 }
 
+// Widths and codes stay parameters of their own, and so does what `add` is handed, here and in `session_plan`: C hands them in one by one.
 fn try_open(
     widths: &[u32],
     codes: &[u8],

@@ -1,7 +1,8 @@
 // Expressions: three functions that call each other in a cycle. Each reads what stands at a place of the text and puts a gate
 // for each operator into the tables. They go as deep as the parentheses do.
 // The tables of gates are lent by C one by one, and a struct of `&mut` slices would have to promise at each call that it still
-// holds them.
+// holds them. `n` and `next` are two parameters, here, in `equations` and in `copies`: `n` stays while `next` moves, so each call would put a
+// struct of both together again.
 ghost use Rattle.std.specs.Prelude.{◌+◌, ◌≤◌, ◌<◌, length};
 ghost use Rattle.netlist.specs.Table.{half, tables};
 ghost use Rattle.verilog_gates.specs.Wires.{wire_of};

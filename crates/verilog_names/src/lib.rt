@@ -10,7 +10,8 @@ ghost use Rattle.verilog_names.specs.Names.{number, found, entry_number, chain_o
 use read_text::bytes::same;
 
 // Names found by chains of equal numbers in lent tables, which are read: a chain for each of `heads`, and a name of the text for each of
-// `words`. The links are places in a table, since there is no heap and C lends the tables.
+// `words`. The links are places in a table, since there is no heap and C lends the tables: a head or a link is one more than an entry's place,
+// or 0 for none, as C's tables are numbers.
 #[derive(Clone, Copy)]
 pub struct Names<'a> {
     pub text: &'a [u8],
@@ -54,7 +55,7 @@ fn is_name(text: &[u8], entry: u64, w: &[u8]) -> bool
 }
 
 impl Names<'_> {
-    // The newest entry with the name w.
+    // The newest entry with the name w. No `for`: the place moves along the links.
     pub fn find(self, w: &[u8]) -> Option<usize>
         ensures entry { entry_number result ≡ found self.entry.text.now self.entry.words.now w.now (length self.entry.words.now) }
         ensures within { IfSome result (λ i. i < length self.entry.words.now) }

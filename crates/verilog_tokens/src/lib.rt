@@ -32,7 +32,8 @@ pub enum Kind {
     Other,
 }
 
-// A token: what it is, its first byte, and the one behind its last. Places and no slice, since the tables of names store places.
+// A token: what it is, its first byte, and the one behind its last. Places and no slice: the tables of names store both places, and `TokenAt` of
+// specs/ speaks of both. With a word in place of `from` the one would be subtracted again, and each clause would say where the word lies.
 #[derive(Clone, Copy)]
 pub struct Token {
     pub kind: Kind,

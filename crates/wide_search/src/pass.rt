@@ -1,6 +1,7 @@
 // Passes: the inputs are coloured for as many items as they can serve, and one search over the painted settings judges those. The tables
 // that are written are parameters of their own: C lends them one by one, and a struct of `&mut` slices would have to promise at each call
-// that it still holds the same ones.
+// that it still holds the same ones. `start` stands beside the items and in no struct with them: `search` asks for the wires and then for the
+// pairs of one job, at two starts.
 ghost use Rattle.std.specs.Prelude.{◌≡◌, ℕ, ◌+◌, ◌*◌, ◌/◌, ◌≤◌, ◌<◌, length};
 ghost use Rattle.netlist.specs.Netlist.{Netlist};
 ghost use Rattle.gate_table.specs.Gates.{WiredGates};

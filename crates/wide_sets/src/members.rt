@@ -7,7 +7,8 @@ ghost use Rattle.wide_sets.specs.WireSets.{sets_of};
 
 use crate::tables::WireSets;
 
-// A list of inputs: the first `count` items of an array, since there is no heap.
+// A list of inputs: the first `count` items of an array, since there is no heap. No `ArrayVec` of the kit's crate, whose `clone` can fail, so
+// that it is no `Copy`, as a leak told by `Members` is.
 #[derive(Clone, Copy)]
 pub struct Members {
     pub items: [u32; 12],

@@ -112,7 +112,8 @@ fn line(set0: &mut [u64], set1: &mut [u64], set2: &mut [u64], set3: &mut [u64], 
 }
 
 // The sets of all wires of the gates' netlist, of which the first n are its inputs besides the mask pair. Says whether at most twelve
-// inputs reach each wire; after a no the tables are of no use.
+// inputs reach each wire; after a no the tables are of no use. By number: a `zip` of the gates' two tables, each cut to the count, would be
+// longer than `gates.at(i)`.
 pub fn reach(
     gates: Gates,
     n: usize,

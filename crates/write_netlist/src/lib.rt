@@ -1,5 +1,6 @@
 // The written form of the netlist that the tables hold, in either dialect, in one pass where the buffer surely holds it, and otherwise measured
-// first.
+// first. The table of words stands beside the form: it is chosen last, in one of two ways, and with a field for it the form would be written
+// out twice.
 #![tactic(auto)]
 
 pub mod form;

@@ -63,6 +63,7 @@ pub struct Words<'t> {
 
 impl<'t> Words<'t> {
     // The empty table, for a netlist of up to a hundred wires, where no line is stored by words: so a small call clears no array for them.
+    // By `if`, since the contract has a clause for each answer.
     pub fn none_for(wires: usize) -> Option<Self>
         ensures none { result ≡ None → 100 < wires }
         ensures some { IfSome result (λ w. (wires ≤ 100) × (length w.entries.now ≡ 0)) }
