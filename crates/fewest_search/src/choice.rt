@@ -3,12 +3,12 @@
 ghost use Rattle.std.specs.Prelude.{◌≡◌, ◌+◌, ◌-◌, ◌≤◌, ◌<◌, ◌^◌, length, get_or};
 ghost use Rattle.gate_table.specs.Gates.{WiredGates};
 ghost use Rattle.fewest_search.specs.Try.{idle_at, cost_of};
-ghost use Rattle.fewest_search.specs.Job.{FitsFor, EnteredFor, TriedFor};
+ghost use Rattle.fewest_search.specs.Coded.{FitsFor, EnteredFor, TriedFor};
 
-use crate::Job;
 use fewest_walk::gates::walk_gates;
 use fewest_walk::outputs::outputs;
 use gate_table::Gates;
+use mask_pass::CodedGates;
 
 // How many gates of a choice are done, and the changes of the best choice so far.
 #[derive(Clone, Copy)]
@@ -31,28 +31,28 @@ fn is_idle(gates: Gates, n: usize, place: usize, wire_codes: &[u8]) -> bool
 
 // The choice in `way` from a place on: how many gates are done.
 pub fn walk_from(
-    job: Job,
+    source: CodedGates,
     way: &[u8],
     wire_codes: &mut [u8],
     least_before: &mut [u32],
     place: usize,
     bound: u32,
 ) -> usize
-    requires wired { WiredGates job.gates (length wire_codes.old) }
-    requires count_in_bounds { (length job.codes.now + job.gates.count ≤ length way.now)
-        × (length job.codes.now ≤ length wire_codes.old)
-        × (job.gates.count < length least_before.old)
-        × (place - length job.codes.now ≤ job.gates.count)
-        × (get_or least_before.old (place - length job.codes.now) 0 + job.gates.count < 2 ^ 32) }
-    ensures { EnteredFor job.entry way.now place bound wire_codes.old least_before.old wire_codes.new least_before.new result }
+    requires wired { WiredGates source.gates (length wire_codes.old) }
+    requires count_in_bounds { (length source.codes.now + source.gates.count ≤ length way.now)
+        × (length source.codes.now ≤ length wire_codes.old)
+        × (source.gates.count < length least_before.old)
+        × (place - length source.codes.now ≤ source.gates.count)
+        × (get_or least_before.old (place - length source.codes.now) 0 + source.gates.count < 2 ^ 32) }
+    ensures { EnteredFor source.entry way.now place bound wire_codes.old least_before.old wire_codes.new least_before.new result }
 {
-    let n = job.codes.len();
+    let n = source.codes.len();
     if place < n {
-        fewest_walk::inputs::inputs(job.codes, way, wire_codes);
-        return walk_gates(job.gates, &way[n..], wire_codes, least_before, 0, bound);
+        fewest_walk::inputs::inputs(source.codes, way, wire_codes);
+        return walk_gates(source.gates, &way[n..], wire_codes, least_before, 0, bound);
     }
     walk_gates(
-        job.gates,
+        source.gates,
         &way[n..],
         wire_codes,
         least_before,
@@ -62,23 +62,23 @@ pub fn walk_from(
 }
 
 // The changes of a choice whose gates are all done.
-pub fn count_changes(job: Job, wire_codes: &[u8], least_before: &[u32]) -> u32
-    requires { (job.gates.count < length least_before.now)
-        × (length job.wanted.now ≤ length wire_codes.now)
-        × (length job.wanted.now < 2 ^ 31)
-        × (get_or least_before.now job.gates.count 0 < 2 ^ 31) }
-    ensures { result ≡ cost_of wire_codes.now least_before.now job.entry.gates.count job.entry.wanted.now }
+pub fn count_changes(source: CodedGates, wire_codes: &[u8], least_before: &[u32]) -> u32
+    requires { (source.gates.count < length least_before.now)
+        × (length source.wanted.now ≤ length wire_codes.now)
+        × (length source.wanted.now < 2 ^ 31)
+        × (get_or least_before.now source.gates.count 0 < 2 ^ 31) }
+    ensures { result ≡ cost_of wire_codes.now least_before.now source.entry.gates.count source.entry.wanted.now }
 {
-    least_before[job.gates.count]
+    least_before[source.gates.count]
         + outputs(
-            &wire_codes[wire_codes.len() - job.wanted.len()..],
-            job.wanted,
+            &wire_codes[wire_codes.len() - source.wanted.len()..],
+            source.wanted,
         )
 }
 
 // The choice in `way`, whose last place that moved is `place`; `best` gets it where it has fewer changes than the least so far.
 pub fn try_choice(
-    job: Job,
+    source: CodedGates,
     way: &[u8],
     best: &mut [u8],
     wire_codes: &mut [u8],
@@ -86,24 +86,24 @@ pub fn try_choice(
     place: usize,
     least: u32,
 ) -> Tried
-    requires fits { FitsFor job way.now best.old wire_codes.old least_before.old }
-    requires place_in_bounds { (place < length job.codes.now + job.gates.count)
-        × (get_or least_before.old (place - length job.codes.now) 0 ≤ job.gates.count) }
-    ensures { TriedFor job.entry way.now place least best.old wire_codes.old least_before.old best.new wire_codes.new
+    requires fits { FitsFor source way.now best.old wire_codes.old least_before.old }
+    requires place_in_bounds { (place < length source.codes.now + source.gates.count)
+        × (get_or least_before.old (place - length source.codes.now) 0 ≤ source.gates.count) }
+    ensures { TriedFor source.entry way.now place least best.old wire_codes.old least_before.old best.new wire_codes.new
         least_before.new result }
 {
-    let n = job.codes.len();
-    if is_idle(job.gates, n, place, wire_codes) {
+    let n = source.codes.len();
+    if is_idle(source.gates, n, place, wire_codes) {
         return Tried {
             stop: place - n + 1,
             least,
         };
     }
-    let stop = walk_from(job, way, wire_codes, least_before, place, least);
-    if stop < job.gates.count {
+    let stop = walk_from(source, way, wire_codes, least_before, place, least);
+    if stop < source.gates.count {
         return Tried { stop, least };
     }
-    let c = count_changes(job, wire_codes, least_before);
+    let c = count_changes(source, wire_codes, least_before);
     if least <= c {
         return Tried { stop, least };
     }

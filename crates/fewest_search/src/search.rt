@@ -2,10 +2,10 @@
 ghost use Rattle.std.specs.Prelude.{◌≡◌, ◌≤◌, length};
 ghost use Rattle.netlist.specs.Netlist.{Netlist};
 ghost use Rattle.fewest_search.specs.Search.{Found};
-ghost use Rattle.fewest_search.specs.Job.{FitsFor, SourceFor, SearchableFor, BegunFor};
+ghost use Rattle.fewest_search.specs.Coded.{FitsFor, SourceFor, SearchableFor, BegunFor};
 
-use crate::Job;
 use crate::choice::{count_changes, try_choice, walk_from};
+use mask_pass::CodedGates;
 
 // More changes than any choice has. A number and not a `None`: the walk compares the bound with the changes at every gate.
 const MANY: u32 = u32::MAX;
@@ -19,23 +19,27 @@ pub struct Tally {
 
 // The first choice: its changes. `spans` gets for each place how many choices share the places up to it.
 fn start(
-    job: Job,
+    source: CodedGates,
     way: &mut [u8],
     best: &mut [u8],
     wire_codes: &mut [u8],
     least_before: &mut [u32],
     spans: &mut [u64],
 ) -> u32
-    requires { FitsFor job way.old best.old wire_codes.old least_before.old × (length spans.old ≡ length wire_codes.old) }
-    ensures { BegunFor job.entry way.old wire_codes.old least_before.old spans.old way.new best.new
+    requires { FitsFor source way.old best.old wire_codes.old least_before.old × (length spans.old ≡ length wire_codes.old) }
+    ensures { BegunFor source.entry way.old wire_codes.old least_before.old spans.old way.new best.new
         wire_codes.new least_before.new spans.new result }
 {
     way.fill(0);
-    fewest_walk::spans::spans(job.codes, &job.gates.results[..job.gates.count], spans);
-    least_before[0] = fewest_walk::twices::twices(job.gates);
-    walk_from(job, way, wire_codes, least_before, 0, MANY);
+    fewest_walk::spans::spans(
+        source.codes,
+        &source.gates.results[..source.gates.count],
+        spans,
+    );
+    least_before[0] = fewest_walk::twices::twices(source.gates);
+    walk_from(source, way, wire_codes, least_before, 0, MANY);
     best.copy_from_slice(way);
-    count_changes(job, wire_codes, least_before)
+    count_changes(source, wire_codes, least_before)
 }
 
 // The first choice with the fewest changes among as many as the budget allows, into `best`, its changes and the floor. The gate tables
@@ -43,7 +47,7 @@ fn start(
 // that share their first places are passed together, and counted, where none of them has fewer changes than the best so far; all
 // that are left are where the best has no more changes than there are gates that name one wire twice.
 pub fn search(
-    job: Job,
+    source: CodedGates,
     budget: u64,
     way: &mut [u8],
     best: &mut [u8],
@@ -51,13 +55,13 @@ pub fn search(
     least_before: &mut [u32],
     spans: &mut [u64],
 ) -> Tally
-    requires { SearchableFor job way.old best.old wire_codes.old least_before.old spans.old × (1 ≤ budget) }
-    ensures { (N : Netlist) → SourceFor job.entry (length wire_codes.old) N
-        → Found N job.entry.codes.now job.entry.wanted.now budget best.new result }
+    requires { SearchableFor source way.old best.old wire_codes.old least_before.old spans.old × (1 ≤ budget) }
+    ensures { (N : Netlist) → SourceFor source.entry (length wire_codes.old) N
+        → Found N source.entry.codes.now source.entry.wanted.now budget best.new result }
 {
-    let n = job.codes.len();
-    let mut least = start(job, way, best, wire_codes, least_before, spans);
-    let mut stop = job.gates.count;
+    let n = source.codes.len();
+    let mut least = start(source, way, best, wire_codes, least_before, spans);
+    let mut stop = source.gates.count;
     let mut left = budget;
     loop {
         if least <= least_before[0] {
@@ -74,7 +78,8 @@ pub fn search(
             };
         }
         left -= span;
-        let Some(place) = fewest_walk::next::next(job.codes, &job.gates.results[..stop], way) else {
+        let Some(place) = fewest_walk::next::next(source.codes, &source.gates.results[..stop], way)
+        else {
             return Tally {
                 changes: least,
                 floor: least,
@@ -86,7 +91,7 @@ pub fn search(
                 floor: least_before[0],
             };
         }
-        let t = try_choice(job, way, best, wire_codes, least_before, place, least);
+        let t = try_choice(source, way, best, wire_codes, least_before, place, least);
         stop = t.stop;
         least = t.least;
     }

@@ -15,9 +15,10 @@ ghost use Rattle.fewest_search.specs.Search.{Source};
 ghost use Rattle.mask_fewest.specs.Stages.{Room, Choosable, Chose, Givable, given, room, FewestAnswers};
 ghost use Rattle.mask_fewest.specs.Promise.{call, Promise};
 
-use fewest_search::Job;
 use fewest_search::search::Tally;
 use gate_table::Gates;
+use mask::Head;
+use mask_pass::CodedGates;
 use netlist::{Answer, Question, Sizes};
 use read_header::header::Header;
 use read_netlist::read::read;
@@ -47,7 +48,7 @@ fn choose<'a>(
 {
     let all = h.wires as usize;
     let count = h.gates as usize;
-    let job = Job {
+    let source = CodedGates {
         gates: Gates {
             operands,
             results,
@@ -57,7 +58,7 @@ fn choose<'a>(
         wanted,
     };
     let r = fewest_search::search::search(
-        job,
+        source,
         budget,
         &mut ways[..all],
         &mut best[..all],
@@ -71,36 +72,31 @@ fn choose<'a>(
 }
 
 // The masked text and the output codes of a source, and where question 14 gets a yes also the codes and the tally. The buffers
-// and tables are parameters of their own: C lends them one by one, and a struct of `&mut` slices would have to promise at each call that
-// it still holds them.
+// and tables that are written are parameters of their own: C lends them one by one, and a struct of `&mut` slices would have to promise at
+// each call that it still holds them.
 fn give(
     out: &mut [u8],
     in_codes: &mut [u8],
     out_codes: &mut [u8],
     tally: &mut [u64],
-    h: Header,
+    head: Head,
     r: Tally,
-    codes: &[u8],
-    wanted: &[u8],
-    inputs: &[u32],
-    outputs: &[u32],
-    gates: Gates,
+    source: CodedGates,
     wires: &mut [u32],
     marks: &mut [u8],
 ) -> Answer
-    requires { Givable h (tables_of gates) gates.count codes.now wanted.now inputs.now wires.old marks.old in_codes.old tally.old }
+    requires { Givable head.header (tables_of source.gates) source.gates.count source.codes.now source.wanted.now head.inputs.now
+        wires.old marks.old in_codes.old tally.old }
     ensures { (N : Netlist)
-        → MaskSource (tables_of gates.entry) gates.entry.count h.wires (length codes.now) (length wanted.now)
-        (inputs.now ++ (2 ∷ [])) outputs.now N
-        → WellFormed (mask_netlist N codes.now wanted.now).netlist
+        → MaskSource (tables_of source.entry.gates) source.entry.gates.count head.entry.header.wires (length source.entry.codes.now)
+        (length source.entry.wanted.now) (head.entry.inputs.now ++ (2 ∷ [])) head.entry.outputs.now N
+        → WellFormed (mask_netlist N source.entry.codes.now source.entry.wanted.now).netlist
         → FewestAnswers (delivery (room out.old in_codes.old out_codes.old tally.old)
-        (given N codes.now wanted.now r)) out.old out.new in_codes.old
+        (given N source.entry.codes.now source.entry.wanted.now r)) out.old out.new in_codes.old
         in_codes.new out_codes.old out_codes.new tally.old tally.new result }
 {
-    let size = mask::deliver(
-        out, out_codes, h, codes, wanted, inputs, outputs, gates, wires, marks,
-    )?;
-    in_codes[..codes.len()].copy_from_slice(codes);
+    let size = mask::deliver(out, out_codes, head, source, wires, marks)?;
+    in_codes[..source.codes.len()].copy_from_slice(source.codes);
     tally[0] = r.changes as u64;
     tally[1] = r.floor as u64;
     Ok(size)
@@ -112,12 +108,10 @@ fn deliver(
     in_codes: &mut [u8],
     out_codes: &mut [u8],
     tally: &mut [u64],
-    h: Header,
+    head: Head,
     codes: &[u8],
     wanted: &[u8],
     budget: u64,
-    inputs: &[u32],
-    outputs: &[u32],
     operands: &mut [u64],
     results: &[u64],
     wires: &mut [u32],
@@ -126,13 +120,15 @@ fn deliver(
     best: &mut [u8],
     spans: &mut [u64],
 ) -> Answer
-    requires { Room h (tables operands.old results.now) inputs.now outputs.now wires.old marks.old ways.old best.old spans.old }
+    requires { Room head.header (tables operands.old results.now) head.inputs.now head.outputs.now wires.old marks.old
+        ways.old best.old spans.old }
     ensures { (N : Netlist)
-        → Read h (tables operands.old results.now) h.gates inputs.now outputs.now N
+        → Read head.entry.header (tables operands.old results.now) head.entry.header.gates head.entry.inputs.now head.entry.outputs.now N
         → FewestAnswers (fewest_outcome codes.now wanted.now budget
         (room out.old in_codes.old out_codes.old tally.old) N) out.old out.new
         in_codes.old in_codes.new out_codes.old out_codes.new tally.old tally.new result }
 {
+    let h = head.header;
     if !lists::free_codes(codes, h.input_bits as usize) {
         return Err(Question::Inputs);
     }
@@ -156,20 +152,9 @@ fn deliver(
         results,
         count: h.gates as usize,
     };
+    let source = CodedGates::new(gates, &ways[..codes.len()], wanted);
     give(
-        out,
-        in_codes,
-        out_codes,
-        tally,
-        h,
-        r,
-        &ways[..codes.len()],
-        wanted,
-        inputs,
-        outputs,
-        gates,
-        wires,
-        marks,
+        out, in_codes, out_codes, tally, head, r, source, wires, marks,
     )
 }
 
@@ -212,24 +197,14 @@ fn answer(
         &[wires.len(), ways.len(), best.len(), spans.len()],
         l,
     )?;
+    let head = Head {
+        header: h,
+        inputs: &inputs[..h.input_values],
+        outputs: &outputs[..h.output_values],
+    };
     deliver(
-        out,
-        in_codes,
-        out_codes,
-        tally,
-        h,
-        codes,
-        wanted,
-        budget,
-        &inputs[..h.input_values],
-        &outputs[..h.output_values],
-        operands,
-        results,
-        wires,
-        marks,
-        ways,
-        best,
-        spans,
+        out, in_codes, out_codes, tally, head, codes, wanted, budget, operands, results, wires,
+        marks, ways, best, spans,
     )
 }
 

@@ -30,8 +30,7 @@ fn step(
     let a = mask_twins::twin(twin_wires, twin_codes, g.left);
     let b = mask_twins::twin(twin_wires, twin_codes, g.right);
     let (end, t) = mask_gate::emit(d, out, at, masks, c, Kind::of(g.kind), a, b);
-    twin_wires[result] = t.wire;
-    twin_codes[result] = t.code;
+    mask_twins::put(twin_wires, twin_codes, result, t);
     (end, t.wire + 1)
 }
 

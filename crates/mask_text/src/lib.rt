@@ -14,18 +14,15 @@ ghost use Rattle.mask_twins.specs.Place.{Ready};
 ghost use Rattle.mask_text.specs.Whole.{Source, WroteText, Filled, MaskAnswers};
 ghost use Rattle.mask_text.specs.Job.{ReadyFor, masked, SourceOf, NumbersOf};
 
-use gate_table::Gates;
+use mask_pass::CodedGates;
 use netlist::{Answer, Question};
 use write_header::Shape;
 use write_wires::table::Words;
 
-// What a source is masked by: its gates, the codes of its inputs and the wanted ones of its outputs, and what the masked text's
-// header says.
+// What a source is masked by: its gates and codes, and what the masked text's header says.
 #[derive(Clone, Copy)]
 struct Job<'a> {
-    source: Gates<'a>,
-    codes: &'a [u8],
-    wanted: &'a [u8],
+    source: CodedGates<'a>,
     shape: Shape<'a>,
 }
 
@@ -39,12 +36,10 @@ fn write<'a>(
 ) -> usize
     requires ready { ReadyFor j twin_wires.old twin_codes.old }
     ensures { (N : Netlist) → SourceOf j.entry (length twin_wires.old) N → NumbersOf j.entry N
-        → WroteText out.old (masked j.entry N) j.entry.wanted.now out.new twin_codes.new result }
+        → WroteText out.old (masked j.entry N) j.entry.source.wanted.now out.new twin_codes.new result }
 {
     let at = write_header::header(out, 0, j.shape);
-    let (end, _) = mask_pass::pass(
-        d, out, at, j.source, j.codes, j.wanted, twin_wires, twin_codes,
-    );
+    let (end, _) = mask_pass::pass(d, out, at, j.source, twin_wires, twin_codes);
     end
 }
 
@@ -62,8 +57,8 @@ fn fill<'a>(
         → Filled (masked j.entry N) out.old out.new out_codes.old out_codes.new result }
 {
     let size = write(d, out, j, twin_wires, twin_codes);
-    let from = twin_codes.len() - j.wanted.len();
-    mask_pass::outs::codes(&twin_codes[from..], j.wanted, out_codes);
+    let from = twin_codes.len() - j.source.wanted.len();
+    mask_pass::outs::codes(&twin_codes[from..], j.source.wanted, out_codes);
     size
 }
 
@@ -105,7 +100,7 @@ fn answer<'a>(
         → MaskAnswers (deliver_outcome (length out.old) (length out_codes.old)
         (masked_text (masked j.entry N))) out.old out.new out_codes.old out_codes.new result }
 {
-    if out_codes.len() < j.wanted.len() {
+    if out_codes.len() < j.source.wanted.len() {
         return Err(Question::Room);
     }
     if holds(d, out.len(), j, twin_wires, twin_codes) {
@@ -120,37 +115,30 @@ fn answer<'a>(
 pub fn deliver(
     out: &mut [u8],
     out_codes: &mut [u8],
-    source: Gates,
-    codes: &[u8],
-    wanted: &[u8],
+    source: CodedGates,
     input_widths: &[u32],
     output_widths: &[u32],
     twin_wires: &mut [u32],
     twin_codes: &mut [u8],
 ) -> Answer
-    requires { Ready (tables_of source) source.count codes.now wanted.now twin_wires.old twin_codes.old }
+    requires { Ready (tables_of source.gates) source.gates.count source.codes.now source.wanted.now twin_wires.old twin_codes.old }
     ensures { (N : Netlist)
-        → Source (tables_of source.entry) source.entry.count (length twin_wires.old) (length codes.now)
-        (length wanted.now) input_widths.now output_widths.now N
-        → WellFormed (mask_netlist N codes.now wanted.now).netlist
+        → Source (tables_of source.entry.gates) source.entry.gates.count (length twin_wires.old) (length source.entry.codes.now)
+        (length source.entry.wanted.now) input_widths.now output_widths.now N
+        → WellFormed (mask_netlist N source.entry.codes.now source.entry.wanted.now).netlist
         → MaskAnswers (deliver_outcome (length out.old) (length out_codes.old)
-        (masked_text (mask_netlist N codes.now wanted.now))) out.old out.new out_codes.old
+        (masked_text (mask_netlist N source.entry.codes.now source.entry.wanted.now))) out.old out.new out_codes.old
         out_codes.new result }
 {
-    let wires = mask_pass::count::count(source, codes, wanted, twin_wires, twin_codes) as usize;
-    let gate_count = wires - (codes.len() + 2);
+    let wires = mask_pass::count::count(source, twin_wires, twin_codes) as usize;
+    let gate_count = wires - (source.codes.len() + 2);
     let shape = Shape {
         gates: gate_count,
         wires,
         ins: input_widths,
         outs: output_widths,
     };
-    let j = Job {
-        source,
-        codes,
-        wanted,
-        shape,
-    };
+    let j = Job { source, shape };
     if let Some(none) = Words::none_for(wires) {
         return answer(none, out, out_codes, j, twin_wires, twin_codes);
     }

@@ -34,8 +34,7 @@ fn inputs(c: u32, codes: &[u8], twin_wires: &mut [u32], twin_codes: &mut [u8]) -
     let mut next = c;
     for (i, e) in codes.iter().enumerate() {
         let t = input(next, i as u32, *e);
-        twin_wires[i] = t.wire;
-        twin_codes[i] = t.code;
+        crate::put(twin_wires, twin_codes, i, t);
         next = past(Next { wire: next }, *e);
     }
     next

@@ -5,7 +5,7 @@
 pub mod inputs;
 pub mod place;
 
-ghost use Rattle.std.specs.Prelude.{◌≡◌, ◌<◌, length, get_or};
+ghost use Rattle.std.specs.Prelude.{◌≡◌, ◌<◌, length, get_or, set};
 ghost use Rattle.netlist.specs.Mask.{no_twin};
 ghost use Rattle.mask_twins.specs.State.{twins_of};
 
@@ -20,4 +20,14 @@ pub fn twin(twin_wires: &[u32], twin_codes: &[u8], w: usize) -> Twin
         wire: twin_wires[w],
         code: twin_codes[w],
     }
+}
+
+// The twin of source wire w, stored.
+#[inline(always)]
+pub fn put(twin_wires: &mut [u32], twin_codes: &mut [u8], w: usize, t: Twin)
+    requires { (w < length twin_wires.old) × (w < length twin_codes.old) }
+    ensures { (twin_wires.new ≡ set twin_wires.old w t.wire) × (twin_codes.new ≡ set twin_codes.old w t.code) }
+{
+    twin_wires[w] = t.wire;
+    twin_codes[w] = t.code;
 }

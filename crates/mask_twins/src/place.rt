@@ -17,8 +17,7 @@ fn step(c: Next, g: Parts, twin_wires: &mut [u32], twin_codes: &mut [u8]) -> u32
     let a = crate::twin(twin_wires, twin_codes, g.left);
     let b = crate::twin(twin_wires, twin_codes, g.right);
     let t = mask_rule::twin(c, Kind::of(g.kind), a, b);
-    twin_wires[place] = t.wire;
-    twin_codes[place] = t.code;
+    crate::put(twin_wires, twin_codes, place, t);
     t.wire + 1
 }
 

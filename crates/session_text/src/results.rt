@@ -8,6 +8,8 @@ ghost use Rattle.session_text.specs.Promise.{text as text_outcome, masked as mas
 use crate::asking::ask;
 use crate::fill;
 use crate::given::Given;
+use mask::Head;
+use mask_pass::CodedGates;
 use netlist::{Answer, Sizes};
 use old_form::Dialect;
 use write_netlist::form::Form;
@@ -74,18 +76,13 @@ fn masked_in(
     let shown = ask(g.widths, g.outputs, count, g.source.len(), &lengths, sizes)?;
     let records = &g.source[..count as usize];
     let gates = fill(records, shown.header.input_bits as usize, operands, results)?;
-    mask::ask_lists(
-        out,
-        out_codes,
-        shown.header,
-        codes,
-        wanted,
-        shown.widths,
-        shown.outputs,
-        gates,
-        wires,
-        marks,
-    )
+    let head = Head {
+        header: shown.header,
+        inputs: shown.widths,
+        outputs: shown.outputs,
+    };
+    let coded = CodedGates::new(gates, codes, wanted);
+    mask::ask_lists(out, out_codes, head, coded, wires, marks)
 }
 
 // What Mask gives for the session's netlist: the masked text at the front of `out`, its output codes at the front of `out_codes`. The tables, of

@@ -20,6 +20,7 @@ pub returns : goal.returns
 returns c =
     let t = c.args in
     let R = c.choose-r in
+    let e = c.new-source.ensures in
     let p = sym c.free_codes.ensures ∙ c.if-not-free_codes.false in
     let q = sym c.valid_wanted.ensures ∙ c.if-not-valid_wanted.false in
     let o = left-some t.budget c.if-budget-eq0.false in
@@ -28,6 +29,6 @@ returns c =
     let C = R.ensures.1 N Q in
     let l = length-take-le (length t.codes.now) R.new.ways (omega arith) in
     fewest-14 a t.codes.now t.wanted.now t.budget t.out.now t.in_codes.now t.out_codes.now t.tally.now p q o C
-    (c.give.ensures _
+    ((rw (e.0, e.1, e.2) at c.give.ensures) _
     (source-codes l (chosen-source a t.codes.now t.wanted.now t.budget t.out.now t.in_codes.now t.out_codes.now t.tally.now p q o C))
     (chosen-masked a t.codes.now t.wanted.now t.budget t.out.now t.in_codes.now t.out_codes.now t.tally.now p q o C))

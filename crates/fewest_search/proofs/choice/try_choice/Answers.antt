@@ -8,7 +8,7 @@ pub count_changes-c-requires : goal.count_changes-c-requires
 count_changes-c-requires c =
     let p =
     c.requires in let E = c.walk_from-stop in
-    let e : E.result ≡ c.args.job.gates.count = omega (arith, E.ensures.walked.high, c.if-stop-job.false) in (
+    let e : E.result ≡ c.args.source.gates.count = omega (arith, E.ensures.walked.high, c.if-stop-source.false) in (
       omega (arith, p.fits.places, p.fits.lowest, p.fits.some, E.auto.least_before),
       omega (arith, p.fits.outs, E.auto.wire_codes),
       omega

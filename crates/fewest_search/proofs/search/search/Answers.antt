@@ -31,7 +31,7 @@ returns-then-left-span c =
 pub returns-in_default : goal.returns-in_default
 returns-in_default c =
     let p = c.requires.0.fits in
-    let M = advanced-cut c.args.job.codes.now c.args.job.gates.results.now c.loop-least.stop (omega (arith, c.requires.0.fits.wired.results, c.loop-least.invariant.high)) c.in_default.ensures in
+    let M = advanced-cut c.args.source.codes.now c.args.source.gates.results.now c.loop-least.stop (omega (arith, c.requires.0.fits.wired.results, c.loop-least.invariant.high)) c.in_default.ensures in
     λ N Q. found-end p.some (omega arith)
     c.start-least.ensures.spans c.loop-least.invariant
     (rw (sym p.places) at Q) c.if-left-span.false _ M refl refl
@@ -39,7 +39,7 @@ returns-in_default c =
 pub returns-then-left-eq0 : goal.returns-then-left-eq0
 returns-then-left-eq0 c =
     let p = c.requires.0.fits in
-    let M = advanced-cut c.args.job.codes.now c.args.job.gates.results.now c.loop-least.stop (omega (arith, c.requires.0.fits.wired.results, c.loop-least.invariant.high)) c.in-Some.ensures in
+    let M = advanced-cut c.args.source.codes.now c.args.source.gates.results.now c.loop-least.stop (omega (arith, c.requires.0.fits.wired.results, c.loop-least.invariant.high)) c.in-Some.ensures in
     λ N Q. found-spent p.some (omega arith)
     c.start-least.ensures.spans
     c.loop-least.invariant (rw (sym p.places) at Q)
@@ -50,9 +50,9 @@ pub try_choice-t-requires-clause-place_in_bounds : goal.try_choice-t-requires-cl
 try_choice-t-requires-clause-place_in_bounds c =
     let p = c.requires.0.fits in
     let I = c.loop-least.invariant in
-    let M = advanced-cut c.args.job.codes.now c.args.job.gates.results.now c.loop-least.stop (omega (arith, c.requires.0.fits.wired.results, c.loop-least.invariant.high)) c.in-Some.ensures in
+    let M = advanced-cut c.args.source.codes.now c.args.source.gates.results.now c.loop-least.stop (omega (arith, c.requires.0.fits.wired.results, c.loop-least.invariant.high)) c.in-Some.ensures in
     let Q = rw (sym p.places) at c.requires.0.source in
-    let b : c.in-Some.place < length c.args.job.codes.now + c.args.job.gates.count = omega (arith, M.within, I.high) in (
+    let b : c.in-Some.place < length c.args.source.codes.now + c.args.source.gates.count = omega (arith, M.within, I.high) in (
       b,
       low-here p.some (omega arith) c.start-least.ensures.spans I Q c.if-left-span.false c.in-Some.place M b,
     )
@@ -69,7 +69,7 @@ pub loop-least-preserved : goal.loop-least-preserved
 loop-least-preserved c =
     let p = c.requires.0.fits in
     let I = c.loop-least.invariant in
-    let M = advanced-cut c.args.job.codes.now c.args.job.gates.results.now c.loop-least.stop (omega (arith, c.requires.0.fits.wired.results, c.loop-least.invariant.high)) c.in-Some.ensures in
+    let M = advanced-cut c.args.source.codes.now c.args.source.gates.results.now c.loop-least.stop (omega (arith, c.requires.0.fits.wired.results, c.loop-least.invariant.high)) c.in-Some.ensures in
     let S = c.start-least.ensures.spans in
     let some = span-some p.some (omega arith) S I (rw (sym p.places) at c.requires.0.source) in
     let T = c.try_choice-t in

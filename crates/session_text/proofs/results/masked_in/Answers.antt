@@ -31,4 +31,5 @@ returns c =
     let a = c.args in
     let lengths : List ℕ = length a.operands.now ∷ length a.results.now ∷ length a.marks.now ∷ length a.wires.now ∷ [] in
     let n = stands-at a.sizes lengths a.g.widths.now a.g.outputs.now a.g.session.gates a.g.source.now c.in_ok-shown.ensures c.in_ok-gates.ensures in
-    masked-written a.codes.now a.wanted.now n (c.ask_lists.ensures n.is (netlist-read n))
+    let e = c.new-coded.ensures in
+    masked-written a.codes.now a.wanted.now n (rw (e.1, e.2) at (c.ask_lists.ensures n.is (rw e.0 (netlist-read n))))
