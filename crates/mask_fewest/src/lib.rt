@@ -102,7 +102,7 @@ fn give(
     Ok(size)
 }
 
-// Questions 11, 13, 22 and 14, and the masked netlist.
+// Questions 11, 13, 22 and 14, and the masked netlist. Codes, wanted codes and budget stay three parameters, as C hands them in one by one.
 fn deliver(
     out: &mut [u8],
     in_codes: &mut [u8],

@@ -11,7 +11,8 @@ use write_wires::table::Words;
 
 // A source gate of these parts, at the wires from c: the next place, and the next wire. Its result's twin is the one that changes.
 // `twin_wires` and `twin_codes` are two tables, since C lends them as two. `d` and `masks` are two parameters, here and in `mask_gate`: a line takes
-// `d` and the wire of a mask takes `masks`, so with a struct j of them the bodies would say `j.d` and `j.masks`: no plainer.
+// `d` and the wire of a mask takes `masks`, so with a struct j of them the bodies would say `j.d` and `j.masks`: no plainer. `masks` and `c` are
+// two, as `masks` stays while `c` moves.
 fn step(
     d: Words,
     out: &mut [u8],
@@ -34,7 +35,8 @@ fn step(
     (end, t.wire + 1)
 }
 
-// All the gates, at the wires from c: the next place, and the next wire.
+// All the gates, at the wires from c: the next place, and the next wire. By number: a `zip` of the two tables, each cut to the count, would be
+// longer than `gates.at(i)`.
 pub fn write_all(
     d: Words,
     out: &mut [u8],

@@ -26,7 +26,8 @@ struct Job<'a> {
     shape: Shape<'a>,
 }
 
-// The masked text.
+// The masked text. The table of words stands beside the job, here and below: it is chosen last, in one of two ways, and with a field for it the
+// job would be written out twice.
 fn write<'a>(
     d: Words,
     out: &mut [u8],
@@ -63,7 +64,8 @@ fn fill<'a>(
 }
 
 // Question 14 of the text: yes where lines of the longest kind would fit, and otherwise as it is measured. This and `answer` stand beside
-// those of `write_netlist`: one function for both would need a trait with the laws of both texts, which is longer than the two.
+// those of `write_netlist`: one function for both would need a trait with the header's length, the numbers of gates and wires and what writes
+// the text, each with its law, and what writes it changes two tables here and none there.
 fn holds<'a>(
     d: Words,
     room: usize,

@@ -21,7 +21,8 @@ fn step(c: Next, g: Parts, twin_wires: &mut [u32], twin_codes: &mut [u8]) -> u32
     t.wire + 1
 }
 
-// The twins of the gates' results, in order, and the next wire.
+// The twins of the gates' results, in order, and the next wire. By number: a `zip` of the two tables, each cut to the count, would be longer than
+// `gates.at(i)`.
 fn place_results(c: u32, gates: Gates, twin_wires: &mut [u32], twin_codes: &mut [u8]) -> u32
     requires count_bound { c + 8 * gates.count < 2 ^ 31 }
     requires wired { WiredGates gates (length twin_wires.old) × (length twin_codes.old ≡ length twin_wires.old) }
