@@ -7,7 +7,8 @@ ghost use Rattle.fewest_search.specs.Coded.{FitsFor, SourceFor, SearchableFor, B
 use crate::choice::{count_changes, try_choice, walk_from};
 use mask_pass::CodedGates;
 
-// More changes than any choice has. A number and not a `None`: the walk compares the bound with the changes at every gate.
+// More changes than any choice has: the bound of the first walk, which never reaches it. Each other walk has a bound, so that an `Option` for
+// this one would be put round all of them and taken apart in each.
 const MANY: u32 = u32::MAX;
 
 // The changes of the choice that is given, and the floor.

@@ -6,7 +6,8 @@ ghost use Rattle.from_old.specs.Promise.{Promise};
 use netlist::{Answer, Sizes};
 use old_form::Dialect;
 
-// The netlist of the old text in `text`, written in Fashion at the front of `out`. The tables, of any content, are zero on return.
+// The netlist of the old text in `text`, written in Fashion at the front of `out`. The tables, of any content, are zero on return. A call of
+// `convert`, as `to_old` and `rewrite` are: a service each, with a name and a promise of its own.
 pub fn from_old(
     text: &[u8],
     out: &mut [u8],

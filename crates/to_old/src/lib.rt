@@ -6,7 +6,8 @@ ghost use Rattle.to_old.specs.Promise.{Promise};
 use netlist::{Answer, Sizes};
 use old_form::Dialect;
 
-// The netlist in `text`, written in the older dialect at the front of `out`. The tables, of any content, are zero on return.
+// The netlist in `text`, written in the older dialect at the front of `out`. The tables, of any content, are zero on return. A call of
+// `convert`, as `from_old` and `rewrite` are: a service each, with a name and a promise of its own.
 pub fn to_old(
     text: &[u8],
     out: &mut [u8],
