@@ -5,6 +5,7 @@ use gate_table::Gates;
 use old_form::Dialect;
 
 // The gates of a netlist, the wires and the widths of its header, and the dialect of its text. Its law: the gates name these wires.
+// The wires and the widths stand here one by one: a `Shape` of them would hold the gates' count, which `gates` has.
 #[derive(Clone, Copy)]
 pub struct Form<'g, 'w> {
     pub gates: Gates<'g>,

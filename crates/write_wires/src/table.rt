@@ -16,7 +16,8 @@ const THIRD: u64 = 65536;
 
 const FOURTH: u64 = 16777216;
 
-// Ten entries from `at` on: words that rise by `unit`, and what three digits add, which rises in its third byte.
+// Ten entries from `at` on: words that rise by `unit`, and what three digits add, which rises in its third byte. By places, since
+// an entry of each half is told at once.
 fn ones(d: &mut [u64], at: usize, word: u64, unit: u64, added: u64)
     requires { Filled d.old at × Tens at word unit added }
     ensures { Filled d.new (at + 10) }
