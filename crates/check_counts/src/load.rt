@@ -68,7 +68,8 @@ fn input(paint: u8, secrets: bool, block: u64) -> u64
     chosen(colour - 1, code, secrets, block) ^ mask(code)
 }
 
-// All input wires of a block's settings, or of their bases: the masked bits, then the mask pair.
+// All input wires of a block's settings, or of their bases: the masked bits, then the mask pair. By a loop, which lays the list that is
+// promised, where `each` of `evaluate` says of each entry what it is.
 pub fn inputs(paints: &[u8], secrets: bool, block: u64, words: &mut [u64])
     requires { length paints.now + 2 ≤ length words.old }
     ensures { (j : ℕ) → j < 64 → lanes j (take (length paints.now + 2) words.new)

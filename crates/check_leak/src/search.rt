@@ -14,7 +14,7 @@ ghost use Rattle.check_leak.specs.Search.{found_of};
 use crate::difference;
 use crate::difference::Leak;
 use check_counts::block::Blocks;
-use check_counts::{block, paint};
+use check_counts::paint;
 use gate_table::Gates;
 use lists::codes::Codes;
 
@@ -53,12 +53,7 @@ fn find(
     ensures { let N = bare_of gates.entry (length words.old) in LowestDifference
         (count_in N false paints.now) (count_in N true paints.now) (length words.old) (blocks * 16) result }
 {
-    let publics = block::any_public(paints);
-    let b = Blocks {
-        gates,
-        paints,
-        publics,
-    };
+    let b = Blocks::new(gates, paints);
     let mut best = None;
     for block in 0..blocks {
         let limit = difference::limit(best, words.len());
@@ -85,7 +80,7 @@ pub fn leaks(gates: Gates, codes: Codes, words: &mut [u64], base: &mut [u64]) ->
     ensures { (n o : ℕ) (N : Netlist) → HoldsGates gates.entry
         (length words.old) n o N → found_of result ≡ leak N codes.entry.list.now }
 {
-    let paints = paint::each(codes);
-    let n = codes.list.len();
-    find(gates, &paints[..n], blocks_of(n), words, base)
+    let mut room = [0u8; 12];
+    let paints = paint::each(codes, &mut room);
+    find(gates, paints, blocks_of(codes.list.len()), words, base)
 }

@@ -3,7 +3,7 @@
 #![tactic(auto)]
 
 pub mod gate;
-mod lay;
+pub mod lay;
 pub mod single;
 pub mod wide;
 

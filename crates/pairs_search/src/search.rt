@@ -18,7 +18,7 @@ ghost use Rattle.pairs_search.specs.Search.{bad_of, Found};
 use crate::held::Held;
 use crate::{base, pair};
 use check_counts::block::Blocks;
-use check_counts::{block, paint};
+use check_counts::paint;
 use check_leak::difference;
 use check_leak::difference::Leak;
 use gate_table::Gates;
@@ -87,12 +87,7 @@ pub fn find(
         Found (counts_of N false paints.now) (counts_of N true paints.now) pairs.now limit
         (length pairs.now / 2) (blocks * 16) result }
 {
-    let publics = block::any_public(paints);
-    let b = Blocks {
-        gates,
-        paints,
-        publics,
-    };
+    let b = Blocks::new(gates, paints);
     let mut best = PairsFound::default();
     for block in 0..blocks {
         run(b, block, words, bases, base);
@@ -118,15 +113,15 @@ pub fn search(
         → (found_of result.leak ≡ leak_of N codes.entry.list.now) ×
         (bad_of result.pair ≡ first_bad (clean_pair N codes.entry.list.now) pairs.now) }
 {
-    let paints = paint::each(codes);
-    let n = codes.list.len();
+    let mut room = [0u8; 12];
+    let paints = paint::each(codes, &mut room);
     let wires = words.len();
     find(
         gates,
-        &paints[..n],
+        paints,
         pairs,
         wires,
-        check_leak::search::blocks_of(n),
+        check_leak::search::blocks_of(codes.list.len()),
         words,
         bases,
         base,
