@@ -13,10 +13,10 @@ use Rattle.check_leak.proofs.Answers.{tells-found}
 use Rattle.gate_table.specs.Gates.{tables_of}
 use Rattle.check_leak.proofs.search.leaks.Goals as goal
 
-pub find-requires-clause-paints_in_bounds : goal.find-requires-clause-paints_in_bounds
-find-requires-clause-paints_in_bounds c =
+pub find-requires-clause-lengths : goal.find-requires-clause-lengths
+find-requires-clause-lengths c =
     let n = ap length c.each-paints.ensures ∙ length-each 0 c.args.codes.list.now in
-    (omega (arith, n, c.requires.codes_len_bound), c.requires.codes_len_bound.2, c.blocks_of.ensures.1)
+    (omega (arith, n, c.requires.lengths), c.requires.lengths.2, c.blocks_of.ensures.1)
 
 pub returns : goal.returns
 returns c = λ n o N h. let a = c.args in

@@ -14,10 +14,10 @@ use Rattle.pairs_search.proofs.Finds.{tells-pairs}
 use Rattle.gate_table.specs.Gates.{tables_of}
 use Rattle.pairs_search.proofs.search.search.Goals as goal
 
-pub find-requires-clause-paints_in_bounds : goal.find-requires-clause-paints_in_bounds
-find-requires-clause-paints_in_bounds c =
+pub find-requires-clause-lengths : goal.find-requires-clause-lengths
+find-requires-clause-lengths c =
     let n = ap length c.each-paints.ensures ∙ length-each 0 c.args.codes.list.now in
-    let r = c.requires.codes_len_bound in
+    let r = c.requires.lengths in
     (omega (arith, n, r.1), r.2, r.3, c.blocks_of.ensures.1, omega arith, r.4)
 
 pub returns : goal.returns
