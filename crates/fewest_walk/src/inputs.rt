@@ -16,8 +16,8 @@ fn input(e: u8, d: u8) -> u8
     if e == 0 { 1 } else { masked(e, d) }
 }
 
-// What `code` makes of each input's code and its way, at the front of `out`. With a `zip` of the two lists the number would still be counted for
-// `out`, which saves one index and names one value more.
+// What `code` makes of each input's code and its way, at the front of `out`. By number: a `zip` of the two lists would save one index and
+// give a third name, since `out` needs the number all the same.
 pub fn fill<F: Fn(u8, u8) -> u8>(codes: &[u8], way: &[u8], out: &mut [u8], code: F)
     requires in_bounds { (length codes.now ≤ length way.now) × (length codes.now ≤ length out.old) }
     requires callable { F.IsAlwaysCallable code }

@@ -12,8 +12,8 @@ use netlist::Question;
 use read_text::ends::without_end;
 use write_buffer::spaced;
 
-// The most bytes that a program reads of a file. Each program asks it in its own words: a function with its contract, and a call of it in four
-// programs, would be as long.
+// The most bytes that a program reads of a file. Each program compares with it in its own `answer`: a function with its contract, and
+// four calls of it, would be as long.
 pub const FILE_LIMIT: usize = 60000;
 
 // The shortest tables that Mask takes, and those that Check, Run and Rewrite take. `Limits` has the same numbers; the programs' tables are arrays,

@@ -1,5 +1,5 @@
 // The second evaluator: a reader that takes a netlist's text word by word and trusts it, and one byte a wire. It shares nothing
-// with the tool's reader, tables and evaluator: document 01 has the cases that it does not prove run against a second evaluator.
+// with the tool's reader, tables and evaluator: document 01 has the cases that are not proved run against a second evaluator.
 use crate::words;
 use crate::words::Cursor;
 

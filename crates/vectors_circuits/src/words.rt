@@ -17,8 +17,8 @@ pub(crate) fn part(s: &[u8], from: usize, to: usize) -> &[u8] {
     s.get(from..to).unwrap_or(b"")
 }
 
-// A reader of its own: the second evaluator, which it serves, shares nothing with the tool's readers, so that a slip of theirs shows, as
-// document 01 has cases run against it.
+// A reader of its own: the second evaluator, which it serves, shares nothing with the tool's readers, so that a slip of theirs shows:
+// document 01 has cases run against a second evaluator.
 // The first place, not before `from`, of a byte from `low` to `high`; the end where there is none.
 pub(crate) fn find(s: &[u8], from: usize, low: u8, high: u8) -> usize {
     part(s, from, s.len())

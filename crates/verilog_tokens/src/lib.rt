@@ -33,7 +33,8 @@ pub enum Kind {
 }
 
 // A token: what it is, its first byte, and the one behind its last. Places and no slice: the tables of names store both places, and `TokenAt` of
-// specs/ speaks of both. With a word in place of `from` the one would be subtracted again, and each clause would say where the word lies.
+// specs/ speaks of both. With a word in place of `from`, `add` would compute `from` again, and each clause would have to say where in the text
+// the word lies.
 #[derive(Clone, Copy)]
 pub struct Token {
     pub kind: Kind,

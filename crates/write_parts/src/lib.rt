@@ -1,7 +1,7 @@
 // The parts of gate lines of one or two operands. Where the buffer has room for the longest line they are stored straight, by words
 // or digit by digit; near its end a line is written byte by byte as far as it fits; behind it only the line's length is added.
-// The result `c` stands beside the operands: in one array of both there would be N - 1 operands, and each clause and each loop over them would
-// have to leave the last entry out.
+// The result `c` stands beside the operands: of one array of both, N - 1 would be operands, which no const argument can say, and `head`,
+// `packable` and the definitions of specs/ would have to take the result off again.
 #![tactic(auto)]
 
 ghost use Rattle.std.specs.Prelude.{ℕ, ◌+◌, ◌*◌, ◌≤◌, ◌<◌, ◌≡◌, true, length};
