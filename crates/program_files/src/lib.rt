@@ -9,7 +9,7 @@ use std::io::Read;
 use std::rt::Files;
 
 // Fills the buffer from the reader, until it is full, the reader ends or a read fails, and answers how many of its bytes
-// were read.
+// were read. No `for`: the place moves by as much as a read gives.
 fn fill<R: Read>(file: &mut R, buffer: &mut [u8]) -> usize
     ensures within { result ≤ length buffer.new }
     ensures front { result ≡ length (take result buffer.new) }

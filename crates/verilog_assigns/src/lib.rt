@@ -43,7 +43,7 @@ fn reads(names: Names, states: &[u32], at: usize) -> Option<usize>
     Some(token.to)
 }
 
-// The place behind the next semicolon.
+// The place behind the next semicolon. No `for`: the place moves by as much as a token is long.
 pub fn past(text: &[u8], at: usize) -> usize
     requires { at ≤ length text.now }
     ensures { PastIs text.now at result }
@@ -69,7 +69,7 @@ fn target(names: Names, states: &mut [u32], w: &[u8]) -> bool
 }
 
 // The assignments from a place on: whether each reads only names that may be read, and assigns a wire or an output that is not
-// yet assigned.
+// yet assigned. No `for`: the place moves by as much as an assignment is long.
 pub fn assigns(names: Names, states: &mut [u32], at: usize) -> bool
     requires { (length names.words.now ≤ length states.old) × (at ≤ length names.text.now) }
     ensures { AssignsIs names.entry.text.now names.entry.words.now (length names.entry.words.now) at states.old states.new result }

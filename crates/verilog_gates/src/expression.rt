@@ -3,6 +3,8 @@
 // The tables of gates are lent by C one by one, and a struct of `&mut` slices would have to promise at each call that it still
 // holds them. `n` and `next` are two parameters, here, in `equations` and in `copies`: `n` stays while `next` moves, so each call would put a
 // struct of both together again.
+// `names`, `wires` and `n` are three: `equations` writes `wires` between its calls, and would make one value of the three anew for each
+// assignment.
 ghost use Rattle.std.specs.Prelude.{◌+◌, ◌≤◌, ◌<◌, length};
 ghost use Rattle.netlist.specs.Table.{half, tables};
 ghost use Rattle.verilog_gates.specs.Wires.{wire_of};
