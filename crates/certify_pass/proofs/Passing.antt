@@ -73,7 +73,7 @@ clean-low n e =
 
 pub lowest-found : (m : List ℕ) (r : Option ℕ)
     → MatchOption r ((w : ℕ) → 0 ≤ w → w < length m → eqb (bit_and (get_or m w 0) 1) 0 ≡ false)
-      (λ w. (0 ≤ w) × (w < length m) × Unit × ((k : ℕ) → 0 ≤ k → k < w → eqb (bit_and (get_or m k 0) 1) 0 ≡ false))
+    (λ w. (0 ≤ w) × (w < length m) × Unit × ((k : ℕ) → 0 ≤ k → k < w → eqb (bit_and (get_or m k 0) 1) 0 ≡ false))
     → IfSome r (λ w. w < length m) × ((w : ℕ) → w < sure (length m) r → lane 0 (get_or m w 0) ≡ true)
 lowest-found m None h = (tt, λ w l. clean-low (get_or m w 0) (h w (omega arith) l))
 lowest-found m (Some v) h = (h.1, λ w l. clean-low (get_or m w 0) (h.3 w (omega arith) l))
