@@ -12,7 +12,8 @@ use verilog_names::Names;
 use verilog_rules::states::{State, advance};
 use verilog_tokens::{Kind, Token, next};
 
-// Whether a token may stand in an expression: the end of the text may not, and a name only if it may be read.
+// Whether a token may stand in an expression: the end of the text may not, and a name only if it may be read. `names` and `states` are two, here
+// and below: `assigns` writes `states` between its calls, and would make one value of both anew for each assignment.
 fn passes(names: Names, states: &[u32], token: Token) -> bool
     requires { (length names.words.now ≤ length states.now) × (token.from ≤ token.to) × (token.to ≤ length names.text.now) }
     ensures { result ≡ token_passes (readable names.entry.text.now names.entry.words.now states.now (length names.entry.words.now))

@@ -1,5 +1,6 @@
 // The outputs, copied in port order behind all other gates. The tables that are written stay parameters of their own: C lends them one
-// by one, and a struct of `&mut` slices would have to promise at each call that it still holds the same ones.
+// by one, and a struct of `&mut` slices would have to promise at each call that it still holds the same ones. `names`, `states` and `wires`, which
+// are read, are three: the steps before write `states` and `wires`, so that a struct of them would serve these two functions alone.
 #![tactic(auto)]
 
 ghost use Rattle.std.specs.Prelude.{◌+◌, ◌≤◌, ◌<◌, length};
