@@ -4,8 +4,7 @@ ghost use Rattle.netlist.specs.Leak.{bit};
 ghost use Rattle.netlist.specs.Services.{is_one, bools};
 ghost use Rattle.evaluate.specs.Lane.{lane, lanes};
 
-// What `f` makes of each entry, in its place of the table. `check_counts` has one for words alone, `block::each`: of this one's promise each proof
-// there would have to give what stands past the end of both lists.
+// What `f` makes of each entry, in its place of the table.
 pub fn each<A: Copy, B: Copy, F: Fn(A) -> B>(src: &[A], dst: &mut [B], f: F)
     requires long { length dst.old ≡ length src.now }
     requires callable { F.IsAlwaysCallable f }
