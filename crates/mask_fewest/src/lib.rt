@@ -24,7 +24,7 @@ use read_header::header::Header;
 use read_netlist::read::read;
 
 // The choice that is given: its ANDs are swapped in the table of operands, its input codes stand at the front of `ways`; its changes and
-// the floor.
+// the floor. `codes` and `wanted` come without gates, here and in `deliver`, since `operands` is written behind the search.
 fn choose<'a>(
     codes: &'a [u8],
     wanted: &'a [u8],

@@ -64,17 +64,16 @@ pub fn and_twin(c: Next, a: Twin, b: Twin) -> Twin
 pub fn twin(c: Next, kind: Kind, a: Twin, b: Twin) -> Twin
     ensures { result ≡ twin_of c.wire kind a b }
 {
-    // Apart from the kinds of two operands: four arms in one match are a jump through a table, which is slower where kinds are mixed
-    let single = match kind {
-        Kind::Eq(_) => 1,
-        _ => a.code,
-    };
     match kind {
         Kind::Xor => xor_twin(c, a, b),
         Kind::And => and_twin(c, a, b),
+        Kind::Eq(_) => Twin {
+            wire: c.wire,
+            code: 1,
+        },
         _ => Twin {
             wire: c.wire,
-            code: single,
+            code: a.code,
         },
     }
 }

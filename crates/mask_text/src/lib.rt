@@ -64,8 +64,9 @@ fn fill<'a>(
 }
 
 // Question 14 of the text: yes where lines of the longest kind would fit, and otherwise as it is measured. This and `answer` stand beside
-// those of `write_netlist`: one function for both would need a trait with the header's length, the numbers of gates and wires and what writes
-// the text, each with its law, and what writes it changes two tables here and none there.
+// the 17 lines of those of `write_netlist`: one function for both would need a trait with the header's length, the numbers of gates and wires
+// and what writes the text, each with its law (`run_netlist`'s `Entry`, with two functions, takes 64 lines and 80 of definitions), and what
+// writes it changes two tables here and none there.
 fn holds<'a>(
     d: Words,
     room: usize,
