@@ -41,7 +41,7 @@ fn ports_kept(names: Names, states: &mut [u32], wires: &mut [u32], at: usize) ->
         wires.old wires.new (ported result) }
 {
     let p = port_list(names, states, wires, at)?;
-    if !all_from(states, names.words.len(), State::Wire) || p.inputs == 0 || p.outputs == 0 {
+    if !all_from(&states[..names.words.len()], State::Wire) || p.inputs == 0 || p.outputs == 0 {
         return None;
     }
     Some(p)
@@ -52,7 +52,7 @@ fn assigns_kept(names: Names, states: &mut [u32], at: usize) -> bool
     requires { (length names.words.now ≤ length states.old) × (at ≤ length names.text.now) }
     ensures { AssignsKept names.entry.text.now names.entry.words.now (length names.entry.words.now) at states.old states.new result }
 {
-    assigns(names, states, at) && all_from(states, names.words.len(), State::Readable)
+    assigns(names, states, at) && all_from(&states[..names.words.len()], State::Readable)
 }
 
 // Question 17. Of the tables `heads` and `wires` must be zero; `words` has room for as many names as a quarter of the text's bytes or

@@ -20,7 +20,7 @@ pub struct Declared {
 }
 
 // How many names there are so far, and the state of the next one: none before the first word that declares one.
-#[derive(Clone, Copy)]
+#[derive(Clone, Copy, Default)]
 pub struct Loaded {
     pub count: usize,
     pub kind: Option<State>,
@@ -130,10 +130,7 @@ pub fn declarations(
 {
     let mut token = next(text, at);
     let mut place = at;
-    let mut so_far = Loaded {
-        count: 0,
-        kind: None,
-    };
+    let mut so_far = Loaded::default();
     while declares(token.kind) {
         so_far = one(text, heads, words, links, states, so_far, token)?;
         place = token.to;

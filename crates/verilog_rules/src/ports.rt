@@ -10,7 +10,7 @@ use verilog_names::Names;
 use verilog_tokens::{Kind, next};
 
 // How many inputs and outputs there are so far.
-#[derive(Clone, Copy)]
+#[derive(Clone, Copy, Default)]
 pub struct Ports {
     pub inputs: u32,
     pub outputs: u32,
@@ -46,10 +46,7 @@ pub fn port_list(names: Names, states: &mut [u32], wires: &mut [u32], at: usize)
         wires.old wires.new result }
 {
     let text = names.text;
-    let mut ports = Ports {
-        inputs: 0,
-        outputs: 0,
-    };
+    let mut ports = Ports::default();
     let mut token = next(text, at);
     while token.kind == Kind::Name {
         ports = port(names, states, wires, &text[token.from..token.to], ports)?;

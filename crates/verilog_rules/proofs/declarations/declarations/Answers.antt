@@ -4,7 +4,9 @@ use Rattle.verilog_rules.proofs.Declaring.{load-start, load-on, load-bad, load-e
 use Rattle.verilog_rules.proofs.declarations.declarations.Goals as goal
 
 pub loop-token-init : goal.loop-token-init
-loop-token-init c = load-start c.requires.0 c.next-token.ensures
+loop-token-init c =
+    let d = c.default-so_far.ensures in
+    rw (d.0, d.1) (load-start c.requires.0 c.next-token.ensures)
 
 pub returns-in_err-so_far : goal.returns-in_err-so_far
 returns-in_err-so_far c =
