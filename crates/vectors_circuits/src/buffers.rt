@@ -2,7 +2,7 @@
 // each time that it is lent.
 // A function for each length, and none generic in it: its callers would then name a type, as `let mut text: Text = zeros();`, and each function
 // here would be an alias.
-use crate::second::{Gate, NO_GATE};
+use crate::second::Gate;
 
 // As long as the list of the circuits' names may be.
 pub(crate) fn names() -> [u8; 4096] {
@@ -30,7 +30,7 @@ pub(crate) fn wires() -> [u32; 73720] {
 
 // As many gates as there are at most.
 pub(crate) fn gates() -> [Gate; 18430] {
-    [NO_GATE; 18430]
+    [Gate::default(); 18430]
 }
 
 // As many entries as a source of Mask has input or output bits at most.

@@ -102,9 +102,7 @@ impl Source<'_, '_, '_, '_> {
             }
             Err(q) => Masked {
                 mask: Score::of(question == Some(q)),
-                rewrite: Score::default(),
-                check: Score::default(),
-                leaks: Score::default(),
+                ..Masked::default()
             },
         }
     }

@@ -12,12 +12,13 @@ pub(crate) struct Shape {
     pub(crate) outs: usize,
 }
 
-#[derive(Clone, Copy)]
+#[derive(Clone, Copy, Default)]
 enum Kind {
     Xor,
     And,
     Inv,
     Eqw,
+    #[default]
     Eq,
 }
 
@@ -37,21 +38,13 @@ impl Kind {
 }
 
 // A gate, with the wires of its operands, one operand on both sides, and of its result. EQ has its constant as operand.
-#[derive(Clone, Copy)]
+#[derive(Clone, Copy, Default)]
 pub(crate) struct Gate {
     kind: Kind,
     left: usize,
     right: usize,
     result: usize,
 }
-
-// A table's entry before its gate is read.
-pub(crate) const NO_GATE: Gate = Gate {
-    kind: Kind::Eq,
-    left: 0,
-    right: 0,
-    result: 0,
-};
 
 // A digit behind a number of at most six digits.
 fn digit(n: usize, b: u8) -> usize {

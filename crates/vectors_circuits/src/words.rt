@@ -7,8 +7,8 @@ pub(crate) fn byte(s: &[u8], i: usize) -> u8 {
 
 // A byte to a place; nothing behind the end.
 pub(crate) fn put(s: &mut [u8], i: usize, b: u8) {
-    if i < s.len() {
-        s[i] = b;
+    if let Some(to) = s.get_mut(i) {
+        *to = b;
     }
 }
 
