@@ -12,10 +12,8 @@ fn word(bytes: &[u8], at: usize) -> u64 {
 
 // The words of a list of bytes.
 pub(crate) fn take(list: &mut [u64], bytes: &[u8]) {
-    let mut at = 0;
-    for entry in list {
-        *entry = word(bytes, at);
-        at = at.wrapping_add(8);
+    for (i, entry) in list.iter_mut().enumerate() {
+        *entry = word(bytes, i.wrapping_mul(8));
     }
 }
 
