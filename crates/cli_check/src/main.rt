@@ -49,10 +49,9 @@ fn answer(netlist: &[u8], inputs: &mut [u8], tables: &mut Tables) -> Checked
     if FILE_LIMIT < netlist.len() {
         return Err(Question::Length);
     }
-    let n = program_text::list(inputs);
     checker::check(
         netlist,
-        &inputs[..n],
+        program_text::list(inputs),
         &mut tables.operands,
         &mut tables.results,
         &mut tables.marks,

@@ -101,17 +101,10 @@ fn report(
     ensures { Prints line.new text.new result
         (mask_program netlist.now inputs.old outputs.old) }
 {
-    let n = program_text::list(inputs);
-    let m = program_text::list(outputs);
-    let a = answer(
-        netlist,
-        &inputs[..n],
-        &outputs[..m],
-        text,
-        out_codes,
-        tables,
-    );
-    print(line, text, out_codes, m, a)
+    let codes = program_text::list(inputs);
+    let wanted = program_text::list(outputs);
+    let a = answer(netlist, codes, wanted, text, out_codes, tables);
+    print(line, text, out_codes, wanted.len(), a)
 }
 
 fn main(rt: HostRuntime) -> io::Result<()> {

@@ -45,10 +45,9 @@ fn answer(
     if FILE_LIMIT < netlist.len() {
         return Err(Question::Length);
     }
-    let n = program_text::list(inputs);
     run::run(
         netlist,
-        &inputs[..n],
+        program_text::list(inputs),
         bits,
         &mut tables.operands,
         &mut tables.results,

@@ -41,23 +41,29 @@ pub fn front<T>(buffer: &[T], n: usize) -> usize
     n.min(buffer.len())
 }
 
+// A buffer's first n entries, or all of a shorter one.
+pub fn first<T>(buffer: &[T], n: usize) -> &[T]
+    ensures { result.now ≡ take n buffer.now }
+{
+    &buffer[..front(buffer, n)]
+}
+
 // How many bytes of a list file count: a longer file is cut, and one LF or CR LF at the end comes off.
 fn counted(file: &[u8]) -> usize
     ensures { Front file.now result (list_bytes file.now) }
 {
-    let n = front(file, FILE_LIMIT);
-    without_end(&file[..n]).len()
+    without_end(first(file, FILE_LIMIT)).len()
 }
 
-// The list in a file, in place of its bytes; answers how many entries it has. The bytes behind them are free.
-pub fn list(file: &mut [u8]) -> usize
-    ensures { Front file.new result (list_file file.old) }
+// The list in a file, in place of its bytes.
+pub fn list(file: &mut [u8]) -> &[u8]
+    ensures { result.now ≡ list_file file.old }
 {
     let n = counted(file);
     for b in &mut file[..n] {
         *b = entry(*b);
     }
-    n
+    &file[..n]
 }
 
 // A refusal's line.

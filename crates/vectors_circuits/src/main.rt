@@ -30,10 +30,9 @@ const CIRCUITS: usize = 100;
 fn print(rt: &impl Print, circuit: &[u8], group: &[u8], s: Score) -> io::Result<()> {
     let mut out = [0u8; 256];
     let n = test_report::line(&mut out, group, s);
-    let m = program_text::front(&out, n);
     io::writer(rt).write_all(circuit)?;
     io::writer(rt).write_all(b", ")?;
-    io::writer(rt).write_all(&out[..m])
+    io::writer(rt).write_all(program_text::first(&out, n))
 }
 
 // A circuit on all of its vectors, and its masked netlists under three lists of codes on some eight of them each.

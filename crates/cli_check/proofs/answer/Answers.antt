@@ -7,4 +7,4 @@ pub returns : goal.returns
 returns c =
     asked-short c.args.netlist.now c.args.inputs.now _
     (record { operands = omega arith; results = omega arith; marks = omega arith; words = omega arith; base = omega arith }) (omega arith)
-    c.list-n.ensures.same c.check.ensures.outcome
+    c.list.ensures c.check.ensures.outcome

@@ -7,4 +7,4 @@ pub returns : goal.returns
 returns c =
     answer-short c.args.netlist.now c.args.inputs.now _
     (record { bits = omega arith; operands = omega arith; results = omega arith; marks = omega arith; words = omega arith }) (omega arith)
-    c.list-n.ensures.same c.run.ensures.answers
+    c.list.ensures c.run.ensures.answers
