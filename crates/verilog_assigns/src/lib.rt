@@ -61,7 +61,7 @@ pub fn past(text: &[u8], at: usize) -> usize
 
 // Makes a name one that may be read; says whether it was a wire or an output not yet assigned. The states, which are written, are lent beside
 // the names: a struct of `&mut` slices would have to promise at each call that it still holds them.
-fn target(names: Names, states: &mut [u32], w: &[u8]) -> bool
+fn assign(names: Names, states: &mut [u32], w: &[u8]) -> bool
     requires { length names.words.now ≤ length states.old }
     ensures { TargetIs names.entry.text.now names.entry.words.now (length names.entry.words.now) w.now states.old states.new result }
 {
@@ -83,7 +83,7 @@ pub fn assigns(names: Names, states: &mut [u32], at: usize) -> bool
         let Some(behind) = reads(names, states, equals.to) else {
             return false;
         };
-        if !target(names, states, &text[name.from..name.to]) {
+        if !assign(names, states, &text[name.from..name.to]) {
             return false;
         }
         token = next(text, behind);

@@ -36,8 +36,8 @@ fn declares(kind: Kind) -> bool
     )
 }
 
-// The name that a token is as one more entry, if it has none yet and there is room.
-fn name(
+// Adds the name that a token is as one more entry; says whether it had none yet and there was room.
+fn add_name(
     text: &[u8],
     heads: &mut [u64],
     words: &mut [u64],
@@ -105,7 +105,7 @@ fn one(
             kind: kind_behind(kind, token.kind),
         });
     }
-    if !name(text, heads, words, links, states, so_far, token) {
+    if !add_name(text, heads, words, links, states, so_far, token) {
         return None;
     }
     Some(Loaded {

@@ -2,7 +2,7 @@
 use Rattle.std.proofs.Common.{arith, rules, sym, ◌∙◌}
 use Rattle.verilog_names.proofs.Cutting.{chained-cut, found-cut}
 use Rattle.verilog_rules.proofs.Declaring.{name-known, name-new}
-use Rattle.verilog_rules.proofs.declarations.name.Goals as goal
+use Rattle.verilog_rules.proofs.declarations.add_name.Goals as goal
 
 pub invariant_of-names : goal.invariant_of-names
 invariant_of-names c = record { chained = chained-cut c.requires.0 }
