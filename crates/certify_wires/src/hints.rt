@@ -5,17 +5,18 @@ ghost use Rattle.netlist.specs.Netlist.{Netlist};
 ghost use Rattle.certify_wires.specs.Known.{Known};
 ghost use Rattle.certify_wires.specs.Store.{Recorded, KnownIf};
 
-use crate::store::{self, HALF, packed};
+use crate::store;
 use certify_records::mix::mixed;
 use certify_records::{NO_ATOM, Record, leaf};
+use halves::{pack, unpack};
 
 // The place of the hint for a function of a record's atoms.
 fn place(r: Record, selector: u64, places: usize) -> usize
     requires { 0 < places }
     ensures { result < places }
 {
-    let low = packed(r.first, r.second);
-    let high = packed(r.third, r.fourth);
+    let low = pack(r.first, r.second);
+    let high = pack(r.third, r.fourth);
     (mixed(mixed(selector ^ low) ^ high) % places as u64) as usize
 }
 
@@ -24,8 +25,8 @@ fn tried(records: &[u64], hint: u64, w: usize, r: Record, leaf: Record) -> Optio
     ensures { (N : Netlist) (codes : List ℕ) → Recorded N codes records.now → Known N codes w r → Known N codes w leaf
         → KnownIf N codes w result }
 {
-    let atom = (hint % HALF) as u32;
-    let q = (hint / HALF) as usize;
+    let (atom, record) = unpack(hint);
+    let q = record as usize;
     if atom == NO_ATOM {
         return None;
     }
@@ -67,7 +68,8 @@ pub fn hinted(
     }
     let i = place(r, leaf::selector(r.table, leaf.first), places);
     let Some(s) = tried(records, hints[i], w, r, leaf) else {
-        hints[i] = leaf.first as u64 + ((5 * w + k) as u64 % HALF) * HALF;
+        let (record, _) = unpack((5 * w + k) as u64);
+        hints[i] = pack(leaf.first, record);
         return leaf;
     };
     s

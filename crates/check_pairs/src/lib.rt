@@ -1,6 +1,7 @@
 // Check with pairs: whether a netlist whose last input value is the mask pair leaks on one wire, and whether listed pairs of its
-// wires, as a register shows them that holds one after the other, leak together. Questions 1 to 12 with the large limits, and 21. The tables
-// are parameters of their own, since C lends them one by one.
+// wires, as a register shows them that holds one after the other, leak together. Questions 1 to 12 with the large limits, and 21.
+// Lent tables stay parameters of their own: C lends them one by one, and a struct of `&mut` slices would have to promise at each call
+// that it still holds the same ones.
 #![tactic(auto)]
 
 ghost use Rattle.std.specs.Prelude.{◌≡◌};

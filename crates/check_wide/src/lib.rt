@@ -1,6 +1,7 @@
 // Check of netlists with many inputs: what Check with pairs decides, where at most twelve input bits besides the mask pair reach each
-// wire and each listed pair through gate lines. Questions 1 to 11 with the large limits, then 21, then 12. The tables are
-// parameters of their own, since C lends them one by one.
+// wire and each listed pair through gate lines. Questions 1 to 11 with the large limits, then 21, then 12.
+// Lent tables stay parameters of their own: C lends them one by one, and a struct of `&mut` slices would have to promise at each call
+// that it still holds the same ones.
 #![tactic(auto)]
 
 ghost use Rattle.std.specs.Prelude.{◌≡◌};

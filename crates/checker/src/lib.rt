@@ -1,4 +1,6 @@
 // Check: whether a netlist whose last input value is the mask pair leaks on one wire. Questions 1 to 12 with the large limits.
+// Lent tables stay parameters of their own: C lends them one by one, and a struct of `&mut` slices would have to promise at each call
+// that it still holds the same ones.
 #![tactic(auto)]
 
 ghost use Rattle.std.specs.Prelude.{◌≡◌};

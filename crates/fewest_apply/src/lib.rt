@@ -6,14 +6,15 @@ ghost use Rattle.fewest_apply.specs.Apply.{SwapsEntry, Swapped, Chosen};
 
 use fewest_walk::inputs;
 use fewest_walk::next::is_and;
-use gate_table::HALF;
+use halves::{pack, unpack};
 
 // The entry of a gate's operands, exchanged where it is an AND whose way is the swapped one.
 fn swapped(way: u8, operands: u64, results: u64) -> u64
     ensures { SwapsEntry way operands results result }
 {
     if way == 1 && is_and(results) {
-        return operands / HALF + operands % HALF * HALF;
+        let (a, b) = unpack(operands);
+        return pack(b, a);
     }
     operands
 }

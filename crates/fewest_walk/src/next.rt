@@ -3,13 +3,15 @@ ghost use Rattle.std.specs.Prelude.{◌≡◌, ◌+◌, ◌/◌, ◌≤◌, ◌<
 ghost use Rattle.netlist.specs.Table.{half};
 ghost use Rattle.fewest_walk.specs.Advance.{ways_at, behind, Advanced};
 
-use gate_table::{HALF, Kind};
+use gate_table::Kind;
+use halves::unpack;
 
 // Whether the gate of an entry in the table of results is an AND.
 pub fn is_and(results: u64) -> bool
     ensures { result ≡ eqb (results / half) 2 }
 {
-    results / HALF == Kind::And.number()
+    let (_, kind) = unpack(results);
+    kind == Kind::And.number()
 }
 
 // How many ways a place has: an input by its code, a gate by its kind. A number: a way is an entry of a table that C lends as bytes.

@@ -1,4 +1,6 @@
 // From the older dialect to Fashion, gates unchanged. Questions 1 to 9 with the large limits, and 14.
+// Lent tables stay parameters of their own: C lends them one by one, and a struct of `&mut` slices would have to promise at each call
+// that it still holds the same ones.
 #![tactic(auto)]
 
 ghost use Rattle.from_old.specs.Promise.{Promise};

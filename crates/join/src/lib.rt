@@ -1,5 +1,7 @@
 // Join: two masked blocks over the same two mask bits as one netlist, the outputs of the first the inputs of the second. Questions 1 to 11
 // with the large limits to the first text and then to the second, 25, 5 of the joined netlist, and 14.
+// Lent tables stay parameters of their own: C lends them one by one, and a struct of `&mut` slices would have to promise at each call
+// that it still holds the same ones.
 #![tactic(auto)]
 
 ghost use Rattle.std.specs.Prelude.{◌≡◌, true, [], ◌∷◌, ◌-◌, ◌≤◌, length};
@@ -53,7 +55,7 @@ fn seam_holds(a: Header, out_codes: &[u8], b: Header, codes: &[u8]) -> bool
     ensures { result ≡ seam_holds a out_codes.now b codes.now }
 {
     out_codes.len() as u64 == a.output_bits
-        && read_text::bytes::same(out_codes, codes)
+        && out_codes == codes
         && all_secret(codes)
         && b.output_bits <= b.gates as u64
 }

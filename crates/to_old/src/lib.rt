@@ -1,4 +1,6 @@
 // From Fashion to the older dialect, gates unchanged. Questions 1 to 9 with the large limits, 15 and 14.
+// Lent tables stay parameters of their own: C lends them one by one, and a struct of `&mut` slices would have to promise at each call
+// that it still holds the same ones.
 #![tactic(auto)]
 
 ghost use Rattle.to_old.specs.Promise.{Promise};

@@ -7,6 +7,7 @@ ghost use Rattle.netlist.specs.Table.{half};
 ghost use Rattle.verilog_tokens.specs.Next.{between};
 ghost use Rattle.verilog_names.specs.Names.{number, found, entry_number, chain_of, Chained, Added};
 
+use halves::{pack, unpack};
 use read_text::bytes::same;
 
 // Names found by chains of equal numbers in lent tables, which are read: a chain for each of `heads`, and a name of the text for each of
@@ -21,17 +22,14 @@ pub struct Names<'a> {
     ghost chained: { Chained text.now heads.now words.now links.now (length heads.now) (length words.now) },
 }
 
-// 2^32: the numbers of names are below it, and a name's end stands in the upper half of its entry of words, above its start.
-const HALF: u64 = 4294967296;
-
 // The number of a name.
 #[tactic(auto, unfolding(crate::specs::Names::number))]
-fn hash(w: &[u8]) -> u64
+fn hash(w: &[u8]) -> u32
     ensures { result ≡ number w.now }
 {
-    let mut h: u64 = 0;
+    let mut h = 0u32;
     for b in w {
-        h = (h * 37 + u64::from(*b)) % HALF;
+        (h, _) = unpack(u64::from(h) * 37 + u64::from(*b));
     }
     h
 }
@@ -49,9 +47,8 @@ fn is_name(text: &[u8], entry: u64, w: &[u8]) -> bool
     requires { (entry % half ≤ entry / half) × (entry / half ≤ length text.now) }
     ensures { result ≡ same_bytes (between text.now (entry % half) (entry / half)) w.now }
 {
-    let from = (entry % HALF) as usize;
-    let to = (entry / HALF) as usize;
-    same(&text[from..to], w)
+    let (from, to) = unpack(entry);
+    same(&text[from as usize..to as usize], w)
 }
 
 impl Names<'_> {
@@ -89,7 +86,7 @@ pub fn add(
         links.old links.new (length heads.old) count from to }
 {
     let k = chain_of(&text[from..to], heads.len());
-    words[count] = (from as u64) + (to as u64) * HALF;
+    words[count] = pack(from as u32, to as u32);
     links[count] = heads[k];
     heads[k] = (count as u64) + 1;
 }
