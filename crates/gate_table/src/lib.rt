@@ -24,8 +24,8 @@ pub enum Kind {
 }
 
 impl Kind {
-    // The kind of a number of the tables: 1 to 4 are XOR, AND, INV and EQW, 5 is EQ 0, any other EQ 1. No `TryFrom`: each number has a
-    // kind, so that none is refused. No `From`: the numbers 6 and 7 have one kind, so that a kind does not give its number back.
+    // The kind of a number of the tables: 1 to 4 are XOR, AND, INV and EQW, 5 is EQ 0, any other EQ 1. No `TryFrom`: no number is
+    // refused. No `From`, which is for conversions that lose nothing: 0 and all numbers above 5 are one kind.
     #[inline(always)]
     pub fn of(number: usize) -> Kind
         ensures { (a b c : ℕ) → gate_for result a b c ≡ gate_of number a b c }
@@ -183,7 +183,7 @@ pub fn split(operands: u64, results: u64) -> Parts
 }
 
 // The first `count` gates of the two tables, to read. With tables cut to the gates there would be two lengths in place of a count, a law
-// that they are equal, and two cuts with their proof at each of the twelve places that make a value.
+// that they are equal, and two cuts with their proof wherever a value is made.
 #[derive(Clone, Copy)]
 pub struct Gates<'a> {
     pub operands: &'a [u64],
