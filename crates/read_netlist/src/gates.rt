@@ -21,8 +21,7 @@ use read_header::header::Header;
 use read_text::count::count_lines;
 use read_text::cursor::Cursor;
 
-// Questions 7 to 9 of one line in a dialect: its gate, with the start of the next line. The gate's result is then marked. By `let`
-// and no `ok_or`, which makes a second copy of a gate at every line.
+// Questions 7 to 9 of one line in a dialect: its gate, with the start of the next line. The gate's result is then marked.
 fn one_gate<'t>(
     at: Cursor<'t>,
     h: Header,
@@ -32,9 +31,7 @@ fn one_gate<'t>(
     requires { h.wires ≤ length marks.old }
     ensures { (rs : List ℕ) → Marks marks.old h.input_bits h.wires rs → GateStepIs d at.entry h.input_bits h.wires rs marks.new result }
 {
-    let Some((g, next)) = gate_line(at) else {
-        return Err(Question::Line);
-    };
+    let (g, next) = gate_line(at).ok_or(Question::Line)?;
     if !has_gate(g, d) {
         return Err(Question::Line);
     }

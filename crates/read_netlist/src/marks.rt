@@ -7,13 +7,12 @@ ghost use Rattle.read_netlist.specs.Marks.{marked, Marks};
 use gate_table::{GateNumbers, Kind, second};
 use read_header::header::Header;
 
-// Whether a wire is marked. Past the table's end none is. By a comparison and no `get`: as `one_gate` it goes at every line.
+// Whether a wire is marked. Past the table's end none is.
 #[tactic(auto, unfolding(crate::specs::Marks::marked))]
 fn is_marked(table: &[u8], x: u32) -> bool
     ensures { result ≡ marked table.now x }
 {
-    let i = x as usize;
-    i < table.len() && table[i] == 1
+    table.get(x as usize) == Some(&1)
 }
 
 // Question 8: each operand is marked, or the constant is a bit.

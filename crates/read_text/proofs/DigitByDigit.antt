@@ -1,14 +1,14 @@
 -- A number read digit by digit, its value made while its end is looked for.
 use Prim.Native.Nat.{ℕ, suc, ◌+◌, ◌-◌, ◌*◌, ◌^◌, ◌<◌, ◌≤◌}
 use mathlib.Core.Path.{◌≡◌, sym, ap, ◌∙◌, subst}
-use mathlib.Core.Bool.{true, false, not, and-false}
+use mathlib.Core.Bool.{true, false, not}
 use mathlib.Core.List.{List, [], ◌∷◌}
 use mathlib.Core.Option.{none, some}
 use native.Mathlib.Numerals.{add-one}
 use native.Mathlib.Omega.{arith}
 use native.Mathlib.Nat.{pow-suc, pow-le-pow_right}
 use lib.Dec.{eqb}
-use lib.ListN.{length, drop, get_or, drop_of_length-le, get_or-eq_default}
+use lib.ListN.{length, drop, get_or, drop_of_length-le}
 use lib.Seq.{drop-cons}
 use borrow.Author.Tests.{ne_eqb}
 use Rattle.netlist.specs.Number.{is_digit, all_digits, value_from, no_leading_zero, max_digits, number}
@@ -205,14 +205,6 @@ module _ (t : List ℕ) (at i : ℕ) (s : Scanning is_space t at i) where
 -- ---- one digit and a space behind it
 
 module _ (t : List ℕ) (at : ℕ) where
-  -- the text ends before
-  pub digit-short : length t ≤ at + 1 → one_digit t at ≡ false
-  digit-short h = rw (get_or-eq_default t 0 h) (and-false (is_digit (get_or t at 0)))
-
-  -- another byte stands behind
-  pub digit-longer : (get_or t (at + 1) 0 ≡ space → ⊥) → one_digit t at ≡ false
-  digit-longer n = rw (ne_eqb (get_or t (at + 1) 0) space n) (and-false (is_digit (get_or t at 0)))
-
   pub digit-number : (x : ℕ) → at + 1 < length t → is_digit (get_or t at 0) ≡ true → get_or t (at + 1) 0 ≡ space → x ≡ get_or t at 0 - 48
       → (one_digit t at ≡ true) × NumberAt t at x (at + 2)
   digit-number x h d e v =

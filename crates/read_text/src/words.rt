@@ -20,26 +20,14 @@ fn in_word(b: u8) -> bool
     !is_blank(b)
 }
 
-// Whether three bytes above the space start at a place and a blank stands behind them, as the name of a gate mostly does. By places, and
-// no slice pattern: as in `next_number`.
+// Whether three bytes above the space start at a place and a blank stands behind them, as the name of a gate mostly does.
 fn is_three_bytes(c: Cursor) -> bool
     ensures { result ≡ true → ThreeBytes c.entry.text.now c.entry.at }
 {
-    let text = c.text;
-    let at = c.at;
-    if text.len() - at < 4 {
-        return false;
+    match &c.text[c.at..] {
+        [x, y, z, behind, ..] => *x > b' ' && *y > b' ' && *z > b' ' && is_blank(*behind),
+        _ => false,
     }
-    if text[at] <= b' ' {
-        return false;
-    }
-    if text[at + 1] <= b' ' {
-        return false;
-    }
-    if text[at + 2] <= b' ' {
-        return false;
-    }
-    is_blank(text[at + 3])
 }
 
 impl<'t> Cursor<'t> {
