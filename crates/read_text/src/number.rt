@@ -81,8 +81,8 @@ impl Cursor<'_> {
         Some((v, Cursor { text, at }))
     }
 
-    // The next word of the line as a number: past the spaces to its first digit, and the word. One loop, and no `skip_spaces` before: so
-    // reading takes a tenth less time.
+    // The next word of the line as a number: past the spaces to its first digit, and the word. One loop: with `skip_spaces` before
+    // `take_number` reading takes a tenth more time, and masking misses 1.1 times the C.
     pub fn next_number(self) -> Option<(u32, Self)>
         ensures { NumberIs self.entry result }
     {
