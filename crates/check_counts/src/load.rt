@@ -43,7 +43,8 @@ pub fn mask(code: u8) -> u64
     }
 }
 
-// Bit i of the numbers, or zero where a base is asked for and the code is that of a secret bit.
+// Bit i of the numbers, or zero where a base is asked for and the code is that of a secret bit. `secrets` and `block` stay two parameters,
+// here and in the functions that hand them on: this one alone asks both.
 fn chosen(i: usize, code: u8, secrets: bool, block: u64) -> u64
     requires { i < 64 }
     ensures { (j : ℕ) → j < 64 → lane j result ≡ kept secrets code (lane i ((block * 64 + j) / 4)) }

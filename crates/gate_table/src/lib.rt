@@ -168,7 +168,8 @@ pub fn put(operands: &mut [u64], results: &mut [u64], at: usize, e: Entry)
     results[at] = e.results;
 }
 
-// The parts of two entries.
+// The parts of two entries. Of two numbers, and no `From<Entry>`: its callers hold an entry of each table, and would put an `Entry` together to
+// take it apart.
 pub fn split(operands: u64, results: u64) -> Parts
     ensures { result ≡ parts_of operands results }
 {

@@ -50,7 +50,7 @@ fn all_secret(codes: &[u8]) -> bool
     !codes.contains(&0)
 }
 
-// Question 25.
+// Question 25. The first block's header and output codes are two parameters, here and below: C hands in the codes, the reader gives the header.
 fn seam_holds(a: Header, out_codes: &[u8], b: Header, codes: &[u8]) -> bool
     ensures { result ≡ seam_holds a out_codes.now b codes.now }
 {

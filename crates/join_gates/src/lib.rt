@@ -11,7 +11,7 @@ ghost use Rattle.gate_table.specs.Gates.{tables_of, WiredGates};
 ghost use Rattle.join_gates.specs.Appended.{goes_to, Appended};
 
 use crate::seam::SeamNumbers;
-use gate_table::Gates;
+use gate_table::{Entry, Gates, put};
 use halves::{pack, unpack};
 
 // The joined wire of wire w of the second.
@@ -62,7 +62,10 @@ pub fn append(
         (tables operands.new results.new) }
 {
     for i in 0..second.count {
-        operands[count + i] = operands_entry(s, second.operands[i]);
-        results[count + i] = result_entry(s, second.results[i]);
+        let e = Entry {
+            operands: operands_entry(s, second.operands[i]),
+            results: result_entry(s, second.results[i]),
+        };
+        put(operands, results, count + i, e);
     }
 }
