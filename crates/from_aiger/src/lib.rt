@@ -14,7 +14,7 @@ use old_form::Dialect;
 use read_aiger::read::NetlistNumbers;
 use write_netlist::form::Form;
 
-// Question 14 and the text of a netlist of these numbers.
+// Question 14 and the text of a netlist of these numbers with these gates, whose count is that of `gates`.
 pub fn write(out: &mut [u8], m: NetlistNumbers, gates: Gates) -> Answer
     requires { WiredGates gates m.wires }
     ensures { Delivers (form_text gates.entry.count m.wires (m.inputs ∷ []) (m.outputs ∷ []) (tables_of gates.entry))

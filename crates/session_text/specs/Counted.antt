@@ -1,4 +1,4 @@
--- The numbers of a session that questions 4 and 5 admit.
+-- The numbers of a session that is shown.
 use Rattle.std.specs.Prelude.{ℕ, ◌+◌, ◌≤◌, ◌≡◌, List, length}
 use Rattle.netlist.specs.declared.Sizes.TheVariants.{Whole}
 use Rattle.netlist.specs.Lists.{sum}

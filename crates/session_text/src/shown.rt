@@ -3,7 +3,8 @@ ghost use Rattle.session_text.specs.Counted.{Counted};
 
 use read_header::header::Header;
 
-// The header of a session's netlist, and the widths of its input and of its output values. Its law: questions 4 and 5 admit these numbers.
+// The header of a session's netlist, and the widths of its input and of its output values. Its law: at most sixteen values of each kind, the bits
+// are the sums of the widths, there is a wire for each input bit and each gate, and wires and output bits are within the greater limits.
 #[derive(Clone, Copy)]
 pub struct Shown<'a> {
     pub header: Header,
