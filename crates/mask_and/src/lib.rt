@@ -5,11 +5,9 @@ ghost use Rattle.std.specs.Prelude.{◌≡◌, ◌≤◌, ◌<◌, ◌^◌, [], 
 ghost use Rattle.netlist.specs.Mask.{rows, row_gates};
 ghost use Rattle.gate_records.specs.Records.{blank, record_of};
 ghost use Rattle.write_gates.specs.Gates.{WroteGates};
-ghost use Rattle.mask_and.specs.Row.{row_of, first_places};
+ghost use Rattle.mask_and.specs.Row.{row_of};
 
 use gate_records::GateRecord;
-use mask_codes::Masks;
-use netlist::Twin;
 use write_wires::table::Words;
 
 // A row for each step: its operation, 1 for AND and 0 for XOR, and the places of its operands. The operation is a number, since
@@ -25,30 +23,14 @@ const ROWS: [[u8; 3]; 7] = [
     [0, 8, 10],
 ];
 
-// Step k at the wires from c, of operands with the twins a and b.
-pub fn step(masks: Masks, a: Twin, b: Twin, c: u32, k: usize) -> GateRecord
+// Step k, with the operands a and b, their mask wires p and q and the wire o of the OR of the masks, at the wires from c.
+pub fn step(a: u32, b: u32, p: u32, q: u32, o: u32, c: u32, k: usize) -> GateRecord
     requires { (c ≤ 2 ^ 31) × (k < 7) }
-    ensures { result ≡ get_or (map record_of (row_gates rows (first_places masks.first a b) c)) k blank }
+    ensures { result ≡ get_or (map record_of (row_gates rows (a ∷ b ∷ p ∷ q ∷ o ∷ []) c)) k blank }
 {
     let rows = ROWS;
     let row = rows[k];
-    let p = masks.wire(a.code);
-    let q = masks.wire(b.code);
-    let or = masks.first + 4;
-    let places = [
-        a.wire,
-        b.wire,
-        p,
-        q,
-        or,
-        c,
-        c + 1,
-        c + 2,
-        c + 3,
-        c + 4,
-        c + 5,
-        c + 6,
-    ];
+    let places = [a, b, p, q, o, c, c + 1, c + 2, c + 3, c + 4, c + 5, c + 6];
     GateRecord {
         // by the row's number: for `GateRecord::from` an XOR or an AND would first be chosen by it, and then made a record with that number again
         kind: row[0] as u32 + 1,
@@ -69,17 +51,25 @@ fn row(d: Words, out: &mut [u8], at: usize, is_and: bool, a: u32, b: u32, c: u32
     }
 }
 
-// The steps' gates at the wires from c, of operands with the twins a and b. A loop over what `step` gives took 185 µs in place of 162, so
-// that masking, at 1.02 to 1.08 times the plain C of bench/, would miss its bar of 1.1.
-pub fn steps(d: Words, out: &mut [u8], at: usize, masks: Masks, a: Twin, b: Twin, c: u32) -> usize
+// The steps' gates at the wires from c, with the operands a and b, their mask wires p and q, and the wire o of the OR of the masks. The five
+// are any numbers, here and in `step`: with the masks and the operands' twins in their place each would ask that the masks are wires. A loop
+// over what `step` gives took 185 µs in place of 162, so that masking, at 1.02 to 1.08 times the plain C of bench/, would miss its bar of 1.1.
+pub fn steps(
+    d: Words,
+    out: &mut [u8],
+    at: usize,
+    a: u32,
+    b: u32,
+    p: u32,
+    q: u32,
+    o: u32,
+    c: u32,
+) -> usize
     requires c_bound { c ≤ 2 ^ 31 }
-    ensures { WroteGates out.old at (row_gates rows (first_places masks.first a b) c) out.new result }
+    ensures { WroteGates out.old at (row_gates rows (a ∷ b ∷ p ∷ q ∷ o ∷ []) c) out.new result }
 {
     let rows = ROWS;
-    let p = masks.wire(a.code);
-    let q = masks.wire(b.code);
-    let or = masks.first + 4;
-    let mut places = [a.wire, b.wire, p, q, or, 0, 0, 0, 0, 0, 0, 0];
+    let mut places = [a, b, p, q, o, 0, 0, 0, 0, 0, 0, 0];
     let mut next = at;
     for (i, step) in rows.iter().enumerate() {
         let wire = c + i as u32;

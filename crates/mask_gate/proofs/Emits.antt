@@ -1,12 +1,11 @@
 -- One source gate's masked gates, put together.
 use Prim.Native.Nat.{ℕ, ◌+◌, ◌≤◌}
-use mathlib.Core.Path.{◌≡◌}
+use mathlib.Core.Path.{◌≡◌, ap, ◌∙◌}
 use mathlib.Core.List.{List, [], ◌∷◌}
 use Rattle.netlist.specs.declared.Gate.TheVariants.{Xor}
 use Rattle.netlist.specs.declared.Twin.{Twin}
-use Rattle.netlist.specs.Mask.{changed, past, change_gates, rows, row_gates, xor_gates, and_gates}
+use Rattle.netlist.specs.Mask.{mask_wire, changed, past, change_gates, rows, row_gates, xor_gates, and_gates}
 use Rattle.write_gates.specs.Gates.{WroteGates}
-use Rattle.mask_and.specs.Row.{first_places}
 use Rattle.write_gates.proofs.GateLines.{gates-then, gates-as}
 use Rattle.gate_table.specs.declared.Kind.{Kind}
 use Rattle.mask_rule.proofs.Twins.{twin-small}
@@ -17,8 +16,11 @@ module _ (n c : ℕ) (A B : Twin) {e m x : List ℕ} {at f s r : ℕ} {S : Twin}
   pub xor-made : WroteGates m f (Xor A.wire S.wire s ∷ []) x r → WroteGates e at (xor_gates n c A B) x r
   xor-made w = gates-then h (gates-as (λ i. Xor A.wire (a i).wire (b i) ∷ []) w)
 
-  pub and-made : WroteGates m f (row_gates rows (first_places n A S) s) x r → WroteGates e at (and_gates n c A B) x r
-  and-made w = gates-then h (gates-as (λ i. row_gates rows (first_places n A (a i)) (b i)) w)
+  pub and-made : {p q : ℕ} → p ≡ mask_wire n A.code → q ≡ mask_wire n S.code
+      → WroteGates m f (row_gates rows (A.wire ∷ S.wire ∷ p ∷ q ∷ (n + 4) ∷ []) s) x r → WroteGates e at (and_gates n c A B) x r
+  and-made u v w =
+      let v' = v ∙ ap (λ (S : Twin). mask_wire n S.code) a in
+      gates-then h (gates-as (λ i. row_gates rows (A.wire ∷ (a i).wire ∷ u i ∷ v' i ∷ (n + 4) ∷ []) (b i)) w)
 
 -- a source gate takes at most eight wires
 pub kind-small : {e x : List ℕ} {at n c : ℕ} {k : Kind} {A B : Twin} {R : ℕ × Twin} → WroteKind e at n c k A B x R → R.1.wire + 1 ≤ c + 8

@@ -46,7 +46,10 @@ fn and(d: Words, out: &mut [u8], at: usize, masks: Masks, c: Next, a: Twin, b: T
     let from = change(d, out, at, masks, c.wire, a, b);
     let second = changed(c.wire, a, b);
     let next = past(c, a, b);
-    mask_and::steps(d, out, from, masks, a, second, next)
+    let p = masks.wire(a.code);
+    let q = masks.wire(second.code);
+    let or = masks.first + 4;
+    mask_and::steps(d, out, from, a.wire, second.wire, p, q, or, next)
 }
 
 // A source gate of a kind whose operands have the twins a and b, at the wires from c: the next place, and the twin of its result,

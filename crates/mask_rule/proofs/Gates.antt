@@ -1,5 +1,5 @@
 -- The masked gates of an AND, one by one.
-use Prim.Native.Nat.{ℕ, suc, ◌-◌, ◌≤◌}
+use Prim.Native.Nat.{ℕ, suc, ◌+◌, ◌-◌, ◌≤◌}
 use mathlib.Core.Path.{◌≡◌}
 use mathlib.Core.Bool.{Bool, true, false, cond}
 use mathlib.Core.List.{List, [], ◌∷◌, ◌++◌, map}
@@ -11,7 +11,6 @@ use Rattle.netlist.specs.Mask.{rows, row_gates, changes, change_gates, and_gates
 use Rattle.netlist.specs.Leak.{bit}
 use Rattle.gate_records.specs.declared.GateRecord.{GateRecord}
 use Rattle.gate_records.specs.Records.{record_of}
-use Rattle.mask_and.specs.Row.{first_places}
 use Rattle.mask_rule.specs.Rule.{At}
 
 -- the gates behind the mask change, if there is one
@@ -26,7 +25,10 @@ at_others n c A B gs k r l h = go (changes A B) l h
     go false l h m = let z : k - 0 ≡ k = omega arith in rw z at (h (omega (arith, m)))
 
 -- the seven steps behind the mask change
-pub and_at : (n c : ℕ) (A B S : Twin) {f next k : ℕ} {r : GateRecord} → f ≡ bit (changes A B) → S ≡ changed c A B → next ≡ past c A B → f ≤ k
-    → At (map record_of (row_gates rows (first_places n A S) next)) (k - f) r → At (map record_of (and_gates n c A B)) k r
-and_at n c A B S {f} {next} {k} {r} a b d l h =
-    at_others n c A B (row_gates rows (first_places n A (changed c A B)) (past c A B)) k r (omega (arith, a, l)) (rw (a, d, b) at h)
+pub and_at : (n c : ℕ) (A B S : Twin) {f next p q k : ℕ} {r : GateRecord} → f ≡ bit (changes A B) → S ≡ changed c A B → next ≡ past c A B → p ≡ mask_wire n
+    A.code → q ≡ mask_wire n S.code → f ≤ k
+    → At (map record_of (row_gates rows (A.wire ∷ S.wire ∷ p ∷ q ∷ (n + 4) ∷ []) next)) (k - f) r → At (map record_of (and_gates n c A B)) k r
+and_at n c A B S {f} {next} {p} {q} {k} {r} a b d e g l h =
+    at_others n c A B (row_gates rows (A.wire ∷ (changed c A B).wire ∷ mask_wire n A.code ∷ mask_wire n (changed c A B).code ∷ (n + 4) ∷ []) (past c A B)) k r
+    (omega (arith, a, l))
+    (rw (a, d, e, g, b) at h)

@@ -128,7 +128,10 @@ fn and(masks: Masks, c: Next, a: Twin, b: Twin, k: usize) -> GateRecord
     }
     let second = changed(c.wire, a, b);
     let next = past(c, a, b);
-    mask_and::step(masks, a, second, next, k - from)
+    let p = masks.wire(a.code);
+    let q = masks.wire(second.code);
+    let or = masks.first + 4;
+    mask_and::step(a.wire, second.wire, p, q, or, next, k - from)
 }
 
 // Masked gate k of a source gate.

@@ -7,4 +7,6 @@ returns c =
     let a = c.args in
     and-made a.masks.first a.c.wire a.a a.b c.change-from.ensures
     c.changed-second.ensures
-    c.past-next.ensures c.steps.ensures
+    c.past-next.ensures c.wire-p.ensures
+    c.wire-q.ensures
+    c.steps.ensures

@@ -7,4 +7,5 @@ pub returns : goal.returns
 returns c =
     let a = c.args in
     and_at _ _ a.a a.b _ c.extra-from.ensures c.changed-second.ensures
-    c.past-next.ensures (omega (arith, c.if-k-from.false)) (λ l. c.step.ensures)
+    c.past-next.ensures
+    c.wire-p.ensures c.wire-q.ensures (omega (arith, c.if-k-from.false)) (λ l. c.step.ensures)
