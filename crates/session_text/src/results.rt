@@ -22,7 +22,8 @@ fn written(
     results: &mut [u64],
     sizes: Sizes,
 ) -> Answer
-    ensures { Answers (text_outcome sizes g.entry.widths.now g.entry.outputs.now g.entry.session g.entry.source.now out.old operands.old results.old) out.old out.new result }
+    ensures { Answers (text_outcome sizes g.entry.widths.now g.entry.outputs.now g.entry.session g.entry.source.now out.old operands.old
+        results.old) out.old out.new result }
 {
     let lengths = [operands.len(), results.len()];
     let count = g.session.gates;
@@ -47,7 +48,8 @@ pub fn text(
     results: &mut [u64],
     sizes: Sizes,
 ) -> Answer
-    ensures { TextPromise sizes g.entry.widths.now g.entry.outputs.now g.entry.session g.entry.source.now out.old out.new operands.old operands.new results.old results.new result }
+    ensures { TextPromise sizes g.entry.widths.now g.entry.outputs.now g.entry.session g.entry.source.now out.old out.new operands.old
+        operands.new results.old results.new result }
 {
     let answer = written(g, out, operands, results, sizes);
     operands.fill(0);
@@ -68,8 +70,8 @@ fn masked_in(
     marks: &mut [u8],
     sizes: Sizes,
 ) -> Answer
-    ensures { MaskAnswers (masked_outcome sizes g.entry.widths.now g.entry.outputs.now g.entry.session g.entry.source.now codes.now wanted.now out.old out_codes.old
-        operands.old results.old wires.old marks.old) out.old out.new out_codes.old out_codes.new result }
+    ensures { MaskAnswers (masked_outcome sizes g.entry.widths.now g.entry.outputs.now g.entry.session g.entry.source.now codes.now wanted.now
+        out.old out_codes.old operands.old results.old wires.old marks.old) out.old out.new out_codes.old out_codes.new result }
 {
     let lengths = [operands.len(), results.len(), marks.len(), wires.len()];
     let count = g.session.gates;
@@ -99,8 +101,8 @@ pub fn masked(
     marks: &mut [u8],
     sizes: Sizes,
 ) -> Answer
-    ensures { MaskedPromise sizes g.entry.widths.now g.entry.outputs.now g.entry.session g.entry.source.now codes.now wanted.now out.old out.new out_codes.old out_codes.new
-        operands.old operands.new results.old results.new wires.old wires.new marks.old marks.new result }
+    ensures { MaskedPromise sizes g.entry.widths.now g.entry.outputs.now g.entry.session g.entry.source.now codes.now wanted.now out.old
+        out.new out_codes.old out_codes.new operands.old operands.new results.old results.new wires.old wires.new marks.old marks.new result }
 {
     let answer = masked_in(
         g, codes, wanted, out, out_codes, operands, results, wires, marks, sizes,
