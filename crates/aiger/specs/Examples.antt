@@ -3,7 +3,7 @@ use Rattle.std.specs.Prelude.{ℕ, List, [], ◌∷◌, map, ◌≡◌}
 use Prim.Native.String.{String}
 use Rattle.netlist.specs.Lists.{ascii}
 use Rattle.netlist.specs.declared.Sizes.TheVariants.{Old}
-use Rattle.netlist.specs.Netlist.{small}
+use Rattle.netlist.specs.Netlist.{small_wires, small_text, small}
 use Rattle.netlist.specs.Outcome.{Outcome, refused, done}
 use Rattle.aiger.specs.Call.{aiger_call}
 
@@ -17,9 +17,11 @@ gives t r = record { text = t; outcome = done (ascii r) }
 abbrev pub refuses : String → ℕ → Example
 refuses t q = record { text = t; outcome = refused q }
 
--- every text has its outcome, with tables as short as question 1 admits
+-- every text has its outcome, with tables as short as question 1 admits and a result buffer as long as question 2's longest text
 abbrev pub Shown : List Example → Type 0
-Shown es = map (λ e. aiger_call (small Old) (2048 ∷ 2048 ∷ 2048 ∷ []) (ascii e.text) 60000) es ≡ map (λ e. e.outcome) es
+Shown es =
+    map (λ e. aiger_call (small Old) (small_wires Old ∷ small_wires Old ∷ small_wires Old ∷ []) (ascii e.text) (small_text Old)) es
+    ≡ map (λ e. e.outcome) es
 
 -- an AND; an OR by inverses, its input lines not in the order of their variables, with blank lines; constants; an output that is an
 -- input and one that is its inverse; one variable inverse twice; what stands behind; CR LF; then the refusals

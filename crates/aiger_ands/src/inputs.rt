@@ -8,29 +8,29 @@ use aiger_gates::variables::{can_give, give};
 use aiger_lines::lines::Lines;
 
 // One input line; answers the lines behind it.
-fn input<'t>(lines: Lines<'t>, wire: u32, most: u32, table: &mut [u32]) -> Option<Lines<'t>>
-    requires { (most < length table.old) × (wire + 1 < 2 ^ 32) }
-    ensures line { (given wires : List ℕ) → Places table.old given wires
+fn input<'t>(lines: Lines<'t>, wire: u32, table: &mut [u32]) -> Option<Lines<'t>>
+    requires { wire + 1 < 2 ^ 32 }
+    ensures line { (most : ℕ) → length table.old ≡ most + 1 → (given wires : List ℕ) → Places table.old given wires
         → InputIs (lines_left lines.entry) wire most given table.old table.new result }
     ensures behind { BehindIs lines.entry result }
 {
     let (x, next) = lines.one_number()?;
-    if !can_give(table, x, most) {
+    if !can_give(table, x) {
         return None;
     }
     give(table, x / 2, wire);
     Some(next)
 }
 
-// So many input lines, with a table that gives nothing yet; answers the lines behind them.
-pub fn inputs<'t>(lines: Lines<'t>, count: u32, most: u32, table: &mut [u32]) -> Option<Lines<'t>>
-    requires { (most < length table.old) × (table.old ≡ replicate (length table.old) 0) }
-    ensures inputs { InputsIs (lines_left lines.entry) count most table.new result }
+// So many input lines, with a table up to M that gives nothing yet; answers the lines behind them.
+pub fn inputs<'t>(lines: Lines<'t>, count: u32, table: &mut [u32]) -> Option<Lines<'t>>
+    requires { table.old ≡ replicate (length table.old) 0 }
+    ensures inputs { (most : ℕ) → length table.old ≡ most + 1 → InputsIs (lines_left lines.entry) count most table.new result }
     ensures behind { BehindIs lines.entry result }
 {
     let mut left = lines;
     for i in 0..count {
-        left = input(left, i, most, table)?;
+        left = input(left, i, table)?;
     }
     Some(left)
 }

@@ -44,7 +44,7 @@ abbrev pub OperandIs : List ℕ → Tables → Tables → ℕ → ℕ → ℕ �
 OperandIs table t u n count x wire next = (given wires : List ℕ) (gs : List Gate) → Standing table t n count given wires gs → readable given (literal x) ≡ true
     → (wire ≡ (operand (wire_at wires) (literal x) (n + count)).wire) × Added table u n next given wires gs (operand (wire_at wires) (literal x) (n + count))
 
--- the same after an AND line
+-- so many gates after an AND line, whose wire is that of its last
 abbrev pub AndIs : List ℕ → Tables → Tables → ℕ → ℕ → ℕ → ℕ → ℕ → ℕ → Type 0
 AndIs table t u n count x y wire next = (given wires : List ℕ) (gs : List Gate) → Standing table t n count given wires gs
     → readable given (literal x) ≡ true → readable given (literal y) ≡ true → (v : ℕ)

@@ -1,6 +1,7 @@
 // The gates of operands, of AND lines and of outputs, behind n input bits and `count` gates.
 // The tables are lent one by one: a struct of `&mut` slices would have to promise at each call that it still holds them. No struct for `n`
-// and `count`: `n` stays and `count` grows from call to call, so each call would put one together again.
+// and `count`: `n` stays and `count` grows from call to call, so each call would put one together again. `2 ^ 32` has no name of its own:
+// `n + count + 1 < 2 ^ 32` says that the wire fits a u32, which a name would hide.
 ghost use Rattle.std.specs.Prelude.{◌+◌, ◌/◌, ◌^◌, ◌<◌, ◌≤◌, get_or};
 ghost use Rattle.netlist.specs.Table.{tables};
 ghost use Rattle.aiger_gates.specs.Places.{OperandIs, AndIs, OutIs};

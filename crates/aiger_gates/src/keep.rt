@@ -1,4 +1,4 @@
-// Gates into two tables, as many as they have room for.
+// Gates into two tables, as many as they have room for. C lends the tables one by one, as gates.rt says.
 ghost use Rattle.netlist.specs.Table.{tables};
 ghost use Rattle.aiger_gates.specs.Places.{Keeping};
 

@@ -1,12 +1,14 @@
 -- A line of so many numbers, read one after another.
-use Prim.Native.Nat.{ℕ, zero, suc, ◌+◌, ◌-◌, ◌<◌, ◌≤◌}
+use Prim.Native.Nat.{ℕ, suc, ◌+◌, ◌-◌, ◌<◌, ◌≤◌}
 use mathlib.Core.Path.{◌≡◌, refl, sym, ap, ◌∙◌}
 use mathlib.Core.Bool.{Bool, true, false, cond, not, ◌&&◌}
-use mathlib.Core.List.{List, [], ◌∷◌, ◌++◌}
+use mathlib.Core.List.{List, [], ◌∷◌, ◌++◌, append-nil, append_assoc}
 use mathlib.Core.Option.{Option, none, some}
+use native.Mathlib.Numerals.{add-one}
 use native.Mathlib.Omega.{arith}
 use lib.Dec.{eqb}
 use lib.ListN.{length, take, drop, set, length-set, length-append, length-drop}
+use lib.Seq.{length-take-le, take_all, take-suc-set}
 use borrow.Author.Tests.{eqb-true}
 use Rattle.netlist.specs.Text.{space, lf, cr, at_lf, is_line_end, is_space}
 use Rattle.netlist.specs.Number.{number}
@@ -38,33 +40,7 @@ joined-nil (some ms) = refl
 
 joined-more : (ns : List ℕ) (v : ℕ) (o : Option (List ℕ)) → joined ns (cons_option (some v) o) ≡ joined (ns ++ (v ∷ [])) o
 joined-more ns v none = refl
-joined-more ns v (some ms) = ap {B = Option (List ℕ)} some (regroup ns v ms)
-  where
-    regroup : (ns : List ℕ) (v : ℕ) (ms : List ℕ) → ns ++ (v ∷ ms) ≡ (ns ++ (v ∷ [])) ++ ms
-    regroup [] v ms = refl
-    regroup (n ∷ ns) v ms = ap (λ (x : List ℕ). n ∷ x) (regroup ns v ms)
-
-append-nil : (ns : List ℕ) → ns ++ [] ≡ ns
-append-nil [] = refl
-append-nil (n ∷ ns) = ap (λ (x : List ℕ). n ∷ x) (append-nil ns)
-
-take-set : (xs : List ℕ) (i v : ℕ) → i < length xs → take (i + 1) (set xs i v) ≡ take i xs ++ (v ∷ [])
-take-set [] i v h = absurd (omega arith)
-take-set (x ∷ xs) zero v h = refl
-take-set (x ∷ xs) (suc i) v h =
-    let z : suc i + 1 ≡ suc (i + 1) = omega arith in
-    rw z (ap (λ (ys : List ℕ). x ∷ ys) (take-set xs i v (omega arith)))
-
-take-length : (xs : List ℕ) (i : ℕ) → i ≤ length xs → length (take i xs) ≡ i
-take-length xs zero h = refl
-take-length [] (suc i) h = absurd (omega arith)
-take-length (x ∷ xs) (suc i) h = ap suc (take-length xs i (omega arith))
-
-take_all : (xs : List ℕ) (i : ℕ) → length xs ≤ i → take i xs ≡ xs
-take_all [] zero h = refl
-take_all [] (suc i) h = refl
-take_all (x ∷ xs) zero h = absurd (omega arith)
-take_all (x ∷ xs) (suc i) h = ap (λ (ys : List ℕ). x ∷ ys) (take_all xs i (omega arith))
+joined-more ns v (some ms) = ap {B = Option (List ℕ)} some (sym (append_assoc ns (v ∷ []) ms))
 
 -- the first line of t from a place, its words parted as the line reader parts them, holds the numbers xs
 pub record NumbersAt (t : List ℕ) (at n : ℕ) (xs : List ℕ) (to : ℕ) : Type 0 where
@@ -82,11 +58,11 @@ pub record Numbering (t : List ℕ) (at n : ℕ) (into : List ℕ) (p i : ℕ) :
   pub within : p ≤ length t
   pub before : p ≤ stray_at t
 
-pub numbering_start : (t : List ℕ) (at : ℕ) (into : List ℕ) → at ≤ stray_at t → Numbering t at (length into) into at 0
-numbering_start t at into h = record {
+pub numbering_start : (t : List ℕ) (at n : ℕ) (into : List ℕ) → at ≤ stray_at t → length into ≡ n → Numbering t at n into at 0
+numbering_start t at n into h s = record {
   line = joined-nil _;
   after = refl;
-  size = refl;
+  size = s;
   few = omega arith;
   on = omega arith;
   within = omega (arith, stray-within t);
@@ -299,7 +275,7 @@ module _ (t : List ℕ) (at n : ℕ) where
 
 module _ {t : List ℕ} {at n : ℕ} {into : List ℕ} {p i : ℕ} (N : Numbering t at n into p i) {q : ℕ} (s : Scanned is_plain t p q) where
   front : length (take i into) ≡ i
-  front = take-length into i (omega (arith, N.few, N.size))
+  front = length-take-le i into (omega (arith, N.few, N.size))
 
   -- one more number
   pub numbering-more : (v c : ℕ) → i < n → WholeAt t q v c → Numbering t at n (set into i v) c (i + 1)
@@ -307,7 +283,8 @@ module _ {t : List ℕ} {at n : ℕ} {into : List ℕ} {p i : ℕ} (N : Numberin
       let a = number_at t p q s v c w in
       record {
         line = N.line ∙ ap (joined (take i into)) (numbers_on t p v c a) ∙ joined-more (take i into) v (numbers (line_words (drop c t)))
-            ∙ ap (λ (ns : List ℕ). joined ns (numbers (line_words (drop c t)))) (sym (take-set into i v (omega (arith, N.size))));
+            ∙ ap (λ (ns : List ℕ). joined ns (numbers (line_words (drop c t)))) (sym (ap (λ (k : ℕ). take k (set into i v)) (add-one i)
+            ∙ take-suc-set into i v (omega (arith, N.size))));
         after = number-after (drop p t) v (drop c t) a.value a.left ∙ N.after;
         size = length-set into i v ∙ N.size;
         few = omega arith;
@@ -375,7 +352,7 @@ module _ {t : List ℕ} {at n : ℕ} {into : List ℕ} {p i : ℕ} (N : Numberin
         file-line t at n into to
             (record {
               line = N.line ∙ ap (λ (ws : List (List ℕ)). joined (take i into) (numbers ws)) (sym (words_same t p q s) ∙ e.none)
-                  ∙ ap {B = Option (List ℕ)} some (append-nil (take i into) ∙ take_all into i (omega (arith, N.size)));
+                  ∙ ap {B = Option (List ℕ)} some (append-nil (take i into) ∙ take_all i into (omega (arith, N.size)));
               size = N.size;
               next = record { left = e.left ∙ after_same t p q s ∙ N.after; on = omega (arith, N.on, s.on, e.on); within = e.within };
             })
@@ -390,11 +367,11 @@ numbers-add [] ls xs e h = let z : 0 ≡ length xs = ap length (some_same [] xs 
 numbers-add (w ∷ ws) ls xs e h = refl
 
 module _ (t : List ℕ) (at a : ℕ) (w : ToWord t at a) where
-  pub next-line : (n : ℕ) (xs : List ℕ) (r : P.Option Lines) → 1 ≤ n → FileLineIs (drop a t) n xs r → LineIs (file_lines (drop at t)) n xs r
-  next-line n xs (P.Some m) one h =
+  pub next-line : (n : ℕ) (r : P.Option (List ℕ × Lines)) → 1 ≤ n → FileLineIs (drop a t) n r → LineIs (file_lines (drop at t)) n r
+  next-line n (P.Some (xs, m)) one h =
       let z = h.size in
       let l : file_lines (drop at t) ≡ file_line (drop a t) ∷ lines_left m =
       sym w.lines ∙ file-step (drop a t) ∙ numbers-add (file_line (drop a t)) _ xs h.line (omega arith)
       ∙ ap (λ (r : List ℕ). file_line (drop a t) ∷ file_lines r) (sym h.next) in
       record { line = ap first_numbers l ∙ h.line; size = h.size; next = sym (ap (drop 1) l) }
-  next-line n xs P.None one h = record { none = λ ys e z. h ys (word_first (drop a t) ys w.still (ap first_numbers w.lines ∙ e)) z }
+  next-line n P.None one h = record { none = λ ys e z. h ys (word_first (drop a t) ys w.still (ap first_numbers w.lines ∙ e)) z }

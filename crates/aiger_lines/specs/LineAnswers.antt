@@ -34,9 +34,9 @@ pub record FileLineAt (s : List ℕ) (n : ℕ) (xs rest : List ℕ) : Type 0 whe
   pub size : length xs ≡ n
   pub next : rest ≡ after_line s
 
-abbrev pub FileLineIs : List ℕ → ℕ → List ℕ → Option Lines → Type 0
-FileLineIs s n xs (Some l) = FileLineAt s n xs (drop l.at l.text.now)
-FileLineIs s n xs None = NotSoMany (numbers (file_line s)) n
+abbrev pub FileLineIs : List ℕ → ℕ → Option (List ℕ × Lines) → Type 0
+FileLineIs s n (Some (xs, l)) = FileLineAt s n xs (drop l.at l.text.now)
+FileLineIs s n None = NotSoMany (numbers (file_line s)) n
 
 -- what the first of some lines is
 abbrev pub at_front : {A : Type 0} → (List (List ℕ) → M.Option A) → List (List (List ℕ)) → M.Option A
@@ -56,9 +56,9 @@ pub record LineAt (ls : List (List (List ℕ))) (n : ℕ) (xs : List ℕ) (left 
 pub record LineNot (ls : List (List (List ℕ))) (n : ℕ) : Type 0 where
   pub none : NotSoMany (first_numbers ls) n
 
-abbrev pub LineIs : List (List (List ℕ)) → ℕ → List ℕ → Option Lines → Type 0
-LineIs ls n xs (Some l) = LineAt ls n xs (lines_left l)
-LineIs ls n xs None = LineNot ls n
+abbrev pub LineIs : List (List (List ℕ)) → ℕ → Option (List ℕ × Lines) → Type 0
+LineIs ls n (Some (xs, l)) = LineAt ls n xs (lines_left l)
+LineIs ls n None = LineNot ls n
 
 -- the first of some lines holds one number
 pub record OneAt (ls : List (List (List ℕ))) (x : ℕ) (left : List (List (List ℕ))) : Type 0 where

@@ -8,7 +8,8 @@ use read_text::cursor::Cursor;
 use read_text::ends::{is_cr, is_line_end};
 use read_text::words::is_blank;
 
-// Whether a CR stands at a place, and no LF behind it.
+// Whether a CR stands at a place, and no LF behind it. Of a text and a place: the byte behind is asked too, and each caller has both, and would
+// have to cut the text to what is left.
 pub fn is_stray(text: &[u8], i: usize) -> bool
     ensures { result ≡ is_stray (drop i text.now) }
 {

@@ -1,13 +1,13 @@
 -- Marks on the variables that output lines put out.
 use Prim.Native.Nat.{ℕ, ◌+◌, ◌/◌, ◌<◌, ◌≤◌}
-use mathlib.Core.Path.{◌≡◌, sym, ap, ap₂, subst, ◌∙◌}
+use mathlib.Core.Path.{◌≡◌, sym, ap, subst, ◌∙◌}
 use mathlib.Core.Bool.{Bool, true, false}
 use mathlib.Core.List.{List, [], ◌∷◌, ◌++◌}
 use mathlib.Core.Option.{some}
 use native.Mathlib.Omega.{arith}
 use lib.Dec.{eqb, ltb}
-use lib.ListN.{length, take, get_or, set}
-use lib.Seq.{length-take-le, get_or-take, get_or-set_same, get_or-set_other}
+use lib.ListN.{length, get_or, set}
+use lib.Seq.{get_or-set_same, get_or-set_other}
 use Rattle.std.specs.Bool.{MatchBool}
 use Rattle.std.specs.List.{zip, AllWithin, HoldsAt}
 use Rattle.std.proofs.lemmas.Slice.Zip.{length-zip, get_or-zip}
@@ -82,38 +82,25 @@ Lets p = 1 ≤ p.1 → 1 ≤ p.0
 abbrev pub Misses : ℕ × ℕ → Type 0
 Misses p = (1 ≤ p.1) × (p.0 ≡ 0)
 
--- the wires and marks of the variables up to M
-abbrev pub up_to : ℕ → List ℕ → List ℕ → List (ℕ × ℕ)
-up_to M table marks = zip (take (M + 1) table) (take (M + 1) marks)
-
 module _ {table given wires : List ℕ} (P : Places table given wires) {M : ℕ} {marks : List ℕ} {are : List Literal} (O : PutOut M marks are)
-    (inside : M < length table) (marked_inside : M < length marks) where
-  up-length : length (up_to M table marks) ≡ M + 1
-  up-length =
-      omega (
-        arith,
-        length-zip (take (M + 1) table) (take (M + 1) marks),
-        length-take-le (M + 1) table (omega arith),
-        length-take-le (M + 1) marks (omega arith),
-      )
+    (same : length table ≡ length marks) (size : length marks ≡ M + 1) where
+  pairs-many : length (zip table marks) ≡ M + 1
+  pairs-many = omega (arith, length-zip table marks)
 
-  up-at : (v : ℕ) → v ≤ M → get_or (up_to M table marks) v (0, 0) ≡ (get_or table v 0, get_or marks v 0)
-  up-at v l =
-      get_or-zip (take (M + 1) table) (take (M + 1) marks) v (0, 0)
-      (omega (arith, length-take-le (M + 1) table (omega arith))) (omega (arith, length-take-le (M + 1) marks (omega arith)))
-      ∙ ap₂ (λ (a b : ℕ). (a, b)) (get_or-take (M + 1) table v 0 (omega arith)) (get_or-take (M + 1) marks v 0 (omega arith))
+  pair-at : (v : ℕ) → v ≤ M → get_or (zip table marks) v (0, 0) ≡ (get_or table v 0, get_or marks v 0)
+  pair-at v l = get_or-zip table marks v (0, 0) (omega arith) (omega arith)
 
-  pub given_from : (r : Bool) → MatchBool r (AllWithin Lets (up_to M table marks) 0 (length (up_to M table marks)))
-      ((k : ℕ) × (k < length (up_to M table marks)) × HoldsAt Misses (up_to M table marks) k)
+  pub given_from : (r : Bool) → MatchBool r (AllWithin Lets (zip table marks) 0 (length (zip table marks)))
+      ((k : ℕ) × (k < length (zip table marks)) × HoldsAt Misses (zip table marks) k)
       → r ≡ every (readable given) are
   given_from true h = sym (O.enough given (λ v l m. on_bool (member v given)
       (λ e. e)
-      (λ e. let w : Lets (get_or table v 0, get_or marks v 0) = subst Lets (up-at v l) (h v (0, 0) (omega arith) (omega (arith, up-length))) in
+      (λ e. let w : Lets (get_or table v 0, get_or marks v 0) = subst Lets (pair-at v l) (h v (0, 0) (omega arith) (omega (arith, pairs-many))) in
       let z : get_or table v 0 ≡ 0 = P.each v ∙ rw e in
       let y = w m in absurd (omega arith))))
   given_from false h =
-      let l : h.0 ≤ M = (let b = h.1 in omega (arith, up-length)) in
-      let w : Misses (get_or table h.0 0, get_or marks h.0 0) = subst Misses (up-at h.0 l) (h.2 (0, 0)) in
+      let l : h.0 ≤ M = (let b = h.1 in omega (arith, pairs-many)) in
+      let w : Misses (get_or table h.0 0, get_or marks h.0 0) = subst Misses (pair-at h.0 l) (h.2 (0, 0)) in
       on_bool (every (readable given) are)
       (λ e. let g = O.needed given e h.0 l w.0 in
       let z : get_or table h.0 0 ≡ wire_at wires h.0 + 1 = P.each h.0 ∙ rw g in

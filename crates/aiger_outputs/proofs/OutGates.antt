@@ -117,7 +117,7 @@ putting-all {table} {o₀} {r₀} {room} {n} {before} {o} {r} {i} P e given wire
 
 -- ---- all gates
 
-outs-length : (at : ℕ → ℕ) (c : ℕ) (xs : List Literal) → length (out_gates at c xs) ≡ length xs
+pub outs-length : (at : ℕ → ℕ) (c : ℕ) (xs : List Literal) → length (out_gates at c xs) ≡ length xs
 outs-length at c [] = refl
 outs-length at c (x ∷ xs) = ap suc (outs-length at (c + 1) xs)
 

@@ -1,6 +1,7 @@
 // The gates of outputs, whose literals stand at the end of the table of results. The tables are lent one by one: a struct of `&mut`
-// slices would have to promise at each call that it still holds them.
-ghost use Rattle.std.specs.Prelude.{◌+◌, ◌^◌, ◌<◌, ◌≤◌, length, drop};
+// slices would have to promise at each call that it still holds them. `room` is a place and no length: the gates of outputs go on both sides
+// of it. `2 ^ 32` is the range of a wire's u32.
+ghost use Rattle.std.specs.Prelude.{◌+◌, ◌^◌, ◌<◌, ◌≤◌, length, drop, is_some};
 ghost use Rattle.netlist.specs.Table.{tables};
 ghost use Rattle.aiger_outputs.specs.OutAnswers.{Low, HaveWires, OutputsPut, OutputsIs};
 
@@ -8,7 +9,7 @@ use crate::kept::are_readable;
 use aiger_gates::gates::out_gate;
 
 // The gates of the literals from `room` on, behind n inputs and `count` gates. Each gate is put before the literals that are left, or
-// in the place of its own.
+// in the place of its own, so the loop goes by places.
 fn put_outputs(
     table: &[u32],
     operands: &mut [u64],
@@ -29,8 +30,8 @@ fn put_outputs(
     }
 }
 
-// Whether the literals from `room` on can be read. Then their gates are put behind n inputs and `count` gates, which stand before them,
-// if the table has room for all.
+// Where the literals from `room` on can be read, their gates are put behind n inputs and `count` gates, which stand before them, if the
+// table has room for all.
 pub fn outputs(
     table: &[u32],
     operands: &mut [u64],
@@ -38,16 +39,16 @@ pub fn outputs(
     room: usize,
     n: u32,
     count: usize,
-) -> bool
+) -> Option<()>
     requires { (room ≤ length results.old) × (n + count + length (drop room results.old) + 1 < 2 ^ 32) × Low (drop room results.old) }
     ensures { OutputsIs table.now operands.old results.old
-        (tables operands.new results.new) room n count result }
+        (tables operands.new results.new) room n count (is_some result) }
 {
     if !are_readable(table, &results[room..]) {
-        return false;
+        return None;
     }
     if count <= room {
         put_outputs(table, operands, results, room, n, count);
     }
-    true
+    Some(())
 }

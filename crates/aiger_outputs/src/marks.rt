@@ -1,6 +1,6 @@
 // Output lines that are more than a table has entries. Their netlist is too large, so it is enough to know which variables they put
 // out: these get a mark each.
-ghost use Rattle.std.specs.Prelude.{◌≡◌, true, false, List, ℕ, ◌/◌, ◌<◌, ◌≤◌, length, get_or, replicate};
+ghost use Rattle.std.specs.Prelude.{◌≡◌, List, ℕ, ◌+◌, ◌/◌, ◌<◌, length, replicate};
 ghost use Rattle.netlist.specs.Lists.{every};
 ghost use Rattle.aiger.specs.File.{Literal};
 ghost use Rattle.aiger.specs.Rules.{readable};
@@ -20,21 +20,16 @@ fn mark(marks: &mut [u64], x: u32)
     }
 }
 
-// So many output lines, with a table that has no mark yet; answers the lines behind them.
-pub fn mark_literals<'t>(
-    lines: Lines<'t>,
-    many: u32,
-    most: u32,
-    marks: &mut [u64],
-) -> Option<Lines<'t>>
-    requires { (most < length marks.old) × (marks.old ≡ replicate (length marks.old) 0) }
-    ensures marks { MarksIs (lines_left lines.entry) many most marks.new result }
+// So many output lines, with a table up to M that has no mark yet; answers the lines behind them.
+pub fn mark_literals<'t>(lines: Lines<'t>, many: u32, marks: &mut [u64]) -> Option<Lines<'t>>
+    requires { marks.old ≡ replicate (length marks.old) 0 }
+    ensures marks { (most : ℕ) → length marks.old ≡ most + 1 → MarksIs (lines_left lines.entry) many most marks.new result }
     ensures behind { BehindIs lines.entry result }
 {
     let mut left = lines;
     for _ in 0..many {
         let (x, next) = left.one_number()?;
-        if most < x / 2 {
+        if marks.len() <= (x / 2) as usize {
             return None;
         }
         mark(marks, x);
@@ -43,15 +38,14 @@ pub fn mark_literals<'t>(
     Some(left)
 }
 
-// Whether all variables up to M that have a mark are given.
-pub fn are_given(table: &[u32], marks: &[u64], most: u32) -> bool
-    requires { (most < length table.now) × (most < length marks.now) }
-    ensures { (given wires : List ℕ) (are : List Literal) → Places table.now given wires → PutOut most marks.now are
-        → result ≡ every (readable given) are }
+// Whether all variables that have a mark are given: those up to M, of which each table has an entry.
+pub fn are_given(table: &[u32], marks: &[u64]) -> bool
+    requires { length table.now ≡ length marks.now }
+    ensures { (most : ℕ) → length marks.now ≡ most + 1 → (given wires : List ℕ) (are : List Literal) → Places table.now given wires
+        → PutOut most marks.now are → result ≡ every (readable given) are }
 {
-    let last = most as usize;
-    table[..=last]
+    table
         .iter()
-        .zip(&marks[..=last])
+        .zip(marks)
         .all(|(wire, mark)| *mark == 0 || *wire != 0)
 }

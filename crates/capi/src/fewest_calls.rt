@@ -4,7 +4,7 @@ ghost use Rattle.capi_answers.specs.Number.{sizes_of, Told};
 
 use capi_answers::{number, sizes};
 
-// Mask with fewer changes: how many bytes the masked text has at the front of `out`; its input codes stand at the front of `ins`, its
+// Mask with fewer changes: how many bytes the masked text has at the front of `out`; its input codes stand at the front of `in_codes`, its
 // output codes at the front of `out_codes`, its changes and the floor at the front of `tally`.
 #[unsafe(no_mangle)]
 pub extern "C" fn fidrovelj_mask_fewest(
@@ -13,7 +13,7 @@ pub extern "C" fn fidrovelj_mask_fewest(
     wanted: &[u8],
     budget: u64,
     out: &mut [u8],
-    ins: &mut [u8],
+    in_codes: &mut [u8],
     out_codes: &mut [u8],
     tally: &mut [u64],
     operands: &mut [u64],
@@ -26,7 +26,7 @@ pub extern "C" fn fidrovelj_mask_fewest(
     whole: u8,
 ) -> i64
     ensures { Told (Promise (sizes_of whole) text.now codes.now wanted.now budget out.old
-        out.new ins.old ins.new out_codes.old out_codes.new tally.old
+        out.new in_codes.old in_codes.new out_codes.old out_codes.new tally.old
         tally.new operands.old operands.new results.old results.new
         wires.old wires.new marks.old marks.new ways.old ways.new
         best.old best.new spans.old spans.new) result }
@@ -37,7 +37,7 @@ pub extern "C" fn fidrovelj_mask_fewest(
         wanted,
         budget,
         out,
-        ins,
+        in_codes,
         out_codes,
         tally,
         operands,

@@ -8,6 +8,7 @@ ghost use Rattle.capi_answers.specs.Number.{sizes_of, Told};
 use capi_answers::{number, sizes};
 use gate_records::{GateRecord, SourceRecord};
 use session::{Session, Step};
+use session_text::given::Given;
 use session_text::results::{masked, text};
 
 // Opens a session.
@@ -77,16 +78,13 @@ pub extern "C" fn fidrovelj_session_text(
     ensures { Told (TextPromise (sizes_of whole) widths.now outputs.now s source.now out.old
         out.new operands.old operands.new results.old results.new) result }
 {
-    number(text(
-        s,
+    let g = Given {
+        session: s,
         widths,
         outputs,
         source,
-        out,
-        operands,
-        results,
-        sizes(whole),
-    ))
+    };
+    number(text(g, out, operands, results, sizes(whole)))
 }
 
 // What Mask gives for that netlist: how many bytes the masked text has at the front of `out`.
@@ -111,11 +109,14 @@ pub extern "C" fn fidrovelj_session_masked(
         operands.new results.old results.new wires.old wires.new marks.old
         marks.new) result }
 {
-    number(masked(
-        s,
+    let g = Given {
+        session: s,
         widths,
         outputs,
         source,
+    };
+    number(masked(
+        g,
         codes,
         wanted,
         out,

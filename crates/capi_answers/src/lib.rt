@@ -35,7 +35,11 @@ pub fn number(a: Answer) -> i64
     }
 }
 
-// The numbers of a leak: its wire, its setting, its base's count and its own.
+// How many numbers tell a leak.
+const LEAK_NUMBERS: usize = 4;
+
+// The numbers of a leak: its wire, its setting, its base's count and its own. `certify_netlist` tells its leaks by itself: this crate stands above
+// it, and there the second number is how many input bits are one, and two lists are asked for room before either is written.
 pub fn show(list: &mut [u64], leak: Leak)
     ensures { list.new ≡ sets list.old 0 (leak_numbers leak) }
 {
@@ -52,7 +56,7 @@ pub fn tell(list: &mut [u64], a: Checked) -> i64
     match a {
         Ok(None) => 0,
         Ok(Some(leak)) => {
-            if list.len() < 4 {
+            if list.len() < LEAK_NUMBERS {
                 return minus(Question::Room);
             }
             show(list, leak);
@@ -62,7 +66,8 @@ pub fn tell(list: &mut [u64], a: Checked) -> i64
     }
 }
 
-// The sizes of a call: the old ones for 0, and otherwise those for whole ciphers.
+// The sizes of a call: the old ones for 0, and otherwise those for whole ciphers. No `From<u8>`, which would stand in `netlist`: what a byte
+// means is known here alone.
 pub fn sizes(whole: u8) -> Sizes
     ensures { result ≡ sizes_of whole }
 {

@@ -1,38 +1,21 @@
 // Both answers of Check with pairs: their number, and the numbers of a leak and of a bad pair in their lists.
-ghost use Rattle.std.specs.Prelude.{◌≡◌, length};
+ghost use Rattle.std.specs.Prelude.{◌≡◌};
 ghost use Rattle.std.proofs.lemmas.List.Edits.{sets};
 ghost use Rattle.capi_answers.specs.Pairs.{both as both_of, told_leak, bad_numbers, room_for, ShowsBoth};
 
-use crate::{minus, show};
+use crate::{LEAK_NUMBERS, minus, show};
 use check_leak::difference::Leak;
 use lists::put;
 use netlist::Question;
 use pairs_judge::CheckedPairs;
 use pairs_search::search::PairsFound;
 
-// How many numbers a leak has, if there is one.
-fn leak_size(leak: Option<Leak>) -> usize
-    ensures { result ≡ length (told_leak leak) }
-{
-    if leak.is_some() { 4 } else { 0 }
-}
-
-// How many numbers a bad pair has, if there is one.
-fn bad_size(pair: Option<usize>) -> usize
-    ensures { result ≡ length (bad_numbers pair) }
-{
-    if pair.is_some() { 1 } else { 0 }
-}
-
 // Question 14 of the lists for the numbers of both answers.
 pub fn room_for(leak: usize, bad: usize, a: CheckedPairs) -> CheckedPairs
     ensures { result ≡ room_for leak bad a }
 {
     let found = a?;
-    if leak < leak_size(found.leak) {
-        return Err(Question::Room);
-    }
-    if bad < bad_size(found.pair) {
+    if found.leak.is_some() && leak < LEAK_NUMBERS || found.pair.is_some() && bad < 1 {
         return Err(Question::Room);
     }
     Ok(found)

@@ -43,9 +43,9 @@ fn ones_room(room: usize, a: CheckedWide) -> CheckedPairs
 fn lay(list: &mut [u64], ones: Members)
     ensures { list.new ≡ sets list.old 0 (take (min ones.count 12) ones.items) }
 {
-    let n = ones.count.min(12);
-    for i in 0..n {
-        put(list, i, ones.items[i] as u64);
+    let told = &ones.items[..ones.count.min(12)];
+    for (i, item) in told.iter().enumerate() {
+        put(list, i, *item as u64);
     }
 }
 

@@ -12,16 +12,13 @@ use Rattle.netlist.specs.Netlist.{Netlist, large}
 use Rattle.netlist.specs.Outcome.{Outcome, refused, done, ask, and_then}
 use Rattle.netlist.specs.Read.{read_netlist, WellFormed}
 use Rattle.netlist.specs.Services.{tables_long}
-use Rattle.netlist.specs.Table.{Tables}
 use Rattle.netlist.proofs.Accepted.{accepted}
 use Rattle.netlist.proofs.Answering.{call-refused, call-goes-on}
 use Rattle.netlist.proofs.Questions.{done-same}
 use Rattle.netlist.proofs.Tests.{clash}
-use Rattle.read_header.specs.declared.header.Header.{Header}
-use Rattle.read_netlist.specs.Whole.{ReadAt}
 use Rattle.netlist_tables.specs.declared.tables.NetlistTables.{NetlistTables}
-use Rattle.netlist_tables.specs.Tables.{TakenFrom, HoldsNetlist}
-use Rattle.netlist_tables.proofs.Taken.{taken-holds}
+use Rattle.netlist_tables.specs.Tables.{HoldsNetlist}
+use Rattle.read_tables.specs.Taken.{TakenOf}
 use Rattle.check_netlist.specs.Judge.{codes_asked}
 use Rattle.certify_netlist.specs.declared.Verdict.{Verdict}
 use Rattle.certify_netlist.specs.Judge.{Judged, JudgedAs}
@@ -57,16 +54,16 @@ module _ (s : Sizes) (text codes o r g w b t : List ℕ) where
       record { refused = λ k f. (ap {B = Outcome Verdict} refused (same-question (sym e ∙ f)), refl, refl); judged = λ N f. no-netlist (sym e ∙ f) }
 
   -- or the netlist is judged
-  pub answer-read : {ins outs : List ℕ} {tabs : Tables} {h : Header} {n : NetlistTables} {leak leak' ones ones' : List ℕ} {a : Result Verdict Question}
-      → (tables_long (large s) lengths ≡ true) × ReadAt (large s) text ins outs tabs h
-      → TakenFrom h ins tabs n → ((N : Netlist) → HoldsNetlist n N → WellFormed N → JudgedAs N codes leak leak' ones ones' a)
+  pub answer-read : {n : NetlistTables} {leak leak' ones ones' : List ℕ} {a : Result Verdict Question}
+      → (tables_long (large s) lengths ≡ true) × TakenOf (large s) text n
+      → ((N : Netlist) → HoldsNetlist n N → WellFormed N → JudgedAs N codes leak leak' ones ones' a)
       → Answers (call s text codes o r g w b t) codes leak leak' ones ones' a
   unfolding certify_call
-  answer-read {leak = leak} {leak' = leak'} {ones = ones} {ones' = ones'} {a = a} k m f =
+  answer-read {leak = leak} {leak' = leak'} {ones = ones} {ones' = ones'} {a = a} k f =
       let M = k.1.is in
       let e : call s text codes o r g w b t ≡ codes_for codes M =
       call-goes-on (tables_long (large s) lengths) (read_netlist (large s) text) (codes_for codes) k.0 k.1.read in
-      let J = f M (taken-holds m k.1.holds k.1.inputs) (accepted (large s) text M k.1.read).formed in
+      let J = f M k.1.holds (accepted (large s) text M k.1.read).formed in
       record {
         refused = λ q g. J.refused q (codes-refused (codes_asked M.inputs codes) M q (sym e ∙ g));
         judged = λ N g.

@@ -1,13 +1,13 @@
 // Certify: whether a netlist of any number of input bits, whose last input value is the mask pair, leaks on one wire. Questions 1 to
-// 11 with the large limits, and 14.
+// 11 with the large limits, and 14. Lists and tables are parameters of their own: C lends them one by one, and a struct of `&mut` slices would
+// have to promise at each call that it still holds them.
 #![tactic(auto)]
 
 ghost use Rattle.certify.specs.Promise.{call, Answers, Promise};
 
 use certify_netlist::Certified;
 use netlist::Sizes;
-use netlist_tables::tables::NetlistTables;
-use read_netlist::read::read;
+use read_tables::read;
 
 // The answer, with tables that are still to be cleared.
 fn answer(
@@ -27,20 +27,16 @@ fn answer(
         marks.old words.old base.old records.old) codes.now leak.old
         leak.new ones.old ones.new result }
 {
-    let l = sizes.large();
-    let mut inputs = [0u32; 17];
-    let mut outputs = [0u32; 16];
-    let h = read(
+    let mut widths = [0u32; 17];
+    let netlist = read(
         text,
-        &mut inputs,
-        &mut outputs,
+        &mut widths,
         operands,
         results,
         marks,
         &[words.len(), base.len(), records.len() / 15],
-        l,
+        sizes.large(),
     )?;
-    let netlist = NetlistTables::new(h, &inputs, operands, results);
     certify_netlist::judge(netlist, codes, leak, ones, marks, words, base, records)
 }
 

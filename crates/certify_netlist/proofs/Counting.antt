@@ -8,8 +8,11 @@ use native.Mathlib.Omega.{arith}
 use lib.Dec.{eqb}
 use borrow.Author.Tests.{eq-eqb, ne_eqb}
 use lib.Bits.{bit_and}
-use lib.ListN.{length, length-append}
-use lib.Seq.{sets}
+use lib.ListN.{length, get_or, take, length-append}
+use Rattle.std.specs.List.{filter, count_by}
+use Rattle.std.proofs.lemmas.List.Sums.{length-filter}
+use Rattle.std.proofs.lemmas.List.Filters.{length-filter_more}
+use lib.Seq.{sets, take_all}
 use Rattle.netlist.specs.Leak.{bit}
 use Rattle.evaluate.specs.Lane.{lane}
 use Rattle.evaluate.proofs.Lanes.{bit-low}
@@ -37,22 +40,24 @@ module _ (f : ℕ → Bool) where
   pub ones-most : (i n : ℕ) → i ≤ n → length (ones_below f i) ≤ length (ones_below f n)
   ones-most i n h = let e : i + (n - i) ≡ n = omega arith in rw e at (ones-grow i (n - i))
 
-  pub ones-few : (n : ℕ) → length (ones_below f n) ≤ n
-  ones-few zero = omega arith
-  ones-few (suc n) =
-      let h = ones-few n in
-      let m = ones-more n in
-      let b = bit-most (f n) in
-      let e = add-one n in
-      rw e at (let g : length (ones_below f (n + 1)) ≤ n + 1 = omega arith in g)
-    where
-      bit-most : (b : Bool) → bit b ≤ 1
-      bit-most true = omega arith
-      bit-most false = omega arith
+one_more : (b : Bool) → cond b 1 0 ≡ bit b
+one_more true = refl
+one_more false = refl
 
--- one number after another
-pub counting_more : (f : ℕ → Bool) (i : ℕ) {many k : ℕ} → many ≡ length (ones_below f i) → k ≡ bit (f i) → many + k ≡ length (ones_below f (i + 1))
-counting_more f i c e = let m = ones-more f i in omega (arith, c, e)
+-- the words that pass a test, counted
+module _ (p f : ℕ → Bool) (words : List ℕ) (same : (i : ℕ) → p (get_or words i 0) ≡ f i) where
+  counted-to : (i : ℕ) → i ≤ length words → length (filter p (take i words)) ≡ length (ones_below f i)
+  counted-to zero h = refl
+  counted-to (suc i) h =
+      let k = counted-to i (omega arith) in
+      let m = length-filter_more p words i 0 (omega arith) in
+      let b = one_more (p (get_or words i 0)) ∙ ap bit (same i) in
+      let g : length (filter p (take (i + 1) words)) ≡ length (ones_below f (i + 1)) = omega (arith, k, m, b, ones-more f i) in
+      rw (add-one i) at g
+
+  pub counted : count_by p words ≡ length (ones_below f (length words))
+  counted =
+      sym (length-filter p words) ∙ ap (λ (xs : List ℕ). length (filter p xs)) (sym (take_all (length words) words (omega arith))) ∙ counted-to (length words) (omega arith)
 
 pub record Writing (f : ℕ → Bool) (out₀ out : List ℕ) (at i : ℕ) : Type 0 where
   pub place : at ≡ length (ones_below f i)
@@ -81,7 +86,7 @@ writing_more {f} {out₀ = out₀} {at = at} {i = i} b W e w p = record {
 }
 
 -- the lane of a word, as the code tests it
-lane_test : (j n : ℕ) → eqb (bit_and (n / 2 ^ j) 1) 1 ≡ lane j n
+pub lane_test : (j n : ℕ) → eqb (bit_and (n / 2 ^ j) 1) 1 ≡ lane j n
 lane_test j n = ap (λ (k : ℕ). eqb k 1) (bit-low j n) ∙ go (lane j n)
   where
     go : (b : Bool) → eqb (bit b) 1 ≡ b

@@ -1,5 +1,7 @@
 // Questions 10, 11 and 14 of a netlist that was read, and what the certifier says of it. The working tables stay parameters of their
-// own: they are lent by C one by one, and a struct of `&mut` slices would have to promise at each call that it still holds them.
+// own: they are lent by C one by one, and a struct of `&mut` slices would have to promise at each call that it still holds them. So do the
+// gates and the codes: the words of the inputs are made of codes alone and those of the gates by the evaluator, so that one call would put
+// both together and the next take them apart.
 #![tactic(auto)]
 
 mod ones;
@@ -20,7 +22,8 @@ use netlist::Question;
 use netlist_tables::tables::NetlistTables;
 
 // What the certifier says of a netlist: every wire is clean; or a leak, whose numbers and input bits are told; or the lowest wire not
-// known to be clean is told.
+// known to be clean is told. What is told goes to lists, and not into the variants: the input bits that are one may be as many as there are
+// inputs (no heap), C lends both lists, and question 14 asks for room in both before either is written.
 #[derive(Clone, Copy, Debug, PartialEq, Eq)]
 pub enum Verdict {
     Clean,

@@ -8,14 +8,14 @@ pub fn count(words: &[u64], place: u64) -> usize
     requires { place < 64 }
     ensures { result ≡ length (ones_at place words.now) }
 {
-    let mut many = 0;
-    for word in words {
-        many += ((*word >> place) & 1) as usize;
-    }
-    many
+    words
+        .iter()
+        .filter(|word| (**word >> place) & 1 == 1)
+        .count()
 }
 
-// Those words' numbers, over the front of `out`.
+// Those words' numbers, over the front of `out`. By a place: behind an adapter of `iter_mut` such as `zip` nothing is known of the entries
+// afterwards.
 pub fn write(words: &[u64], place: u64, out: &mut [u64])
     requires { (place < 64) × (length (ones_at place words.now) ≤ length out.old) }
     ensures { out.new ≡ sets out.old 0 (ones_at place words.now) }

@@ -1,12 +1,13 @@
 -- The pass, gate by gate.
 use mathlib.Core.Path.{◌≡◌, refl, sym, ap, ◌∙◌, subst}
-use mathlib.Core.Bool.{Bool}
+use mathlib.Core.Bool.{Bool, true, false}
 use mathlib.Core.List.{List}
-use Prim.Native.Nat.{ℕ, zero, suc, ◌+◌, ◌*◌, ◌/◌, ◌%◌, ◌<◌}
+use Prim.Native.Nat.{ℕ, zero, suc, ◌+◌, ◌*◌, ◌/◌, ◌%◌, ◌≤◌, ◌<◌}
 use native.Mathlib.Omega.{arith}
+use lib.Bits.{bit_and, and_mask}
 use lib.Dec.{eqb}
-use lib.ListN.{get_or, replicate}
-use borrow.Author.Tests.{eqb-true, eqb-false}
+use lib.ListN.{length, get_or, replicate}
+use borrow.Author.Tests.{eqb-true, eqb-false, eq-eqb}
 use Rattle.netlist.specs.declared.Gate.{Gate}
 use Rattle.netlist.specs.Netlist.{Netlist, result}
 use Rattle.netlist.specs.Eval.{made, bits_at, wire_bits}
@@ -18,7 +19,9 @@ use Rattle.netlist.proofs.Tests.{on_bool, All, all_head, all_split}
 use Rattle.evaluate.proofs.Steps.{by_kind}
 use Rattle.gate_table.specs.Parts.{parts_of}
 use Rattle.certify_records.proofs.Evens.{no}
-use Rattle.certify_pass.specs.Pass.{Holding, Masked, GateMakes}
+use Rattle.std.specs.Option.{MatchOption}
+use Rattle.std.specs.Prelude.{Option, Some, None, IfSome}
+use Rattle.certify_pass.specs.Pass.{Holding, Masked, GateMakes, sure}
 
 -- what holds of all gates holds of each
 gate-of : {P : Gate → Type 0} (t : Tables) (n i : ℕ) → All P (gates_of t n) → i < n → P (gate_at t i)
@@ -60,3 +63,17 @@ holding-none N codes a b {r} {m} er em =
         public = λ w h. no (ap (lane 1) (sym (zm w)) ∙ h);
       };
     }
+
+-- the first wire that is not marked clean
+clean-low : (n : ℕ) → eqb (bit_and n 1) 0 ≡ false → lane 0 n ≡ true
+clean-low n e =
+    let h = eqb-false (bit_and n 1) 0 e in
+    let k : bit_and n 1 ≡ n % 2 = and_mask n 1 in
+    eq-eqb (n % 2) 1 (omega arith)
+
+pub lowest-found : (m : List ℕ) (r : Option ℕ)
+    → MatchOption r ((w : ℕ) → 0 ≤ w → w < length m → eqb (bit_and (get_or m w 0) 1) 0 ≡ false)
+    (λ w. (0 ≤ w) × (w < length m) × Unit × ((k : ℕ) → 0 ≤ k → k < w → eqb (bit_and (get_or m k 0) 1) 0 ≡ false))
+    → IfSome r (λ w. w < length m) × ((w : ℕ) → w < sure (length m) r → lane 0 (get_or m w 0) ≡ true)
+lowest-found m None h = (tt, λ w l. clean-low (get_or m w 0) (h w (omega arith) l))
+lowest-found m (Some v) h = (h.1, λ w l. clean-low (get_or m w 0) (h.3 w (omega arith) l))

@@ -20,7 +20,7 @@ use Rattle.check_counts.proofs.Numbers.{low-lane}
 use Rattle.certify_records.specs.declared.Record.{Record}
 use Rattle.std.specs.Prelude.{Some}
 use Rattle.certify_records.specs.Record.{JoinIs}
-use Rattle.certify_records.specs.Leaf.{Own, LeafIs}
+use Rattle.certify_records.specs.Leaf.{OwnAtoms, LeafIs}
 use Rattle.certify_records.proofs.Evens.{no}
 use Rattle.certify_wires.specs.Known.{bit_of, atom_bit, Known, Open, Makes}
 use Rattle.certify_wires.specs.Store.{record_at, Present, PutAt, Recorded, Marked}
@@ -99,7 +99,7 @@ bit-most : (b : Bool) → bit b ≤ 1
 bit-most true = omega arith
 bit-most false = omega arith
 
-pub own-atoms : (N : Netlist) (codes : List ℕ) (s : List Bool) (w : ℕ) → Own (atom_bit N codes s) (bit_of N codes s w) w
+pub own-atoms : (N : Netlist) (codes : List ℕ) (s : List Bool) (w : ℕ) → OwnAtoms (atom_bit N codes s) (bit_of N codes s w) w
 own-atoms N codes s w = record {
   atom = λ m h p.
       let j = 2 * m + bit p in

@@ -25,11 +25,6 @@ pub record Holding (N : Netlist) (codes records marks : List ℕ) : Type 0 where
   pub known : Recorded N codes records
   pub marked : Marked N codes marks
 
--- a record is right for a wire, if there is one
-abbrev pub KnownIf : Netlist → List ℕ → ℕ → Option Record → Type 0
-KnownIf N codes w (Some r) = Known N codes w r
-KnownIf N codes w None = Unit
-
 -- how many of the wires are shown to be clean: those below the lowest that is not, or all
 abbrev pub sure : ℕ → Option ℕ → ℕ
 sure wires (Some w) = w
@@ -43,7 +38,7 @@ GateMakes N codes g = Makes N codes g.kind g.left g.right g.result
 pub record GateStep (g : Parts) (r m r' m' : List ℕ) : Type 0 where
   pub holds : (N : Netlist) (codes : List ℕ) → GateMakes N codes g → Holding N codes r m → Holding N codes r' m'
 
--- the same, after a step on it with record x of its left operand
+-- what is true of a netlist stays so, after a step on its gate g with record x of the left operand
 pub record PairStep (g : Parts) (x : Record) (r m r' m' : List ℕ) : Type 0 where
   pub holds : (N : Netlist) (codes : List ℕ) → GateMakes N codes g → Known N codes g.left x → Holding N codes r m → Holding N codes r' m'
 

@@ -3,14 +3,14 @@ ghost use Rattle.std.specs.Prelude.{◌≡◌, List, ℕ, ◌+◌, ◌*◌, ◌/
 ghost use Rattle.netlist.specs.Netlist.{Netlist};
 ghost use Rattle.gate_table.specs.Parts.{Within};
 ghost use Rattle.certify_wires.specs.Known.{Known};
-ghost use Rattle.certify_wires.specs.Store.{Recorded, Marked};
-ghost use Rattle.certify_pass.specs.Pass.{byte_of, Shows, Holding, KnownIf, GateStep, PairStep};
+ghost use Rattle.certify_wires.specs.Store.{Recorded, Marked, KnownIf};
+ghost use Rattle.certify_pass.specs.Pass.{byte_of, Shows, Holding, GateStep, PairStep};
 
 use certify_records::{Record, leaf};
 use certify_wires::{hints, keep, marks, store};
 use gate_table::Parts;
 
-// What a wire is marked as: clean, or public and so clean.
+// What a wire is marked as: clean, or public and so clean. Only written: C lends the marks as bytes, of which readers ask one bit.
 #[derive(Clone, Copy)]
 pub enum Shown {
     Clean = 1,
@@ -44,7 +44,7 @@ fn add(records: &mut [u64], marks: &mut [u8], w: usize, r: Record)
     if marks[w] & 1 == 1 {
         return;
     }
-    if marks::clean(marks, r) {
+    if marks::shows_clean(marks, r) {
         mark(marks, w, Shown::Clean);
     }
 }
@@ -62,7 +62,7 @@ fn pair(records: &mut [u64], marks: &mut [u8], gate: Parts, x: Record, j: usize)
     }
 }
 
-// All of the right operand's records with one of the left.
+// All of the right operand's records with one of the left. By number, here and below: they lie in the table that is written.
 fn row(records: &mut [u64], marks: &mut [u8], gate: Parts, x: Record)
     requires { Within (length records.old / 15) gate × (gate.result < length marks.old) }
     ensures { PairStep gate x records.old marks.old records.new marks.new }
@@ -97,7 +97,8 @@ fn pairs(records: &mut [u64], marks: &mut [u8], gate: Parts)
     }
 }
 
-// A record of at most one atom that the k-th record of wire w gives.
+// A record of at most one atom that the k-th record of wire w gives. `w` and `k` are two numbers, here, in `settle` and in `hinted`: each needs
+// the wire alone too, for which one number 5 w + k would be divided again.
 fn leaf_of(records: &[u64], hints: &mut [u64], w: usize, k: usize, r: Record) -> Option<Record>
     requires { (15 * w + 15 ≤ length records.now) × (k < 5) }
     ensures { (N : Netlist) (codes : List ℕ) → Recorded N codes records.now → Known N codes w r → KnownIf N codes w result }
@@ -122,7 +123,7 @@ fn settle(records: &mut [u64], marks: &mut [u8], hints: &mut [u64], w: usize, k:
         return false;
     };
     store::put(records, 5 * w, s);
-    if marks::public(marks, r) {
+    if marks::shows_public(marks, r) {
         mark(marks, w, Shown::Public);
     }
     true

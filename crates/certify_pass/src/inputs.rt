@@ -2,7 +2,8 @@
 ghost use Rattle.std.specs.Prelude.{◌≡◌, List, ℕ, ◌+◌, ◌*◌, ◌<◌, ◌≤◌, length, get_or};
 ghost use Rattle.netlist.specs.Netlist.{Netlist};
 ghost use Rattle.certify_wires.specs.Known.{Known};
-ghost use Rattle.certify_pass.specs.Pass.{Holding, Masked, KnownIf, InputStep};
+ghost use Rattle.certify_wires.specs.Store.{KnownIf};
+ghost use Rattle.certify_pass.specs.Pass.{Holding, Masked, InputStep};
 
 use crate::gate::{self, Shown};
 use certify_records::{MOST_WIRES, NO_ATOM, Record};
@@ -37,7 +38,7 @@ fn give(records: &mut [u64], marks: &mut [u8], w: usize, r: Record)
         → Holding N codes records.new marks.new }
 {
     store::put(records, 5 * w, r);
-    if marks::clean(marks, r) {
+    if marks::shows_clean(marks, r) {
         gate::mark(marks, w, Shown::Clean);
     }
 }

@@ -9,10 +9,10 @@ ghost use Rattle.certify_pass.specs.Pass.{Holding, Masked, sure};
 use crate::{gate, inputs};
 use gate_table::Gates;
 
-// Takes the gates in order.
-fn run(gates: Gates, wires: usize, records: &mut [u64], marks: &mut [u8], hints: &mut [u64])
-    requires { WiredGates gates wires × (15 * wires ≤ length records.old) × (wires ≤ length marks.old) }
-    ensures { (n o : ℕ) (N : Netlist) (codes : List ℕ) → HoldsGates gates.entry wires n o N
+// Takes the gates in order. By number: a `zip` of the two tables, each cut to the count, would be longer than `gates.at(i)`.
+fn run(gates: Gates, records: &mut [u64], marks: &mut [u8], hints: &mut [u64])
+    requires { WiredGates gates (length marks.old) × (15 * length marks.old ≤ length records.old) }
+    ensures { (n o : ℕ) (N : Netlist) (codes : List ℕ) → HoldsGates gates.entry (length marks.old) n o N
         → Masked N codes → Holding N codes records.old marks.old
         → Holding N codes records.new marks.new }
 {
@@ -27,12 +27,7 @@ fn lowest(marks: &[u8]) -> Option<usize>
     ensures bound { IfSome result (λ w. w < length marks.now) }
     ensures lower { (w : ℕ) → w < sure (length marks.now) result → lane 0 (get_or marks.now w 0) ≡ true }
 {
-    for (w, mark) in marks.iter().enumerate() {
-        if *mark & 1 == 0 {
-            return Some(w);
-        }
-    }
-    None
+    (0..marks.len()).find(|w| marks[*w] & 1 == 0)
 }
 
 // The lowest wire that is not known to be clean. The records, fifteen entries for each wire, and the marks, one for each, are working
@@ -54,7 +49,6 @@ pub fn certified(
     marks.fill(0);
     hints.fill(0);
     inputs::inputs(codes, records, marks);
-    let wires = marks.len();
-    run(gates, wires, records, marks, hints);
+    run(gates, records, marks, hints);
     lowest(marks)
 }

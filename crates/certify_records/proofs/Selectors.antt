@@ -10,7 +10,7 @@ use Rattle.evaluate.specs.Lane.{lane}
 use Rattle.evaluate.proofs.Lanes.{lane_and, lane_xor}
 use Rattle.check_counts.proofs.Numbers.{lane-shift}
 use Rattle.certify_records.specs.declared.Record.{Record}
-use Rattle.certify_records.specs.Record.{Right, Fellows}
+use Rattle.certify_records.specs.Record.{Right, SameAtoms}
 use Rattle.certify_records.specs.Even.{atom_setting}
 use Rattle.certify_records.specs.Leaf.{AtomOf, OneAtom}
 use Rattle.certify_records.proofs.Tables.{lane-mod, and_yes}
@@ -41,7 +41,7 @@ module _ {bits : ℕ → Bool} {wire : Bool → Bool → Bool} {r : Record} {a :
       A ∙ ap (λ (b : Bool). differs b (lane 0 a)) (ap₂ wire (sym m0) (sym m1) ∙ sym (shown bits r wire R m h))
       ∙ sym (f (setting_of bits r) (setting-below (bits r.first) (bits r.second) (bits r.third) (bits r.fourth)))
 
-pub one-atom : {r s : Record} {a b p q : ℕ} → Fellows r s → Selects r.table a p → Selects s.table b q → p ≡ q → OneAtom r a s b
+pub one-atom : {r s : Record} {a b p q : ℕ} → SameAtoms r s → Selects r.table a p → Selects s.table b q → p ≡ q → OneAtom r a s b
 one-atom {r} {s} {a} {b} {p} {q} F f g e = record {
   equal = λ {bits} R S A B.
       let k : setting_of bits r ≡ setting_of bits s = λ i. atom_setting (bits (F.first i)) (bits (F.second i)) (bits (F.third i)) (bits (F.fourth i)) in

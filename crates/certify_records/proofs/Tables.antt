@@ -129,8 +129,8 @@ module _ (t by low : ℕ) (zero : bit_and (bit_xor (t / 2 ^ by) t) low ≡ 0) wh
   low_same : (l : ℕ) → lane l low ≡ true → lane l t ≡ lane (l + by) t
   low_same l e = equal-bits (lane (l + by) t) (lane l t) (sym (change-yes t by low l e) ∙ ap (lane l) zero ∙ lane-zero l)
 
-  pub alike-law : (j : ℕ) → T (turns_at j by low) → (l : ℕ) → l < 64 → lane l t ≡ lane (turned j l) t
-  alike-law j ok l h =
+  pub independent-law : (j : ℕ) → T (turns_at j by low) → (l : ℕ) → l < 64 → lane l t ≡ lane (turned j l) t
+  independent-law j ok l h =
       let p = below_at 64 (λ l. cond (lane l low) (eqb (turned j l) (l + by)) (leb by l && (lane (l - by) low && eqb (turned j l) (l - by)))) ok l h in
       on_bool (lane l low)
       (λ e. low_same l e ∙ ap (λ (k : ℕ). lane k t) (sym (eqb→eq (turned j l) (l + by) (rw e at p))))

@@ -7,7 +7,7 @@ use Rattle.certify_records.specs.declared.Record.{Record}
 use Rattle.certify_records.specs.Record.{Right}
 
 -- atom 8 w + 2 m + p is the bit of wire w at mask setting m, XOR p
-pub record Own (bits : ℕ → Bool) (wire : Bool → Bool → Bool) (w : ℕ) : Type 0 where
+pub record OwnAtoms (bits : ℕ → Bool) (wire : Bool → Bool → Bool) (w : ℕ) : Type 0 where
   pub atom : (m : ℕ) → m < 4 → (p : Bool) → bits (8 * w + (2 * m + bit p)) ≡ differs (wire (lane 0 m) (lane 1 m)) p
 
 -- what mask setting m shows of a table decides the whole: place l of another table shows it, whose atom says whether it is as in
@@ -22,7 +22,7 @@ TwoIs t None = Unit
 
 -- a record of wire w that is right where another is
 abbrev pub LeafIs : ℕ → Record → Option Record → Type 0
-LeafIs w r (Some s) = (bits : ℕ → Bool) (wire : Bool → Bool → Bool) → Own bits wire w → Right bits wire r → Right bits wire s
+LeafIs w r (Some s) = (bits : ℕ → Bool) (wire : Bool → Bool → Bool) → OwnAtoms bits wire w → Right bits wire r → Right bits wire s
 LeafIs w r None = Unit
 
 -- atom a is a bit of a wire: at mask setting m where it is 8 w + 2 m + p, XOR p

@@ -25,7 +25,7 @@ abbrev pub over : ℕ → ℕ → Record
 over t a = record { table = t; first = a; second = no_atom; third = no_atom; fourth = no_atom }
 
 -- two records have the same atoms
-pub record Fellows (r s : Record) : Type 0 where
+pub record SameAtoms (r s : Record) : Type 0 where
   pub first : r.first ≡ s.first
   pub second : r.second ≡ s.second
   pub third : r.third ≡ s.third

@@ -1,4 +1,5 @@
-// Two records over the same atoms.
+// Two records over the same atoms. The words handed to `table::exchange` mark the places where the first of the two atoms that change
+// places is one and the other zero.
 ghost use Rattle.std.specs.Prelude.{◌<◌};
 ghost use Rattle.certify_records.specs.Record.{Says, JoinIs, EitherIs};
 

@@ -1,4 +1,5 @@
-// A wire that shows only two different nibbles is decided by what it shows at one mask setting.
+// A wire that shows only two different nibbles is decided by what it shows at one mask setting. In a table 0x1111_1111_1111_1111 marks the
+// lowest bit of each nibble, times 15 all four, and 0xf0f0_f0f0_f0f0_f0f0 the nibbles where the first atom is one.
 ghost use Rattle.std.specs.Prelude.{◌≡◌, true, ℕ, ◌+◌, ◌*◌, ◌/◌, ◌%◌, ◌<◌};
 ghost use Rattle.netlist.specs.Eval.{differs};
 ghost use Rattle.netlist.specs.Leak.{bit};
@@ -28,7 +29,7 @@ fn chosen(t: u64) -> Option<(u32, u64)>
 }
 
 // The atom of a wire at a mask setting, zero in the first setting of a table's atoms.
-fn own(t: u64, wire: usize, m: u32) -> u32
+fn own_atom(t: u64, wire: usize, m: u32) -> u32
     requires { (wire < 268435456) × (m < 4) }
     ensures { result ≡ 8 * wire + (2 * m + bit (lane m t)) }
 {
@@ -43,7 +44,7 @@ pub fn leaf(r: Record, wire: usize) -> Option<Record>
         return None;
     }
     let (m, table) = chosen(r.table)?;
-    Some(Record::over(table, own(r.table, wire, m)))
+    Some(Record::over(table, own_atom(r.table, wire, m)))
 }
 
 // What an atom of a wire is where a record's atoms have setting s, in bit 4 s.
@@ -54,8 +55,8 @@ pub fn selector(t: u64, atom: u32) -> u64
 }
 
 // Whether records of two wires show that an atom of one is an atom of the other: by the same function of the same atoms.
-pub fn one_atom(r: Record, a: u32, s: Record, b: u32) -> bool
+pub fn is_same_atom(r: Record, a: u32, s: Record, b: u32) -> bool
     ensures { result ≡ true → OneAtom r a s b }
 {
-    crate::fellows(r, s) && selector(r.table, a) == selector(s.table, b)
+    crate::have_same_atoms(r, s) && selector(r.table, a) == selector(s.table, b)
 }

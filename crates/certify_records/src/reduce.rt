@@ -5,6 +5,7 @@ ghost use Rattle.certify_records.specs.Place.{turned, turns_at};
 ghost use Rattle.certify_records.specs.Record.{Says};
 
 use crate::align::{high, low, middle};
+use crate::atom::{AtomPlaces, FIRST, FOURTH, SECOND, THIRD};
 use crate::{NO_ATOM, Record, table};
 
 // The first place moved to the end.
@@ -25,19 +26,17 @@ fn second_last(r: Record) -> Record
 fn without<F: Fn(Record) -> Record>(
     r: Record,
     atom: u32,
-    by: u32,
-    low: u64,
+    places: AtomPlaces,
     left: Record,
     last: F,
 ) -> Record
-    requires by_in_bounds { by < 64 }
-    requires left_out { ((j : ℕ) → T (turns_at j by low) → (l : ℕ) → l < 64 → lane l r.table ≡ lane (turned j l) r.table)
+    requires left_out { ((j : ℕ) → T (turns_at j places.up places.zero) → (l : ℕ) → l < 64 → lane l r.table ≡ lane (turned j l) r.table)
         → Says r left }
     requires callable { F.IsAlwaysCallable last }
     requires says { (x y : _) → F.post last x y → Says x y }
     ensures { Says r result }
 {
-    if atom != NO_ATOM && table::alike(r.table, by, low) {
+    if atom != NO_ATOM && table::is_independent(r.table, places) {
         last(left)
     } else {
         r
@@ -52,20 +51,20 @@ pub fn reduced(r: Record) -> Record
         fourth: NO_ATOM,
         ..r
     };
-    let a = without(r, r.fourth, 32, 0x0000_0000_ffff_ffff, left, |r| r);
+    let a = without(r, r.fourth, FOURTH, left, |r| r);
     let left = Record {
         third: NO_ATOM,
         ..a
     };
-    let b = without(a, a.third, 16, 0x0000_ffff_0000_ffff, left, high);
+    let b = without(a, a.third, THIRD, left, high);
     let left = Record {
         second: NO_ATOM,
         ..b
     };
-    let c = without(b, b.second, 8, 0x00ff_00ff_00ff_00ff, left, second_last);
+    let c = without(b, b.second, SECOND, left, second_last);
     let left = Record {
         first: NO_ATOM,
         ..c
     };
-    without(c, c.first, 4, 0x0f0f_0f0f_0f0f_0f0f, left, first_last)
+    without(c, c.first, FIRST, left, first_last)
 }

@@ -13,7 +13,7 @@ pub record Witness (N : Netlist) (codes words : List ℕ) (p : Leak ℕ) : Type 
   pub base : p.base ≡ count N codes p.wire (public_only codes (setting_in codes words p.setting))
   pub differ : p.base ≢ p.own
 
--- so it is where there is one
+-- a leak that is found has a witness
 abbrev pub Witnessed : Netlist → List ℕ → List ℕ → Option (Leak ℕ) → Type 0
 Witnessed N codes words (Some p) = Witness N codes words p
 Witnessed N codes words None = Unit

@@ -5,7 +5,8 @@ ghost use Rattle.certify_search.specs.Round.{InputWord, Loaded};
 use certify_records::mix::mixed;
 use check_counts::load;
 
-// The word of an input bit: a public bit is the same in all settings, a secret one is zero in setting 0.
+// The word of an input bit: a public bit is the same in all settings, a secret one is zero in setting 0. A public bit is bit 32 of the
+// noise, and a secret one in setting s is bit 4 s + 2, each chosen as any other might be; the four lanes of setting 0 are cut off.
 fn input(code: u8, noise: u64) -> u64
     ensures { InputWord code result }
 {

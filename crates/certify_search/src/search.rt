@@ -34,8 +34,11 @@ fn look(words: &[u64], base: &mut [u64]) -> Option<Leak>
     difference::scan(words, base, words.len())
 }
 
-// How many rounds are run.
+// How many rounds are run. Any number will do: with more of them more leaks are found, and a search without one takes longer.
 const ROUNDS: usize = 64;
+
+// The number from which the generator starts. Any but 0 will do, which it would give again and again.
+const SEED: u64 = 0x9e37_79b9_7f4a_7c15;
 
 // A wire and a setting with another count than its base, among the chosen settings: `words` then holds the round's words; or no wire.
 pub fn search(gates: Gates, codes: &[u8], words: &mut [u64], base: &mut [u64]) -> Option<Leak>
@@ -45,7 +48,7 @@ pub fn search(gates: Gates, codes: &[u8], words: &mut [u64], base: &mut [u64]) -
     ensures witness { (n o : ℕ) (N : Netlist) → HoldsGates gates.entry (length words.old) n o N
         → Masked N codes.now → Witnessed N codes.now words.new result }
 {
-    let mut seed = 0x9e37_79b9_7f4a_7c15;
+    let mut seed = SEED;
     for _ in 0..ROUNDS {
         seed = run(gates, codes, seed, words);
         if let Some(leak) = look(words, base) {

@@ -18,7 +18,7 @@ use Rattle.certify_records.specs.Record.{Has, Right, no_atom}
 use Rattle.certify_records.specs.Even.{Even, atom_setting}
 use Rattle.certify_records.proofs.Evens.{setting_of, shown}
 use Rattle.certify_wires.specs.Known.{bit_of, atom_bit, Known, Open}
-use Rattle.certify_wires.specs.Store.{Marked, plain_atom}
+use Rattle.certify_wires.specs.Store.{Marked, public_atom}
 
 -- bits of atoms, zero where there is none
 abbrev cut : (ℕ → Bool) → ℕ → Bool
@@ -41,8 +41,8 @@ right-cut R = record {
 abbrev pub Plain : List ℕ → ℕ → Type 0
 Plain marks a = a ≢ no_atom → lane 1 (get_or marks (a / 8) 0) ≡ true
 
-pub plain-atom : (marks : List ℕ) (a : ℕ) {b : Bool} → b ≡ plain_atom marks a → b ≡ true → Plain marks a
-plain-atom marks a e t n = let f : plain_atom marks a ≡ lane 1 (get_or marks (a / 8) 0) = rw (ne_eqb a no_atom n) in sym f ∙ sym e ∙ t
+pub plain-atom : (marks : List ℕ) (a : ℕ) {b : Bool} → b ≡ public_atom marks a → b ≡ true → Plain marks a
+plain-atom marks a e t n = let f : public_atom marks a ≡ lane 1 (get_or marks (a / 8) 0) = rw (ne_eqb a no_atom n) in sym f ∙ sym e ∙ t
 
 module _ {N : Netlist} {codes marks : List ℕ} (M : Marked N codes marks) where
   module _ (x y : List Bool) (P : SamePublic codes x y) where

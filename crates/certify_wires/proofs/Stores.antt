@@ -10,7 +10,7 @@ use Rattle.netlist.specs.Netlist.{Netlist}
 use Rattle.netlist.proofs.Tests.{on_bool}
 use Rattle.certify_records.specs.declared.Record.{Record}
 use Rattle.certify_wires.specs.Known.{Known}
-use Rattle.certify_wires.specs.Store.{record_at, PutAt, Present, Recorded, Carries}
+use Rattle.certify_wires.specs.Store.{record_at, PutAt, Present, Recorded, KnownIf}
 use Rattle.std.specs.Prelude.{Option, Some}
 
 -- what is known stays known
@@ -39,16 +39,16 @@ pub record Keeping (w : ℕ) (e : List ℕ) (r : Record) (t : List ℕ) (s : Rec
 
 -- what a step says
 abbrev StepIs : ℕ → List ℕ → Record → List ℕ → Option Record → Type 0
-StepIs q t s u o = (N : Netlist) (codes : List ℕ) → Recorded N codes t → Known N codes (q / 5) s → Recorded N codes u × Carries N codes (q / 5) o
+StepIs q t s u o = (N : Netlist) (codes : List ℕ) → Recorded N codes t → Known N codes (q / 5) s → Recorded N codes u × KnownIf N codes (q / 5) o
 
 module _ {w : ℕ} {e : List ℕ} {r : Record} {t : List ℕ} {s : Record} {k : ℕ} (K : Keeping w e r t s) (less : k < 5) {u : List ℕ} (o : Option Record)
     (step : StepIs (5 * w + k) t s u o) where
-  taken : (N : Netlist) (codes : List ℕ) → Recorded N codes e → Known N codes w r → Recorded N codes u × Carries N codes w o
+  taken : (N : Netlist) (codes : List ℕ) → Recorded N codes e → Known N codes w r → Recorded N codes u × KnownIf N codes w o
   taken N codes R L =
       let h = K.known N codes R L in
       let f = wire-of w k less in
       let p = step N codes h.0 (subst (λ (n : ℕ). Known N codes n s) (sym f) h.1) in
-      (p.0, subst (λ (n : ℕ). Carries N codes n o) f p.1)
+      (p.0, subst (λ (n : ℕ). KnownIf N codes n o) f p.1)
 
   pub keeping-stop : (N : Netlist) (codes : List ℕ) → Recorded N codes e → Known N codes w r → Recorded N codes u
   keeping-stop N codes R L = (taken N codes R L).0
@@ -56,5 +56,5 @@ module _ {w : ℕ} {e : List ℕ} {r : Record} {t : List ℕ} {s : Record} {k : 
   pub keeping-more : (s' : Record) → o ≡ Some s' → length u ≡ length t → Keeping w e r u s'
   keeping-more s' f l = record {
     long = l ∙ K.long;
-    known = λ N codes R L. let p = taken N codes R L in (p.0, subst (Carries N codes w) f p.1);
+    known = λ N codes R L. let p = taken N codes R L in (p.0, subst (KnownIf N codes w) f p.1);
   }

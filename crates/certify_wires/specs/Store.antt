@@ -51,10 +51,10 @@ pub record Marked (N : Netlist) (codes : List ℕ) (marks : List ℕ) : Type 0 w
   pub public : (w : ℕ) → lane 1 (get_or marks w 0) ≡ true → Open N codes w
 
 -- an atom is one of a wire that is marked public, or none
-abbrev pub plain_atom : List ℕ → ℕ → Bool
-plain_atom marks a = cond (eqb a no_atom) true (lane 1 (get_or marks (a / 8) 0))
+abbrev pub public_atom : List ℕ → ℕ → Bool
+public_atom marks a = cond (eqb a no_atom) true (lane 1 (get_or marks (a / 8) 0))
 
--- a record that is still to be put is right for its wire
-abbrev pub Carries : Netlist → List ℕ → ℕ → Option Record → Type 0
-Carries N codes w None = Unit
-Carries N codes w (Some r) = Known N codes w r
+-- a record is right for a wire, if there is one
+abbrev pub KnownIf : Netlist → List ℕ → ℕ → Option Record → Type 0
+KnownIf N codes w None = Unit
+KnownIf N codes w (Some r) = Known N codes w r

@@ -2,7 +2,7 @@
 ghost use Rattle.std.specs.Prelude.{◌≡◌, ℕ, ◌+◌, ◌*◌, ◌/◌, ◌<◌, ◌≤◌, List, length};
 ghost use Rattle.netlist.specs.Netlist.{Netlist};
 ghost use Rattle.certify_wires.specs.Known.{Known};
-ghost use Rattle.certify_wires.specs.Store.{Recorded, Carries, atoms_of};
+ghost use Rattle.certify_wires.specs.Store.{Recorded, KnownIf, atoms_of};
 
 use crate::store;
 use certify_records::{NO_ATOM, Record};
@@ -29,13 +29,13 @@ pub fn atoms(r: Record) -> u8
 fn step(records: &mut [u64], q: usize, r: Record) -> Option<Record>
     requires { 3 * q + 3 ≤ length records.old }
     ensures { (N : Netlist) (codes : List ℕ) → Recorded N codes records.old → Known N codes (q / 5) r
-        → Recorded N codes records.new × Carries N codes (q / 5) result }
+        → Recorded N codes records.new × KnownIf N codes (q / 5) result }
 {
     let Some(there) = store::get(records, q) else {
         store::put(records, q, r);
         return None;
     };
-    if certify_records::fellows(there, r) {
+    if certify_records::have_same_atoms(there, r) {
         return None;
     }
     if atoms(r) < atoms(there) {

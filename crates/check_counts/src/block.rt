@@ -8,6 +8,7 @@ ghost use Rattle.check_counts.specs.Paint.{codes_of};
 ghost use Rattle.check_counts.specs.Block.{nibble, ones, ones_of, nibbles_of, Evaluated, Counted, Ready};
 
 use crate::{load, nibble};
+use evaluate::lay::each;
 use gate_table::Gates;
 
 // What blocks of settings are run with: the gates, the paints of the input bits, and whether one of these is public.
@@ -18,22 +19,11 @@ pub struct Blocks<'a> {
     pub publics: bool,
 }
 
-// Is some input bit public?
-pub fn public(paints: &[u8]) -> bool
+// Whether some input bit is public.
+fn any_public(paints: &[u8]) -> bool
     ensures { (result ≡ true → Secret (codes_of paints.now) → ⊥) × (result ≡ false → Secret (codes_of paints.now)) }
 {
     paints.iter().any(|paint| *paint % 4 == 0)
-}
-
-// What `f` makes of each word, in its place of another table.
-pub fn each<F: Fn(u64) -> u64>(words: &[u64], to: &mut [u64], f: F)
-    requires long { length to.old ≡ length words.now }
-    requires callable { F.IsAlwaysCallable f }
-    ensures { (w : ℕ) → w < length words.now → F.post f (get_or words.now w 0) (get_or to.new w 0) }
-{
-    for (w, word) in words.iter().enumerate() {
-        to[w] = f(*word);
-    }
 }
 
 // Each word's counts in its own place, which `each` cannot write while it reads the words.
@@ -61,10 +51,23 @@ pub fn first(words: &[u64], base: &mut [u64])
 }
 
 impl<'a> Blocks<'a> {
+    // What blocks of these gates under these paints are run with.
+    pub fn new(gates: Gates<'a>, paints: &'a [u8]) -> Self
+        ensures fields { (result.gates ≡ gates.entry) × (result.paints ≡ paints.entry) }
+        ensures publics { (result.publics ≡ true → Secret (codes_of paints.now) → ⊥)
+            × (result.publics ≡ false → Secret (codes_of paints.now)) }
+    {
+        Blocks {
+            gates,
+            paints,
+            publics: any_public(paints),
+        }
+    }
+
     // The words of all wires in a block's settings, or in their bases.
     pub fn run(self, secrets: bool, block: u64, words: &mut [u64])
         requires wired { WiredGates self.gates (length words.old) }
-        requires paints_in_bounds { length self.paints.now + 2 ≤ length words.old }
+        requires lengths { length self.paints.now + 2 ≤ length words.old }
         ensures { let N = bare_of self.entry.gates (length words.old) in
             Evaluated N secrets self.entry.paints.now words.new block }
     {
@@ -76,8 +79,8 @@ impl<'a> Blocks<'a> {
     // settings, and its counts are taken from the first block's words.
     pub fn refresh(self, block: u64, words: &[u64], base: &mut [u64])
         requires wired { WiredGates self.gates (length words.now) }
-        requires paints_in_bounds { (length self.paints.now + 2 ≤ length words.now) × (length base.old ≡ length words.now) }
-        requires fact { let N = bare_of self.gates (length words.now) in
+        requires lengths { (length self.paints.now + 2 ≤ length words.now) × (length base.old ≡ length words.now) }
+        requires held { let N = bare_of self.gates (length words.now) in
             Counted N true self.paints.now (ones_of words.now) block × Ready self.publics N self.paints.now base.old block }
         ensures { let N = bare_of self.entry.gates (length words.now) in
             Counted N false self.entry.paints.now (nibbles_of base.new) block

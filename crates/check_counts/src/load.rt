@@ -43,7 +43,8 @@ pub fn mask(code: u8) -> u64
     }
 }
 
-// Bit i of the numbers, or zero where a base is asked for and the code is that of a secret bit.
+// Bit i of the numbers, or zero where a base is asked for and the code is that of a secret bit. `secrets` and `block` stay two parameters,
+// here and in the functions that hand them on: this one alone asks both.
 fn chosen(i: usize, code: u8, secrets: bool, block: u64) -> u64
     requires { i < 64 }
     ensures { (j : ℕ) → j < 64 → lane j result ≡ kept secrets code (lane i ((block * 64 + j) / 4)) }
@@ -68,7 +69,8 @@ fn input(paint: u8, secrets: bool, block: u64) -> u64
     chosen(colour - 1, code, secrets, block) ^ mask(code)
 }
 
-// All input wires of a block's settings, or of their bases: the masked bits, then the mask pair.
+// All input wires of a block's settings, or of their bases: the masked bits, then the mask pair. By a loop, which lays the list that is
+// promised, where `each` of `evaluate` says of each entry what it is.
 pub fn inputs(paints: &[u8], secrets: bool, block: u64, words: &mut [u64])
     requires { length paints.now + 2 ≤ length words.old }
     ensures { (j : ℕ) → j < 64 → lanes j (take (length paints.now + 2) words.new)

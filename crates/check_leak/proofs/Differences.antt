@@ -1,12 +1,15 @@
 -- The search, block by block.
-use mathlib.Core.Path.{◌≡◌, refl, sym, ◌∙◌, subst}
+use mathlib.Core.Path.{◌≡◌, refl, sym, ap, ◌∙◌, subst}
 use Rattle.std.specs.Prelude.{Option, Some, None}
+use Rattle.std.specs.Option.{MatchOption, IsSomeAnd, option_or}
+use Rattle.std.proofs.Math.Nat.{mod-eq_of_lt}
 use mathlib.Core.Bool.{Bool, true, false}
 use mathlib.Core.List.{List}
-use Prim.Native.Nat.{ℕ, ◌+◌, ◌-◌, ◌*◌, ◌≤◌, ◌<◌}
+use Prim.Native.Nat.{ℕ, ◌+◌, ◌-◌, ◌*◌, ◌%◌, ◌^◌, ◌≤◌, ◌<◌}
 use native.Mathlib.Omega.{arith}
 use lib.Dec.{ltb}
-use lib.ListN.{length}
+use lib.ListN.{length, take}
+use lib.Seq.{length-take-le, get_or-take}
 use borrow.Author.Tests.{ltb-true, ltb-false}
 use Rattle.netlist.specs.Netlist.{Netlist}
 use Rattle.netlist.specs.Table.{Tables}
@@ -14,8 +17,8 @@ use Rattle.netlist.proofs.Tests.{on_bool}
 use Rattle.evaluate.specs.Bare.{bare}
 use Rattle.check_leak.specs.declared.difference.Leak.{Leak}
 use Rattle.check_counts.specs.Base.{count_in}
-use Rattle.check_counts.specs.Block.{Counted, Ready, Agree}
-use Rattle.check_leak.specs.Difference.{LowestDifference, Differing, wire_of, from}
+use Rattle.check_counts.specs.Block.{nibble, ones, ones_of, nibbles_of, Counted, Ready, Agree}
+use Rattle.check_leak.specs.Difference.{LowestDifference, Differing, wire_of, from, max_blocks}
 
 -- no wire differs
 pub difference-none : (f g : ℕ → ℕ → ℕ) (W S : ℕ) → Agree f g W S → LowestDifference f g W S None
@@ -34,25 +37,41 @@ pub wire-within : {f g : ℕ → ℕ → ℕ} {W S : ℕ} (found : Option (Leak 
 wire-within None h = omega arith
 wire-within {W = W} (Some p) h = let l : p.wire < W = h.inside p refl in omega arith
 
--- by equal counts
-pub difference-same : {f g f' g' : ℕ → ℕ → ℕ} {W S : ℕ} {found : Option (Leak ℕ)} → ((w s : ℕ) → s < S → f w s ≡ f' w s) → ((w s : ℕ) → s < S → g w s ≡ g' w s)
-    → LowestDifference f g W S found → LowestDifference f' g' W S found
-difference-same ef eg h = record {
-  lower = λ w l s m. sym (ef w s m) ∙ h.lower w l s m ∙ eg w s m;
+-- by equal counts of the wires below W
+pub difference-below : {f g f' g' : ℕ → ℕ → ℕ} {W S : ℕ} {found : Option (Leak ℕ)} → ((w s : ℕ) → w < W → s < S → f w s ≡ f' w s)
+    → ((w s : ℕ) → w < W → s < S → g w s ≡ g' w s) → LowestDifference f g W S found → LowestDifference f' g' W S found
+difference-below {found = found} ef eg h = record {
+  lower = λ w l s m.
+      let k = wire-within found h in
+      sym (ef w s (omega arith) m) ∙ h.lower w l s m ∙ eg w s (omega arith) m;
   inside = h.inside;
   differs = λ p is.
       let d = h.differs p is in
       let n = d.inside in
-      let e = ef p.wire p.setting n in
-      let o = eg p.wire p.setting n in
+      let k = h.inside p is in
+      let e = ef p.wire p.setting k n in
+      let o = eg p.wire p.setting k n in
       record {
         inside = n;
-        smaller = λ s m. sym (ef p.wire s (omega arith)) ∙ d.smaller s m ∙ eg p.wire s (omega arith);
+        smaller = λ s m. sym (ef p.wire s k (omega arith)) ∙ d.smaller s m ∙ eg p.wire s k (omega arith);
         other = λ q. d.other (e ∙ q ∙ sym o);
         base = d.base ∙ e;
         own = d.own ∙ o;
       };
 }
+
+-- and of all wires
+pub difference-same : {f g f' g' : ℕ → ℕ → ℕ} {W S : ℕ} {found : Option (Leak ℕ)} → ((w s : ℕ) → s < S → f w s ≡ f' w s) → ((w s : ℕ) → s < S → g w s ≡ g' w s)
+    → LowestDifference f g W S found → LowestDifference f' g' W S found
+difference-same ef eg = difference-below (λ w s _. ef w s) (λ w s _. eg w s)
+
+-- and where the tables are cut to the wires
+pub difference-cut : (words base : List ℕ) (k : ℕ) {found : Option (Leak ℕ)} → k ≤ length words
+    → LowestDifference (nibbles_of (take k base)) (ones_of (take k words)) (length (take k words)) 16 found
+    → LowestDifference (nibbles_of base) (ones_of words) k 16 found
+difference-cut words base k l h =
+    difference-below (λ w s b _. ap (λ (d : ℕ). nibble d s) (get_or-take k base w 0 b)) (λ w s b _. ap (λ (d : ℕ). ones d s) (get_or-take k words w 0 b))
+    (rw (length-take-le k words l) at h)
 
 -- T settings more, from S on, searched for wires below the best
 module _ {f g : ℕ → ℕ → ℕ} {W S : ℕ} (best : Option (Leak ℕ)) (past : LowestDifference f g W S best) where
@@ -93,6 +112,20 @@ module _ {f g : ℕ → ℕ → ℕ} {W S : ℕ} (best : Option (Leak ℕ)) (pas
         let n = d.inside in
         record { inside = omega arith; smaller = d.smaller; other = d.other; base = d.base; own = d.own };
   }
+
+-- a block's leak, with the setting's number in all blocks, or else the one so far
+abbrev moved : ℕ → Leak ℕ → Leak ℕ
+moved block p = record { wire = p.wire; setting = (block * 16 + p.setting) % 2 ^ 64; base = p.base; own = p.own }
+
+pub better-law : {P : Leak ℕ → Leak ℕ → Type 0} {f g : ℕ → ℕ → ℕ} {W : ℕ} (block : ℕ) (best found next : Option (Leak ℕ)) → block < max_blocks
+    → MatchOption found (next ≡ None) (λ p. IsSomeAnd next (P p)) → ((p q : Leak ℕ) → P p q → q ≡ moved block p)
+    → LowestDifference f g W (block * 16) best → LowestDifference (from (block * 16) f) (from (block * 16) g) (wire_of W best) 16 found
+    → LowestDifference f g W (block * 16 + 16) (option_or next best)
+better-law block best None next l h told past scanned = rw h (difference-kept best past scanned)
+better-law block best (Some p) None l h told past scanned = absurd h
+better-law block best (Some p) (Some q) l h told past scanned =
+    let d = scanned.differs p refl in
+    rw (told p q h, mod-eq_of_lt {n = block * 16 + p.setting} {m = 2 ^ 64} (omega (arith, d.inside, l))) (difference-lower best past p scanned)
 
 -- ---- the loop over the blocks
 

@@ -25,3 +25,7 @@ pub record LowestDifference (f g : ℕ → ℕ → ℕ) (W S : ℕ) (found : Opt
 -- counts from setting S on
 abbrev pub from : ℕ → (ℕ → ℕ → ℕ) → ℕ → ℕ → ℕ
 from S f w s = f w (S + s)
+
+-- blocks are fewer: twenty input bits have so many blocks of sixteen settings, and no search goes over as many bits
+abbrev pub max_blocks : ℕ
+max_blocks = 65536

@@ -8,13 +8,13 @@ ghost use Rattle.gate_table.specs.Gates.{WiredGates, HoldsGates};
 ghost use Rattle.evaluate.specs.Bare.{bare_of};
 ghost use Rattle.check_counts.specs.Base.{count_in};
 ghost use Rattle.check_counts.specs.Block.{Ready};
-ghost use Rattle.check_leak.specs.Difference.{LowestDifference, from};
+ghost use Rattle.check_leak.specs.Difference.{LowestDifference, from, max_blocks};
 ghost use Rattle.check_leak.specs.Search.{found_of};
 
 use crate::difference;
 use crate::difference::Leak;
 use check_counts::block::Blocks;
-use check_counts::{block, paint};
+use check_counts::paint;
 use gate_table::Gates;
 use lists::codes::Codes;
 
@@ -27,7 +27,7 @@ fn search_block(
     limit: usize,
 ) -> Option<Leak>
     requires wired { WiredGates b.gates (length words.old) }
-    requires paints_in_bounds { (length b.paints.now + 2 ≤ length words.old) × (length base.old ≡ length words.old)
+    requires lengths { (length b.paints.now + 2 ≤ length words.old) × (length base.old ≡ length words.old)
         × (limit ≤ length words.old) × Ready b.publics (bare_of b.gates (length words.old)) b.paints.now base.old block }
     ensures { let N = bare_of b.entry.gates (length words.old) in LowestDifference
         (from (block * 16) (count_in N false b.entry.paints.now)) (from (block * 16) (count_in N true b.entry.paints.now)) limit 16 result
@@ -48,17 +48,12 @@ fn find(
     base: &mut [u64],
 ) -> Option<Leak>
     requires wired { WiredGates gates (length words.old) }
-    requires paints_in_bounds { (length paints.now + 2 ≤ length words.old) × (length base.old ≡ length words.old)
-        × (blocks < 65536) }
+    requires lengths { (length paints.now + 2 ≤ length words.old) × (length base.old ≡ length words.old)
+        × (blocks < max_blocks) }
     ensures { let N = bare_of gates.entry (length words.old) in LowestDifference
         (count_in N false paints.now) (count_in N true paints.now) (length words.old) (blocks * 16) result }
 {
-    let publics = block::public(paints);
-    let b = Blocks {
-        gates,
-        paints,
-        publics,
-    };
+    let b = Blocks::new(gates, paints);
     let mut best = None;
     for block in 0..blocks {
         let limit = difference::limit(best, words.len());
@@ -71,7 +66,7 @@ fn find(
 // How many blocks hold the settings of k input bits, sixteen in each.
 pub fn blocks_of(k: usize) -> u64
     requires { k < 20 }
-    ensures { (2 ^ k ≤ result * 16) × (result < 65536) }
+    ensures { (2 ^ k ≤ result * 16) × (result < max_blocks) }
 {
     if k < 4 { 1 } else { 1 << (k - 4) }
 }
@@ -80,12 +75,12 @@ pub fn blocks_of(k: usize) -> u64
 // the base, one entry for each wire, are working store.
 pub fn leaks(gates: Gates, codes: Codes, words: &mut [u64], base: &mut [u64]) -> Option<Leak>
     requires wired { WiredGates gates (length words.old) }
-    requires codes_len_bound { (length codes.list.now ≤ max_checked) × (length codes.list.now + 2 ≤ length words.old)
+    requires lengths { (length codes.list.now ≤ max_checked) × (length codes.list.now + 2 ≤ length words.old)
         × (length base.old ≡ length words.old) }
     ensures { (n o : ℕ) (N : Netlist) → HoldsGates gates.entry
         (length words.old) n o N → found_of result ≡ leak N codes.entry.list.now }
 {
-    let paints = paint::each(codes);
-    let n = codes.list.len();
-    find(gates, &paints[..n], blocks_of(n), words, base)
+    let mut room = [0u8; 12];
+    let paints = paint::each(codes, &mut room);
+    find(gates, paints, blocks_of(codes.list.len()), words, base)
 }

@@ -16,7 +16,7 @@ use netlist_tables::tables::NetlistTables;
 // The lowest leak, or none where the netlist is clean; or the first question that gets a no.
 pub type Checked = Result<Option<Leak>, Question>;
 
-// Question 12: the most input bits besides the mask pair.
+// Question 12: the most input bits besides the mask pair. Asked apart from `ask_codes`, which `join` and `certify_netlist` call without it.
 pub const MOST_BITS: usize = 12;
 
 // Question 10, of the widths of the input values: two or more, the last of width 2.

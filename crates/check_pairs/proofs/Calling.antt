@@ -17,15 +17,12 @@ use Rattle.netlist.specs.Outcome.{Outcome, refused, done, ask, and_then}
 use Rattle.netlist.specs.Read.{read_netlist}
 use Rattle.netlist.specs.Leak.{Found, leak}
 use Rattle.netlist.specs.Services.{tables_long, check_outcome, check_call}
-use Rattle.netlist.specs.Table.{Tables}
 use Rattle.netlist.proofs.Answering.{call-refused, call-goes-on}
 use Rattle.netlist.proofs.Questions.{done-same, ask-done, and_then-done}
 use Rattle.netlist.proofs.LeakSearch.{none-clean, found-lowest}
-use Rattle.read_header.specs.declared.header.Header.{Header}
-use Rattle.read_netlist.specs.Whole.{ReadAt}
 use Rattle.netlist_tables.specs.declared.tables.NetlistTables.{NetlistTables}
-use Rattle.netlist_tables.specs.Tables.{TakenFrom, HoldsNetlist}
-use Rattle.netlist_tables.proofs.Taken.{taken-holds}
+use Rattle.netlist_tables.specs.Tables.{HoldsNetlist}
+use Rattle.read_tables.specs.Taken.{TakenOf}
 use Rattle.check_leak.specs.declared.difference.Leak.{Leak}
 use Rattle.check_leak.specs.Search.{found, found_of}
 use Rattle.checker.proofs.Calling.{outcome-leak}
@@ -70,13 +67,13 @@ module _ (s : Sizes) (text codes ws o r g w b z : List ℕ) where
   unfolding pairs_call
   call-not p = sym (call-refused (tables_long (large s) lengths) (read_netlist (large s) text) (pairs_outcome codes ws) p)
 
-  pub call-read : {ins outs : List ℕ} {tabs : Tables} {h : Header} {n : NetlistTables} {a : Outcome (BothAnswers Found)}
-      → (tables_long (large s) lengths ≡ true) × ReadAt (large s) text ins outs tabs h
-      → TakenFrom h ins tabs n → ((N : Netlist) → HoldsNetlist n N → a ≡ pairs_outcome codes ws N)
+  pub call-read : {n : NetlistTables} {a : Outcome (BothAnswers Found)}
+      → (tables_long (large s) lengths ≡ true) × TakenOf (large s) text n
+      → ((N : Netlist) → HoldsNetlist n N → a ≡ pairs_outcome codes ws N)
       → a ≡ call s text codes ws o r g w b z
   unfolding pairs_call
-  call-read k m f =
-      f k.1.is (taken-holds m k.1.holds k.1.inputs)
+  call-read k f =
+      f k.1.is k.1.holds
       ∙ sym (call-goes-on (tables_long (large s) lengths) (read_netlist (large s) text) (pairs_outcome codes ws) k.0 k.1.read)
 
   -- a call with both answers: the netlist that was read, and its outcome

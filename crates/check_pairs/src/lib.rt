@@ -1,5 +1,7 @@
 // Check with pairs: whether a netlist whose last input value is the mask pair leaks on one wire, and whether listed pairs of its
 // wires, as a register shows them that holds one after the other, leak together. Questions 1 to 12 with the large limits, and 21.
+// Lent tables stay parameters of their own: C lends them one by one, and a struct of `&mut` slices would have to promise at each call
+// that it still holds the same ones.
 #![tactic(auto)]
 
 ghost use Rattle.std.specs.Prelude.{◌≡◌};
@@ -7,9 +9,8 @@ ghost use Rattle.pairs_judge.specs.Judge.{outcome_of};
 ghost use Rattle.check_pairs.specs.Promise.{call, Promise};
 
 use netlist::Sizes;
-use netlist_tables::tables::NetlistTables;
 use pairs_judge::CheckedPairs;
-use read_netlist::read::read;
+use read_tables::read;
 
 // The answer, with tables that are still to be cleared.
 fn answer(
@@ -27,20 +28,16 @@ fn answer(
     ensures { outcome_of result ≡ call sizes text.now codes.now pairs.now operands.old
         results.old marks.old words.old base.old bases.old }
 {
-    let l = sizes.large();
-    let mut inputs = [0u32; 17];
-    let mut outputs = [0u32; 16];
-    let h = read(
+    let mut widths = [0u32; 17];
+    let netlist = read(
         text,
-        &mut inputs,
-        &mut outputs,
+        &mut widths,
         operands,
         results,
         marks,
         &[words.len(), base.len(), bases.len()],
-        l,
+        sizes.large(),
     )?;
-    let netlist = NetlistTables::new(h, &inputs, operands, results);
     pairs_judge::judge(netlist, codes, pairs, words, base, bases)
 }
 

@@ -17,19 +17,17 @@ use Rattle.netlist.specs.Read.{read_netlist, WellFormed}
 use Rattle.netlist.specs.Mask.{is_input_code}
 use Rattle.netlist.specs.Leak.{Found, leak}
 use Rattle.netlist.specs.Services.{tables_long, list_good, ends_in_masks}
-use Rattle.netlist.specs.Table.{Tables}
 use Rattle.netlist.proofs.Accepted.{accepted}
 use Rattle.netlist.proofs.Answering.{call-refused, call-goes-on}
 use Rattle.netlist.proofs.Questions.{done-same, ask-done, and_then-done}
 use Rattle.netlist.proofs.LeakSearch.{none-clean, found-lowest}
 use Rattle.netlist.proofs.Tests.{clash}
-use Rattle.read_header.specs.declared.header.Header.{Header}
-use Rattle.read_netlist.specs.Whole.{ReadAt}
 use Rattle.netlist_tables.specs.declared.tables.NetlistTables.{NetlistTables}
-use Rattle.netlist_tables.specs.Tables.{TakenFrom, HoldsNetlist}
-use Rattle.netlist_tables.proofs.Taken.{taken-holds}
+use Rattle.netlist_tables.specs.Tables.{HoldsNetlist}
+use Rattle.read_tables.specs.Taken.{TakenOf}
 use Rattle.pairs.specs.Call.{BothAnswers, pairs_good}
 use Rattle.pairs.proofs.PairCheck.{pairs-judged}
+use Rattle.wide.specs.Sets.{members_end}
 use Rattle.wide.specs.Wide.{WideLeak, listed, few_reach, wide_answers, wide_outcome, wide_call}
 use Rattle.wide_search.specs.Told as search
 use Rattle.wide_search.specs.Told.{WideFound, told_of}
@@ -37,7 +35,7 @@ use Rattle.wide_judge.specs.Judge.{both_of, outcome_of}
 use Rattle.check_wide.specs.Promise.{call, WiresJudged, Judged}
 
 -- numbers of wires fit in twenty bits
-pub wires-upto : (s : Sizes) → (large s).table ≤ 1048576
+pub wires-upto : (s : Sizes) → (large s).table ≤ members_end
 wires-upto Old = omega arith
 wires-upto Whole = omega arith
 
@@ -51,13 +49,13 @@ module _ (s : Sizes) (text codes ws o r g w b z s0 s1 s2 s3 p : List ℕ) where
   unfolding wide_call
   call-not e = sym (call-refused (tables_long (large s) lengths) (read_netlist (large s) text) (wide_outcome codes ws) e)
 
-  pub call-read : {ins outs : List ℕ} {tabs : Tables} {h : Header} {n : NetlistTables} {a : Outcome (BothAnswers WideLeak)}
-      → (tables_long (large s) lengths ≡ true) × ReadAt (large s) text ins outs tabs h
-      → TakenFrom h ins tabs n → ((N : Netlist) → HoldsNetlist n N → WellFormed N → a ≡ wide_outcome codes ws N)
+  pub call-read : {n : NetlistTables} {a : Outcome (BothAnswers WideLeak)}
+      → (tables_long (large s) lengths ≡ true) × TakenOf (large s) text n
+      → ((N : Netlist) → HoldsNetlist n N → WellFormed N → a ≡ wide_outcome codes ws N)
       → a ≡ call s text codes ws o r g w b z s0 s1 s2 s3 p
   unfolding wide_call
-  call-read k m f =
-      f k.1.is (taken-holds m k.1.holds k.1.inputs) (accepted (large s) text k.1.is k.1.read).formed
+  call-read k f =
+      f k.1.is k.1.holds (accepted (large s) text k.1.is k.1.read).formed
       ∙ sym (call-goes-on (tables_long (large s) lengths) (read_netlist (large s) text) (wide_outcome codes ws) k.0 k.1.read)
 
   -- a call with both answers: the netlist that was read, and its outcome

@@ -1,5 +1,7 @@
 // Check of netlists with many inputs: what Check with pairs decides, where at most twelve input bits besides the mask pair reach each
 // wire and each listed pair through gate lines. Questions 1 to 11 with the large limits, then 21, then 12.
+// Lent tables stay parameters of their own: C lends them one by one, and a struct of `&mut` slices would have to promise at each call
+// that it still holds the same ones.
 #![tactic(auto)]
 
 ghost use Rattle.std.specs.Prelude.{◌≡◌};
@@ -7,8 +9,7 @@ ghost use Rattle.wide_judge.specs.Judge.{outcome_of};
 ghost use Rattle.check_wide.specs.Promise.{call, Promise};
 
 use netlist::Sizes;
-use netlist_tables::tables::NetlistTables;
-use read_netlist::read::read;
+use read_tables::read;
 use wide_judge::CheckedWide;
 
 // The answer, with tables that are still to be cleared.
@@ -33,13 +34,10 @@ fn answer(
         results.old marks.old words.old base.old bases.old set0.old
         set1.old set2.old set3.old paints.old }
 {
-    let l = sizes.large();
-    let mut inputs = [0u32; 17];
-    let mut outputs = [0u32; 16];
-    let h = read(
+    let mut widths = [0u32; 17];
+    let netlist = read(
         text,
-        &mut inputs,
-        &mut outputs,
+        &mut widths,
         operands,
         results,
         marks,
@@ -53,9 +51,8 @@ fn answer(
             set3.len(),
             paints.len(),
         ],
-        l,
+        sizes.large(),
     )?;
-    let netlist = NetlistTables::new(h, &inputs, operands, results);
     wide_judge::judge(
         netlist, codes, pairs, marks, words, base, bases, set0, set1, set2, set3, paints,
     )

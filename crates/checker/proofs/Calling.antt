@@ -16,15 +16,12 @@ use Rattle.netlist.specs.Read.{read_netlist}
 use Rattle.netlist.specs.Mask.{is_input_code}
 use Rattle.netlist.specs.Leak.{Found, leak}
 use Rattle.netlist.specs.Services.{tables_long, list_good, ends_in_masks, max_checked, check_outcome, check_call}
-use Rattle.netlist.specs.Table.{Tables}
 use Rattle.netlist.proofs.Answering.{call-refused, call-goes-on}
 use Rattle.netlist.proofs.Questions.{done-same, ask-done}
 use Rattle.netlist.proofs.LeakSearch.{none-clean, found-lowest}
-use Rattle.read_header.specs.declared.header.Header.{Header}
-use Rattle.read_netlist.specs.Whole.{ReadAt}
 use Rattle.netlist_tables.specs.declared.tables.NetlistTables.{NetlistTables}
-use Rattle.netlist_tables.specs.Tables.{TakenFrom, HoldsNetlist}
-use Rattle.netlist_tables.proofs.Taken.{taken-holds}
+use Rattle.netlist_tables.specs.Tables.{HoldsNetlist}
+use Rattle.read_tables.specs.Taken.{TakenOf}
 use Rattle.check_leak.specs.declared.difference.Leak.{Leak}
 use Rattle.check_leak.specs.Search.{found}
 use Rattle.check_netlist.specs.Judge.{outcome_of, Judged}
@@ -47,13 +44,13 @@ module _ (s : Sizes) (text codes o r g w b : List ℕ) where
   unfolding check_call
   call-not p = sym (call-refused (tables_long (large s) lengths) (read_netlist (large s) text) (check_outcome codes) p)
 
-  pub call-read : {ins outs : List ℕ} {tabs : Tables} {h : Header} {n : NetlistTables} {a : Outcome (Option Found)}
-      → (tables_long (large s) lengths ≡ true) × ReadAt (large s) text ins outs tabs h
-      → TakenFrom h ins tabs n → ((N : Netlist) → HoldsNetlist n N → a ≡ check_outcome codes N)
+  pub call-read : {n : NetlistTables} {a : Outcome (Option Found)}
+      → (tables_long (large s) lengths ≡ true) × TakenOf (large s) text n
+      → ((N : Netlist) → HoldsNetlist n N → a ≡ check_outcome codes N)
       → a ≡ call s text codes o r g w b
   unfolding check_call
-  call-read k m f =
-      f k.1.is (taken-holds m k.1.holds k.1.inputs)
+  call-read k f =
+      f k.1.is k.1.holds
       ∙ sym (call-goes-on (tables_long (large s) lengths) (read_netlist (large s) text) (check_outcome codes) k.0 k.1.read)
 
   -- an answer that is no refusal is that of the search

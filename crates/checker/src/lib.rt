@@ -1,4 +1,6 @@
 // Check: whether a netlist whose last input value is the mask pair leaks on one wire. Questions 1 to 12 with the large limits.
+// Lent tables stay parameters of their own: C lends them one by one, and a struct of `&mut` slices would have to promise at each call
+// that it still holds the same ones.
 #![tactic(auto)]
 
 ghost use Rattle.std.specs.Prelude.{◌≡◌};
@@ -7,8 +9,7 @@ ghost use Rattle.checker.specs.Promise.{call, Promise};
 
 use check_netlist::Checked;
 use netlist::Sizes;
-use netlist_tables::tables::NetlistTables;
-use read_netlist::read::read;
+use read_tables::read;
 
 // The answer, with tables that are still to be cleared.
 fn answer(
@@ -24,20 +25,16 @@ fn answer(
     ensures { outcome_of result ≡ call sizes text.now codes.now operands.old results.old
         marks.old words.old base.old }
 {
-    let l = sizes.large();
-    let mut inputs = [0u32; 17];
-    let mut outputs = [0u32; 16];
-    let h = read(
+    let mut widths = [0u32; 17];
+    let netlist = read(
         text,
-        &mut inputs,
-        &mut outputs,
+        &mut widths,
         operands,
         results,
         marks,
         &[words.len(), base.len()],
-        l,
+        sizes.large(),
     )?;
-    let netlist = NetlistTables::new(h, &inputs, operands, results);
     check_netlist::judge(netlist, codes, words, base)
 }
 

@@ -20,9 +20,16 @@ use Rattle.netlist.proofs.Tests.{on_bool}
 use Rattle.write_buffer.specs.Wrote.{Wrote}
 use Rattle.write_buffer.proofs.Writing.{wrote-front, front-within}
 use Rattle.checker.specs.Promise.{call}
-use Rattle.cli_check.specs.Report.{Roomy}
 
 -- ---- the answer
+
+-- question 1 admits the program's tables
+pub record Roomy (o r g w b : List ℕ) : Type 0 where
+  pub operands : (large Old).table ≤ length o
+  pub results : (large Old).table ≤ length r
+  pub marks : (large Old).table ≤ length g
+  pub words : (large Old).table ≤ length w
+  pub base : (large Old).table ≤ length b
 
 -- what the program asks of the bytes of its two files
 abbrev pub asked : List ℕ → List ℕ → Outcome (Option Found)
@@ -60,8 +67,11 @@ length-decimal : (n : ℕ) → length (decimal n) ≤ 20
 unfolding decimal
 length-decimal n = length_digits 20 n
 
--- the program's buffer holds every line
-length-printed : (o : Outcome (Option Found)) → length (print_check o) ≤ 128
+-- the room that the program has for a line
+abbrev pub line_room : ℕ
+line_room = 128
+
+length-printed : (o : Outcome (Option Found)) → length (print_check o) ≤ line_room
 length-printed (refused q) = let h = length-decimal q in simp length-append (omega arith)
 length-printed (done none) = lit≤ tt
 length-printed (done (some f)) =
@@ -72,7 +82,7 @@ length-printed (done (some f)) =
     simp length-append (omega arith)
 
 pub reported : {e x : List ℕ} {r : ℕ} {a : Outcome (Option Found)} (netlist inputs : List ℕ) → a ≡ asked netlist inputs → Wrote e 0 (print_check a) x r
-    → 128 ≤ length e
+    → line_room ≤ length e
     → (r ≤ length x) × (take r x ≡ check_program netlist inputs)
 unfolding check_program
 reported {a = a} netlist inputs p w h =

@@ -9,7 +9,6 @@ ghost use Rattle.netlist.specs.Programs.{readable, list_file, print_check, check
 ghost use Rattle.netlist.specs.Services.{check_call};
 ghost use Rattle.write_buffer.specs.Wrote.{Wrote};
 ghost use Rattle.check_netlist.specs.Judge.{outcome_of};
-ghost use Rattle.cli_check.specs.Report.{Roomy};
 
 use check_netlist::Checked;
 use netlist::{Question, Sizes};
@@ -17,32 +16,47 @@ use program_text::{FILE_LIMIT, LARGE_TABLE};
 use std::io;
 use std::io::Write;
 
+// The tables that the program lends, as long as question 1 asks.
+#[derive(Drop)]
+struct Tables {
+    operands: [u64; LARGE_TABLE],
+    results: [u64; LARGE_TABLE],
+    marks: [u8; LARGE_TABLE],
+    words: [u64; LARGE_TABLE],
+    base: [u64; LARGE_TABLE],
+}
+
+// Room for the longest line, a leak's: a word, and four numbers of at most twenty digits with a space before each.
+const LINE: usize = 128;
+
+impl Tables {
+    fn new() -> Self {
+        Tables {
+            operands: [0; LARGE_TABLE],
+            results: [0; LARGE_TABLE],
+            marks: [0; LARGE_TABLE],
+            words: [0; LARGE_TABLE],
+            base: [0; LARGE_TABLE],
+        }
+    }
+}
+
 // The answer, from the bytes of the two files; the list takes the place of its file's bytes.
-fn answer(
-    netlist: &[u8],
-    inputs: &mut [u8],
-    operands: &mut [u64],
-    results: &mut [u64],
-    marks: &mut [u8],
-    words: &mut [u64],
-    base: &mut [u64],
-) -> Checked
-    requires { Roomy operands.old results.old marks.old words.old base.old }
+fn answer(netlist: &[u8], inputs: &mut [u8], tables: &mut Tables) -> Checked
     ensures { outcome_of result ≡ readable netlist.now
         (check_call (large_limits Old) [] netlist.now (list_file inputs.old)) }
 {
     if FILE_LIMIT < netlist.len() {
         return Err(Question::Length);
     }
-    let n = program_text::list(inputs);
     checker::check(
         netlist,
-        &inputs[..n],
-        operands,
-        results,
-        marks,
-        words,
-        base,
+        program_text::list(inputs),
+        &mut tables.operands,
+        &mut tables.results,
+        &mut tables.marks,
+        &mut tables.words,
+        &mut tables.base,
         Sizes::Old,
     )
 }
@@ -65,20 +79,10 @@ fn print(out: &mut [u8], a: Checked) -> usize
 }
 
 // What the program prints, from the bytes of the two files.
-fn report(
-    out: &mut [u8],
-    netlist: &[u8],
-    inputs: &mut [u8],
-    operands: &mut [u64],
-    results: &mut [u64],
-    marks: &mut [u8],
-    words: &mut [u64],
-    base: &mut [u64],
-) -> usize
-    requires { Roomy operands.old results.old marks.old words.old base.old × (128 ≤ length out.old) }
+fn report(out: &mut [u8; LINE], netlist: &[u8], inputs: &mut [u8], tables: &mut Tables) -> usize
     ensures { (result ≤ length out.new) × (take result out.new ≡ check_program netlist.now inputs.old) }
 {
-    let a = answer(netlist, inputs, operands, results, marks, words, base);
+    let a = answer(netlist, inputs, tables);
     print(out, a)
 }
 
@@ -86,23 +90,15 @@ fn main(rt: HostRuntime) -> io::Result<()> {
     // one byte more than is taken, to notice a longer file
     let mut netlist = [0u8; FILE_LIMIT + 1];
     let mut inputs = [0u8; FILE_LIMIT];
-    let mut operands = [0u64; LARGE_TABLE];
-    let mut results = [0u64; LARGE_TABLE];
-    let mut marks = [0u8; LARGE_TABLE];
-    let mut words = [0u64; LARGE_TABLE];
-    let mut base = [0u64; LARGE_TABLE];
-    let mut out = [0u8; 128];
+    let mut tables = Tables::new();
+    let mut out = [0u8; LINE];
     let bytes = program_files::read(&rt, b"netlist.txt", &mut netlist);
     let entries = program_files::read(&rt, b"inputs.txt", &mut inputs);
     let n = report(
         &mut out,
         &netlist[..bytes],
         &mut inputs[..entries],
-        &mut operands,
-        &mut results,
-        &mut marks,
-        &mut words,
-        &mut base,
+        &mut tables,
     );
     io::writer(&rt).write_all(&out[..n])
 }

@@ -27,7 +27,16 @@ use Rattle.mask.specs.Promise.{call}
 use Rattle.program_text.specs.Front.{Front}
 use Rattle.program_text.proofs.Reporting.{readable-short, answered}
 use Rattle.cli_mask.specs.declared.Printed.{Printed}
-use Rattle.cli_mask.specs.Report.{Roomy, outcome, outcome_of, Answered, Prints}
+use Rattle.cli_mask.specs.Report.{outcome, outcome_of, Answered, Prints}
+
+-- question 1 admits the program's tables, and question 14 all output codes and 60,000 bytes of text
+pub record Roomy (t e o r w m : List ℕ) : Type 0 where
+  pub text : length t ≡ file_limit
+  pub out_codes : length e ≡ (small Old).wires
+  pub operands : (small Old).table ≤ length o
+  pub results : (small Old).table ≤ length r
+  pub wires : (small Old).table ≤ length w
+  pub marks : (small Old).table ≤ length m
 
 -- ---- the answer
 

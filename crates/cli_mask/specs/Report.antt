@@ -1,4 +1,4 @@
--- What the functions of *mask* rely on, and the outcome that they report.
+-- The outcome that *mask* reports, and what it prints.
 use Rattle.std.specs.Prelude.{Err, Ok, Result, ℕ, ◌≤◌, ◌≡◌, List, [], ◌++◌, length, take}
 use Rattle.netlist.specs.declared.Question.{Question}
 use Rattle.netlist.specs.Question.{number_of}
@@ -8,15 +8,6 @@ use Rattle.netlist.specs.Outcome.{Outcome, refused, done}
 use Rattle.netlist.specs.Programs.{readable, file_limit}
 use Rattle.netlist.specs.Services.{MaskedText, mask_call}
 use Rattle.cli_mask.specs.declared.Printed.{Printed}
-
--- question 1 admits the program's tables, and question 14 all output codes and 60,000 bytes of text
-pub record Roomy (t e o r w m : List ℕ) : Type 0 where
-  pub text : length t ≡ file_limit
-  pub out_codes : length e ≡ (small Old).wires
-  pub operands : (small Old).table ≤ length o
-  pub results : (small Old).table ≤ length r
-  pub wires : (small Old).table ≤ length w
-  pub marks : (small Old).table ≤ length m
 
 -- the outcome of the program's call, from the netlist file's bytes and the two lists
 abbrev pub outcome : List ℕ → List ℕ → List ℕ → Outcome MaskedText

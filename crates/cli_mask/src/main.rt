@@ -4,7 +4,7 @@
 // refuses them.
 ghost use Rattle.std.specs.Prelude.{◌+◌, ◌*◌, ◌≤◌, length, take};
 ghost use Rattle.netlist.specs.Programs.{print_mask, mask_program};
-ghost use Rattle.cli_mask.specs.Report.{Roomy, outcome, outcome_of, Answered, Counted, Prints};
+ghost use Rattle.cli_mask.specs.Report.{outcome, outcome_of, Answered, Counted, Prints};
 
 use netlist::{Answer, Question, Sizes};
 use program_text::{FILE_LIMIT, SMALL_TABLE};
@@ -18,19 +18,38 @@ struct Printed {
     text: usize,
 }
 
+// The tables that the program lends, as long as question 1 asks.
+#[derive(Drop)]
+struct Tables {
+    operands: [u64; SMALL_TABLE],
+    results: [u64; SMALL_TABLE],
+    wires: [u32; SMALL_TABLE],
+    marks: [u8; SMALL_TABLE],
+}
+
+// Room for a line: at most three digits for each output code, and at most 64 bytes more, which is room for a refusal.
+const LINE: usize = 3 * SMALL_TABLE + 64;
+
+impl Tables {
+    fn new() -> Self {
+        Tables {
+            operands: [0; SMALL_TABLE],
+            results: [0; SMALL_TABLE],
+            wires: [0; SMALL_TABLE],
+            marks: [0; SMALL_TABLE],
+        }
+    }
+}
+
 // The answer to a netlist file's bytes and the two lists.
 fn answer(
     netlist: &[u8],
     codes: &[u8],
     wanted: &[u8],
-    text: &mut [u8],
-    out_codes: &mut [u8],
-    operands: &mut [u64],
-    results: &mut [u64],
-    wires: &mut [u32],
-    marks: &mut [u8],
+    text: &mut [u8; FILE_LIMIT],
+    out_codes: &mut [u8; SMALL_TABLE],
+    tables: &mut Tables,
 ) -> Answer
-    requires { Roomy text.old out_codes.old operands.old results.old wires.old marks.old }
     ensures { Answered (outcome netlist.now codes.now wanted.now) text.new
         out_codes.new (length wanted.now) result }
 {
@@ -43,10 +62,10 @@ fn answer(
         wanted,
         text,
         out_codes,
-        operands,
-        results,
-        wires,
-        marks,
+        &mut tables.operands,
+        &mut tables.results,
+        &mut tables.wires,
+        &mut tables.marks,
         Sizes::Old,
     )
 }
@@ -71,36 +90,21 @@ fn print(line: &mut [u8], text: &[u8], out_codes: &[u8], codes: usize, a: Answer
 
 // What the program prints, from the bytes of the three files; each list takes the place of its file's bytes.
 fn report(
-    line: &mut [u8],
-    text: &mut [u8],
-    out_codes: &mut [u8],
+    line: &mut [u8; LINE],
+    text: &mut [u8; FILE_LIMIT],
+    out_codes: &mut [u8; SMALL_TABLE],
     netlist: &[u8],
     inputs: &mut [u8],
     outputs: &mut [u8],
-    operands: &mut [u64],
-    results: &mut [u64],
-    wires: &mut [u32],
-    marks: &mut [u8],
+    tables: &mut Tables,
 ) -> Printed
-    requires { Roomy text.old out_codes.old operands.old results.old wires.old marks.old
-        × (3 * length out_codes.old + 64 ≤ length line.old) }
     ensures { Prints line.new text.new result
         (mask_program netlist.now inputs.old outputs.old) }
 {
-    let n = program_text::list(inputs);
-    let m = program_text::list(outputs);
-    let a = answer(
-        netlist,
-        &inputs[..n],
-        &outputs[..m],
-        text,
-        out_codes,
-        operands,
-        results,
-        wires,
-        marks,
-    );
-    print(line, text, out_codes, m, a)
+    let codes = program_text::list(inputs);
+    let wanted = program_text::list(outputs);
+    let a = answer(netlist, codes, wanted, text, out_codes, tables);
+    print(line, text, out_codes, wanted.len(), a)
 }
 
 fn main(rt: HostRuntime) -> io::Result<()> {
@@ -110,11 +114,8 @@ fn main(rt: HostRuntime) -> io::Result<()> {
     let mut outputs = [0u8; FILE_LIMIT];
     let mut text = [0u8; FILE_LIMIT];
     let mut out_codes = [0u8; SMALL_TABLE];
-    let mut operands = [0u64; SMALL_TABLE];
-    let mut results = [0u64; SMALL_TABLE];
-    let mut wires = [0u32; SMALL_TABLE];
-    let mut marks = [0u8; SMALL_TABLE];
-    let mut line = [0u8; 8192];
+    let mut tables = Tables::new();
+    let mut line = [0u8; LINE];
     let bytes = program_files::read(&rt, b"netlist.txt", &mut netlist);
     let codes = program_files::read(&rt, b"inputs.txt", &mut inputs);
     let wanted = program_files::read(&rt, b"outputs.txt", &mut outputs);
@@ -125,10 +126,7 @@ fn main(rt: HostRuntime) -> io::Result<()> {
         &netlist[..bytes],
         &mut inputs[..codes],
         &mut outputs[..wanted],
-        &mut operands,
-        &mut results,
-        &mut wires,
-        &mut marks,
+        &mut tables,
     );
     let n = p.line;
     let m = p.text;

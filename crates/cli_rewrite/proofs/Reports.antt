@@ -16,7 +16,14 @@ use Rattle.netlist.specs.Programs.{print_rewrite, rewrite_program, file_limit}
 use Rattle.rewrite.specs.Promise.{call}
 use Rattle.program_text.specs.Front.{Front, Answered}
 use Rattle.program_text.proofs.Reporting.{readable-short, answered, answered-as}
-use Rattle.cli_rewrite.specs.Report.{Roomy, outcome}
+use Rattle.cli_rewrite.specs.Report.{outcome}
+
+-- question 1 admits the program's tables, and question 14 every text
+pub record Roomy (b o r g : List ℕ) : Type 0 where
+  pub text : length b ≡ (large Old).text
+  pub operands : (large Old).table ≤ length o
+  pub results : (large Old).table ≤ length r
+  pub marks : (large Old).table ≤ length g
 
 -- the tables and the buffer are long enough
 call-roomy : (netlist : List ℕ) {b o r g : List ℕ} → Roomy b o r g → length netlist ≤ file_limit → call Old netlist b o r g ≡ outcome netlist

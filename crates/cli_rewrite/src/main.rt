@@ -5,28 +5,49 @@ ghost use Rattle.std.specs.Prelude.{◌≤◌, length};
 ghost use Rattle.netlist.specs.Programs.{print_rewrite, rewrite_program};
 ghost use Rattle.netlist.specs.Services.{outcome_of};
 ghost use Rattle.program_text.specs.Front.{Front, Counted, Answered};
-ghost use Rattle.cli_rewrite.specs.Report.{Roomy, outcome};
+ghost use Rattle.cli_rewrite.specs.Report.{outcome};
 
 use netlist::{Answer, Question, Sizes};
 use program_text::{FILE_LIMIT, LARGE_TABLE};
 use std::io;
 use std::io::Write;
 
+// As long as the longest text, so that question 14 refuses none.
+const LONGEST_TEXT: usize = 500000;
+
+// The tables that the program lends, as long as question 1 asks.
+#[derive(Drop)]
+struct Tables {
+    operands: [u64; LARGE_TABLE],
+    results: [u64; LARGE_TABLE],
+    marks: [u8; LARGE_TABLE],
+}
+
+impl Tables {
+    fn new() -> Self {
+        Tables {
+            operands: [0; LARGE_TABLE],
+            results: [0; LARGE_TABLE],
+            marks: [0; LARGE_TABLE],
+        }
+    }
+}
+
 // The answer to the file's bytes.
-fn answer(
-    netlist: &[u8],
-    out: &mut [u8],
-    operands: &mut [u64],
-    results: &mut [u64],
-    marks: &mut [u8],
-) -> Answer
-    requires { Roomy out.old operands.old results.old marks.old }
+fn answer(netlist: &[u8], out: &mut [u8; LONGEST_TEXT], tables: &mut Tables) -> Answer
     ensures { Answered (outcome netlist.now) out.new result }
 {
     if FILE_LIMIT < netlist.len() {
         return Err(Question::Length);
     }
-    rewrite::rewrite(netlist, out, operands, results, marks, Sizes::Old)
+    rewrite::rewrite(
+        netlist,
+        out,
+        &mut tables.operands,
+        &mut tables.results,
+        &mut tables.marks,
+        Sizes::Old,
+    )
 }
 
 // What an answer prints: the text that stands in the buffer, or a refusal's line in its place.
@@ -41,34 +62,19 @@ fn print(out: &mut [u8], a: Answer) -> usize
 }
 
 // What the program prints, from the file's bytes.
-fn report(
-    out: &mut [u8],
-    netlist: &[u8],
-    operands: &mut [u64],
-    results: &mut [u64],
-    marks: &mut [u8],
-) -> usize
-    requires { Roomy out.old operands.old results.old marks.old }
+fn report(out: &mut [u8; LONGEST_TEXT], netlist: &[u8], tables: &mut Tables) -> usize
     ensures { Front out.new result (rewrite_program netlist.now) }
 {
-    let a = answer(netlist, out, operands, results, marks);
+    let a = answer(netlist, out, tables);
     print(out, a)
 }
 
 fn main(rt: HostRuntime) -> io::Result<()> {
     // one byte more than is taken, to notice a longer file
     let mut netlist = [0u8; FILE_LIMIT + 1];
-    let mut out = [0u8; 500000];
-    let mut operands = [0u64; LARGE_TABLE];
-    let mut results = [0u64; LARGE_TABLE];
-    let mut marks = [0u8; LARGE_TABLE];
+    let mut out = [0u8; LONGEST_TEXT];
+    let mut tables = Tables::new();
     let bytes = program_files::read(&rt, b"netlist.txt", &mut netlist);
-    let n = report(
-        &mut out,
-        &netlist[..bytes],
-        &mut operands,
-        &mut results,
-        &mut marks,
-    );
+    let n = report(&mut out, &netlist[..bytes], &mut tables);
     io::writer(&rt).write_all(&out[..n])
 }

@@ -16,7 +16,15 @@ use Rattle.netlist.specs.Programs.{list_file, print_run, run_program, file_limit
 use Rattle.run.specs.Promise.{call}
 use Rattle.program_text.specs.Front.{Front, Answered}
 use Rattle.program_text.proofs.Reporting.{readable-short, answered, answered-as}
-use Rattle.cli_run.specs.Report.{Roomy, outcome}
+use Rattle.cli_run.specs.Report.{outcome}
+
+-- question 1 admits the program's tables, and question 14 the bits of every netlist
+pub record Roomy (b o r g w : List ℕ) : Type 0 where
+  pub bits : length b ≡ (large Old).wires
+  pub operands : (large Old).table ≤ length o
+  pub results : (large Old).table ≤ length r
+  pub marks : (large Old).table ≤ length g
+  pub words : (large Old).table ≤ length w
 
 -- the tables and the buffer are long enough
 call-roomy : (netlist inputs : List ℕ) {list b o r g w : List ℕ} → Roomy b o r g w → length netlist ≤ file_limit → list ≡ list_file inputs

@@ -6,38 +6,53 @@ ghost use Rattle.std.specs.Prelude.{◌+◌, ◌*◌, ◌≤◌, length};
 ghost use Rattle.netlist.specs.Programs.{print_run, run_program};
 ghost use Rattle.netlist.specs.Services.{outcome_of};
 ghost use Rattle.program_text.specs.Front.{Front, Counted, Answered};
-ghost use Rattle.cli_run.specs.Report.{Roomy, outcome};
+ghost use Rattle.cli_run.specs.Report.{outcome};
 
 use netlist::{Answer, Question, Sizes};
 use program_text::{FILE_LIMIT, LARGE_TABLE};
 use std::io;
 use std::io::Write;
 
+// The tables that the program lends, as long as question 1 asks.
+#[derive(Drop)]
+struct Tables {
+    operands: [u64; LARGE_TABLE],
+    results: [u64; LARGE_TABLE],
+    marks: [u8; LARGE_TABLE],
+    words: [u64; LARGE_TABLE],
+}
+
+impl Tables {
+    fn new() -> Self {
+        Tables {
+            operands: [0; LARGE_TABLE],
+            results: [0; LARGE_TABLE],
+            marks: [0; LARGE_TABLE],
+            words: [0; LARGE_TABLE],
+        }
+    }
+}
+
 // The answer, from the bytes of the two files; the list takes the place of its file's bytes.
 fn answer(
     netlist: &[u8],
     inputs: &mut [u8],
-    bits: &mut [u8],
-    operands: &mut [u64],
-    results: &mut [u64],
-    marks: &mut [u8],
-    words: &mut [u64],
+    bits: &mut [u8; LARGE_TABLE],
+    tables: &mut Tables,
 ) -> Answer
-    requires { Roomy bits.old operands.old results.old marks.old words.old }
     ensures { Answered (outcome netlist.now inputs.old) bits.new result }
 {
     if FILE_LIMIT < netlist.len() {
         return Err(Question::Length);
     }
-    let n = program_text::list(inputs);
     run::run(
         netlist,
-        &inputs[..n],
+        program_text::list(inputs),
         bits,
-        operands,
-        results,
-        marks,
-        words,
+        &mut tables.operands,
+        &mut tables.results,
+        &mut tables.marks,
+        &mut tables.words,
         Sizes::Old,
     )
 }
@@ -55,19 +70,15 @@ fn print(out: &mut [u8], bits: &[u8], a: Answer) -> usize
 
 // What the program prints, from the bytes of the two files.
 fn report(
-    out: &mut [u8],
+    out: &mut [u8; FILE_LIMIT],
     netlist: &[u8],
     inputs: &mut [u8],
-    bits: &mut [u8],
-    operands: &mut [u64],
-    results: &mut [u64],
-    marks: &mut [u8],
-    words: &mut [u64],
+    bits: &mut [u8; LARGE_TABLE],
+    tables: &mut Tables,
 ) -> usize
-    requires { Roomy bits.old operands.old results.old marks.old words.old × (3 * length bits.old + 64 ≤ length out.old) }
     ensures { Front out.new result (run_program netlist.now inputs.old) }
 {
-    let a = answer(netlist, inputs, bits, operands, results, marks, words);
+    let a = answer(netlist, inputs, bits, tables);
     print(out, bits, a)
 }
 
@@ -76,10 +87,7 @@ fn main(rt: HostRuntime) -> io::Result<()> {
     let mut netlist = [0u8; FILE_LIMIT + 1];
     let mut inputs = [0u8; FILE_LIMIT];
     let mut bits = [0u8; LARGE_TABLE];
-    let mut operands = [0u64; LARGE_TABLE];
-    let mut results = [0u64; LARGE_TABLE];
-    let mut marks = [0u8; LARGE_TABLE];
-    let mut words = [0u64; LARGE_TABLE];
+    let mut tables = Tables::new();
     let mut out = [0u8; FILE_LIMIT];
     let bytes = program_files::read(&rt, b"netlist.txt", &mut netlist);
     let entries = program_files::read(&rt, b"inputs.txt", &mut inputs);
@@ -88,10 +96,7 @@ fn main(rt: HostRuntime) -> io::Result<()> {
         &netlist[..bytes],
         &mut inputs[..entries],
         &mut bits,
-        &mut operands,
-        &mut results,
-        &mut marks,
-        &mut words,
+        &mut tables,
     );
     io::writer(&rt).write_all(&out[..n])
 }

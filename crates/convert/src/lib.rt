@@ -1,5 +1,6 @@
 // A netlist from a text in one dialect to its written form in another. Questions 1 to 9 with the large limits, 15 where the result
-// is in the older dialect, and 14.
+// is in the older dialect, and 14. The tables stay parameters of their own: C lends them one by one, and a struct of `&mut` slices would have
+// to promise at each call that it still holds them.
 #![tactic(auto)]
 
 mod question;
@@ -7,33 +8,25 @@ mod question;
 ghost use Rattle.std.specs.Prelude.{length};
 ghost use Rattle.netlist.specs.Outcome.{ask};
 ghost use Rattle.netlist.specs.Services.{delivered, Answers};
-ghost use Rattle.gate_table.specs.Gates.{tables_of, gates_in, WiredGates};
-ghost use Rattle.write_netlist.specs.Form.{form_text_in};
+ghost use Rattle.gate_table.specs.Gates.{gates_in};
+ghost use Rattle.write_netlist.specs.Text.{text_of};
 ghost use Rattle.convert.specs.Convert.{call, has_form, Converts};
 
 use crate::question::has_form;
 use gate_table::Gates;
 use netlist::{Answer, Question, Sizes};
 use old_form::Dialect;
+use write_netlist::form::Form;
 
 // Question 15, and then 14 and the text.
-fn write(
-    out: &mut [u8],
-    gates: Gates,
-    wires: usize,
-    ins: &[u32],
-    outs: &[u32],
-    to: Dialect,
-) -> Answer
-    requires { WiredGates gates wires }
-    ensures { Answers (ask 15 (has_form to (gates_in gates.entry) (length ins.now) (length outs.now))
-        (delivered (length out.old) (form_text_in to gates.entry.count wires ins.now outs.now
-        (tables_of gates.entry)))) out.old out.new result }
+fn write(out: &mut [u8], f: Form) -> Answer
+    ensures { let F = f.entry in Answers (ask 15 (has_form F.dialect (gates_in F.gates) (length F.ins.now) (length F.outs.now))
+        (delivered (length out.old) (text_of F))) out.old out.new result }
 {
-    if !has_form(gates, ins.len(), outs.len(), to) {
+    if !has_form(f.gates, f.ins.len(), f.outs.len(), f.dialect) {
         return Err(Question::OldForm);
     }
-    write_netlist::deliver_in(out, gates, wires, ins, outs, to)
+    write_netlist::deliver(out, f)
 }
 
 // The answer, with tables that are still to be cleared. None is lent but the reader's own.
@@ -68,9 +61,14 @@ fn answer(
         results,
         count: h.gates as usize,
     };
-    let ins = &inputs[..h.input_values];
-    let outs = &outputs[..h.output_values];
-    write(out, gates, h.wires as usize, ins, outs, to)
+    let f = Form {
+        gates,
+        wires: h.wires as usize,
+        ins: &inputs[..h.input_values],
+        outs: &outputs[..h.output_values],
+        dialect: to,
+    };
+    write(out, f)
 }
 
 // The netlist of a text in one dialect, written in the other at the front of `out`. The tables, of any content, are zero on return.

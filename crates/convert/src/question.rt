@@ -4,17 +4,16 @@ ghost use Rattle.netlist.specs.Lists.{every};
 ghost use Rattle.gate_table.specs.Gates.{gates_in};
 ghost use Rattle.convert.specs.Convert.{old_entry, has_form};
 
-use gate_table::{Gates, HALF, Kind};
+use gate_table::{Gates, Kind};
+use halves::unpack;
 use old_form::Dialect;
 
 // Whether an entry is that of XOR, AND or INV.
 fn is_old_entry(res: u64) -> bool
     ensures { result ≡ old_entry res }
 {
-    match Kind::of((res / HALF) as usize) {
-        Kind::Xor | Kind::And | Kind::Inv => true,
-        _ => false,
-    }
+    let (_, kind) = unpack(res);
+    Kind::of(kind as usize).is_old()
 }
 
 // Whether all entries are.

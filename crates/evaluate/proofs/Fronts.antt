@@ -7,7 +7,6 @@ use native.Mathlib.Omega.{arith}
 use lib.ListN.{length, get_or, drop, length-map, get_or-map}
 use lib.Seq.{sets, sets-eq}
 use Rattle.netlist.specs.Leak.{bit}
-use Rattle.netlist.proofs.Laid.{Laid, laid-all}
 
 front-eq : (s d : List ℕ) → length s ≤ length d → sets d 0 s ≡ s ++ drop (length s) d
 front-eq s d h =
@@ -17,10 +16,6 @@ front-eq s d h =
 -- what a copy over the front leaves
 pub copied-front : (s d : List ℕ) {n : ℕ} {x : List ℕ} → x ≡ s → n ≡ length s → length s ≤ length d → x ++ drop n d ≡ sets d 0 s
 copied-front s d e l h = rw (e, l) (sym (front-eq s d h))
-
--- what a loop has laid when it ends
-pub laid-front : {s d₀ d : List ℕ} {i : ℕ} → Laid 0 s d₀ d i → length s ≤ i → length s ≤ length d₀ → d ≡ sets d₀ 0 s
-laid-front {s} {d₀} f l h = laid-all f l ∙ sym (front-eq s d₀ h)
 
 -- a list's bits, as a test has them
 module _ (test : ℕ → Bool) (s : List ℕ) where

@@ -16,8 +16,8 @@ use Rattle.netlist.proofs.Answering.{take-sets}
 use Rattle.evaluate.specs.Lane.{lane, lanes, output_words}
 use Rattle.evaluate.specs.Bare.{bare}
 use Rattle.evaluate.proofs.Lanes.{lane-zero, lane-bit}
-use Rattle.evaluate.proofs.Fronts.{copied-front, bits-long}
-use Rattle.evaluate.proofs.Words.{words-known, length-output_words}
+use Rattle.evaluate.proofs.Fronts.{bits-long}
+use Rattle.evaluate.proofs.Words.{words-known}
 
 lanes-zeros : (j : ℕ) (ws : List ℕ) (k : ℕ) → lanes j (ws ++ replicate k 0) ≡ lanes j ws ++ replicate k false
 lanes-zeros j [] zero = refl
@@ -82,22 +82,20 @@ module _ (ws list laid us : List ℕ) {t : Tables} {n m o : ℕ} {N : Netlist} (
       ∙ ap₂ (λ (k : ℕ) (v : List Bool). drop (k - o) v) long (ran ∙ in_all ∙ bare-wires h (lanes j list)) ∙ out
 
   -- sixty-four runs
-  pub wide-law : (out₀ copied : List ℕ) → ((i : ℕ) → get_or us i 0 < 2 ^ 64)
+  pub wide-law : (copied : List ℕ) → ((i : ℕ) → get_or us i 0 < 2 ^ 64)
       → ((j : ℕ) → j < 64 → lanes j us ≡ wire_bits (bare t n (length laid)) (lanes j (take (length list) laid)))
-      → copied ≡ last o us → o ≤ length out₀ → copied ++ drop o out₀ ≡ sets out₀ 0 (output_words N list)
-  wide-law out₀ copied fits ran e room =
-      let known : last o us ≡ output_words N list = words-known N list (last o us) (last-long ∙ sym h.outs)
-      (λ i l. rw (last-drop, get_or-drop (length us - o) us i 0) (fits (length us - o + i))) (λ j l. outputs-law j (ran j l)) in
-      let n : length (output_words N list) ≡ o = length-output_words N list ∙ h.outs in
-      copied-front (output_words N list) out₀ (e ∙ known) (sym n) (omega arith)
+      → copied ≡ last o us → copied ≡ output_words N list
+  wide-law copied fits ran e =
+      e ∙ words-known N list (last o us) (last-long ∙ sym h.outs)
+      (λ i l. rw (last-drop, get_or-drop (length us - o) us i 0) (fits (length us - o + i))) (λ j l. outputs-law j (ran j l))
 
 -- one run, on the bits of a list, in lane 0
-pub single-law : (ws bits laid us out₀ out : List ℕ) {t : Tables} {n m o : ℕ} {N : Netlist} → Holds t n (length ws) m o N
+pub single-law : (ws bits laid us out : List ℕ) {t : Tables} {n m o : ℕ} {N : Netlist} → Holds t n (length ws) m o N
     → laid ≡ sets ws 0 (map bit (bools bits)) → length bits ≤ length ws → length us ≡ length ws → o ≤ length ws
     → lanes 0 us ≡ wire_bits (bare t n (length laid)) (lanes 0 (take (length bits) laid))
-    → out ≡ sets out₀ 0 (map bit (lanes 0 (last o us))) → out ≡ sets out₀ 0 (output_list N bits)
-single-law ws bits laid us out₀ out {t} {n} {N = N} h front fits long room ran e =
+    → out ≡ map bit (lanes 0 (last o us)) → out ≡ output_list N bits
+single-law ws bits laid us out {t} {n} {N = N} h front fits long room ran e =
     let k = bits-long is_one bits in
     let ran_bits : lanes 0 us ≡ wire_bits (bare t n (length laid)) (lanes 0 (take (length (map bit (bools bits))) laid)) = rw k ran in
-    e ∙ ap (λ (v : List Bool). sets out₀ 0 (map bit v))
+    e ∙ ap (map bit)
     (outputs-law ws (map bit (bools bits)) laid us h front (omega arith) long room 0 ran_bits ∙ ap (outputs_of N) (lanes-bits (bools bits)))

@@ -3,7 +3,7 @@
 #![tactic(auto)]
 
 pub mod gate;
-mod lay;
+pub mod lay;
 pub mod single;
 pub mod wide;
 
@@ -16,7 +16,8 @@ ghost use Rattle.evaluate.specs.Bare.{bare_of};
 use gate_table::Gates;
 
 // Runs the gates on the wires' words, each lane for itself. A gate's entries are taken
-// apart a turn before its step: so it is compiled to fewer instructions.
+// apart a turn before its step: so it is compiled to fewer instructions. By number: a `zip` of the two tables, each cut to the count, would be
+// longer than `gates.at(i)`.
 fn run(gates: Gates, words: &mut [u64])
     requires { WiredGates gates (length words.old) }
     ensures { (j : ℕ) → j < 64 → lanes j words.new ≡ run_gates (lanes j words.old) (gates_in gates.entry) }

@@ -1,22 +1,20 @@
 // Sixty-four runs in one pass: a word for each input bit in, a word for each output bit out.
 ghost use Rattle.std.specs.Prelude.{◌≡◌, ◌≤◌, length};
-ghost use Rattle.std.proofs.lemmas.List.Edits.{sets};
 ghost use Rattle.netlist.specs.Netlist.{Netlist};
 ghost use Rattle.gate_table.specs.Gates.{WiredGates, HoldsGates};
 ghost use Rattle.evaluate.specs.Lane.{output_words};
 
 use gate_table::Gates;
 
-// The output words of the gates' netlist, over the front of `out`. The words, one for each wire,
-// are working store.
-pub fn outputs(gates: Gates, outs: usize, list: &[u64], words: &mut [u64], out: &mut [u64])
+// The output words of the gates' netlist, for which `out` has a place each. The words, one for each wire, are working store.
+pub fn outputs(gates: Gates, list: &[u64], words: &mut [u64], out: &mut [u64])
     requires wired { WiredGates gates (length words.old) }
-    requires list_in_bounds { (length list.now ≤ length words.old) × (outs ≤ length words.old) × (outs ≤ length out.old) }
+    requires list_in_bounds { (length list.now ≤ length words.old) × (length out.old ≤ length words.old) }
     ensures { (N : Netlist) → HoldsGates gates.entry (length words.old)
-        (length list.now) outs N → out.new ≡ sets out.old 0 (output_words N list.now) }
+        (length list.now) (length out.old) N → out.new ≡ output_words N list.now }
 {
     words[..list.len()].copy_from_slice(list);
     crate::wires(gates, list.len(), words);
-    let from = words.len() - outs;
-    out[..outs].copy_from_slice(&words[from..]);
+    let from = words.len() - out.len();
+    out.copy_from_slice(&words[from..]);
 }

@@ -6,7 +6,8 @@ use native.Mathlib.Nat.{mod-eq_of_lt}
 use native.Mathlib.Omega.{arith}
 use lib.Dec.{eqb}
 use borrow.Author.Tests.{eqb-true, eqb-false}
-use lib.ListN.{length, get_or, set, take, length-set}
+use lib.ListN.{length, get_or, set, take, drop, length-set}
+use Rattle.std.proofs.lemmas.List.{get_or-drop}
 use lib.Seq.{get_or-set_same, get_or-set_other, get_or-take, ext_get_or, length-take-le}
 use Rattle.netlist.specs.declared.Gate.{Gate}
 use Rattle.netlist.specs.Table.{tables, gate_at, gates_of, Wired}
@@ -22,12 +23,12 @@ use Rattle.fewest_apply.specs.Apply.{SwapsEntry, Swapped, Chosen}
 
 -- ---- the loop over the gates
 
-pub swapping-more : {r : List ℕ} {n : ℕ} {way o₀ o : List ℕ} {i x : ℕ} → Swapped r i n way o₀ o → i < length o₀
-    → SwapsEntry (get_or way (n + i) 0) (get_or o i 0) (get_or r i 0) x → Swapped r (i + 1) n way o₀ (set o i x)
-swapping-more {r} {n} {way} {o₀} {o} {i} {x} I l E =
+pub swapping-more : {r way o₀ o : List ℕ} {i x : ℕ} → Swapped r i way o₀ o → i < length o₀
+    → SwapsEntry (get_or way i 0) (get_or o i 0) (get_or r i 0) x → Swapped r (i + 1) way o₀ (set o i x)
+swapping-more {r} {way} {o₀} {o} {i} {x} I l E =
     let s = I.size in
     let k : get_or o i 0 ≡ get_or o₀ i 0 = I.kept i (omega arith) in
-    let E' : SwapsEntry (get_or way (n + i) 0) (get_or o₀ i 0) (get_or r i 0) x = rw k at E in
+    let E' : SwapsEntry (get_or way i 0) (get_or o₀ i 0) (get_or r i 0) x = rw k at E in
     record {
       each = λ j b. on_bool (eqb j i)
           (λ t. let e = eqb-true j i t in rw (e, get_or-set_same o i x 0 (omega arith)) E')
@@ -36,21 +37,32 @@ swapping-more {r} {n} {way} {o₀} {o} {i} {x} I l E =
       size = length-set o i x ∙ s;
     }
 
+-- the results of just these gates, cut from a longer table
+pub swapped-cut : {r ways o₀ o : List ℕ} (count : ℕ) → count ≤ length r → Swapped (take count r) (length (take count r)) ways o₀ o
+    → Swapped r count ways o₀ o
+swapped-cut {r} count h S =
+    let l = length-take-le count r h in
+    record {
+      each = λ j b. rw (get_or-take count r j 0 b) at (S.each j (omega arith));
+      kept = λ j b. S.kept j (omega arith);
+      size = S.size;
+    }
+
 -- ---- what the tables hold then
 
-module _ {r : List ℕ} {n : ℕ} {way o₀ o : List ℕ} where
-  pub gates-chosen : (count : ℕ) → Swapped r count n way o₀ o → gates_of (tables o r) count ≡ chosen_gates (choice_of way) n (gates_of (tables o₀ r) count)
-  gates-chosen count S = go count (omega arith)
+module _ {r o₀ o : List ℕ} where
+  pub gates-chosen : (n : ℕ) (way : List ℕ) (count : ℕ) → Swapped r count (drop n way) o₀ o → gates_of (tables o r) count ≡ chosen_gates (choice_of way) n (gates_of (tables o₀ r) count)
+  gates-chosen n way count S = go count (omega arith)
     where
       go : (k : ℕ) → k ≤ count → gates_of (tables o r) k ≡ chosen_gates (choice_of way) n (gates_of (tables o₀ r) k)
       go zero h = refl
       go (suc k) h =
           let gs = gates_of (tables o₀ r) k in
-          ap₂ (λ (xs : List Gate) (x : Gate). xs ++ (x ∷ [])) (go k (omega arith)) (S.each k (omega arith)).gate
+          ap₂ (λ (xs : List Gate) (x : Gate). xs ++ (x ∷ [])) (go k (omega arith)) ((S.each k (omega arith)).gate ∙ ap (λ (q : ℕ). chosen_gate q (gate_at (tables o₀ r) k)) (get_or-drop n way k 0))
           ∙ ap (λ (q : ℕ). chosen_gates (choice_of way) n gs ++ (chosen_gate (choice_of way (n + q)) (gate_at (tables o₀ r) k) ∷ [])) (sym (length-gates (tables o₀ r) k))
           ∙ sym (chosen-append (choice_of way) n gs (gate_at (tables o₀ r) k ∷ []))
 
-  pub wired-chosen : {count W : ℕ} → Swapped r count n way o₀ o → Wired (tables o₀ r) W count → Wired (tables o r) W count
+  pub wired-chosen : {count W : ℕ} {ways : List ℕ} → Swapped r count ways o₀ o → Wired (tables o₀ r) W count → Wired (tables o r) W count
   wired-chosen S H = record {
     operands = omega (arith, H.operands, S.size);
     results = H.results;

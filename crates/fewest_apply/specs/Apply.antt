@@ -1,5 +1,5 @@
 -- A choice put to use, in tables.
-use Rattle.std.specs.Prelude.{ℕ, ◌+◌, ◌%◌, ◌/◌, ◌≤◌, ◌<◌, List, ◌≡◌, length, get_or}
+use Rattle.std.specs.Prelude.{ℕ, ◌%◌, ◌/◌, ◌≤◌, ◌<◌, List, ◌≡◌, length, get_or}
 use Rattle.netlist.specs.Table.{half, gate_in}
 use Rattle.fewest.specs.Choice.{chosen_gate}
 use Rattle.fewest_walk.specs.Ends.{free_code, FilledBy}
@@ -10,9 +10,9 @@ pub record SwapsEntry (d o r' r : ℕ) : Type 0 where
   pub left : (W : ℕ) → o % half < W → o / half < W → r % half < W
   pub right : (W : ℕ) → o % half < W → o / half < W → r / half < W
 
--- the first i gates behind n inputs are those of the table of ways
-pub record Swapped (r : List ℕ) (i n : ℕ) (way o₀ o : List ℕ) : Type 0 where
-  pub each : (j : ℕ) → j < i → SwapsEntry (get_or way (n + j) 0) (get_or o₀ j 0) (get_or r j 0) (get_or o j 0)
+-- the first i gates are each those of its way
+pub record Swapped (r : List ℕ) (i : ℕ) (ways o₀ o : List ℕ) : Type 0 where
+  pub each : (j : ℕ) → j < i → SwapsEntry (get_or ways j 0) (get_or o₀ j 0) (get_or r j 0) (get_or o j 0)
   pub kept : (j : ℕ) → i ≤ j → get_or o j 0 ≡ get_or o₀ j 0
   pub size : length o ≡ length o₀
 

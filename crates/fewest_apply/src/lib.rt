@@ -6,26 +6,27 @@ ghost use Rattle.fewest_apply.specs.Apply.{SwapsEntry, Swapped, Chosen};
 
 use fewest_walk::inputs;
 use fewest_walk::next::is_and;
-use gate_table::HALF;
+use halves::{pack, unpack};
 
 // The entry of a gate's operands, exchanged where it is an AND whose way is the swapped one.
 fn swapped(way: u8, operands: u64, results: u64) -> u64
     ensures { SwapsEntry way operands results result }
 {
     if way == 1 && is_and(results) {
-        return operands / HALF + operands % HALF * HALF;
+        let (a, b) = unpack(operands);
+        return pack(b, a);
     }
     operands
 }
 
-// Exchanges the operands of the ANDs among the first gates, behind n inputs, that the table of ways takes swapped. By number: behind an
-// adapter of `iter_mut` such as `zip` nothing is known of the entries afterwards.
-pub fn swap(operands: &mut [u64], results: &[u64], count: usize, n: usize, way: &[u8])
-    requires { (count ≤ length operands.old) × (count ≤ length results.now) × (n + count ≤ length way.now) }
-    ensures { Swapped results.now count n way.now operands.old operands.new }
+// Exchanges the operands of the ANDs among the gates with these results that their ways take swapped. By number: `iter_mut` would first cut the
+// operands to the gates, and with `enumerate` index the two other lists; behind a `zip` with it nothing is known of the entries afterwards.
+pub fn swap(operands: &mut [u64], results: &[u64], ways: &[u8])
+    requires { (length results.now ≤ length operands.old) × (length results.now ≤ length ways.now) }
+    ensures { Swapped results.now (length results.now) ways.now operands.old operands.new }
 {
-    for i in 0..count {
-        operands[i] = swapped(way[n + i], operands[i], results[i]);
+    for (i, result) in results.iter().enumerate() {
+        operands[i] = swapped(ways[i], operands[i], *result);
     }
 }
 

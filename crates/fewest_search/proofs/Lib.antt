@@ -1,4 +1,4 @@
 -- Laws of the search.
-pub mod Turning
+pub mod Trying
 pub mod Searching
 pub mod Standing

@@ -34,7 +34,7 @@ use Rattle.fewest_walk.proofs.Walking.{gate-at, ready_walked}
 use Rattle.fewest_walk.proofs.Filling.{filled-first}
 use Rattle.fewest_walk.proofs.Spanning.{span-product}
 use Rattle.fewest_search.specs.declared.search.Tally.{Tally}
-use Rattle.fewest_search.specs.Turn.{idle_at, cost_of, Entered}
+use Rattle.fewest_search.specs.Try.{idle_at, cost_of, Entered}
 use Rattle.fewest_search.specs.Search.{Source, Found}
 
 -- ---- the ways of a place, in the list and in the tables
@@ -271,13 +271,13 @@ module _ {t : Tables} {m : ℕ} {codes wanted : List ℕ} {W : ℕ} {N : Netlist
               let gl = held-length in
               ap (λ (c : ℕ). c + twices (drop (suc j) N.gates)) (before_same F codes l d (choice_of way') (suc j) (omega arith) (λ q b. agrees q (omega arith))).1
 
-  -- ---- a turn at choice k, whose place p has moved
+  -- ---- choice k is tried, whose place p has moved
 
   module _ {k p : ℕ} {way code lows : List ℕ} (A : At k (suc p) (p - length codes) way code lows) where
     -- its AND is idle
-    pub turned-idle : {best : List ℕ} {least : ℕ} → Best k k best least → idle_at t.operands (length codes) p code ≡ true → length codes ≤ p → 1 ≤ choice_of way p
+    pub tried-idle : {best : List ℕ} {least : ℕ} → Best k k best least → idle_at t.operands (length codes) p code ≡ true → length codes ≤ p → 1 ≤ choice_of way p
         → Best (k + product (drop (suc p) (ways codes N.gates))) k best least
-    turned-idle B e h one =
+    tried-idle B e h one =
         let i = p - length codes in
         let w = A.within in
         let pl = places in
@@ -332,7 +332,7 @@ module _ {t : Tables} {m : ℕ} {codes wanted : List ℕ} {W : ℕ} {N : Netlist
           let nl = l in
           let R = ready_walked F codes l t m Q.holds.gates way from E.table start-ready in (
             (let r = (R (stop - from) (omega arith)).0 in
-                let c : codes_to t (input_bits N) way from E.table (stop - from) ≡ code' = ap (λ (b : ℕ). codes_to t b way from E.table (stop - from))
+                let c : codes_to t (drop (input_bits N) way) from E.table (stop - from) ≡ code' = ap (λ (b : ℕ). codes_to t (drop b way) from E.table (stop - from))
                 (sym l) ∙ sym W.done.codes in
                 rw (z, c) at r),
             λ j h. on_bool (ltb j from)
@@ -340,7 +340,7 @@ module _ {t : Tables} {m : ℕ} {codes wanted : List ℕ} {W : ℕ} {N : Netlist
                 (λ e. let b = ltb-false j from e in
                 let y : j ≡ from + (j - from) = omega arith in
                 ap (λ (x : ℕ). get_or lows' x 0) y ∙ W.done.lows (j - from) (omega arith)
-                ∙ ap₂ (λ (x b : ℕ). x + added_to t b way from E.table (j - from)) (A.up_to from (omega arith)) l ∙ sym (R (j - from) (omega arith)).1
+                ∙ ap₂ (λ (x b : ℕ). x + added_to t (drop b way) from E.table (j - from)) (A.up_to from (omega arith)) l ∙ sym (R (j - from) (omega arith)).1
                 ∙ ap (least_before N codes (choice_of way)) (sym y)),
           )
 
@@ -368,9 +368,9 @@ module _ {t : Tables} {m : ℕ} {codes wanted : List ℕ} {W : ℕ} {N : Netlist
           }
 
       -- there are as many changes as the best has: the choices that share its places up to there are left out
-      pub turned-cut : {best : List ℕ} {least : ℕ} → Best k k best least → 1 ≤ length codes → least ≤ bound → bound ≤ get_or lows' stop 0
+      pub tried-cut : {best : List ℕ} {least : ℕ} → Best k k best least → 1 ≤ length codes → least ≤ bound → bound ≤ get_or lows' stop 0
           → Best (k + product (drop (length codes + stop) (ways codes N.gates))) k best least
-      turned-cut B one h b =
+      tried-cut B one h b =
           let P = length codes + stop in
           let hi = E.walked.high in
           let gl = held-length in
@@ -411,18 +411,18 @@ module _ {t : Tables} {m : ℕ} {codes wanted : List ℕ} {W : ℕ} {N : Netlist
             ∙ sym (ready-changes F codes l wanted (choice_of way) code' R)
             ∙ changes-same N codes wanted l (choice_of way) (choice N codes k) (λ q h. A.same q (let pl = places in omega arith))
 
-        pub turned_same : {best : List ℕ} {least c : ℕ} → Best k k best least → c ≡ changes_at N codes wanted k → least ≤ c
+        pub tried_same : {best : List ℕ} {least c : ℕ} → Best k k best least → c ≡ changes_at N codes wanted k → least ≤ c
             → Best (k + product (drop (length codes + stop) (ways codes N.gates))) k best least
-        turned_same B e h =
+        tried_same B e h =
             let c = B.count in
             let y : ltb (changes_at N codes wanted k) (changes_at N codes wanted B.number) ≡ false =
             le-ltb (changes_at N codes wanted k) (changes_at N codes wanted B.number) (omega arith) in
             let o : k + product (drop (length codes + stop) bs) ≡ suc k = (let x = last_block (length codes + stop) (omega arith) in omega arith) in
             record { number = B.number; first = rw o (rw y at (least_more f k B.number B.first)); early = B.early; kept = B.kept; count = B.count }
 
-        pub turned-fewer : {best : List ℕ} {least c : ℕ} → Best k k best least → c ≡ changes_at N codes wanted k → c < least
+        pub tried-fewer : {best : List ℕ} {least c : ℕ} → Best k k best least → c ≡ changes_at N codes wanted k → c < least
             → Best (k + product (drop (length codes + stop) (ways codes N.gates))) k way c
-        turned-fewer B e h =
+        tried-fewer B e h =
             let c = B.count in
             let y : ltb (changes_at N codes wanted k) (changes_at N codes wanted B.number) ≡ true =
             lt-ltb (changes_at N codes wanted k) (changes_at N codes wanted B.number) (omega arith) in

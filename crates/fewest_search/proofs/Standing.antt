@@ -24,11 +24,11 @@ use Rattle.fewest_walk.specs.Span.{capped, Spanned}
 use Rattle.fewest_walk.proofs.Walking.{change-most}
 use Rattle.fewest_walk.proofs.Counting.{twices-most}
 use Rattle.fewest_search.specs.declared.search.Tally.{Tally}
-use Rattle.fewest_search.specs.declared.turn.Step.{Step}
-use Rattle.fewest_search.specs.Turn.{cost_of, Idles, Tries, TurnIs}
+use Rattle.fewest_search.specs.declared.choice.Tried.{Tried}
+use Rattle.fewest_search.specs.Try.{cost_of, Idles, Tries, TriedIs}
 use Rattle.fewest_search.specs.Search.{Source, Begun, Found}
-use Rattle.fewest_search.proofs.Turning.{idle-place}
-use Rattle.fewest_search.proofs.Searching.{Best, At, held-length, span-at, product-behind, block_within, at-end, at_moved, at_next, turned-idle, at_tried, turned-cut, cost-is, turned_same, turned-fewer, at_first, last_block, found_all, found_some, found-least}
+use Rattle.fewest_search.proofs.Trying.{idle-place}
+use Rattle.fewest_search.proofs.Searching.{Best, At, held-length, span-at, product-behind, block_within, at-end, at_moved, at_next, tried-idle, at_tried, tried-cut, cost-is, tried_same, tried-fewer, at_first, last_block, found_all, found_some, found-least}
 
 -- ---- the least changes are no more than the gates
 
@@ -68,7 +68,7 @@ pub record Standing (t : Tables) (m : ℕ) (codes wanted : List ℕ) (W budget :
   pub ways-long : length way ≡ W
   pub bests-long : length best ≡ W
   pub codes-long : length code ≡ W
-  pub lows-long : length lows ≡ W
+  pub least_before-long : length lows ≡ W
   pub at : {N : Netlist} (Q : Source t m codes wanted W N) → At Q (budget - left) (length codes + stop) (stop - 1) way code lows
   pub best-so : {N : Netlist} (Q : Source t m codes wanted W N)
       → Best Q (budget - left + product (drop (length codes + stop) (ways codes N.gates))) (budget - left) best least
@@ -201,8 +201,8 @@ module _ {t : Tables} {m : ℕ} {codes wanted : List ℕ} {W budget : ℕ} {s₀
               let l = least-most N codes (choice_of way') (p - length codes) (omega arith) in
               omega arith
 
-          -- behind the turn
-          module _ {best' code' lows' : List ℕ} {r : Step} where
+          -- behind it
+          module _ {best' code' lows' : List ℕ} {r : Tried} where
             pub at-idle : Idles t codes p least best code lows best' code' lows' r
                 → At Q (budget - (left - get_or s (length codes + stop - 1) 0)) (length codes + r.stop) (r.stop - 1) way' code' lows'
             at-idle T =
@@ -223,7 +223,7 @@ module _ {t : Tables} {m : ℕ} {codes wanted : List ℕ} {W budget : ℕ} {s₀
                 let a : suc p ≡ length codes + r.stop = omega arith in
                 let b = sym T.best-same in
                 let c = sym T.least-same in
-                rw (a, b, c) at (turned-idle Q at_here best-here T.equal n moved_here)
+                rw (a, b, c) at (tried-idle Q at_here best-here T.equal n moved_here)
 
             pub at_done : Tries t m codes wanted way' p least best code lows best' code' lows' r
                 → At Q (budget - (left - get_or s (length codes + stop - 1) 0)) (length codes + r.stop) (r.stop - 1) way' code' lows'
@@ -240,7 +240,7 @@ module _ {t : Tables} {m : ℕ} {codes wanted : List ℕ} {W budget : ℕ} {s₀
                 let k = T.cut h in
                 let a = sym k.0 in
                 let b = sym k.1 in
-                rw (a, b) at (turned-cut Q at_here E best-here one (omega arith) (E.walked.cut h)))
+                rw (a, b) at (tried-cut Q at_here E best-here one (omega arith) (E.walked.cut h)))
                 (λ z. let e : r.stop ≡ m = (let g = ltb-false r.stop m z in omega arith) in
                 let cost = cost-is Q at_here E e (lc ∙ sym Q.holds.wires) in
                 on_bool (leb least (cost_of code' lows' m wanted))
@@ -248,20 +248,20 @@ module _ {t : Tables} {m : ℕ} {codes wanted : List ℕ} {W budget : ℕ} {s₀
                 let k = T.no-fewer e h in
                 let a = sym k.0 in
                 let b = sym k.1 in
-                rw (a, b) at (turned_same Q at_here E e best-here cost h))
+                rw (a, b) at (tried_same Q at_here E e best-here cost h))
                 (λ y. let h = leb-false least (cost_of code' lows' m wanted) y in
                 let k = T.fewer e h in
                 let a = sym k.0 in
                 let b = sym k.1 in
-                rw (a, b) at (turned-fewer Q at_here E e best-here cost h)))
+                rw (a, b) at (tried-fewer Q at_here E e best-here cost h)))
 
-    -- one turn more
-    pub standing-turned : (p : ℕ) {way' best' code' lows' : List ℕ} {r : Step} → get_or s (length codes + stop - 1) 0 ≤ left
+    -- one choice more
+    pub standing-tried : (p : ℕ) {way' best' code' lows' : List ℕ} {r : Tried} → get_or s (length codes + stop - 1) 0 ≤ left
         → Advanced (ways_at codes t.results) (length codes + stop) way way' (suc p) → 1 ≤ get_or s (length codes + stop - 1) 0
-        → 1 ≤ left - get_or s (length codes + stop - 1) 0 → TurnIs t m codes wanted way' p least best code lows best' code' lows' r
+        → 1 ≤ left - get_or s (length codes + stop - 1) 0 → TriedIs t m codes wanted way' p least best code lows best' code' lows' r
         → length best' ≡ W → length code' ≡ W → length lows' ≡ W
         → Standing t m codes wanted W budget way' best' code' lows' r.least r.stop (left - get_or s (length codes + stop - 1) 0)
-    standing-turned p {way'} {best'} {code'} {lows'} {r} h M some more T lb lc ll =
+    standing-tried p {way'} {best'} {code'} {lows'} {r} h M some more T lb lc ll =
         let hi = I.high in
         let w = I.within in
         let b = M.within in
@@ -277,7 +277,7 @@ module _ {t : Tables} {m : ℕ} {codes wanted : List ℕ} {W budget : ℕ} {s₀
           ways-long = z ∙ I.ways-long;
           bests-long = lb;
           codes-long = lc;
-          lows-long = ll;
+          least_before-long = ll;
           at = λ Q. at-idle Q h p M T;
           best-so = λ Q. best-idle Q h p M T;
         })
@@ -289,7 +289,7 @@ module _ {t : Tables} {m : ℕ} {codes wanted : List ℕ} {W budget : ℕ} {s₀
           ways-long = z ∙ I.ways-long;
           bests-long = lb;
           codes-long = lc;
-          lows-long = ll;
+          least_before-long = ll;
           at = λ Q. at_done Q h p M T;
           best-so = λ Q. best-done Q h p M lc T;
         })
@@ -310,7 +310,7 @@ standing-first {t} {m} {codes} {wanted} {W} budget {way₀} {u₀} {b₀} {s₀}
       ways-long = wl;
       bests-long = ap length G.kept ∙ wl;
       codes-long = lu';
-      lows-long = lb';
+      least_before-long = lb';
       at = λ Q. rw none (at_tried Q (begins Q) G.entered);
       best-so = λ Q. rw none (first-best Q);
     }

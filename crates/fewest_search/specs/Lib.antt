@@ -1,4 +1,4 @@
 -- What the search for the fewest changes cites.
-pub mod Turn
+pub mod Try
 pub mod Search
-pub mod Job
+pub mod Coded

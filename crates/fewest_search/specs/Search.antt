@@ -8,7 +8,7 @@ use Rattle.fewest.specs.Fewest.{twices, changes_at, given, floor as floor_of}
 use Rattle.fewest_walk.specs.Advance.{ways_at, choice_of}
 use Rattle.fewest_walk.specs.Span.{Spanned}
 use Rattle.fewest_search.specs.declared.search.Tally.{Tally}
-use Rattle.fewest_search.specs.Turn.{Fits, cost_of, Entered}
+use Rattle.fewest_search.specs.Try.{Fits, cost_of, Entered}
 
 -- a netlist of W wires that questions 4 to 9 admit and the gate tables hold
 pub record Source (t : Tables) (count : ℕ) (codes wanted : List ℕ) (W : ℕ) (N : Netlist) : Type 0 where

@@ -2,12 +2,13 @@
 ghost use Rattle.std.specs.Prelude.{◌≡◌, ◌≤◌, length};
 ghost use Rattle.netlist.specs.Netlist.{Netlist};
 ghost use Rattle.fewest_search.specs.Search.{Found};
-ghost use Rattle.fewest_search.specs.Job.{FitsFor, SourceFor, SearchableFor, BegunFor};
+ghost use Rattle.fewest_search.specs.Coded.{FitsFor, SourceFor, SearchableFor, BegunFor};
 
-use crate::Job;
-use crate::turn::{enter, turn, weigh};
+use crate::choice::{count_changes, try_choice, walk_from};
+use mask_pass::CodedGates;
 
-// More changes than any choice has. A number and not a `None`: the walk compares the bound with the changes at every gate.
+// More changes than any choice has: the bound of the first walk, which never reaches it. Each other walk has a bound, so that an `Option` for
+// this one would be put round all of them and taken apart in each.
 const MANY: u32 = u32::MAX;
 
 // The changes of the choice that is given, and the floor.
@@ -19,23 +20,27 @@ pub struct Tally {
 
 // The first choice: its changes. `spans` gets for each place how many choices share the places up to it.
 fn start(
-    job: Job,
+    source: CodedGates,
     way: &mut [u8],
     best: &mut [u8],
-    code: &mut [u8],
-    lows: &mut [u32],
+    wire_codes: &mut [u8],
+    least_before: &mut [u32],
     spans: &mut [u64],
 ) -> u32
-    requires { FitsFor job way.old best.old code.old lows.old × (length spans.old ≡ length code.old) }
-    ensures { BegunFor job.entry way.old code.old lows.old spans.old way.new best.new
-        code.new lows.new spans.new result }
+    requires { FitsFor source way.old best.old wire_codes.old least_before.old × (length spans.old ≡ length wire_codes.old) }
+    ensures { BegunFor source.entry way.old wire_codes.old least_before.old spans.old way.new best.new
+        wire_codes.new least_before.new spans.new result }
 {
     way.fill(0);
-    fewest_walk::spans::spans(job.codes, &job.gates.results[..job.gates.count], spans);
-    lows[0] = fewest_walk::twices::twices(job.gates);
-    enter(job, way, code, lows, 0, MANY);
+    fewest_walk::spans::spans(
+        source.codes,
+        &source.gates.results[..source.gates.count],
+        spans,
+    );
+    least_before[0] = fewest_walk::twices::twices(source.gates);
+    walk_from(source, way, wire_codes, least_before, 0, MANY);
     best.copy_from_slice(way);
-    weigh(job, code, lows)
+    count_changes(source, wire_codes, least_before)
 }
 
 // The first choice with the fewest changes among as many as the budget allows, into `best`, its changes and the floor. The gate tables
@@ -43,24 +48,24 @@ fn start(
 // that share their first places are passed together, and counted, where none of them has fewer changes than the best so far; all
 // that are left are where the best has no more changes than there are gates that name one wire twice.
 pub fn search(
-    job: Job,
+    source: CodedGates,
     budget: u64,
     way: &mut [u8],
     best: &mut [u8],
-    code: &mut [u8],
-    lows: &mut [u32],
+    wire_codes: &mut [u8],
+    least_before: &mut [u32],
     spans: &mut [u64],
 ) -> Tally
-    requires { SearchableFor job way.old best.old code.old lows.old spans.old × (1 ≤ budget) }
-    ensures { (N : Netlist) → SourceFor job.entry (length code.old) N
-        → Found N job.entry.codes.now job.entry.wanted.now budget best.new result }
+    requires { SearchableFor source way.old best.old wire_codes.old least_before.old spans.old × (1 ≤ budget) }
+    ensures { (N : Netlist) → SourceFor source.entry (length wire_codes.old) N
+        → Found N source.entry.codes.now source.entry.wanted.now budget best.new result }
 {
-    let n = job.codes.len();
-    let mut least = start(job, way, best, code, lows, spans);
-    let mut stop = job.gates.count;
+    let n = source.codes.len();
+    let mut least = start(source, way, best, wire_codes, least_before, spans);
+    let mut stop = source.gates.count;
     let mut left = budget;
     loop {
-        if least <= lows[0] {
+        if least <= least_before[0] {
             return Tally {
                 changes: least,
                 floor: least,
@@ -70,11 +75,12 @@ pub fn search(
         if left < span {
             return Tally {
                 changes: least,
-                floor: lows[0],
+                floor: least_before[0],
             };
         }
         left -= span;
-        let Some(place) = fewest_walk::next::next(job.codes, &job.gates.results[..stop], way) else {
+        let Some(place) = fewest_walk::next::next(source.codes, &source.gates.results[..stop], way)
+        else {
             return Tally {
                 changes: least,
                 floor: least,
@@ -83,10 +89,10 @@ pub fn search(
         if left == 0 {
             return Tally {
                 changes: least,
-                floor: lows[0],
+                floor: least_before[0],
             };
         }
-        let t = turn(job, way, best, code, lows, place, least);
+        let t = try_choice(source, way, best, wire_codes, least_before, place, least);
         stop = t.stop;
         least = t.least;
     }

@@ -26,7 +26,7 @@ capped-times w x h = on_bool (leb x most)
     let q : most ≤ w * x = grind arith in
     rw y (omega arith))
 
--- the same, as the code computes it
+-- a capped product, as a multiplication that stops at the largest number gives it
 pub capped-same : (s : ℕ) {w v u r : ℕ} → v ≡ w → u ≡ v → r ≡ min (s * u) most → r ≡ capped (s * w)
 capped-same s e f h = let g = rw (f, e) at h in omega arith
 

@@ -1,4 +1,4 @@
--- The gates from one on, in tables, under the choice of a table of ways: the codes of their results, and how many changes there are at least.
+-- The gates from one on, in tables, under the choice of a list of their ways: the codes of their results, and how many changes there are at least.
 use Rattle.std.specs.Prelude.{ℕ, zero, suc, ◌+◌, ◌-◌, ◌≤◌, ◌<◌, cond, List, ◌≡◌, eqb, length, get_or}
 use Rattle.netlist.specs.declared.Gate.{Gate}
 use Rattle.netlist.specs.Table.{Tables, gate_at}
@@ -22,7 +22,7 @@ code_by (Eq v) d e f = 1
 abbrev pub added_change : (ℕ → ℕ) → Gate → ℕ
 added_change u g = cond (twice g) 0 (gate_change u g)
 
--- the same by its kind, its operands' wires and their codes
+-- that change by the gate's kind, its operands' wires and their codes
 abbrev pub added_by : Kind → ℕ → ℕ → ℕ → ℕ → ℕ
 added_by Xor a b e f = cond (eqb a b) 0 (bit (eqb e f))
 added_by And a b e f = cond (eqb a b) 0 (bit (eqb e f))
@@ -35,26 +35,26 @@ pub record Stepped (u : List ℕ) (d : ℕ) (g : Gate) (v : List ℕ) (r : ℕ) 
   pub codes : v ≡ coded u (chosen_gate d g)
   pub added : r ≡ added_change (code_at u) g
 
--- the codes behind k gates from one on, behind n inputs, and their added changes
-abbrev pub codes_to : Tables → ℕ → List ℕ → ℕ → List ℕ → ℕ → List ℕ
-codes_to t n way from u zero = u
-codes_to t n way from u (suc k) = coded (codes_to t n way from u k) (chosen_gate (get_or way (n + (from + k)) 0) (gate_at t (from + k)))
+-- the codes behind k gates from one on, each in its way, and their added changes
+abbrev pub codes_to : Tables → List ℕ → ℕ → List ℕ → ℕ → List ℕ
+codes_to t ways from u zero = u
+codes_to t ways from u (suc k) = coded (codes_to t ways from u k) (chosen_gate (get_or ways (from + k) 0) (gate_at t (from + k)))
 
-abbrev pub added_to : Tables → ℕ → List ℕ → ℕ → List ℕ → ℕ → ℕ
-added_to t n way from u zero = 0
-added_to t n way from u (suc k) = added_to t n way from u k + added_change (code_at (codes_to t n way from u k)) (gate_at t (from + k))
+abbrev pub added_to : Tables → List ℕ → ℕ → List ℕ → ℕ → ℕ
+added_to t ways from u zero = 0
+added_to t ways from u (suc k) = added_to t ways from u k + added_change (code_at (codes_to t ways from u k)) (gate_at t (from + k))
 
 -- gates from one on up to gate i, of the codes u₀ and the least changes before each b₀
-pub record Done (t : Tables) (i n : ℕ) (way : List ℕ) (from : ℕ) (u₀ b₀ u b : List ℕ) : Type 0 where
-  pub codes : u ≡ codes_to t n way from u₀ (i - from)
-  pub lows : (k : ℕ) → k ≤ i - from → get_or b (from + k) 0 ≡ get_or b₀ from 0 + added_to t n way from u₀ k
+pub record Done (t : Tables) (i : ℕ) (ways : List ℕ) (from : ℕ) (u₀ b₀ u b : List ℕ) : Type 0 where
+  pub codes : u ≡ codes_to t ways from u₀ (i - from)
+  pub lows : (k : ℕ) → k ≤ i - from → get_or b (from + k) 0 ≡ get_or b₀ from 0 + added_to t ways from u₀ k
   pub kept : (k : ℕ) → k ≤ from → get_or b k 0 ≡ get_or b₀ k 0
   pub code_length : length u ≡ length u₀
   pub low_length : length b ≡ length b₀
 
 -- gates from one on up to gate r: one at least, if there is one, and all of them but where there are as many changes as the bound
-pub record Walked (t : Tables) (count n : ℕ) (way : List ℕ) (from bound : ℕ) (u₀ b₀ u b : List ℕ) (r : ℕ) : Type 0 where
-  pub done : Done t r n way from u₀ b₀ u b
+pub record Walked (t : Tables) (count : ℕ) (ways : List ℕ) (from bound : ℕ) (u₀ b₀ u b : List ℕ) (r : ℕ) : Type 0 where
+  pub done : Done t r ways from u₀ b₀ u b
   pub on : from < count → from < r
   pub low : from ≤ r
   pub high : r ≤ count

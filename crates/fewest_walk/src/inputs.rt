@@ -16,7 +16,8 @@ fn input(e: u8, d: u8) -> u8
     if e == 0 { 1 } else { masked(e, d) }
 }
 
-// What `code` makes of each input's code and its way, at the front of `out`.
+// What `code` makes of each input's code and its way, at the front of `out`. By number: a `zip` of the two lists would save one index and
+// give a third name, since `out` needs the number all the same.
 pub fn fill<F: Fn(u8, u8) -> u8>(codes: &[u8], way: &[u8], out: &mut [u8], code: F)
     requires in_bounds { (length codes.now ≤ length way.now) × (length codes.now ≤ length out.old) }
     requires callable { F.IsAlwaysCallable code }
@@ -29,9 +30,9 @@ pub fn fill<F: Fn(u8, u8) -> u8>(codes: &[u8], way: &[u8], out: &mut [u8], code:
 }
 
 // The codes of all inputs.
-pub fn inputs(codes: &[u8], way: &[u8], code: &mut [u8])
-    requires { (length codes.now ≤ length way.now) × (length codes.now ≤ length code.old) }
-    ensures { Filled codes.now way.now (length codes.now) code.old code.new }
+pub fn inputs(codes: &[u8], way: &[u8], wire_codes: &mut [u8])
+    requires { (length codes.now ≤ length way.now) × (length codes.now ≤ length wire_codes.old) }
+    ensures { Filled codes.now way.now (length codes.now) wire_codes.old wire_codes.new }
 {
-    fill(codes, way, code, input);
+    fill(codes, way, wire_codes, input);
 }

@@ -2,9 +2,9 @@
 // first places.
 #![tactic(auto)]
 
+pub mod gates;
 pub mod inputs;
 pub mod next;
 pub mod outputs;
 pub mod spans;
 pub mod twices;
-pub mod walk;

@@ -3,16 +3,20 @@ ghost use Rattle.std.specs.Prelude.{◌≡◌, ◌+◌, ◌/◌, ◌≤◌, ◌<
 ghost use Rattle.netlist.specs.Table.{half};
 ghost use Rattle.fewest_walk.specs.Advance.{ways_at, behind, Advanced};
 
-use gate_table::{HALF, Kind};
+use gate_table::Kind;
+use halves::unpack;
 
 // Whether the gate of an entry in the table of results is an AND.
 pub fn is_and(results: u64) -> bool
     ensures { result ≡ eqb (results / half) 2 }
 {
-    results / HALF == Kind::And.number()
+    let (_, kind) = unpack(results);
+    kind == Kind::And.number()
 }
 
 // How many ways a place has: an input by its code, a gate by its kind. A number: a way is an entry of a table that C lends as bytes.
+// `codes` and `results` are two parameters, here, in `next` and in `spans`: the search has the codes in its job and cuts the results to the
+// gates meant, so each call would put a struct of both together.
 pub fn ways(codes: &[u8], results: &[u64], p: usize) -> u8
     requires { p < length codes.now + length results.now }
     ensures { result ≡ ways_at codes.now results.now p }
@@ -31,7 +35,7 @@ pub fn ways(codes: &[u8], results: &[u64], p: usize) -> u8
 }
 
 // The next choice of the inputs and of the gates with these results in the table of ways, where the places behind take their first way:
-// the place that moved, if there is one.
+// the place that moved, if there is one. By number: a place is an input's or a gate's, in lists of different types.
 pub fn next(codes: &[u8], results: &[u64], way: &mut [u8]) -> Option<usize>
     requires { length codes.now + length results.now ≤ length way.old }
     ensures { Advanced (ways_at codes.now results.now) (length codes.now + length results.now) way.old

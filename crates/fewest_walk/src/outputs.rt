@@ -11,12 +11,12 @@ fn output(e: u8, want: u8) -> u32
 }
 
 // The changes of the outputs, whose wires have these codes. Summed in a loop: with `filter` and `count` behind `zip` the proof didn't close.
-pub fn outputs(code: &[u8], wanted: &[u8]) -> u32
+pub fn outputs(out_codes: &[u8], wanted: &[u8]) -> u32
     requires { length wanted.now < 2 ^ 31 }
-    ensures { result ≡ end_changes code.now wanted.now }
+    ensures { result ≡ end_changes out_codes.now wanted.now }
 {
     let mut sum = 0;
-    for (e, want) in code.iter().zip(wanted) {
+    for (e, want) in out_codes.iter().zip(wanted) {
         sum += output(*e, *want);
     }
     sum

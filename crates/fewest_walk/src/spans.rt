@@ -5,7 +5,7 @@ ghost use Rattle.fewest_walk.specs.Span.{Spanned};
 
 use crate::next::ways;
 
-// For each place how many choices share the places up to it.
+// For each place how many choices share the places up to it. By number, as in `next`: a place is an input's or a gate's.
 pub fn spans(codes: &[u8], results: &[u64], spans: &mut [u64])
     requires { length codes.now + length results.now ≤ length spans.old }
     ensures { Spanned (ways_at codes.now results.now) (length codes.now + length results.now) spans.old

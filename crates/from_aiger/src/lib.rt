@@ -10,15 +10,24 @@ ghost use Rattle.from_aiger.specs.Promise.{call, Promise};
 
 use gate_table::Gates;
 use netlist::{Answer, Sizes};
+use old_form::Dialect;
 use read_aiger::read::NetlistNumbers;
+use write_netlist::form::Form;
 
-// Question 14 and the text of a netlist of these numbers.
+// Question 14 and the text of a netlist of these numbers with these gates, whose count is that of `gates`.
 pub fn write(out: &mut [u8], m: NetlistNumbers, gates: Gates) -> Answer
     requires { WiredGates gates m.wires }
     ensures { Delivers (form_text gates.entry.count m.wires (m.inputs ∷ []) (m.outputs ∷ []) (tables_of gates.entry))
         out.old out.new result }
 {
-    write_netlist::deliver(out, gates, m.wires, &[m.inputs], &[m.outputs])
+    let f = Form {
+        gates,
+        wires: m.wires,
+        ins: &[m.inputs],
+        outs: &[m.outputs],
+        dialect: Dialect::Fashion,
+    };
+    write_netlist::deliver(out, f)
 }
 
 // The file read, and its netlist's text. The tables are lent one by one: a struct of `&mut` slices would have to promise at each call that

@@ -26,9 +26,9 @@ fn read_and_write(
     wires: &mut [u32],
     sizes: Sizes,
 ) -> Answer
-    requires sizes_in_bounds { ((small_limits sizes).table ≤ length operands.old) × ((small_limits sizes).table ≤ length results.old)
-        × (0 < length heads.old) × (heads.old ≡ replicate (length heads.old) 0) × (wires.old ≡ replicate (length wires.old) 0) }
-    requires sizes_in_bounds_2 { (8 * (small_limits sizes).table ≤ length words.old) × (8 * (small_limits sizes).table ≤ length links.old)
+    requires gates_fit { ((small_limits sizes).table ≤ length operands.old) × ((small_limits sizes).table ≤ length results.old) }
+    requires cleared { (heads.old ≡ replicate (length heads.old) 0) × (wires.old ≡ replicate (length wires.old) 0) × (0 < length heads.old) }
+    requires names_fit { (8 * (small_limits sizes).table ≤ length words.old) × (8 * (small_limits sizes).table ≤ length links.old)
         × (8 * (small_limits sizes).table ≤ length states.old) × (8 * (small_limits sizes).table ≤ length wires.old) }
     ensures { Answers (and_then (read_equations (small_limits sizes) text.now) (rewrite_outcome (length out.old)))
         out.old out.new result }

@@ -120,22 +120,22 @@ pub record Calling (t : List ℕ) (from k at i : ℕ) : Type 0 where
 
 module _ {t : List ℕ} {from k at i : ℕ} (c : Calling t from k at i) {a : Call} (s : Called t at a) where
   -- the reader stayed: what it said is said at every later call
-  pub calling-stays : a.at ≡ at → CallIs t from k a.step
+  pub calling-stays : a.then.at ≡ at → CallIs t from k a.step
   calling-stays m = record { call = λ L o. go L a.step s.on.place s.says.step (s.says.call L i (c.reached L o)) }
     where
       later : i + (k - i) ≡ k
       later = omega (arith, c.few)
 
-      go : (L : Limits) (r : Result (Maybe (Gate × ℕ)) Question) → a.at ≡ place_after at r → StepIs t at r → ReaderIs L t i r → ReaderIs L t k r
+      go : (L : Limits) (r : Result (Maybe (Gate × ℕ)) Question) → a.then.at ≡ place_after at r → StepIs t at r → ReaderIs L t i r → ReaderIs L t k r
       go L (Ok (Some (g, p))) q u x = absurd (omega (arith, u.passed.1))
       go L (Ok None) q u x = reader-is (sym (rw later at (x.end_again refl (k - i)))) tt
       go L (Err n) q u x = reader-is (sym (rw later at (x.no_again (number_of n) refl (k - i)))) tt
 
-  -- the last call
-  pub calling-end : k ≤ i → CallIs t from k a.step
-  calling-end h =
-      let y : i ≡ k = omega (arith, c.few) in
-      record { call = λ L o. subst (λ (n : ℕ). ReaderIs L t n a.step) y (s.says.call L i (c.reached L o)) }
+-- the last call
+pub calling-end : {t : List ℕ} {from k at i : ℕ} {r : Result (Maybe (Gate × ℕ)) Question} → Calling t from k at i → CurrentIs t at r → k ≤ i → CallIs t from k r
+calling-end {t = t} {k = k} {i = i} {r = r} c s h =
+    let y : i ≡ k = omega (arith, c.few) in
+    record { call = λ L o. subst (λ (n : ℕ). ReaderIs L t n r) y (s.call L i (c.reached L o)) }
 
 -- ---- from an opening on
 

@@ -59,12 +59,12 @@ pub record AdvanceIs (t : List ℕ) (at : ℕ) (s : Result (Option (Gate × ℕ)
   pub place : to ≡ place_after at s
   pub call : (L : Limits) (k : ℕ) → AtCall L t k at → ReaderIs L t k s → AtCall L t (k + 1) to
 
--- ---- calls without the struct
+-- ---- calls counted
 
--- c is one call at a place: what the reader says there, and its place then
+-- c is one call of the reader at a place: what it says there, and the reader then
 pub record Called (t : List ℕ) (at : ℕ) (c : Call) : Type 0 where
   pub says : CurrentIs t at c.step
-  pub on : AdvanceIs t at c.step c.at
+  pub on : AdvanceIs t at c.step c.then.at
 
 -- r is the k-th answer of the reader that stands at the place `from` before its first call
 pub record CallIs (t : List ℕ) (from k : ℕ) (r : Result (Option (Gate × ℕ)) Question) : Type 0 where

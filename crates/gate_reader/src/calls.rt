@@ -1,4 +1,5 @@
-// The calls of a gate reader counted, for a caller that holds a text and a place in place of a reader.
+// The calls of a gate reader counted.
+ghost use Rattle.std.specs.Prelude.{◌≡◌};
 ghost use Rattle.netlist.specs.Netlist.{large as large_limits};
 ghost use Rattle.gate_reader.specs.Calls.{Called, CallIs, ReaderIs};
 
@@ -7,38 +8,35 @@ use crate::opening::open_at;
 use crate::step::Step;
 use netlist::Sizes;
 
-// What the reader says at a place, and its place then.
+// What a reader says, and the reader then.
 #[derive(Clone, Copy)]
-pub struct Call {
+pub struct Call<'a> {
     pub step: Step,
-    pub at: usize,
+    pub then: GateReader<'a>,
 }
 
-// One call of the reader at a place of a text.
-pub fn ask(text: &[u8], at: usize) -> Call
-    ensures { Called text.now at result }
+// One call of a reader.
+pub fn ask(reader: GateReader) -> Call
+    ensures { (result.then.text ≡ reader.entry.text) × Called reader.entry.text.now reader.entry.at result }
 {
-    let r = GateReader::new(text, at);
-    let s = r.current();
-    let q = r.advance(s);
-    Call { step: s, at: q.at }
+    let step = reader.current();
+    let then = reader.advance(step);
+    Call { step, then }
 }
 
-// What the reader at a place says when it is asked for the k-th time, from 0. Where it stays, at an end or a no, it says the
-// same each time.
-fn call_at(text: &[u8], from: usize, k: usize) -> Step
-    ensures { CallIs text.now from k result }
+// What a reader says when it is asked for the k-th time, from 0. Where it stays, at an end or a no, it says the same each time.
+fn call_at(from: GateReader, k: usize) -> Step
+    ensures { CallIs from.entry.text.now from.entry.at k result }
 {
-    let mut at = from;
+    let mut reader = from;
     for _ in 0..k {
-        let c = ask(text, at);
-        if c.at == at {
+        let c = ask(reader);
+        if c.then.at == reader.at {
             return c.step;
         }
-        at = c.at;
+        reader = c.then;
     }
-    let last = ask(text, at);
-    last.step
+    reader.current()
 }
 
 // What the reader of a text says when it is asked for the k-th time, from 0; a refused opening gives its number.
@@ -48,5 +46,5 @@ pub fn kth(text: &[u8], k: usize, sizes: Sizes) -> Step
     let mut inputs = [0u32; 17];
     let mut outputs = [0u32; 16];
     let (_, reader) = open_at(text, &mut inputs, &mut outputs, sizes)?;
-    call_at(text, reader.at, k)
+    call_at(reader, k)
 }

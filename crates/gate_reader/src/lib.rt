@@ -13,7 +13,7 @@ ghost use Rattle.gate_reader.specs.Calls.{AtCall, CurrentIs, AdvanceIs};
 
 use crate::step::{Step, place_after, step_at};
 
-// A lent text, and the place from which its next gate line is looked for.
+// A lent text, and the place from which its next gate line is looked for. No `Cursor`: document 01 names a struct of a text and a position.
 #[derive(Clone, Copy)]
 pub struct GateReader<'a> {
     pub text: &'a [u8],

@@ -20,9 +20,7 @@ pub fn step_at(text: &[u8], at: usize) -> Step
     if text.len() <= line.at {
         return Ok(None);
     }
-    let Some((g, next)) = gate_line(line) else {
-        return Err(Question::Line);
-    };
+    let (g, next) = gate_line(line).ok_or(Question::Line)?;
     Ok(Some((Gate::from(g), next.at)))
 }
 

@@ -20,7 +20,8 @@ pub struct GateRecord {
 }
 
 // A source gate: its gate, the wire that its result stands on in the masked netlist and the code of the mask on it, and the place
-// of its first masked gate among the masked gates.
+// of its first masked gate among the masked gates. Flat, with no `GateRecord` inside: it is a struct of the C interface, whose fields C's
+// header names one by one.
 #[repr(C)]
 #[derive(Clone, Copy, Default)]
 pub struct SourceRecord {

@@ -61,7 +61,7 @@ pub gate-entered : (g : GateNumbers) → g.left < half → g.result < half → (
     → Entered W (gate_said g) e.operands e.results
 gate-entered g fa fc W p n = rw p (enter W g.kind g.left g.right g.result fa fc n)
 
--- the same of a gate whose kind stands with its wires
+-- a gate whose kind stands with its wires: its entries hold it
 abbrev pub first_wire : Gate → ℕ
 first_wire (gate.Xor a b c) = a
 first_wire (gate.And a b c) = a

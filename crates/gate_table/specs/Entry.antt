@@ -26,7 +26,7 @@ entry_for (Eq v) a b c = packed (number (Eq v)) 0 0 c
 abbrev pub entry_of : GateNumbers → Entry
 entry_of g = entry_for g.kind g.left g.right g.result
 
--- the same of a gate whose kind stands with its wires
+-- the entries of a gate whose kind stands with its wires
 abbrev pub gate_entry : Gate → Entry
 gate_entry (gate.Xor a b c) = packed 1 a b c
 gate_entry (gate.And a b c) = packed 2 a b c

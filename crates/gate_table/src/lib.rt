@@ -4,6 +4,7 @@
 
 ghost use Rattle.std.specs.Prelude.{◌≡◌, ℕ, ◌<◌, length};
 ghost use Rattle.netlist.specs.Table.{gate_of, tables, put_entry};
+ghost use Rattle.old_form.specs.OldWrite.{is_old_gate};
 ghost use Rattle.gate_table.specs.Kind.{number, gate_for};
 ghost use Rattle.gate_table.specs.Numbers.{second_of};
 ghost use Rattle.gate_table.specs.Entry.{packed};
@@ -23,7 +24,8 @@ pub enum Kind {
 }
 
 impl Kind {
-    // The kind of a number of the tables: 1 to 4 are XOR, AND, INV and EQW, 5 is EQ 0, any other EQ 1.
+    // The kind of a number of the tables: 1 to 4 are XOR, AND, INV and EQW, 5 is EQ 0, any other EQ 1. No `TryFrom`: no number is
+    // refused. No `From`, which is for conversions that lose nothing: 0 and all numbers above 5 are one kind.
     #[inline(always)]
     pub fn of(number: usize) -> Kind
         ensures { (a b c : ℕ) → gate_for result a b c ≡ gate_of number a b c }
@@ -39,7 +41,7 @@ impl Kind {
     }
 
     // Its number in the tables.
-    pub fn number(self) -> u64
+    pub fn number(self) -> u32
         ensures { result ≡ number self }
     {
         match self {
@@ -51,10 +53,19 @@ impl Kind {
             Kind::Eq(_) => 6,
         }
     }
+
+    // Whether the older dialect has it: XOR, AND and INV.
+    #[inline(always)]
+    pub fn is_old(self) -> bool
+        ensures { (a b c : ℕ) → result ≡ is_old_gate (gate_for self a b c) }
+    {
+        matches!(self, Kind::Xor | Kind::And | Kind::Inv)
+    }
 }
 
 // A gate with its kind apart from its wires, as its line gives it: a gate of one operand has 0 on the right, and an EQ on the left too.
-// `second` and its entries choose by the kind.
+// `second` and its entries choose by the kind. A form beside `Gate`: questions 8 and 9 look at a line's
+// wires by a name for each, where of a `Gate` each kind would be a case.
 #[derive(Clone, Copy)]
 pub struct GateNumbers {
     pub kind: Kind,
@@ -78,9 +89,6 @@ pub struct Parts {
     pub result: usize,
     pub kind: usize,
 }
-
-// 2^32: the right operand and the kind stand in the upper halves of their entries.
-pub const HALF: u64 = 4294967296;
 
 // The gate that the numbers are.
 impl From<GateNumbers> for Gate {
@@ -114,8 +122,8 @@ pub fn pack(kind: Kind, a: u32, b: u32, c: u32) -> Entry
     ensures { result ≡ packed (number kind) a b c }
 {
     Entry {
-        operands: a as u64 + b as u64 * HALF,
-        results: c as u64 + kind.number() * HALF,
+        operands: halves::pack(a, b),
+        results: halves::pack(c, kind.number()),
     }
 }
 
@@ -150,7 +158,7 @@ impl From<Gate> for Entry {
     }
 }
 
-// Stores entries at a place of the tables.
+// Stores entries at a place of the tables. Not `lists::put`, which asks at each gate whether there is room: callers know it.
 pub fn put(operands: &mut [u64], results: &mut [u64], at: usize, e: Entry)
     requires { (at < length operands.old) × (at < length results.old) }
     ensures { tables operands.new results.new
@@ -160,19 +168,23 @@ pub fn put(operands: &mut [u64], results: &mut [u64], at: usize, e: Entry)
     results[at] = e.results;
 }
 
-// The parts of two entries.
+// The parts of two entries. Of two numbers, and no `From<Entry>`: its callers hold an entry of each table, and would put an `Entry` together to
+// take it apart.
 pub fn split(operands: u64, results: u64) -> Parts
     ensures { result ≡ parts_of operands results }
 {
+    let (left, right) = halves::unpack(operands);
+    let (out, kind) = halves::unpack(results);
     Parts {
-        left: (operands % HALF) as usize,
-        right: (operands / HALF) as usize,
-        result: (results % HALF) as usize,
-        kind: (results / HALF) as usize,
+        left: left as usize,
+        right: right as usize,
+        result: out as usize,
+        kind: kind as usize,
     }
 }
 
-// The first `count` gates of the two tables, to read.
+// The first `count` gates of the two tables, to read. With tables cut to the gates there would be two lengths in place of a count, a law
+// that they are equal, and two cuts with their proof wherever a value is made.
 #[derive(Clone, Copy)]
 pub struct Gates<'a> {
     pub operands: &'a [u64],

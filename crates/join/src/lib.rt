@@ -1,5 +1,7 @@
 // Join: two masked blocks over the same two mask bits as one netlist, the outputs of the first the inputs of the second. Questions 1 to 11
 // with the large limits to the first text and then to the second, 25, 5 of the joined netlist, and 14.
+// Lent tables stay parameters of their own: C lends them one by one, and a struct of `&mut` slices would have to promise at each call
+// that it still holds the same ones.
 #![tactic(auto)]
 
 ghost use Rattle.std.specs.Prelude.{◌≡◌, true, [], ◌∷◌, ◌-◌, ◌≤◌, length};
@@ -15,7 +17,9 @@ ghost use Rattle.join.specs.Promise.{call, Promise};
 use gate_table::Gates;
 use join_gates::seam::SeamNumbers;
 use netlist::{Answer, Question, Sizes};
+use old_form::Dialect;
 use read_header::header::Header;
+use write_netlist::form::Form;
 
 // Questions 1 to 11 of a text with its input codes, as `read_netlist::read::read` puts 1 to 9.
 fn read_block(
@@ -46,25 +50,25 @@ fn all_secret(codes: &[u8]) -> bool
     !codes.contains(&0)
 }
 
-// Question 25.
+// Question 25. The first block's header and output codes are two parameters, here and below: C hands in the codes, the reader gives the header.
 fn seam_holds(a: Header, out_codes: &[u8], b: Header, codes: &[u8]) -> bool
     ensures { result ≡ seam_holds a out_codes.now b codes.now }
 {
     out_codes.len() as u64 == a.output_bits
-        && read_text::bytes::same(out_codes, codes)
+        && out_codes == codes
         && all_secret(codes)
         && b.output_bits <= b.gates as u64
 }
 
 // Questions 25, 5 and 14 and the joined text, of two blocks that were read: the second's gates go behind the first's.
-fn deliver(
+fn deliver<'w>(
     out_codes: &[u8],
     codes: &[u8],
     out: &mut [u8],
     a: Header,
     b: Header,
-    inputs: &[u32],
-    outputs: &[u32],
+    inputs: &'w [u32],
+    outputs: &'w [u32],
     operands: &mut [u64],
     results: &mut [u64],
     words: &[u64],
@@ -104,7 +108,14 @@ fn deliver(
         results,
         count: count + second.count,
     };
-    write_netlist::deliver(out, gates, wires as usize, inputs, outputs)
+    let f = Form {
+        gates,
+        wires: wires as usize,
+        ins: inputs,
+        outs: outputs,
+        dialect: Dialect::Fashion,
+    };
+    write_netlist::deliver(out, f)
 }
 
 // The answer once the first text is read: questions 2 to 11 of the second, and then 25, 5 and 14.

@@ -1,4 +1,6 @@
 // The gates of a second netlist put behind those of a first, on their joined wires.
+// Lent tables stay parameters of their own: C lends them one by one, and a struct of `&mut` slices would have to promise at each call
+// that it still holds the same ones.
 #![tactic(auto)]
 
 pub mod seam;
@@ -9,7 +11,8 @@ ghost use Rattle.gate_table.specs.Gates.{tables_of, WiredGates};
 ghost use Rattle.join_gates.specs.Appended.{goes_to, Appended};
 
 use crate::seam::SeamNumbers;
-use gate_table::{Gates, HALF};
+use gate_table::{Entry, Gates, put};
+use halves::{pack, unpack};
 
 // The joined wire of wire w of the second.
 fn wire(s: SeamNumbers, w: u32) -> u32
@@ -31,9 +34,8 @@ fn operands_entry(s: SeamNumbers, entry: u64) -> u64
     requires { (entry % half < s.second) × (entry / half < s.second) }
     ensures { result ≡ goes_to s (entry % half) + goes_to s (entry / half) * half }
 {
-    let a = wire(s, (entry % HALF) as u32);
-    let b = wire(s, (entry / HALF) as u32);
-    a as u64 + b as u64 * HALF
+    let (a, b) = unpack(entry);
+    pack(wire(s, a), wire(s, b))
 }
 
 // The entry of a result and its kind.
@@ -41,8 +43,8 @@ fn result_entry(s: SeamNumbers, entry: u64) -> u64
     requires { entry % half < s.second }
     ensures { result ≡ goes_to s (entry % half) + entry / half * half }
 {
-    let c = wire(s, (entry % HALF) as u32);
-    c as u64 + entry / HALF * HALF
+    let (c, kind) = unpack(entry);
+    pack(wire(s, c), kind)
 }
 
 // Puts the gates of a second netlist behind the first `count` gates of two tables. EQ has no case of its own: the operands of its entry are
@@ -60,7 +62,10 @@ pub fn append(
         (tables operands.new results.new) }
 {
     for i in 0..second.count {
-        operands[count + i] = operands_entry(s, second.operands[i]);
-        results[count + i] = result_entry(s, second.results[i]);
+        let e = Entry {
+            operands: operands_entry(s, second.operands[i]),
+            results: result_entry(s, second.results[i]),
+        };
+        put(operands, results, count + i, e);
     }
 }

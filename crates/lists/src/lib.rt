@@ -16,7 +16,8 @@ fn all_up_to(list: &[u8], most: u8) -> bool
     list.iter().all(|e| *e <= most)
 }
 
-// Whether there are n entries, each at most `most`.
+// Whether there are n entries, each at most `most`. Four public names ask it, so that the range of each kind of list stands once and
+// callers say which kind they mean.
 fn good(list: &[u8], n: usize, most: u8) -> bool
     ensures { result ≡ list_good (up_to most) n list.now }
 {

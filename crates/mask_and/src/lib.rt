@@ -12,7 +12,7 @@ use write_wires::table::Words;
 
 // A row for each step: its operation, 1 for AND and 0 for XOR, and the places of its operands. The operation is a number, since
 // document 01 names this form, an array of seven arrays.
-// Places: 0 A, 1 B, 2 P, 3 Q, 4 the OR of the masks, 5 to 11 the steps themselves.
+// Places: 0 A, 1 B, 2 the mask P of A, 3 the mask Q of B, 4 the OR of the masks, 5 to 11 the steps themselves.
 const ROWS: [[u8; 3]; 7] = [
     [1, 0, 1],
     [1, 0, 3],
@@ -32,7 +32,7 @@ pub fn step(a: u32, b: u32, p: u32, q: u32, o: u32, c: u32, k: usize) -> GateRec
     let row = rows[k];
     let places = [a, b, p, q, o, c, c + 1, c + 2, c + 3, c + 4, c + 5, c + 6];
     GateRecord {
-        // `GateRecord::from` of an XOR or an AND takes three instructions more a step: 3 percent of adding an AND to a session
+        // by the row's number: for `GateRecord::from` an XOR or an AND would first be chosen by it, and then made a record with that number again
         kind: row[0] as u32 + 1,
         first: places[row[1] as usize],
         second: places[row[2] as usize],
@@ -51,8 +51,9 @@ fn row(d: Words, out: &mut [u8], at: usize, is_and: bool, a: u32, b: u32, c: u32
     }
 }
 
-// The steps' gates at the wires from c, with the operands a and b, their mask wires p and q, and the wire o of the OR of the masks. A loop
-// over what `step` gives took 185 µs in place of 162, so that masking, at 1.02 to 1.07 times the plain C of bench/, would miss its bar of 1.1.
+// The steps' gates at the wires from c, with the operands a and b, their mask wires p and q, and the wire o of the OR of the masks. The five
+// are any numbers, here and in `step`: with the masks and the operands' twins in their place each would ask that the masks are wires. A loop
+// over what `step` gives took 185 µs in place of 162, so that masking, at 1.02 to 1.08 times the plain C of bench/, would miss its bar of 1.1.
 pub fn steps(
     d: Words,
     out: &mut [u8],

@@ -13,7 +13,7 @@ use lib.Seq.{sets, sets-eq}
 use Rattle.netlist.specs.declared.Question.{Question}
 use Rattle.netlist.specs.Question.{number_of}
 use Rattle.netlist.specs.Lists.{every, sum}
-use Rattle.netlist.specs.Netlist.{Netlist, input_bits}
+use Rattle.netlist.specs.Netlist.{Netlist, input_bits, small_wires}
 use Rattle.netlist.specs.Outcome.{Outcome, refused, done}
 use Rattle.netlist.specs.Write.{write_netlist}
 use Rattle.netlist.specs.Mask.{mask_netlist}
@@ -30,11 +30,12 @@ use Rattle.fewest.proofs.Same.{gates-same}
 use Rattle.fewest.proofs.Floor.{given-takes, length-ways}
 use Rattle.fewest_walk.specs.Advance.{choice_of}
 use Rattle.fewest_search.specs.declared.search.Tally.{Tally}
-use Rattle.fewest_search.specs.Turn.{Fits}
+use Rattle.fewest_search.specs.Try.{Fits}
 use Rattle.fewest_search.specs.Search.{Source, Found}
 use Rattle.fewest_apply.specs.Apply.{Swapped, Chosen}
 use Rattle.fewest_apply.proofs.Applying.{gates-chosen, codes-chosen}
 use Rattle.mask_fewest.specs.Stages.{Chose, given, room, FewestAnswers}
+use Rattle.netlist.specs.declared.Sizes.TheVariants.{Whole}
 
 -- ---- a netlist that was read
 
@@ -60,7 +61,7 @@ module _ {t : Tables} {count : ℕ} {codes wanted : List ℕ} {W : ℕ} {N : Net
   outs = let o = Q.holds.outs in let w = Q.holds.wires in let b = Q.formed.outputs_fit in omega arith
 
 pub fits-fronts : {t : Tables} {count : ℕ} {codes wanted : List ℕ} {W : ℕ} {N : Netlist} (ys bs ms ws : List ℕ) → Source t count codes wanted W N
-    → Wired t W count → W ≤ 100000 → length ys ≡ W → length bs ≡ W → length ms ≡ W → length ws ≡ W → Fits t count codes wanted ys bs ms ws
+    → Wired t W count → W ≤ small_wires Whole → length ys ≡ W → length bs ≡ W → length ms ≡ W → length ws ≡ W → Fits t count codes wanted ys bs ms ws
 fits-fronts ys bs ms ws Q H few y b m w = record {
   wired = wired-same m H;
   places = places Q ∙ sym m;
@@ -75,7 +76,7 @@ fits-fronts ys bs ms ws Q H few y b m w = record {
 -- the choice that was found, put to use
 pub chose : {o₀ o r : List ℕ} {count : ℕ} {codes wanted : List ℕ} {W budget : ℕ} (N : Netlist) (front best₀ : List ℕ) {ys₀ ys : List ℕ} {tal : Tally}
     → Source (tables o₀ r) count codes wanted W N → 1 ≤ budget → length front ≡ W → Found N codes wanted budget front tal
-    → Swapped r count (length codes) (front ++ drop W best₀) o₀ o → Chosen codes (front ++ drop W best₀) (length codes) ys₀ ys → length codes ≤ length ys₀
+    → Swapped r count (drop (length codes) (front ++ drop W best₀)) o₀ o → Chosen codes (front ++ drop W best₀) (length codes) ys₀ ys → length codes ≤ length ys₀
     → Chose N codes wanted budget (tables o r) count ys tal
 chose {o₀} {o} {r} {count} {codes} {wanted} {W} {budget} N front best₀ Q one lf F S C ly =
     let d = choice N codes (given_number N codes wanted budget) in
@@ -88,7 +89,7 @@ chose {o₀} {o} {r} {count} {codes} {wanted} {W} {budget} N front best₀ Q one
     let agree : Agree W (choice_of best) d = λ p h. get_or-append front (drop W best₀) 0 p (omega arith) ∙ F.choice p (omega arith) in
     let tk = given-takes N codes wanted l budget one in
     record {
-      gates = gates-chosen count S ∙ ap (chosen_gates (choice_of best) (length codes)) (sym Q.holds.gates)
+      gates = gates-chosen (length codes) best count S ∙ ap (chosen_gates (choice_of best) (length codes)) (sym Q.holds.gates)
           ∙ gates-same (choice_of best) d (length codes) N.gates (λ q a b. agree q (omega arith));
       inputs = codes-chosen codes best d C ly (λ p h. agree p (omega arith))
           (λ v h. let x = tk v (omega arith) in let e = input-ways codes N.gates v h in omega arith);

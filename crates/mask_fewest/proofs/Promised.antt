@@ -54,7 +54,7 @@ fewest-refused out is es ts p = record { text = answers-refused out (rw p); inpu
 -- ---- questions 11, 13, 22 and 14
 
 module _ {h : Header} {t : Tables} {is os : List ℕ} {N : Netlist} (a : Read h t h.gates is os N) (codes wanted : List ℕ) (budget : ℕ)
-    (out ins ends tal : List ℕ) where
+    (out in_codes out_codes tal : List ℕ) where
   codes-good : (b : Bool) → list_good is_call_code h.input_bits codes ≡ b → list_good is_call_code (input_bits N) codes ≡ b
   codes-good b e = ap (λ (n : ℕ). list_good is_call_code n codes) a.holds.ins ∙ e
 
@@ -62,7 +62,7 @@ module _ {h : Header} {t : Tables} {is os : List ℕ} {N : Netlist} (a : Read h 
   wanted-good b e = ap (λ (n : ℕ). list_good is_wanted n wanted) a.holds.outs ∙ e
 
   abbrev Answered : Question → Type 0
-  Answered q = FewestAnswers (fewest_outcome codes wanted budget (room out ins ends tal) N) out out ins ins ends ends tal tal (Err q)
+  Answered q = FewestAnswers (fewest_outcome codes wanted budget (room out in_codes out_codes tal) N) out out in_codes in_codes out_codes out_codes tal tal (Err q)
 
   module _ (p : list_good is_call_code h.input_bits codes ≡ true) (q : list_good is_wanted h.output_bits wanted ≡ true) where
     lengths : length codes ≡ h.input_bits
@@ -103,7 +103,7 @@ module _ {h : Header} {t : Tables} {is os : List ℕ} {N : Netlist} (a : Read h 
       abbrev its-result : Result
       its-result = result_of N codes wanted budget d
 
-      accepted : fewest_outcome codes wanted budget (room out ins ends tal) N ≡ deliver (room out ins ends tal) its-result
+      accepted : fewest_outcome codes wanted budget (room out in_codes out_codes tal) N ≡ deliver (room out in_codes out_codes tal) its-result
       accepted = rw (codes-good true p, wanted-good true q, le-leb 1 budget one) refl
 
       -- a buffer is too short for the input codes
@@ -114,12 +114,12 @@ module _ {h : Header} {t : Tables} {is os : List ℕ} {N : Netlist} (a : Read h 
       false-one true y z v e = rw e refl
       false-one false y z v e = refl
 
-      pub fewest-14-inputs : length ins < length codes → Answered Q.Room
+      pub fewest-14-inputs : length in_codes < length codes → Answered Q.Room
       fewest-14-inputs k =
           let l = chosen-length in
-          let b : holds (length ins) (chosen_inputs codes d) ≡ false = lt-leb (length (chosen_inputs codes d)) (length ins) (omega arith) in
-          let e = false-one (holds (length out) its-result.text) _ (holds (length ends) its-result.outputs) (holds (length tal) its-result.tally) b in
-          fewest-refused out ins ends tal (accepted ∙ rw e refl)
+          let b : holds (length in_codes) (chosen_inputs codes d) ≡ false = lt-leb (length (chosen_inputs codes d)) (length in_codes) (omega arith) in
+          let e = false-one (holds (length out) its-result.text) _ (holds (length out_codes) its-result.outputs) (holds (length tal) its-result.tally) b in
+          fewest-refused out in_codes out_codes tal (accepted ∙ rw e refl)
 
       -- the source under the choice that is given, in the tables t' and with the codes at the front of ys
       module _ {t' : Tables} {ys : List ℕ} {r : Tally} (C : Chose N codes wanted budget t' h.gates ys r) where
@@ -155,11 +155,11 @@ module _ {h : Header} {t : Tables} {is os : List ℕ} {N : Netlist} (a : Read h 
         pub chosen-masked : WellFormed (mask_netlist (chosen_source N (choice N codes (given_number N codes wanted budget))) (take (length codes) ys) wanted).netlist
         chosen-masked = masked-formed read-chosen (take (length codes) ys) wanted good-codes q
 
-        pub fewest-14 : {out' ins' ends' tal' : List ℕ} {x : std.Result ℕ Question}
-            → FewestAnswers (deliver (room out ins ends tal) (given (chosen_source N (choice N codes (given_number N codes wanted budget)))
+        pub fewest-14 : {out' in_codes' out_codes' tal' : List ℕ} {x : std.Result ℕ Question}
+            → FewestAnswers (deliver (room out in_codes out_codes tal) (given (chosen_source N (choice N codes (given_number N codes wanted budget)))
             (take (length codes) ys) wanted r))
-            out out' ins ins' ends ends' tal tal' x
-            → FewestAnswers (fewest_outcome codes wanted budget (room out ins ends tal) N) out out' ins ins' ends ends' tal tal' x
+            out out' in_codes in_codes' out_codes out_codes' tal tal' x
+            → FewestAnswers (fewest_outcome codes wanted budget (room out in_codes out_codes tal) N) out out' in_codes in_codes' out_codes out_codes' tal tal' x
         fewest-14 A =
             let e : given (chosen_source N d) (take (length codes) ys) wanted r ≡ its-result =
             ap₂ (λ (cs tl : List ℕ). record {
@@ -168,29 +168,29 @@ module _ {h : Header} {t : Tables} {is os : List ℕ} {N : Netlist} (a : Read h 
               outputs = (mask_netlist (chosen_source N d) cs wanted).codes;
               tally = tl;
             }) its-codes (ap₂ (λ (x y : ℕ). x ∷ y ∷ []) C.changes C.floor) in
-            fewest-as (sym (accepted ∙ ap (deliver (room out ins ends tal)) (sym e))) A
+            fewest-as (sym (accepted ∙ ap (deliver (room out in_codes out_codes tal)) (sym e))) A
 
 -- ---- questions 1 to 9
 
-module _ (s : Sizes) (text codes wanted : List ℕ) (budget : ℕ) (out ins ends tal o r w m y b z : List ℕ) where
+module _ (s : Sizes) (text codes wanted : List ℕ) (budget : ℕ) (out in_codes out_codes tal o r w m y b z : List ℕ) where
   abbrev lengths' : List ℕ
   lengths' = length o ∷ length r ∷ length m ∷ length w ∷ length y ∷ length b ∷ length z ∷ []
 
   abbrev rooms : Rooms
-  rooms = room out ins ends tal
+  rooms = room out in_codes out_codes tal
 
   pub call-not : {k : Question} → ask 1 (tables_long (small s) lengths') (read_netlist (small s) text) ≡ refused (number_of k)
-      → FewestAnswers (call s text codes wanted budget (room out ins ends tal) o r w m y b z) out out ins ins ends ends tal tal (Err k)
+      → FewestAnswers (call s text codes wanted budget (room out in_codes out_codes tal) o r w m y b z) out out in_codes in_codes out_codes out_codes tal tal (Err k)
   unfolding fewest_call
   call-not h =
-      fewest-refused out ins ends tal
+      fewest-refused out in_codes out_codes tal
       (call-refused (tables_long (small s) lengths') (read_netlist (small s) text) (fewest_outcome codes wanted budget rooms) h)
 
-  pub call-read : {out' ins' ends' tal' is os : List ℕ} {t : Tables} {h : Header} {a : std.Result ℕ Question}
+  pub call-read : {out' in_codes' out_codes' tal' is os : List ℕ} {t : Tables} {h : Header} {a : std.Result ℕ Question}
       → (tables_long (small s) lengths' ≡ true) × ReadAt (small s) text is os t h
       → ((N : Netlist) → Read h t h.gates (take h.input_values is) (take h.output_values os) N
-      → FewestAnswers (fewest_outcome codes wanted budget (room out ins ends tal) N) out out' ins ins' ends ends' tal tal' a)
-      → FewestAnswers (call s text codes wanted budget (room out ins ends tal) o r w m y b z) out out' ins ins' ends ends' tal tal' a
+      → FewestAnswers (fewest_outcome codes wanted budget (room out in_codes out_codes tal) N) out out' in_codes in_codes' out_codes out_codes' tal tal' a)
+      → FewestAnswers (call s text codes wanted budget (room out in_codes out_codes tal) o r w m y b z) out out' in_codes in_codes' out_codes out_codes' tal tal' a
   unfolding fewest_call
   call-read k d =
       fewest-as
@@ -199,19 +199,19 @@ module _ (s : Sizes) (text codes wanted : List ℕ) (budget : ℕ) (out ins ends
 
   -- ---- the promise
 
-  pub call-gives : {out' ins' ends' tal' : List ℕ} {a : std.Result ℕ Question}
-      → FewestAnswers (call s text codes wanted budget (room out ins ends tal) o r w m y b z) out out' ins ins' ends ends' tal tal' a
+  pub call-gives : {out' in_codes' out_codes' tal' : List ℕ} {a : std.Result ℕ Question}
+      → FewestAnswers (call s text codes wanted budget (room out in_codes out_codes tal) o r w m y b z) out out' in_codes in_codes' out_codes out_codes' tal tal' a
       → (n : ℕ) → a ≡ Ok n
-      → Gives s text codes wanted budget (call s text codes wanted budget (room out ins ends tal) o r w m y b z) (take n out') ins' ends' tal'
-  call-gives {out'} {ins'} {ends'} {tal'} {a} A n p =
+      → Gives s text codes wanted budget (call s text codes wanted budget (room out in_codes out_codes tal) o r w m y b z) (take n out') in_codes' out_codes' tal'
+  call-gives {out'} {in_codes'} {out_codes'} {tal'} {a} A n p =
       let c = call s text codes wanted budget rooms o r w m y b z in
       let x : part (λ R. R.text) c ≡ done (take n out') = sym (ap (outcome_of out') (sym p) ∙ A.text.outcome) in
       let d = and_then-done c (λ R. done R.text) (take n out') x in
       let R = d.0 in
       let k = worth s lengths' text codes wanted budget rooms R d.1 in
       let h₁ = holds (length out) R.text in
-      let h₂ = holds (length ins) R.inputs in
-      let h₃ = holds (length ends) R.outputs in
+      let h₂ = holds (length in_codes) R.inputs in
+      let h₃ = holds (length out_codes) R.outputs in
       let b₁ = both (h₁ && h₂ && h₃) (holds (length tal) R.tally) k.1 in
       let b₂ = both (h₁ && h₂) h₃ b₁.0 in
       let b₃ = both h₁ h₂ b₂.0 in
@@ -222,8 +222,8 @@ module _ (s : Sizes) (text codes wanted : List ℕ) (budget : ℕ) (out ins ends
         result = R;
         is-outcome = d.1;
         text-is = sym (done-same R.text (take n out') d.2);
-        inputs = fill (λ R. R.inputs) ins ins' A.inputs b₃.1;
-        outputs = fill (λ R. R.outputs) ends ends' A.outputs b₂.1;
+        inputs = fill (λ R. R.inputs) in_codes in_codes' A.inputs b₃.1;
+        outputs = fill (λ R. R.outputs) out_codes out_codes' A.outputs b₂.1;
         tally = fill (λ R. R.tally) tal tal' A.tally b₁.1;
         worth = k.0;
       }

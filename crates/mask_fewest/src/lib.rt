@@ -15,15 +15,16 @@ ghost use Rattle.fewest_search.specs.Search.{Source};
 ghost use Rattle.mask_fewest.specs.Stages.{Room, Choosable, Chose, Givable, given, room, FewestAnswers};
 ghost use Rattle.mask_fewest.specs.Promise.{call, Promise};
 
-use fewest_search::Job;
 use fewest_search::search::Tally;
 use gate_table::Gates;
+use mask::Head;
+use mask_pass::CodedGates;
 use netlist::{Answer, Question, Sizes};
 use read_header::header::Header;
 use read_netlist::read::read;
 
 // The choice that is given: its ANDs are swapped in the table of operands, its input codes stand at the front of `ways`; its changes and
-// the floor.
+// the floor. `codes` and `wanted` come without gates, here and in `deliver`, since `operands` is written behind the search.
 fn choose<'a>(
     codes: &'a [u8],
     wanted: &'a [u8],
@@ -47,7 +48,7 @@ fn choose<'a>(
 {
     let all = h.wires as usize;
     let count = h.gates as usize;
-    let job = Job {
+    let source = CodedGates {
         gates: Gates {
             operands,
             results,
@@ -57,7 +58,7 @@ fn choose<'a>(
         wanted,
     };
     let r = fewest_search::search::search(
-        job,
+        source,
         budget,
         &mut ways[..all],
         &mut best[..all],
@@ -65,59 +66,52 @@ fn choose<'a>(
         &mut wires[..all],
         &mut spans[..all],
     );
-    fewest_apply::swap(operands, results, count, codes.len(), best);
+    fewest_apply::swap(operands, &results[..count], &best[codes.len()..]);
     fewest_apply::codes(codes, best, ways);
     r
 }
 
 // The masked text and the output codes of a source, and where question 14 gets a yes also the codes and the tally. The buffers
-// and tables are parameters of their own: C lends them one by one, and a struct of `&mut` slices would have to promise at each call that
-// it still holds them.
+// and tables that are written are parameters of their own: C lends them one by one, and a struct of `&mut` slices would have to promise at
+// each call that it still holds them.
 fn give(
     out: &mut [u8],
-    ins: &mut [u8],
-    ends: &mut [u8],
+    in_codes: &mut [u8],
+    out_codes: &mut [u8],
     tally: &mut [u64],
-    h: Header,
+    head: Head,
     r: Tally,
-    codes: &[u8],
-    wanted: &[u8],
-    inputs: &[u32],
-    outputs: &[u32],
-    gates: Gates,
+    source: CodedGates,
     wires: &mut [u32],
     marks: &mut [u8],
 ) -> Answer
-    requires { Givable h (tables_of gates) gates.count codes.now wanted.now inputs.now wires.old marks.old ins.old tally.old }
+    requires { Givable head.header (tables_of source.gates) source.gates.count source.codes.now source.wanted.now head.inputs.now
+        wires.old marks.old in_codes.old tally.old }
     ensures { (N : Netlist)
-        → MaskSource (tables_of gates.entry) gates.entry.count h.wires (length codes.now) (length wanted.now)
-        (inputs.now ++ (2 ∷ [])) outputs.now N
-        → WellFormed (mask_netlist N codes.now wanted.now).netlist
-        → FewestAnswers (delivery (room out.old ins.old ends.old tally.old)
-        (given N codes.now wanted.now r)) out.old out.new ins.old
-        ins.new ends.old ends.new tally.old tally.new result }
+        → MaskSource (tables_of source.entry.gates) source.entry.gates.count head.entry.header.wires (length source.entry.codes.now)
+        (length source.entry.wanted.now) (head.entry.inputs.now ++ (2 ∷ [])) head.entry.outputs.now N
+        → WellFormed (mask_netlist N source.entry.codes.now source.entry.wanted.now).netlist
+        → FewestAnswers (delivery (room out.old in_codes.old out_codes.old tally.old)
+        (given N source.entry.codes.now source.entry.wanted.now r)) out.old out.new in_codes.old
+        in_codes.new out_codes.old out_codes.new tally.old tally.new result }
 {
-    let size = mask::deliver(
-        out, ends, h, codes, wanted, inputs, outputs, gates, wires, marks,
-    )?;
-    ins[..codes.len()].copy_from_slice(codes);
+    let size = mask::deliver(out, out_codes, head, source, wires, marks)?;
+    in_codes[..source.codes.len()].copy_from_slice(source.codes);
     tally[0] = r.changes as u64;
     tally[1] = r.floor as u64;
     Ok(size)
 }
 
-// Questions 11, 13, 22 and 14, and the masked netlist.
+// Questions 11, 13, 22 and 14, and the masked netlist. Codes, wanted codes and budget stay three parameters, as C hands them in one by one.
 fn deliver(
     out: &mut [u8],
-    ins: &mut [u8],
-    ends: &mut [u8],
+    in_codes: &mut [u8],
+    out_codes: &mut [u8],
     tally: &mut [u64],
-    h: Header,
+    head: Head,
     codes: &[u8],
     wanted: &[u8],
     budget: u64,
-    inputs: &[u32],
-    outputs: &[u32],
     operands: &mut [u64],
     results: &[u64],
     wires: &mut [u32],
@@ -126,13 +120,15 @@ fn deliver(
     best: &mut [u8],
     spans: &mut [u64],
 ) -> Answer
-    requires { Room h (tables operands.old results.now) inputs.now outputs.now wires.old marks.old ways.old best.old spans.old }
+    requires { Room head.header (tables operands.old results.now) head.inputs.now head.outputs.now wires.old marks.old
+        ways.old best.old spans.old }
     ensures { (N : Netlist)
-        → Read h (tables operands.old results.now) h.gates inputs.now outputs.now N
+        → Read head.entry.header (tables operands.old results.now) head.entry.header.gates head.entry.inputs.now head.entry.outputs.now N
         → FewestAnswers (fewest_outcome codes.now wanted.now budget
-        (room out.old ins.old ends.old tally.old) N) out.old out.new
-        ins.old ins.new ends.old ends.new tally.old tally.new result }
+        (room out.old in_codes.old out_codes.old tally.old) N) out.old out.new
+        in_codes.old in_codes.new out_codes.old out_codes.new tally.old tally.new result }
 {
+    let h = head.header;
     if !lists::free_codes(codes, h.input_bits as usize) {
         return Err(Question::Inputs);
     }
@@ -142,7 +138,7 @@ fn deliver(
     if budget == 0 {
         return Err(Question::Budget);
     }
-    if ins.len() < codes.len() {
+    if in_codes.len() < codes.len() {
         return Err(Question::Room);
     }
     if tally.len() < 2 {
@@ -156,20 +152,9 @@ fn deliver(
         results,
         count: h.gates as usize,
     };
+    let source = CodedGates::new(gates, &ways[..codes.len()], wanted);
     give(
-        out,
-        ins,
-        ends,
-        tally,
-        h,
-        r,
-        &ways[..codes.len()],
-        wanted,
-        inputs,
-        outputs,
-        gates,
-        wires,
-        marks,
+        out, in_codes, out_codes, tally, head, r, source, wires, marks,
     )
 }
 
@@ -180,8 +165,8 @@ fn answer(
     wanted: &[u8],
     budget: u64,
     out: &mut [u8],
-    ins: &mut [u8],
-    ends: &mut [u8],
+    in_codes: &mut [u8],
+    out_codes: &mut [u8],
     tally: &mut [u64],
     operands: &mut [u64],
     results: &mut [u64],
@@ -193,12 +178,13 @@ fn answer(
     sizes: Sizes,
 ) -> Answer
     ensures { FewestAnswers (call sizes text.now codes.now wanted.now budget
-        (room out.old ins.old ends.old tally.old) operands.old results.old
+        (room out.old in_codes.old out_codes.old tally.old) operands.old results.old
         wires.old marks.old ways.old best.old spans.old) out.old
-        out.new ins.old ins.new ends.old ends.new tally.old
+        out.new in_codes.old in_codes.new out_codes.old out_codes.new tally.old
         tally.new result }
 {
     let l = sizes.small();
+    // As many places as any limits admit values.
     let mut inputs = [0u32; 17];
     let mut outputs = [0u32; 16];
     let h = read(
@@ -211,29 +197,19 @@ fn answer(
         &[wires.len(), ways.len(), best.len(), spans.len()],
         l,
     )?;
+    let head = Head {
+        header: h,
+        inputs: &inputs[..h.input_values],
+        outputs: &outputs[..h.output_values],
+    };
     deliver(
-        out,
-        ins,
-        ends,
-        tally,
-        h,
-        codes,
-        wanted,
-        budget,
-        &inputs[..h.input_values],
-        &outputs[..h.output_values],
-        operands,
-        results,
-        wires,
-        marks,
-        ways,
-        best,
-        spans,
+        out, in_codes, out_codes, tally, head, codes, wanted, budget, operands, results, wires,
+        marks, ways, best, spans,
     )
 }
 
 // The masked netlist of `text` under the first choice with the fewest mask changes among as many as `budget` allows, at the front of
-// `out`; the codes of its input bits at the front of `ins`, those of its output bits at the front of `ends`, and its changes and the floor
+// `out`; the codes of its input bits at the front of `in_codes`, those of its output bits at the front of `out_codes`, and its changes and the floor
 // at the front of `tally`. The tables, of any content, are zero on return.
 pub fn mask_fewest(
     text: &[u8],
@@ -241,8 +217,8 @@ pub fn mask_fewest(
     wanted: &[u8],
     budget: u64,
     out: &mut [u8],
-    ins: &mut [u8],
-    ends: &mut [u8],
+    in_codes: &mut [u8],
+    out_codes: &mut [u8],
     tally: &mut [u64],
     operands: &mut [u64],
     results: &mut [u64],
@@ -254,14 +230,14 @@ pub fn mask_fewest(
     sizes: Sizes,
 ) -> Answer
     ensures { Promise sizes text.now codes.now wanted.now budget out.old
-        out.new ins.old ins.new ends.old ends.new tally.old
+        out.new in_codes.old in_codes.new out_codes.old out_codes.new tally.old
         tally.new operands.old operands.new results.old results.new
         wires.old wires.new marks.old marks.new ways.old ways.new
         best.old best.new spans.old spans.new result }
 {
     let r = answer(
-        text, codes, wanted, budget, out, ins, ends, tally, operands, results, wires, marks, ways,
-        best, spans, sizes,
+        text, codes, wanted, budget, out, in_codes, out_codes, tally, operands, results, wires,
+        marks, ways, best, spans, sizes,
     );
     operands.fill(0);
     results.fill(0);

@@ -3,7 +3,7 @@ use Prim.Native.Nat.{ℕ, ◌+◌, ◌-◌, ◌≤◌}
 use mathlib.Core.Path.{◌≡◌, sym, ap, ap₂, ◌∙◌}
 use mathlib.Core.List.{List, ◌++◌}
 use native.Mathlib.Omega.{arith}
-use lib.ListN.{length, drop, length-append, length-drop}
+use lib.ListN.{length, take, drop, length-append, length-drop}
 use Rattle.netlist.specs.declared.Gate.{Gate}
 use Rattle.netlist.specs.declared.Twin.{Twin}
 use Rattle.netlist.specs.Netlist.{Netlist, output_bits}
@@ -19,7 +19,7 @@ use Rattle.mask_twins.proofs.Finishes.{begun, finished}
 use Rattle.mask_pass.specs.State.{codes_of, WroteAll}
 use Rattle.mask_pass.specs.Pass.{WrotePass, Counted}
 use Rattle.mask_pass.proofs.PublicBits.{past-length}
-use Rattle.mask_pass.proofs.Outputs.{out-codes}
+use Rattle.mask_pass.proofs.Outputs.{out-codes, twins-rest}
 
 -- the gates of a pass, from its first state and the tables behind its last source gate
 abbrev pass_gates : (cs vs : List ℕ) → State → List Gate → ℕ → (ws es : List ℕ) → List Gate
@@ -66,7 +66,8 @@ module _ (t : Tables) (count W c₁ : ℕ) (cs vs ws₁ es₁ ws₂ es₂ : List
   pub pass-made : {e m₁ m₂ m₃ x : List ℕ} {at a b r : ℕ} (R : ℕ × ℕ) → length vs ≤ W → length ws₂ ≡ W → length es₂ ≡ W → Started (length cs + 5) cs W c₁ ws₁ es₁
       → WroteGates e at (mask_gates (length cs)) m₁ a → WroteGates m₁ a (public_gates (length cs) (length cs + 5) 0 cs) m₂ b
       → WroteAll m₂ b (length cs) (state_of c₁ ws₁ es₁) t count m₃ R (state_of R.1 ws₂ es₂)
-      → WroteGates m₃ R.0 (out_gates (length cs) R.1 (drop (length ws₂ - length vs) (twins_of ws₂ es₂)) vs) x r
+      → WroteGates m₃ R.0 (out_gates (length cs) R.1 (twins_of (take (length ws₂ - (length ws₂ - length vs)) (drop (length ws₂ - length vs) ws₂))
+      (take (length es₂ - (length ws₂ - length vs)) (drop (length ws₂ - length vs) es₂))) vs) x r
       → WrotePass e at (mask_netlist N cs vs) (length cs) vs x (r, R.1 + length vs) es₂
   unfolding mask_netlist
   pass-made R small kw ke h masks publics g outs =
@@ -83,7 +84,7 @@ module _ (t : Tables) (count W c₁ : ℕ) (cs vs ws₁ es₁ ws₂ es₂ : List
       let long : length es₂ ≡ length ws₂ = ke ∙ sym kw in
       let next : (advance_all S (gates_of t count)).next ≡ R.1 = λ i. (sym g.state i).next in
       record {
-        wrote = gates-as same (gates-then (gates-then (gates-then masks publics) g.wrote) outs);
+        wrote = gates-as same (gates-then (gates-then (gates-then masks publics) g.wrote) (rw (← twins-rest (length ws₂ - length vs) ws₂ es₂) outs));
         wires = wires;
         count = ap (λ (l : List Gate). length l + (length cs + 2)) (sym same) ∙ counted cs vs S (gates_of t count) R.1 ws₂ es₂ h.next next long
             (omega arith) ∙ wires;

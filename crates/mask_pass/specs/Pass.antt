@@ -4,8 +4,8 @@ use Rattle.netlist.specs.Mask.{Masked}
 use Rattle.write_gates.specs.Gates.{WroteGates}
 use Rattle.mask_pass.specs.State.{codes_of}
 
--- the gates of the masked netlist M were written: r has the next place, and the next wire, which is its wire count, n + 2 more than its gates, and the table
--- es of the codes gives the output codes
+-- the gates of the masked netlist M were written: r has the next place, and the next wire, which is its wire count, n + 2 more than its
+-- gates, and the table es of the codes gives the output codes
 pub record WrotePass (e : List ℕ) (at : ℕ) (M : Masked) (n : ℕ) (vs x : List ℕ) (r : ℕ × ℕ) (es : List ℕ) : Type 0 where
   pub wrote : WroteGates e at M.netlist.gates x r.0
   pub wires : r.1 ≡ M.netlist.wires

@@ -6,15 +6,16 @@ ghost use Rattle.gate_table.specs.Gates.{HoldsGates, tables_of};
 ghost use Rattle.mask_twins.specs.Place.{Ready};
 ghost use Rattle.mask_pass.specs.Pass.{Counted};
 
-use gate_table::Gates;
+use crate::CodedGates;
 
 // The wire count of the masked netlist.
-pub fn count(gates: Gates, codes: &[u8], wanted: &[u8], wire: &mut [u32], code: &mut [u8]) -> u32
-    requires { Ready (tables_of gates) gates.count codes.now wanted.now wire.old code.old }
-    ensures { (N : Netlist) → HoldsGates gates.entry (length wire.old)
-        (length codes.now) (length wanted.now) N
-        → Counted (mask_netlist N codes.now wanted.now) (length codes.now) (length wanted.now) result }
+pub fn count(source: CodedGates, twin_wires: &mut [u32], twin_codes: &mut [u8]) -> u32
+    requires { Ready (tables_of source.gates) source.gates.count source.codes.now source.wanted.now twin_wires.old twin_codes.old }
+    ensures { (N : Netlist) → HoldsGates source.entry.gates (length twin_wires.old)
+        (length source.entry.codes.now) (length source.entry.wanted.now) N
+        → Counted (mask_netlist N source.entry.codes.now source.entry.wanted.now) (length source.entry.codes.now)
+        (length source.entry.wanted.now) result }
 {
-    let next = mask_twins::place::place_twins(gates, codes, wire, code);
-    next + wanted.len() as u32
+    let next = mask_twins::place::place_twins(source.gates, source.codes, twin_wires, twin_codes);
+    next + source.wanted.len() as u32
 }

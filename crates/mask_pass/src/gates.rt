@@ -10,8 +10,9 @@ use mask_codes::{Masks, Next};
 use write_wires::table::Words;
 
 // A source gate of these parts, at the wires from c: the next place, and the next wire. Its result's twin is the one that changes.
-// `wire` and `code` are two tables, since C lends them as two. `d` and `masks` are two parameters, here and in `mask_gate`: a line takes
-// `d` and the wire of a mask takes `masks`, so with a struct j of them the bodies would say `j.d` and `j.masks`: no plainer.
+// `twin_wires` and `twin_codes` are two tables, since C lends them as two. `d` and `masks` are two parameters, here and in `mask_gate`: a line takes
+// `d` and the wire of a mask takes `masks`, so with a struct j of them the bodies would say `j.d` and `j.masks`: no plainer. `masks` and `c` are
+// two, as `masks` stays while `c` moves.
 fn step(
     d: Words,
     out: &mut [u8],
@@ -19,23 +20,23 @@ fn step(
     masks: Masks,
     c: Next,
     g: Parts,
-    wire: &mut [u32],
-    code: &mut [u8],
+    twin_wires: &mut [u32],
+    twin_codes: &mut [u8],
 ) -> (usize, u32)
-    requires { Within (length wire.old) g × (length code.old ≡ length wire.old) }
-    ensures { WroteStep out.old at masks.first (state_of c.wire wire.old code.old) (gate_by g)
-        out.new result (state_of result.1 wire.new code.new) }
+    requires { Within (length twin_wires.old) g × (length twin_codes.old ≡ length twin_wires.old) }
+    ensures { WroteStep out.old at masks.first (state_of c.wire twin_wires.old twin_codes.old) (gate_by g)
+        out.new result (state_of result.1 twin_wires.new twin_codes.new) }
 {
     let result = g.result;
-    let a = mask_twins::twin(wire, code, g.left);
-    let b = mask_twins::twin(wire, code, g.right);
+    let a = mask_twins::twin(twin_wires, twin_codes, g.left);
+    let b = mask_twins::twin(twin_wires, twin_codes, g.right);
     let (end, t) = mask_gate::emit(d, out, at, masks, c, Kind::of(g.kind), a, b);
-    wire[result] = t.wire;
-    code[result] = t.code;
+    mask_twins::put(twin_wires, twin_codes, result, t);
     (end, t.wire + 1)
 }
 
-// All the gates, at the wires from c, likewise.
+// All the gates, at the wires from c: the next place, and the next wire. By number: a `zip` of the two tables, each cut to the count, would be
+// longer than `gates.at(i)`.
 pub fn write_all(
     d: Words,
     out: &mut [u8],
@@ -43,20 +44,29 @@ pub fn write_all(
     masks: Masks,
     c: u32,
     gates: Gates,
-    wire: &mut [u32],
-    code: &mut [u8],
+    twin_wires: &mut [u32],
+    twin_codes: &mut [u8],
 ) -> (usize, u32)
     requires c_bound { c + 8 * gates.count < 2 ^ 31 }
-    requires wired { WiredGates gates (length wire.old) × (length code.old ≡ length wire.old) }
-    ensures { WroteAll out.old at masks.first (state_of c wire.old code.old)
+    requires wired { WiredGates gates (length twin_wires.old) × (length twin_codes.old ≡ length twin_wires.old) }
+    ensures { WroteAll out.old at masks.first (state_of c twin_wires.old twin_codes.old)
         (tables_of gates.entry) gates.entry.count out.new result
-        (state_of result.1 wire.new code.new) }
+        (state_of result.1 twin_wires.new twin_codes.new) }
 {
     let mut place = at;
     let mut next = c;
     for i in 0..gates.count {
         let from = Next { wire: next };
-        (place, next) = step(d, out, place, masks, from, gates.at(i), wire, code);
+        (place, next) = step(
+            d,
+            out,
+            place,
+            masks,
+            from,
+            gates.at(i),
+            twin_wires,
+            twin_codes,
+        );
     }
     (place, next)
 }

@@ -1,5 +1,5 @@
 // The gates of the output bits, and their codes. The output bits are the last source wires.
-ghost use Rattle.std.specs.Prelude.{◌≡◌, ◌+◌, ◌<◌, ◌^◌, [], ◌∷◌, length, drop};
+ghost use Rattle.std.specs.Prelude.{◌≡◌, ◌+◌, ◌<◌, ◌^◌, [], ◌∷◌, length};
 ghost use Rattle.netlist.specs.Mask.{out_gate, out_gates, out_code};
 ghost use Rattle.write_buffer.specs.Wrote.{Wrote};
 ghost use Rattle.write_gates.specs.Gates.{WroteGates};
@@ -22,26 +22,24 @@ fn one(d: Words, out: &mut [u8], at: usize, masks: Masks, c: u32, t: Twin, want:
     write_gates::gate::xor(d, out, at, t.wire, m, c)
 }
 
-// The gates of the source wires from a wire on, at the wires from c.
+// The gates of the output bits with the twins of these two tables, at the wires from c.
 pub fn outs(
     d: Words,
     out: &mut [u8],
     at: usize,
     masks: Masks,
     c: u32,
-    wire: &[u32],
-    code: &[u8],
-    from: usize,
+    twin_wires: &[u32],
+    twin_codes: &[u8],
     wanted: &[u8],
 ) -> usize
     requires c_bound { c + length wanted.now < 2 ^ 31 }
-    requires wanted_value { (from + length wanted.now ≡ length wire.now) × (length code.now ≡ length wire.now) }
-    ensures { WroteGates out.old at (out_gates masks.first c (drop from (twins_of wire.now code.now))
-        wanted.now) out.new result }
+    requires as_many { (length twin_wires.now ≡ length wanted.now) × (length twin_codes.now ≡ length twin_wires.now) }
+    ensures { WroteGates out.old at (out_gates masks.first c (twins_of twin_wires.now twin_codes.now) wanted.now) out.new result }
 {
     let mut place = at;
     for (i, want) in wanted.iter().enumerate() {
-        let t = mask_twins::twin(wire, code, from + i);
+        let t = mask_twins::twin(twin_wires, twin_codes, i);
         place = one(d, out, place, masks, c + i as u32, t, *want);
     }
     place
@@ -54,13 +52,12 @@ fn pick(e: u8, want: u8) -> u8
     if want == 0 { e } else { want }
 }
 
-// The output codes, of the source wires from a wire on.
-pub fn codes(code: &[u8], from: usize, wanted: &[u8], res: &mut [u8])
-    requires { from + length wanted.now ≡ length code.now }
-    ensures { Wrote res.old 0 (codes_of (drop from code.now) wanted.now) res.new
-        (length wanted.now) }
+// The output codes, where the twins of the output bits have these codes.
+pub fn codes(twin_codes: &[u8], wanted: &[u8], res: &mut [u8])
+    requires { length twin_codes.now ≡ length wanted.now }
+    ensures { Wrote res.old 0 (codes_of twin_codes.now wanted.now) res.new (length wanted.now) }
 {
     for (i, want) in wanted.iter().enumerate() {
-        write_buffer::put(res, i, pick(code[from + i], *want));
+        write_buffer::put(res, i, pick(twin_codes[i], *want));
     }
 }

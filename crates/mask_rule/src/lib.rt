@@ -1,7 +1,8 @@
 // The masking rule of one source gate, by value: its mask change, its masked gates one by one, how many they are, and the twin of its
 // result. Mask writes by it, Mask and Twins count by it, and a session stores what it gives.
 // The twins a and b of a gate's operands are two parameters: with a struct t of them the bodies would say `t.a.code != t.b.code` for
-// `a.code != b.code`, and each caller outside, which looks up one and then the other, would put it together: no plainer.
+// `a.code != b.code`, and each caller outside, which looks up one and then the other, would put it together: no plainer. `masks` and `c` are
+// two as well: `masks` stays for a whole netlist while `c` moves with each gate, so each call would put a struct of them together again.
 #![tactic(auto)]
 
 ghost use Rattle.std.specs.Prelude.{◌≡◌, map, ◌+◌, ◌<◌, length, get_or};
@@ -63,17 +64,16 @@ pub fn and_twin(c: Next, a: Twin, b: Twin) -> Twin
 pub fn twin(c: Next, kind: Kind, a: Twin, b: Twin) -> Twin
     ensures { result ≡ twin_of c.wire kind a b }
 {
-    // Apart from the kinds of two operands: four arms in one match are a jump through a table, which is slower where kinds are mixed
-    let single = match kind {
-        Kind::Eq(_) => 1,
-        _ => a.code,
-    };
     match kind {
         Kind::Xor => xor_twin(c, a, b),
         Kind::And => and_twin(c, a, b),
+        Kind::Eq(_) => Twin {
+            wire: c.wire,
+            code: 1,
+        },
         _ => Twin {
             wire: c.wire,
-            code: single,
+            code: a.code,
         },
     }
 }

@@ -14,29 +14,33 @@ ghost use Rattle.mask_twins.specs.Place.{Ready};
 ghost use Rattle.mask_text.specs.Whole.{Source, WroteText, Filled, MaskAnswers};
 ghost use Rattle.mask_text.specs.Job.{ReadyFor, masked, SourceOf, NumbersOf};
 
-use gate_table::Gates;
+use mask_pass::CodedGates;
 use netlist::{Answer, Question};
 use write_header::Shape;
 use write_wires::table::Words;
 
-// What a source is masked by: its gates, the codes of its inputs and the wanted ones of its outputs, and what the masked text's
-// header says.
+// What a source is masked by: its gates and codes, and what the masked text's header says.
 #[derive(Clone, Copy)]
 struct Job<'a> {
-    source: Gates<'a>,
-    codes: &'a [u8],
-    wanted: &'a [u8],
+    source: CodedGates<'a>,
     shape: Shape<'a>,
 }
 
-// The masked text.
-fn write<'a>(d: Words, out: &mut [u8], j: Job<'a>, wire: &mut [u32], code: &mut [u8]) -> usize
-    requires ready { ReadyFor j wire.old code.old }
-    ensures { (N : Netlist) → SourceOf j.entry (length wire.old) N → NumbersOf j.entry N
-        → WroteText out.old (masked j.entry N) j.entry.wanted.now out.new code.new result }
+// The masked text. The table of words stands beside the job, here and below: it is chosen last, in one of two ways, and with a field for it the
+// job would be written out twice.
+fn write<'a>(
+    d: Words,
+    out: &mut [u8],
+    j: Job<'a>,
+    twin_wires: &mut [u32],
+    twin_codes: &mut [u8],
+) -> usize
+    requires ready { ReadyFor j twin_wires.old twin_codes.old }
+    ensures { (N : Netlist) → SourceOf j.entry (length twin_wires.old) N → NumbersOf j.entry N
+        → WroteText out.old (masked j.entry N) j.entry.source.wanted.now out.new twin_codes.new result }
 {
     let at = write_header::header(out, 0, j.shape);
-    let (end, _) = mask_pass::pass(d, out, at, j.source, j.codes, j.wanted, wire, code);
+    let (end, _) = mask_pass::pass(d, out, at, j.source, twin_wires, twin_codes);
     end
 }
 
@@ -46,24 +50,32 @@ fn fill<'a>(
     out: &mut [u8],
     out_codes: &mut [u8],
     j: Job<'a>,
-    wire: &mut [u32],
-    code: &mut [u8],
+    twin_wires: &mut [u32],
+    twin_codes: &mut [u8],
 ) -> usize
-    requires ready { ReadyFor j wire.old code.old }
-    ensures { (N : Netlist) → SourceOf j.entry (length wire.old) N → NumbersOf j.entry N
+    requires ready { ReadyFor j twin_wires.old twin_codes.old }
+    ensures { (N : Netlist) → SourceOf j.entry (length twin_wires.old) N → NumbersOf j.entry N
         → Filled (masked j.entry N) out.old out.new out_codes.old out_codes.new result }
 {
-    let size = write(d, out, j, wire, code);
-    let from = code.len() - j.wanted.len();
-    mask_pass::outs::codes(code, from, j.wanted, out_codes);
+    let size = write(d, out, j, twin_wires, twin_codes);
+    let from = twin_codes.len() - j.source.wanted.len();
+    mask_pass::outs::codes(&twin_codes[from..], j.source.wanted, out_codes);
     size
 }
 
 // Question 14 of the text: yes where lines of the longest kind would fit, and otherwise as it is measured. This and `answer` stand beside
-// those of `write_netlist`: one function for both would need a trait with the laws of both texts, which is longer than the two.
-fn holds<'a>(d: Words, room: usize, j: Job<'a>, wire: &mut [u32], code: &mut [u8]) -> bool
-    requires ready { ReadyFor j wire.old code.old × (room < top) }
-    ensures { (N : Netlist) → SourceOf j.entry (length wire.old) N → NumbersOf j.entry N
+// the 17 lines of those of `write_netlist`: one function for both would need a trait with the header's length, the numbers of gates and wires
+// and what writes the text, each with its law (`run_netlist`'s `Entry`, with two functions, takes 64 lines and 80 of definitions), and what
+// writes it changes two tables here and none there.
+fn holds<'a>(
+    d: Words,
+    room: usize,
+    j: Job<'a>,
+    twin_wires: &mut [u32],
+    twin_codes: &mut [u8],
+) -> bool
+    requires ready { ReadyFor j twin_wires.old twin_codes.old × (room < top) }
+    ensures { (N : Netlist) → SourceOf j.entry (length twin_wires.old) N → NumbersOf j.entry N
         → WellFormed (masked j.entry N).netlist
         → result ≡ leb (length (write_netlist (masked j.entry N).netlist)) room }
 {
@@ -72,7 +84,7 @@ fn holds<'a>(d: Words, room: usize, j: Job<'a>, wire: &mut [u32], code: &mut [u8
     if write_gates::room::ample(room, header, j.shape.gates, j.shape.wires) {
         return true;
     }
-    let size = write(d, &mut none, j, wire, code);
+    let size = write(d, &mut none, j, twin_wires, twin_codes);
     size <= room
 }
 
@@ -82,66 +94,58 @@ fn answer<'a>(
     out: &mut [u8],
     out_codes: &mut [u8],
     j: Job<'a>,
-    wire: &mut [u32],
-    code: &mut [u8],
+    twin_wires: &mut [u32],
+    twin_codes: &mut [u8],
 ) -> Answer
-    requires ready { ReadyFor j wire.old code.old }
-    ensures { (N : Netlist) → SourceOf j.entry (length wire.old) N → NumbersOf j.entry N
+    requires ready { ReadyFor j twin_wires.old twin_codes.old }
+    ensures { (N : Netlist) → SourceOf j.entry (length twin_wires.old) N → NumbersOf j.entry N
         → WellFormed (masked j.entry N).netlist
         → MaskAnswers (deliver_outcome (length out.old) (length out_codes.old)
         (masked_text (masked j.entry N))) out.old out.new out_codes.old out_codes.new result }
 {
-    if out_codes.len() < j.wanted.len() {
+    if out_codes.len() < j.source.wanted.len() {
         return Err(Question::Room);
     }
-    if holds(d, out.len(), j, wire, code) {
-        Ok(fill(d, out, out_codes, j, wire, code))
+    if holds(d, out.len(), j, twin_wires, twin_codes) {
+        Ok(fill(d, out, out_codes, j, twin_wires, twin_codes))
     } else {
         Err(Question::Room)
     }
 }
 
-// Question 14, and the text and the codes where it gets a yes. `ins` are the widths of the masked input values, the last of
-// them 2, and `outs` those of the output values; `wire` and `code`, two tables as C lends them, have an entry for each source wire, and
-// may hold anything.
+// Question 14, and the text and the codes where it gets a yes. The last of the masked netlist's input
+// widths is 2. `twin_wires` and `twin_codes`, two tables as C lends them, have an entry for each source wire, and may hold anything.
 pub fn deliver(
     out: &mut [u8],
     out_codes: &mut [u8],
-    source: Gates,
-    codes: &[u8],
-    wanted: &[u8],
-    ins: &[u32],
-    outs: &[u32],
-    wire: &mut [u32],
-    code: &mut [u8],
+    source: CodedGates,
+    input_widths: &[u32],
+    output_widths: &[u32],
+    twin_wires: &mut [u32],
+    twin_codes: &mut [u8],
 ) -> Answer
-    requires { Ready (tables_of source) source.count codes.now wanted.now wire.old code.old }
+    requires { Ready (tables_of source.gates) source.gates.count source.codes.now source.wanted.now twin_wires.old twin_codes.old }
     ensures { (N : Netlist)
-        → Source (tables_of source.entry) source.entry.count (length wire.old) (length codes.now)
-        (length wanted.now) ins.now outs.now N
-        → WellFormed (mask_netlist N codes.now wanted.now).netlist
+        → Source (tables_of source.entry.gates) source.entry.gates.count (length twin_wires.old) (length source.entry.codes.now)
+        (length source.entry.wanted.now) input_widths.now output_widths.now N
+        → WellFormed (mask_netlist N source.entry.codes.now source.entry.wanted.now).netlist
         → MaskAnswers (deliver_outcome (length out.old) (length out_codes.old)
-        (masked_text (mask_netlist N codes.now wanted.now))) out.old out.new out_codes.old
+        (masked_text (mask_netlist N source.entry.codes.now source.entry.wanted.now))) out.old out.new out_codes.old
         out_codes.new result }
 {
-    let wires = mask_pass::count::count(source, codes, wanted, wire, code) as usize;
-    let gate_count = wires - (codes.len() + 2);
+    let wires = mask_pass::count::count(source, twin_wires, twin_codes) as usize;
+    let gate_count = wires - (source.codes.len() + 2);
     let shape = Shape {
         gates: gate_count,
         wires,
-        ins,
-        outs,
+        ins: input_widths,
+        outs: output_widths,
     };
-    let j = Job {
-        source,
-        codes,
-        wanted,
-        shape,
-    };
+    let j = Job { source, shape };
     if let Some(none) = Words::none_for(wires) {
-        return answer(none, out, out_codes, j, wire, code);
+        return answer(none, out, out_codes, j, twin_wires, twin_codes);
     }
     let mut table = [0u64; 2000];
     let words = Words::of(&mut table, wires);
-    answer(words, out, out_codes, j, wire, code)
+    answer(words, out, out_codes, j, twin_wires, twin_codes)
 }

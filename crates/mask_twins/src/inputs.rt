@@ -25,28 +25,27 @@ fn input(c: u32, w: u32, e: u8) -> Twin
 }
 
 // The twins of the inputs, with the public bits' gates at the wires from c, and the next wire; the other entries are kept.
-fn inputs(c: u32, codes: &[u8], wire: &mut [u32], code: &mut [u8]) -> u32
-    requires { (length code.old ≡ length wire.old) × (length codes.now ≤ length wire.old) × (c + length codes.now < 2 ^ 31) }
+fn inputs(c: u32, codes: &[u8], twin_wires: &mut [u32], twin_codes: &mut [u8]) -> u32
+    requires { (length twin_codes.old ≡ length twin_wires.old) × (length codes.now ≤ length twin_wires.old) × (c + length codes.now < 2 ^ 31) }
     ensures { (result ≡ past_publics c codes.now) ×
-        (twins_of wire.new code.new ≡ input_twins c 0 codes.now ++ drop (length codes.now)
-        (twins_of wire.old code.old)) }
+        (twins_of twin_wires.new twin_codes.new ≡ input_twins c 0 codes.now ++ drop (length codes.now)
+        (twins_of twin_wires.old twin_codes.old)) }
 {
     let mut next = c;
     for (i, e) in codes.iter().enumerate() {
         let t = input(next, i as u32, *e);
-        wire[i] = t.wire;
-        code[i] = t.code;
+        crate::put(twin_wires, twin_codes, i, t);
         next = past(Next { wire: next }, *e);
     }
     next
 }
 
 // The twins before the first source gate, those of the inputs alone, and the next wire.
-pub fn start(c: u32, codes: &[u8], wire: &mut [u32], code: &mut [u8]) -> u32
-    requires { (length code.old ≡ length wire.old) × (length codes.now ≤ length wire.old) × (c + length codes.now < 2 ^ 31) }
-    ensures { Started c codes.now (length wire.old) result wire.new code.new }
+pub fn start(c: u32, codes: &[u8], twin_wires: &mut [u32], twin_codes: &mut [u8]) -> u32
+    requires { (length twin_codes.old ≡ length twin_wires.old) × (length codes.now ≤ length twin_wires.old) × (c + length codes.now < 2 ^ 31) }
+    ensures { Started c codes.now (length twin_wires.old) result twin_wires.new twin_codes.new }
 {
-    wire.fill(0);
-    code.fill(0);
-    inputs(c, codes, wire, code)
+    twin_wires.fill(0);
+    twin_codes.fill(0);
+    inputs(c, codes, twin_wires, twin_codes)
 }

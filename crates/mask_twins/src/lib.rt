@@ -5,19 +5,29 @@
 pub mod inputs;
 pub mod place;
 
-ghost use Rattle.std.specs.Prelude.{◌≡◌, ◌<◌, length, get_or};
+ghost use Rattle.std.specs.Prelude.{◌≡◌, ◌<◌, length, get_or, set};
 ghost use Rattle.netlist.specs.Mask.{no_twin};
 ghost use Rattle.mask_twins.specs.State.{twins_of};
 
 use netlist::Twin;
 
 // The twin of source wire w.
-pub fn twin(wire: &[u32], code: &[u8], w: usize) -> Twin
-    requires { (w < length wire.now) × (length code.now ≡ length wire.now) }
-    ensures { result ≡ get_or (twins_of wire.now code.now) w no_twin }
+pub fn twin(twin_wires: &[u32], twin_codes: &[u8], w: usize) -> Twin
+    requires { (w < length twin_wires.now) × (length twin_codes.now ≡ length twin_wires.now) }
+    ensures { result ≡ get_or (twins_of twin_wires.now twin_codes.now) w no_twin }
 {
     Twin {
-        wire: wire[w],
-        code: code[w],
+        wire: twin_wires[w],
+        code: twin_codes[w],
     }
+}
+
+// The twin of source wire w, stored.
+#[inline(always)]
+pub fn put(twin_wires: &mut [u32], twin_codes: &mut [u8], w: usize, t: Twin)
+    requires { (w < length twin_wires.old) × (w < length twin_codes.old) }
+    ensures { (twin_wires.new ≡ set twin_wires.old w t.wire) × (twin_codes.new ≡ set twin_codes.old w t.code) }
+{
+    twin_wires[w] = t.wire;
+    twin_codes[w] = t.code;
 }

@@ -9,40 +9,41 @@ use gate_table::{Gates, Kind, Parts};
 use mask_codes::Next;
 
 // A source gate of these parts: its result's twin, and the next wire.
-fn step(c: Next, g: Parts, wire: &mut [u32], code: &mut [u8]) -> u32
-    requires { Within (length wire.old) g × (length code.old ≡ length wire.old) }
-    ensures { Advanced (state_of c.wire wire.old code.old) (gate_by g) (state_of result wire.new code.new) }
+fn step(c: Next, g: Parts, twin_wires: &mut [u32], twin_codes: &mut [u8]) -> u32
+    requires { Within (length twin_wires.old) g × (length twin_codes.old ≡ length twin_wires.old) }
+    ensures { Advanced (state_of c.wire twin_wires.old twin_codes.old) (gate_by g) (state_of result twin_wires.new twin_codes.new) }
 {
     let place = g.result;
-    let a = crate::twin(wire, code, g.left);
-    let b = crate::twin(wire, code, g.right);
+    let a = crate::twin(twin_wires, twin_codes, g.left);
+    let b = crate::twin(twin_wires, twin_codes, g.right);
     let t = mask_rule::twin(c, Kind::of(g.kind), a, b);
-    wire[place] = t.wire;
-    code[place] = t.code;
+    crate::put(twin_wires, twin_codes, place, t);
     t.wire + 1
 }
 
-// The twins of the gates' results, in order, and the next wire.
-fn place_results(c: u32, gates: Gates, wire: &mut [u32], code: &mut [u8]) -> u32
+// The twins of the gates' results, in order, and the next wire. By number: a `zip` of the two tables, each cut to the count, would be longer than
+// `gates.at(i)`.
+fn place_results(c: u32, gates: Gates, twin_wires: &mut [u32], twin_codes: &mut [u8]) -> u32
     requires count_bound { c + 8 * gates.count < 2 ^ 31 }
-    requires wired { WiredGates gates (length wire.old) × (length code.old ≡ length wire.old) }
-    ensures { AdvancedAll (state_of c wire.old code.old) (tables_of gates.entry) gates.entry.count (state_of result wire.new code.new) }
+    requires wired { WiredGates gates (length twin_wires.old) × (length twin_codes.old ≡ length twin_wires.old) }
+    ensures { AdvancedAll (state_of c twin_wires.old twin_codes.old) (tables_of gates.entry) gates.entry.count (state_of result twin_wires.new twin_codes.new) }
 {
     let mut next = c;
     for i in 0..gates.count {
-        next = step(Next { wire: next }, gates.at(i), wire, code);
+        next = step(Next { wire: next }, gates.at(i), twin_wires, twin_codes);
     }
     next
 }
 
 // The twins of all source wires into the two tables, which have an entry for each and may hold anything, and the next wire
 // behind the gates.
-pub fn place_twins(gates: Gates, codes: &[u8], wire: &mut [u32], code: &mut [u8]) -> u32
-    requires { Ready (tables_of gates) gates.count codes.now [] wire.old code.old }
+pub fn place_twins(gates: Gates, codes: &[u8], twin_wires: &mut [u32], twin_codes: &mut [u8]) -> u32
+    requires { Ready (tables_of gates) gates.count codes.now [] twin_wires.old twin_codes.old }
     ensures { Finished (tables_of gates.entry) gates.entry.count codes.now
-        (length wire.old) result wire.new code.new }
+        (length twin_wires.old) result twin_wires.new twin_codes.new }
 {
     let n = codes.len() as u32;
-    let first = crate::inputs::start(n + 5, codes, wire, code);
-    place_results(first, gates, wire, code)
+    // The gates of the public bits stand behind the inputs, the mask pair and the three gates of the masks.
+    let first = crate::inputs::start(n + 5, codes, twin_wires, twin_codes);
+    place_results(first, gates, twin_wires, twin_codes)
 }

@@ -1,4 +1,5 @@
-// Questions 10 to 12 and 21 of a netlist that was read, and the verdicts on its wires and on pairs of them.
+// Questions 10 to 12 and 21 of a netlist that was read, and the verdicts on its wires and on pairs of them. The tables that are written are
+// parameters of their own: C lends them one by one.
 #![tactic(auto)]
 
 ghost use Rattle.std.specs.Prelude.{◌≡◌, ◌<◌, ◌≤◌, length};

@@ -9,7 +9,8 @@ use Prim.Native.Nat.{ℕ, ◌+◌, ◌*◌, ◌/◌, ◌%◌, ◌^◌, ◌≤◌
 use native.Mathlib.Nat.{mod-lt}
 use native.Mathlib.Omega.{arith}
 use lib.Dec.{T}
-use lib.ListN.{length, get_or}
+use lib.ListN.{length, get_or, take}
+use lib.Seq.{length-take-le, get_or-take}
 use lib.Pow.{pow_pos}
 use Rattle.netlist.specs.Netlist.{Netlist}
 use Rattle.netlist.specs.Leak.{count, setting}
@@ -38,20 +39,37 @@ use Rattle.pairs_search.proofs.Uneven.{uneven-as, uneven-more}
 
 pub look-law : (words bases base ws : List ℕ) (limit block : ℕ) {best : PairsFound ℕ} {found next : Option (Leak ℕ)} (k : Option ℕ)
     → LowestDifference (nibbles_of base) (ones_of words) (wire_of limit best.leak) 16 found
-    → FirstUneven (LevelAt (held_base bases base) (held_in words) ws) (unwrap_or best.pair (length ws / 2)) 16 k
+    → unwrap_or best.pair (length ws / 2) ≤ length ws / 2
+    → (let us = take (2 * unwrap_or best.pair (length ws / 2)) ws in FirstUneven (LevelAt (held_base bases base) (held_in words) us) (length us / 2) 16 k)
     → ((f g : ℕ → ℕ → ℕ) (W : ℕ) → LowestDifference f g W (block * 16) best.leak → LowestDifference (from (block * 16) f) (from (block * 16) g)
     (wire_of W best.leak) 16 found
     → LowestDifference f g W (block * 16 + 16) next)
     → (based counts : Counts) → Alike (held_base bases base) (on_from (block * 16) based) → Alike (held_in words) (on_from (block * 16) counts)
     → Found based counts ws limit (length ws / 2) (block * 16) best
     → Found based counts ws limit (length ws / 2) (block * 16 + 16) (record { leak = next; pair = option_or k best.pair })
-look-law words bases base ws limit block k scanned uneven better based counts a b past = record {
+look-law words bases base ws limit block {best} k scanned room uneven better based counts a b past = record {
   lowest = better based.one counts.one limit past.lowest (difference-same a.one b.one scanned);
   uneven = uneven-more past.uneven k
-      (uneven-as (λ j s l h. level-on (block * 16) (first j) (second j) s (level-as a b (first j) (second j) s l h))
-      (λ j s l h. level-back a b (first j) (second j) s l (level-off (block * 16) (first j) (second j) s h)) uneven);
+      (uneven-as {P = LevelAt (held_base bases base) (held_in words) (take (2 * n) ws)} (λ j s i l h. level-on (block * 16) (first j) (second j) s (level-as a b (first j) (second j) s l (rw (one j i, two j i) at h)))
+      (λ j s i l h. rw (one j i, two j i) (level-back a b (first j) (second j) s l (level-off (block * 16) (first j) (second j) s h))) cut);
 }
   where
+    -- as many pairs are looked at, and the same
+    n : ℕ
+    n = unwrap_or best.pair (length ws / 2)
+
+    half : length (take (2 * n) ws) / 2 ≡ n
+    half = let e = length-take-le (2 * n) ws (omega (arith, room)) in omega arith
+
+    cut : FirstUneven (LevelAt (held_base bases base) (held_in words) (take (2 * n) ws)) n 16 k
+    cut = rw half at uneven
+
+    one : (j : ℕ) → j < n → get_or (take (2 * n) ws) (2 * j) 0 ≡ get_or ws (2 * j) 0
+    one j i = get_or-take (2 * n) ws (2 * j) 0 (omega arith)
+
+    two : (j : ℕ) → j < n → get_or (take (2 * n) ws) (2 * j + 1) 0 ≡ get_or ws (2 * j + 1) 0
+    two j i = get_or-take (2 * n) ws (2 * j + 1) 0 (omega arith)
+
     first : ℕ → ℕ
     first j = get_or ws (2 * j) 0
 

@@ -5,7 +5,7 @@ use native.Mathlib.Omega.{arith}
 use lib.Dec.{ltb}
 use borrow.Author.Tests.{ltb-true, ltb-false}
 use Rattle.std.specs.Prelude.{Option, Some, None}
-use Rattle.std.specs.Option.{unwrap_or, option_or}
+use Rattle.std.specs.Option.{MatchOption, unwrap_or, option_or}
 use Rattle.netlist.proofs.Tests.{on_bool}
 use Rattle.pairs_search.specs.Level.{FirstUneven}
 
@@ -22,13 +22,20 @@ pub pair-within : {P : ℕ → ℕ → Type 0} {n S : ℕ} (k : Option ℕ) → 
 pair-within None h = omega arith
 pair-within {n = n} (Some k) h = let l : k < n = h.inside k refl in omega arith
 
--- by another notion of level
-pub uneven-as : {P Q : ℕ → ℕ → Type 0} {n S : ℕ} {k : Option ℕ} → ((j s : ℕ) → s < S → P j s → Q j s) → ((j s : ℕ) → s < S → Q j s → P j s)
+-- the first of the numbers below n that is found not to be level
+pub uneven-found : {P : ℕ → ℕ → Type 0} {n S : ℕ} (k : Option ℕ)
+    → MatchOption k ((j : ℕ) → 0 ≤ j → j < n → (s : ℕ) → s < S → P j s)
+    (λ i. (0 ≤ i) × (i < n) × (((s : ℕ) → s < S → P i s) → ⊥) × ((j : ℕ) → 0 ≤ j → j < i → (s : ℕ) → s < S → P j s)) → FirstUneven P n S k
+uneven-found None h = record { before = λ j l. h j (omega arith) l; inside = λ i e. cc; bad = λ i e. cc }
+uneven-found (Some k) h = uneven-some k h.1 (λ j l. h.3 j (omega arith) l) h.2
+
+-- by another notion of level, of the pairs below n
+pub uneven-as : {P Q : ℕ → ℕ → Type 0} {n S : ℕ} {k : Option ℕ} → ((j s : ℕ) → j < n → s < S → P j s → Q j s) → ((j s : ℕ) → j < n → s < S → Q j s → P j s)
     → FirstUneven P n S k → FirstUneven Q n S k
-uneven-as f g h = record {
-  before = λ j l s m. f j s m (h.before j l s m);
+uneven-as {k = k} f g h = record {
+  before = λ j l s m. let w = pair-within k h in f j s (omega arith) m (h.before j l s m);
   inside = h.inside;
-  bad = λ k e all. h.bad k e (λ s m. g k s m (all s m));
+  bad = λ i e all. h.bad i e (λ s m. g i s (h.inside i e) m (all s m));
 }
 
 -- T settings more, from S on, looked at for pairs before the first bad one

@@ -7,14 +7,15 @@ ghost use Rattle.check_counts.specs.Block.{ones_of, nibbles_of, Evaluated};
 ghost use Rattle.pairs_search.specs.Bases.{Based, HeldOn};
 
 use check_counts::block::Blocks;
-use check_counts::{block, nibble};
+use check_counts::nibble;
+use evaluate::lay::each;
 
 // The lanes of the first setting, for all.
 fn repeat(words: &[u64], bases: &mut [u64])
     requires { length bases.old ≡ length words.now }
     ensures { (w j : ℕ) → j < 64 → lane j (get_or bases.new w 0) ≡ lane (j % 4) (get_or words.now w 0) }
 {
-    block::each(words, bases, nibble::repeat);
+    each(words, bases, nibble::repeat);
 }
 
 // The counts of words.
@@ -22,16 +23,16 @@ fn tally(bases: &[u64], base: &mut [u64])
     requires { length base.old ≡ length bases.now }
     ensures { (w s : ℕ) → s < 16 → nibbles_of base.new w s ≡ ones_of bases.now w s }
 {
-    block::each(bases, base, nibble::counts);
+    each(bases, base, nibble::counts);
 }
 
 // The words and the counts of the bases of a block's settings. If no bit is public, setting 0 is the base of all settings, and its
 // words are taken from the first block's.
 pub fn refresh(b: Blocks, block: u64, words: &[u64], bases: &mut [u64], base: &mut [u64])
     requires wired { WiredGates b.gates (length words.now) }
-    requires paints_in_bounds { (length b.paints.now + 2 ≤ length words.now) × (length bases.old ≡ length words.now)
+    requires lengths { (length b.paints.now + 2 ≤ length words.now) × (length bases.old ≡ length words.now)
         × (length base.old ≡ length words.now) }
-    requires fact { let N = bare_of b.gates (length words.now) in
+    requires held { let N = bare_of b.gates (length words.now) in
         Evaluated N true b.paints.now words.now block × HeldOn b.publics N b.paints.now bases.old base.old block }
     ensures { let N = bare_of b.entry.gates (length words.now) in
         Based N b.entry.paints.now bases.new base.new block

@@ -2,5 +2,6 @@
 #![tactic(auto)]
 
 mod base;
+mod held;
 mod pair;
 pub mod search;

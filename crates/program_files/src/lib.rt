@@ -9,7 +9,7 @@ use std::io::Read;
 use std::rt::Files;
 
 // Fills the buffer from the reader, until it is full, the reader ends or a read fails, and answers how many of its bytes
-// were read.
+// were read. No `for`: the place moves by as much as a read gives.
 fn fill<R: Read>(file: &mut R, buffer: &mut [u8]) -> usize
     ensures within { result ≤ length buffer.new }
     ensures front { result ≡ length (take result buffer.new) }
@@ -26,7 +26,7 @@ fn fill<R: Read>(file: &mut R, buffer: &mut [u8]) -> usize
 }
 
 // Fills the buffer from the file's start, until it is full or the file ends, and answers how many of its bytes are the
-// file's. A file that is missing or cannot be read counts as empty, and so does one whose name is not UTF-8, which std
+// file's, as std's `read` does. A file that is missing or cannot be read counts as empty, and so does one whose name is not UTF-8, which std
 // cannot open.
 pub fn read(files: &impl Files, name: &[u8], buffer: &mut [u8]) -> usize
     ensures within { result ≤ length buffer.new }

@@ -4,7 +4,7 @@ use mathlib.Core.Path.{◌≡◌, refl, sym, ap, ap₂, ◌∙◌}
 use mathlib.Core.List.{List, [], ◌∷◌, ◌++◌, map}
 use native.Mathlib.Numerals.{add-one}
 use native.Mathlib.Omega.{arith}
-use lib.ListN.{length, get_or, set, take, drop, length-set, length-append}
+use lib.ListN.{length, get_or, set, take, drop, length-set, length-append, length-take}
 use Rattle.std.proofs.lemmas.List.{take-take}
 use lib.Seq.{take_all, take_at, length-take-le, drop-cons, take-suc, take-suc-set, drop-set-lt}
 use Rattle.netlist.specs.Text.{without_end}
@@ -13,14 +13,15 @@ use Rattle.netlist.specs.Programs.{file_limit, list_bytes, entry, list_file}
 use Rattle.program_text.specs.Front.{Front}
 
 -- the end comes off the bytes that are read
-pub counted-front : (file w : List ℕ) (n : ℕ) → Front file n (take file_limit file) → w ≡ without_end (take n file) → Front file (length w) (list_bytes file)
-counted-front file w n f e =
-    let l = end_within (take n file) in
-    let m = length-take-le n file f.within in
+pub counted-front : (file s w : List ℕ) → s ≡ take file_limit file → w ≡ without_end s → Front file (length w) (list_bytes file)
+counted-front file s w p e =
+    let read = take file_limit file in
+    let end : w ≡ without_end read = e ∙ ap without_end p in
+    let l = end_within read in
+    let m = length-take file_limit file in
     record {
-      within = omega (arith, l, m, f.within, ap length e);
-      same = ap (λ u. take (length u) file) e ∙ sym (take-take (length (without_end (take n file))) n file (omega (arith, l, m)))
-          ∙ end_front (take n file) ∙ ap without_end f.same;
+      within = omega (arith, l, m, ap length end);
+      same = ap (λ u. take (length u) file) end ∙ sym (take-take (length (without_end read)) file_limit file (omega (arith, l, m))) ∙ end_front read;
     }
 
 -- the first i bytes are entries, the others as they were

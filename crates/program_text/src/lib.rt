@@ -2,8 +2,7 @@
 
 // What the programs make of a list file's bytes, and the lines that they print.
 ghost use Rattle.std.specs.Prelude.{◌≡◌, [], ◌∷◌, ◌++◌, ◌+◌, ◌*◌, ◌≤◌, min, length, take};
-ghost use Rattle.netlist.specs.Text.{space, lf};
-ghost use Rattle.netlist.specs.Number.{decimal};
+ghost use Rattle.netlist.specs.Text.{lf};
 ghost use Rattle.netlist.specs.Question.{number_of};
 ghost use Rattle.netlist.specs.Programs.{list_bytes, entry as entry_of, list_file, print_list, print_refused, print_clean, print_leak};
 ghost use Rattle.write_buffer.specs.Wrote.{Wrote, WroteFew};
@@ -11,11 +10,14 @@ ghost use Rattle.program_text.specs.Front.{Front};
 
 use netlist::Question;
 use read_text::ends::without_end;
+use write_buffer::spaced;
 
-// The most bytes that a program reads of a file.
+// The most bytes that a program reads of a file. Each program compares with it in its own `answer`: a function with its contract, and
+// four calls of it, would be as long.
 pub const FILE_LIMIT: usize = 60000;
 
-// The shortest tables that Mask takes, and those that Check, Run and Rewrite take.
+// The shortest tables that Mask takes, and those that Check, Run and Rewrite take. `Limits` has the same numbers; the programs' tables are arrays,
+// whose lengths must be constants.
 pub const SMALL_TABLE: usize = 2048;
 
 pub const LARGE_TABLE: usize = 18431;
@@ -32,30 +34,36 @@ fn entry(b: u8) -> u8
 
 // How many entries of a buffer its first n are.
 pub fn front<T>(buffer: &[T], n: usize) -> usize
-    ensures value { (result ≡ min n (length buffer.now)) × Front buffer.now result (take n buffer.now) }
+    ensures least { (result ≡ min n (length buffer.now)) × Front buffer.now result (take n buffer.now) }
     ensures within { result ≤ length buffer.now }
     ensures front { result ≡ length (take result buffer.now) }
 {
     n.min(buffer.len())
 }
 
+// A buffer's first n entries, or all of a shorter one.
+pub fn first<T>(buffer: &[T], n: usize) -> &[T]
+    ensures { result.now ≡ take n buffer.now }
+{
+    &buffer[..front(buffer, n)]
+}
+
 // How many bytes of a list file count: a longer file is cut, and one LF or CR LF at the end comes off.
 fn counted(file: &[u8]) -> usize
     ensures { Front file.now result (list_bytes file.now) }
 {
-    let n = front(file, FILE_LIMIT);
-    without_end(&file[..n]).len()
+    without_end(first(file, FILE_LIMIT)).len()
 }
 
-// The list in a file, in place of its bytes; answers how many entries it has. The bytes behind them are free.
-pub fn list(file: &mut [u8]) -> usize
-    ensures { Front file.new result (list_file file.old) }
+// The list in a file, in place of its bytes.
+pub fn list(file: &mut [u8]) -> &[u8]
+    ensures { result.now ≡ list_file file.old }
 {
     let n = counted(file);
     for b in &mut file[..n] {
         *b = entry(*b);
     }
-    n
+    &file[..n]
 }
 
 // A refusal's line.
@@ -74,15 +82,7 @@ pub fn clean(out: &mut [u8]) -> usize
     write_buffer::bytes(out, 0, b"clean\n")
 }
 
-// A number with a space in front.
-fn spaced(out: &mut [u8], at: usize, n: usize) -> usize
-    ensures { Wrote out.old at (space ∷ decimal n) out.new result }
-{
-    let next = write_buffer::put(out, at, b' ');
-    write_buffer::number(out, next, n)
-}
-
-// Check's line for a leak.
+// Check's line for a leak. Its four numbers stand one by one: with a `Leak` of `check_leak` this crate, of texts alone, would stand on the check.
 pub fn leak(out: &mut [u8], wire: usize, setting: usize, base: usize, count: usize) -> usize
     ensures { Wrote out.old 0 (print_leak wire setting base count) out.new result }
 {

@@ -4,4 +4,5 @@ pub mod Heads
 pub mod WholeLines
 pub mod TableEnd
 pub mod BodyLines
+pub mod Admitted
 pub mod WholeFile

@@ -1,5 +1,5 @@
 -- From the lines of each kind to the file, and to the netlist made.
-use Prim.Native.Nat.{ℕ, suc, ◌+◌, ◌≤◌, ◌<◌}
+use Prim.Native.Nat.{ℕ, ◌+◌, ◌≤◌, ◌<◌}
 use mathlib.Core.Path.{◌≡◌, refl, sym, ap, ◌∙◌}
 use mathlib.Core.Bool.{true, false, not, ◌&&◌}
 use mathlib.Core.List.{List, [], ◌∷◌, ◌++◌, map}
@@ -27,6 +27,7 @@ use Rattle.aiger_gates.proofs.Placing.{not_so}
 use Rattle.aiger_ands.specs.StepAnswers.{InputsAt}
 use Rattle.aiger_ands.specs.AndAnswers.{AndsAt}
 use Rattle.aiger_outputs.specs.OutAnswers.{LiteralsAt, UpTo}
+use Rattle.aiger_outputs.proofs.OutGates.{outs-length}
 use Rattle.read_aiger.specs.WholeAnswers.{LinesAt}
 
 -- the rules, one kind of line after another
@@ -55,10 +56,6 @@ ands-up-to M [] given h e = h
 ands-up-to M (a ∷ rest) given h e =
     let G = good_and M given a rest (true-T _ e) in
     ands-up-to M rest (a.left ∷ given) (up-to-more M a.left given G.low h) (both_true (and_good M given a) (ands_good M (a.left ∷ given) rest) e).1
-
-outs-length : (at : ℕ → ℕ) (c : ℕ) (xs : List Literal) → length (out_gates at c xs) ≡ length xs
-outs-length at c [] = refl
-outs-length at c (x ∷ xs) = ap suc (outs-length at (c + 1) xs)
 
 -- the wires of the inputs' variables
 abbrev pub input_wires : ℕ → ℕ → List ℕ → List ℕ

@@ -1,5 +1,5 @@
 -- What the answers on a whole file mean.
-use Rattle.std.specs.Prelude.{ℕ, Option, Some, None, Result, Ok, Err, ◌+◌, ◌≤◌, ◌≡◌, true, List, [], ◌∷◌, length}
+use Rattle.std.specs.Prelude.{ℕ, Option, Some, None, Result, Ok, Err, ◌+◌, ◌≤◌, ◌≡◌, Bool, true, false, ◌&&◌, List, [], ◌∷◌, length, leb}
 use Rattle.std.proofs.Math.Option.{some}
 use Rattle.netlist.specs.declared.Limits.{Limits}
 use Rattle.netlist.specs.declared.Question.{Question}
@@ -36,6 +36,15 @@ LinesIs H ls tabs None = (F : File) → file H ls ≡ some F → rules_kept F �
 abbrev pub gates_made : Option ℕ → ℕ
 gates_made (Some k) = k
 gates_made None = 0
+
+-- question 5 of a netlist of so many wires, one input value and one output value
+abbrev pub admits_one : Limits → ℕ → Bool
+admits_one L wires = leb wires L.wires && leb 1 L.inputs && leb 1 L.outputs
+
+-- the numbers of such a netlist that question 5 admits, of i input bits, g gates and o output bits
+abbrev pub NumbersAre : Limits → ℕ → ℕ → ℕ → Result NetlistNumbers Question → Type 0
+NumbersAre L i g o (Ok m) = (admits_one L (i + g) ≡ true) × (m ≡ record { gates = g; wires = i + g; inputs = i; outputs = o })
+NumbersAre L i g o (Err q) = (admits_one L (i + g) ≡ false) × (number_of q ≡ 5)
 
 -- question 1 of tables of these lengths, then 2, 19, 20, 19 and 5
 abbrev pub asked_aiger : Limits → List ℕ → List ℕ → Outcome Netlist

@@ -1,5 +1,6 @@
 // The lines behind the header. The tables are lent one by one: a struct of `&mut` slices would have to promise at each call that it
-// still holds them.
+// still holds them. Lines and header are two parameters: the lines move on while `h` stays, so with a struct of both each call would put one
+// together again.
 ghost use Rattle.std.specs.Prelude.{◌≡◌, List, ℕ, ◌+◌, ◌*◌, ◌<◌, ◌≤◌, length, replicate};
 ghost use Rattle.netlist.specs.Table.{tables};
 ghost use Rattle.aiger_lines.specs.LineAnswers.{lines_left};
@@ -16,8 +17,8 @@ use aiger_outputs::kept::keep_literals;
 use aiger_outputs::marks::{are_given, mark_literals};
 
 // The lines behind the input lines, whose outputs are at most as many as the table of results has entries. Its end keeps their
-// literals, and its front gets the gates of the AND lines; the gates of outputs are put where all have room. Answers how many gates
-// the netlist made of the file has.
+// literals, and its front gets the gates of the AND lines; the gates of outputs are put where all have room. The table of variables goes
+// up to M, here and below. Answers how many gates the netlist made of the file has.
 fn by_literals(
     lines: Lines<'_>,
     h: HeadNumbers,
@@ -25,7 +26,7 @@ fn by_literals(
     operands: &mut [u64],
     results: &mut [u64],
 ) -> Option<usize>
-    requires { (h.most < length table.old) × (h.outputs ≤ length results.old) }
+    requires { (length table.old ≡ h.most + 1) × (h.outputs ≤ length results.old) }
     ensures { ((ls : List (List (List ℕ))) → InputsAt ls h.inputs h.most table.old (lines_left lines.entry)
         → LinesIs (head_said h) ls (tables operands.new results.new) result) × (gates_made result ≤ 3 * h.ands + h.outputs) }
 {
@@ -33,18 +34,8 @@ fn by_literals(
     let outs = h.outputs as usize;
     let room = results.len() - outs;
     let rest = keep_literals(lines, &mut results[room..])?;
-    let (count, _) = ands(
-        rest,
-        h.ands,
-        h.most,
-        n,
-        table,
-        operands,
-        &mut results[..room],
-    )?;
-    if !outputs(table, operands, results, room, n, count) {
-        return None;
-    }
+    let (count, _) = ands(rest, h.ands, n, table, operands, &mut results[..room])?;
+    outputs(table, operands, results, room, n, count)?;
     Some(count + outs)
 }
 
@@ -57,16 +48,17 @@ fn by_marks(
     operands: &mut [u64],
     results: &mut [u64],
 ) -> Option<usize>
-    requires { (h.most < length table.old) × (length results.old < h.outputs)
+    requires { (length table.old ≡ h.most + 1) × (length results.old < h.outputs)
         × (h.most < length operands.old) }
     ensures { ((ls : List (List (List ℕ))) → InputsAt ls h.inputs h.most table.old (lines_left lines.entry)
         → LinesIs (head_said h) ls (tables operands.new results.new) result) × (gates_made result ≤ 3 * h.ands + h.outputs) }
 {
-    operands.fill(0);
-    let rest = mark_literals(lines, h.outputs, h.most, operands)?;
+    let marks = &mut operands[..=h.most as usize];
+    marks.fill(0);
+    let rest = mark_literals(lines, h.outputs, marks)?;
     let mut spare = [0u64; 1];
-    let (count, _) = ands(rest, h.ands, h.most, h.inputs, table, &mut spare, results)?;
-    if !are_given(table, operands, h.most) {
+    let (count, _) = ands(rest, h.ands, h.inputs, table, &mut spare, results)?;
+    if !are_given(table, marks) {
         return None;
     }
     Some(count + h.outputs as usize)
@@ -85,10 +77,11 @@ pub fn body(
     ensures { LinesIs (head_said h) (lines_left lines.entry)
         (tables operands.new results.new) result × (gates_made result ≤ 3 * h.ands + h.outputs) }
 {
-    let rest = inputs(lines, h.inputs, h.most, table)?;
+    let variables = &mut table[..=h.most as usize];
+    let rest = inputs(lines, h.inputs, variables)?;
     if results.len() < h.outputs as usize {
-        by_marks(rest, h, table, operands, results)
+        by_marks(rest, h, variables, operands, results)
     } else {
-        by_literals(rest, h, table, operands, results)
+        by_literals(rest, h, variables, operands, results)
     }
 }

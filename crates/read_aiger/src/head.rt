@@ -8,11 +8,14 @@ use crate::counts::HeadNumbers;
 use aiger_lines::lines::Lines;
 use netlist::{Limits, Question};
 
-// Whether a text begins with the four bytes.
+// What a file begins with.
+const OPENING: [u8; 4] = *b"aag ";
+
+// Whether a text begins so.
 fn is_opening(text: &[u8]) -> bool
     ensures { result ≡ opens text.now }
 {
-    text.starts_with(b"aag ")
+    text.starts_with(&OPENING)
 }
 
 // 19 for a header without inputs or outputs or with too many variables, then 20 for one with latches.
@@ -35,10 +38,13 @@ pub fn head(text: &[u8], l: Limits) -> Result<(HeadNumbers, Lines<'_>), Question
     if !is_opening(text) {
         return Err(Question::Aiger);
     }
-    let mut numbers = [0u32; 5];
-    let lines = Lines { text, at: 4 };
-    let next = lines.numbers(&mut numbers).ok_or(Question::Aiger)?;
-    let [most, inputs, latches, outputs, ands] = numbers;
+    let lines = Lines {
+        text,
+        at: OPENING.len(),
+    };
+    let ([most, inputs, latches, outputs, ands], next) = lines
+        .numbers::<5>()
+        .ok_or(Question::Aiger)?;
     let h = HeadNumbers {
         most,
         inputs,

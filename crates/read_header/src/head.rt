@@ -13,6 +13,7 @@ use read_text::allowed::all_allowed;
 use read_text::cursor::Cursor;
 
 // Question 5: the numbers as a header, where the wires and the values are few enough, and the bits of the values no more than the wires.
+// No `then_some`, which would make the header before the test that its law rests on.
 #[tactic(auto, unfolding(crate::specs::HeadAnswers::within_numbers))]
 fn within(l: Limits, h: HeaderNumbers) -> Option<Header>
     ensures { WithinIs l h result }

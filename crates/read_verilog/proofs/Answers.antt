@@ -1,16 +1,13 @@
 -- The answers on a whole text.
 use Prim.Native.Nat.{ℕ, ◌+◌, ◌≤◌, ◌<◌}
-use mathlib.Core.Path.{◌≡◌, refl, sym, ap, ap₂, subst, ◌∙◌}
-use mathlib.Core.Bool.{Bool, true, false, ◌&&◌, and-true}
+use mathlib.Core.Path.{◌≡◌, refl, sym, ap, subst, ◌∙◌}
+use mathlib.Core.Bool.{Bool, true, false}
 use mathlib.Core.List.{List, [], ◌∷◌}
 use mathlib.Core.Option.{Option, none, some}
 use native.Mathlib.Omega.{arith}
-use lib.Dec.{leb}
 use lib.ListN.{length}
 use borrow.Author.Tests.{le-leb, lt-leb}
 use Rattle.netlist.specs.declared.Limits.{Limits}
-use Rattle.netlist.specs.Lists.{sum}
-use Rattle.netlist.specs.Netlist.{input_bits, output_bits}
 use Rattle.netlist.specs.Outcome.{refused, done, ask}
 use Rattle.netlist.specs.Header.{within_limits}
 use Rattle.netlist.specs.Read.{header_of}
@@ -38,7 +35,8 @@ use Rattle.verilog_tokens.proofs.Firsts.{never}
 use Rattle.verilog_form.specs.declared.Scan.{Scan}
 use Rattle.verilog_form.specs.Turns.{ScanIs}
 use Rattle.verilog_gates.specs.Puts.{put_gates}
-use Rattle.read_aiger.specs.WholeAnswers.{NetlistAt}
+use Rattle.read_aiger.specs.WholeAnswers.{admits_one, NetlistAt}
+use Rattle.read_aiger.proofs.Admitted.{wires-admitted, limits-one}
 use Rattle.std.specs.Prelude.{Some, None}
 use Rattle.read_verilog.specs.declared.rules.Kept.{Kept as Answer}
 use Rattle.read_verilog.specs.Kept.{KeptAt, RulesAre}
@@ -143,28 +141,21 @@ module _ {L : Limits} {t : List ℕ} {r : Scan} (R : Tree L t r) where
         unfolding netlist_made
         outputs-are = ap (λ (x : ℕ). x ∷ []) (sym at.outputs)
 
-        -- question 5 asks of the wires, and for one value of each kind
-        abbrev pub all_within : Bool
-        all_within = leb (k.inputs + (r.operators + k.outputs)) L.wires && leb 1 L.inputs && leb 1 L.outputs
+        abbrev wires : ℕ
+        wires = k.inputs + (r.operators + k.outputs)
 
-        five : within_limits L (header_of (netlist_made R.is)) ≡ all_within
-        five =
-            let N = netlist_made R.is in
-            let a : input_bits N ≡ k.inputs + 0 = ap sum inputs_are in
-            let b : output_bits N ≡ k.outputs + 0 = ap sum outputs-are in
-            let w = ap (λ (n : ℕ). leb n L.wires) wires-are in
-            let i = ap (λ (ws : List ℕ). leb (length ws) L.inputs) inputs_are in
-            let o = ap (λ (ws : List ℕ). leb (length ws) L.outputs) outputs-are in
-            ap₂ ◌&&◌ (ap₂ ◌&&◌ (ap₂ ◌&&◌ (ap₂ ◌&&◌ w i) o) (le-leb (input_bits N) N.wires (omega (arith, a, wires-are))))
-            (le-leb (output_bits N) N.wires (omega (arith, b, wires-are)))
-            ∙ and-true (all_within && true) ∙ and-true all_within
+        five : within_limits L (header_of (netlist_made R.is)) ≡ admits_one L wires
+        five = limits-one L (netlist_made R.is) wires-are inputs_are outputs-are (omega arith) (omega arith)
 
-        pub no-room : all_within ≡ false → read_equations L t ≡ refused 5
+        pub no-room : admits_one L wires ≡ false → read_equations L t ≡ refused 5
         no-room n = behind-18 ∙ ap (λ (b : Bool). ask 5 b (done (netlist_made R.is))) (five ∙ n)
 
-        module _ (few : k.inputs + (r.operators + k.outputs) ≤ L.wires) (one : 1 ≤ L.inputs) (two : 1 ≤ L.outputs) where
+        module _ (room : admits_one L wires ≡ true) where
           within : within_limits L (header_of (netlist_made R.is)) ≡ true
-          within = five ∙ rw (le-leb (k.inputs + (r.operators + k.outputs)) L.wires few, le-leb 1 L.inputs one, le-leb 1 L.outputs two) refl
+          within = five ∙ room
+
+          pub few-wires : wires ≤ L.wires
+          few-wires = wires-admitted L wires room
 
           next-is : k.inputs + r.operators ≡ (built R.is).next
           unfolding netlist_made
@@ -190,8 +181,8 @@ module _ {L : Limits} {t : List ℕ} {r : Scan} (R : Tree L t r) where
               let gs = N.gates in
               let P : after ≡ put_gates k.inputs before gs = G.gives m R.stands rk at next-is in
               let Q : put_gates k.inputs before gs ≡ put_gates (length (input_ports m)) before gs = ap (λ (n : ℕ). put_gates n before gs) i in
-              let H : Holding (put_gates (length (input_ports m)) before gs) W gs = held (length (input_ports m)) W gs before O (omega (arith, wires-are, few, s))
-              (omega (arith, wires-are, few, lo)) (omega (arith, wires-are, few, lr)) in
+              let H : Holding (put_gates (length (input_ports m)) before gs) W gs = held (length (input_ports m)) W gs before O (omega (arith, wires-are, few-wires, s))
+              (omega (arith, wires-are, few-wires, lo)) (omega (arith, wires-are, few-wires, lr)) in
               let H' : Holding after W gs = subst (λ (X : Tables). Holding X W gs) (sym (P ∙ Q)) H in
               let l = ordered-length O in
               let c : length gs ≡ r.operators + k.outputs = omega (arith, l, i, wires-are) in

@@ -10,3 +10,4 @@ pub mod Items
 pub mod Made
 pub mod Held
 pub mod Answers
+pub mod Cutting

@@ -117,7 +117,7 @@ module _ {t : List ℕ} {at items : ℕ} (A : PlaceIs t at) (B : PastIs t at ite
     said : (m : Module) → Stands m t → PortsSay (ports_done count (seat_all t words count (unseated st₁ ws₁) (all_names m.ports))) st₂ ws₂ p
     said m S = P.gives (all_names m.ports) (items_left m) (ports-at A B m S)
 
-    pub rules-unported : {st ws : List ℕ} → p.good ≡ false → RulesAre t size heads words links st ws None
+    pub rules-unported : {words' links' st ws : List ℕ} → p.good ≡ false → RulesAre t size heads words' links' st ws None
     rules-unported e = record {
       gives = λ m S.
           let L = loaded m S in
@@ -138,7 +138,7 @@ module _ {t : List ℕ} {at items : ℕ} (A : PlaceIs t at) (B : PastIs t at ite
       once m S = true-T (distinct (inputs m ++ outputs m ++ wires m)) (sym (fresh-once m) ∙ sym
           (ap (λ (es : List (Entry ℕ)). fresh [] (keys es)) (items-declared m)) ∙ (loaded m S).once)
 
-      pub rules-unsettled : {st ws : List ℕ} → b ≡ false → RulesAre t size heads words links st ws None
+      pub rules-unsettled : {words' links' st ws : List ℕ} → b ≡ false → RulesAre t size heads words' links' st ws None
       rules-unsettled q = record {
         gives = λ m S.
             let L = loaded m S in

@@ -32,10 +32,10 @@ pub fn read(
     operands: &mut [u64],
     results: &mut [u64],
 ) -> Result<NetlistNumbers, Question>
-    requires heads_value { (heads.old ≡ replicate (length heads.old) 0) × (wires.old ≡ replicate (length wires.old) 0) × (0 < length heads.old) }
-    requires table_in_bounds { (8 * l.table ≤ length words.old) × (8 * l.table ≤ length links.old) × (8 * l.table ≤ length states.old)
+    requires cleared { (heads.old ≡ replicate (length heads.old) 0) × (wires.old ≡ replicate (length wires.old) 0) × (0 < length heads.old) }
+    requires names_fit { (8 * l.table ≤ length words.old) × (8 * l.table ≤ length links.old) × (8 * l.table ≤ length states.old)
         × (8 * l.table ≤ length wires.old) }
-    requires text_bound { (l.text ≤ 32 * l.table) × (8 * l.table < half) × (l.wires + l.text + 1 < half) × (l.wires ≤ length operands.old)
+    requires limits { (l.text ≤ 32 * l.table) × (8 * l.table < half) × (l.wires + l.text + 1 < half) × (l.wires ≤ length operands.old)
         × (l.wires ≤ length results.old) }
     ensures { NetlistIs (read_equations l text.now) (tables operands.new results.new) result }
 {
@@ -43,24 +43,18 @@ pub fn read(
         return Err(Question::Length);
     }
     let form = walk(text).ok_or(Question::Grammar)?;
-    let size = heads.len();
     let most = l.table * NUMBERS;
-    let k = rules(text, heads, words, links, states, wires, size, most).ok_or(Question::Names)?;
+    let k = rules(text, heads, &mut words[..most], links, states, wires).ok_or(Question::Names)?;
     if DEEPEST < form.deepest {
         return Err(Question::Depth);
     }
     let gates = form.operators + k.outputs as usize;
-    let all = k.inputs as usize + gates;
-    if (l.wires as usize) < all || l.inputs < 1 || l.outputs < 1 {
-        return Err(Question::Limits);
-    }
+    let numbers = NetlistNumbers::admitted(k.inputs, gates, k.outputs, l)?;
     let names = Names {
         text,
         heads,
-        words,
-        links,
-        size,
-        count: k.count,
+        words: &words[..k.count],
+        links: &links[..k.count],
     };
     let first = k.inputs + form.operators as u32;
     equations(
@@ -69,10 +63,5 @@ pub fn read(
     copies(
         names, states, wires, operands, results, k.inputs, k.ports, first,
     );
-    Ok(NetlistNumbers {
-        gates,
-        wires: all,
-        inputs: k.inputs,
-        outputs: k.outputs,
-    })
+    Ok(numbers)
 }

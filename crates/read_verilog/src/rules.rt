@@ -35,13 +35,13 @@ fn ports_place(text: &[u8]) -> usize
 
 // The port list: the declared inputs and outputs, each once, and some of both.
 fn ports_kept(names: Names, states: &mut [u32], wires: &mut [u32], at: usize) -> Option<Ports>
-    requires { (names.count ≤ length states.old) × (names.count ≤ length wires.old) × (at ≤ length names.text.now)
+    requires { (length names.words.now ≤ length states.old) × (length names.words.now ≤ length wires.old) × (at ≤ length names.text.now)
         × (length names.text.now + 1 < half) }
-    ensures { PortsKept names.entry.text.now names.entry.words.now names.entry.count at states.old states.new
+    ensures { PortsKept names.entry.text.now names.entry.words.now (length names.entry.words.now) at states.old states.new
         wires.old wires.new (ported result) }
 {
     let p = port_list(names, states, wires, at)?;
-    if !all_from(states, names.count, State::Wire) || p.inputs == 0 || p.outputs == 0 {
+    if !all_from(&states[..names.words.len()], State::Wire) || p.inputs == 0 || p.outputs == 0 {
         return None;
     }
     Some(p)
@@ -49,14 +49,14 @@ fn ports_kept(names: Names, states: &mut [u32], wires: &mut [u32], at: usize) ->
 
 // The assignments: each as it must be, and behind them every wire and output assigned.
 fn assigns_kept(names: Names, states: &mut [u32], at: usize) -> bool
-    requires { (names.count ≤ length states.old) × (at ≤ length names.text.now) }
-    ensures { AssignsKept names.entry.text.now names.entry.words.now names.entry.count at states.old states.new result }
+    requires { (length names.words.now ≤ length states.old) × (at ≤ length names.text.now) }
+    ensures { AssignsKept names.entry.text.now names.entry.words.now (length names.entry.words.now) at states.old states.new result }
 {
-    assigns(names, states, at) && all_from(states, names.count, State::Readable)
+    assigns(names, states, at) && all_from(&states[..names.words.len()], State::Readable)
 }
 
-// Question 17. Of the tables `heads` and `wires` must be zero; the others have room for `most` names, which are a quarter of the
-// text's bytes or more: each name that keeps the rules stands twice, with a sign behind it.
+// Question 17. Of the tables `heads` and `wires` must be zero; `words` has room for as many names as a quarter of the text's bytes or
+// more, since each name that keeps the rules stands twice, with a sign behind it, and the others are no shorter.
 pub fn rules(
     text: &[u8],
     heads: &mut [u64],
@@ -64,26 +64,21 @@ pub fn rules(
     links: &mut [u64],
     states: &mut [u32],
     wires: &mut [u32],
-    size: usize,
-    most: usize,
 ) -> Option<Kept>
-    requires size_nonzero { (0 < size) × (size ≤ length heads.old) × (heads.old ≡ replicate (length heads.old) 0)
-        × (wires.old ≡ replicate (length wires.old) 0) }
-    requires most_in_bounds { (most ≤ length words.old) × (most ≤ length links.old) × (most ≤ length states.old) × (most ≤ length wires.old)
-        × (most < half) × (length text.now ≤ 4 * most) × (length text.now + 1 < half) }
-    ensures { RulesAre text.now size heads.new words.new links.new states.new
+    requires cleared { (0 < length heads.old) × (heads.old ≡ replicate (length heads.old) 0) × (wires.old ≡ replicate (length wires.old) 0) }
+    requires room { (length words.old ≤ length links.old) × (length words.old ≤ length states.old) × (length words.old ≤ length wires.old)
+        × (length words.old < half) × (length text.now ≤ 4 * length words.old) × (length text.now + 1 < half) }
+    ensures { RulesAre text.now (length heads.old) heads.new words.new links.new states.new
         wires.new result }
 {
     let ports = ports_place(text);
     let items = past(text, ports);
-    let d = declarations(text, heads, words, links, states, size, most, items)?;
+    let d = declarations(text, heads, words, links, states, items)?;
     let names = Names {
         text,
         heads,
-        words,
-        links,
-        size,
-        count: d.count,
+        words: &words[..d.count],
+        links: &links[..d.count],
     };
     let p = ports_kept(names, states, wires, ports)?;
     if !assigns_kept(names, states, d.at) {

@@ -1,5 +1,6 @@
 // Sixty-four runs in one pass: a word for each input bit in, a word for each output bit out; bit j of every word belongs to
-// setting j. Questions 1 to 9 with the large limits, 11 (the list's length alone) and 14.
+// setting j. Questions 1 to 9 with the large limits, 11 (the list's length alone) and 14. The tables are parameters of their own, as C lends
+// them. A service beside `run`, which has lists and a promise of its own: both call one function.
 #![tactic(auto)]
 
 ghost use Rattle.run64.specs.Promise.{Promise};

@@ -1,6 +1,5 @@
 // The entries of a run's lists: a bit, or a word with a bit for each of sixty-four settings.
 ghost use Rattle.std.specs.Prelude.{◌≡◌, ℕ, ◌≤◌, Bool, List, eqb, length};
-ghost use Rattle.std.proofs.lemmas.List.Edits.{sets};
 ghost use Rattle.netlist.specs.Netlist.{Netlist};
 ghost use Rattle.netlist.specs.Services.{list_good, is_bit, output_list};
 ghost use Rattle.gate_table.specs.Gates.{WiredGates, HoldsGates};
@@ -21,12 +20,12 @@ pub trait Entry: Copy {
     fn admits(list: &[Self], ins: usize) -> bool
         ensures { result ≡ admits list.now ins };
 
-    // The outputs of the gates' netlist on a list, over the front of `out`. The words, one for each wire, are working store.
-    fn outputs(gates: Gates, outs: usize, list: &[Self], words: &mut [u64], out: &mut [Self])
+    // The outputs of the gates' netlist on a list, for which `out` has a place each. The words, one for each wire, are working store.
+    fn outputs(gates: Gates, list: &[Self], words: &mut [u64], out: &mut [Self])
         requires wired { WiredGates gates (length words.old) }
-        requires list_in_bounds { (length list.now ≤ length words.old) × (outs ≤ length words.old) × (outs ≤ length out.old) }
+        requires list_in_bounds { (length list.now ≤ length words.old) × (length out.old ≤ length words.old) }
         ensures { (N : Netlist) → HoldsGates gates.entry (length words.old)
-            (length list.now) outs N → out.new ≡ sets out.old 0 (outputs N list.now) };
+            (length list.now) (length out.old) N → out.new ≡ outputs N list.now };
 
     // How long the lists are.
     ghost laws: { EntryLaws admits outputs };
@@ -43,8 +42,8 @@ impl Entry for u8 {
         lists::valid_bits(list, ins)
     }
 
-    fn outputs(gates: Gates, outs: usize, list: &[u8], words: &mut [u64], out: &mut [u8]) {
-        evaluate::single::outputs(gates, outs, list, words, out);
+    fn outputs(gates: Gates, list: &[u8], words: &mut [u64], out: &mut [u8]) {
+        evaluate::single::outputs(gates, list, words, out);
     }
 }
 
@@ -59,7 +58,7 @@ impl Entry for u64 {
         list.len() == ins
     }
 
-    fn outputs(gates: Gates, outs: usize, list: &[u64], words: &mut [u64], out: &mut [u64]) {
-        evaluate::wide::outputs(gates, outs, list, words, out);
+    fn outputs(gates: Gates, list: &[u64], words: &mut [u64], out: &mut [u64]) {
+        evaluate::wide::outputs(gates, list, words, out);
     }
 }

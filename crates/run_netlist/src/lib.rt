@@ -15,8 +15,8 @@ use gate_table::Gates;
 use netlist::{Answer, Question, Sizes};
 use read_header::header::Header;
 
-// Questions 11 and 14 and the outputs, from a header's numbers and its netlist's gates. Both stay parameters of their own: a
-// `NetlistTables` would ask of callers that the header's input bits are the sum of widths, which are not read here.
+// Questions 11 and 14 and the outputs, from a header's numbers and its netlist's gates. Both stay parameters of their own: a `NetlistTables`
+// would ask of callers that the header's input bits are the sum of widths, and a public function is to ask no more than it did.
 pub fn evaluate<T: Entry>(
     out: &mut [T],
     list: &[T],
@@ -37,7 +37,7 @@ pub fn evaluate<T: Entry>(
         return Err(Question::Room);
     }
     let words = &mut words[..h.wires as usize];
-    T::outputs(gates, outs, list, words, out);
+    T::outputs(gates, list, words, &mut out[..outs]);
     Ok(outs)
 }
 

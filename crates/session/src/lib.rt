@@ -8,7 +8,7 @@ use netlist::Question;
 
 // How many source gates, and how many masked gates, stand at the front of the two lent lists.
 #[repr(C)]
-#[derive(Clone, Copy)]
+#[derive(Clone, Copy, Default)]
 pub struct Session {
     pub gates: u32,
     pub masked: u32,

@@ -15,7 +15,6 @@ use Rattle.netlist.specs.declared.Gate.TheVariants.{Xor, And, Inv, Eqw, Eq}
 use Rattle.netlist.specs.declared.Question.{Question}
 use Rattle.netlist.specs.declared.Question.TheVariants as Q
 use Rattle.netlist.specs.declared.Sizes.{Sizes}
-use Rattle.netlist.specs.declared.Sizes.TheVariants.{Old, Whole}
 use Rattle.netlist.specs.declared.Twin.{Twin}
 use Rattle.netlist.specs.Question.{number_of}
 use Rattle.netlist.specs.Netlist.{small, result}
@@ -32,12 +31,13 @@ use Rattle.gate_records.specs.Records.{record_of, gate_of, gate_as, single, reco
 use Rattle.gate_table.specs.declared.Kind.{Kind}
 use Rattle.gate_table.specs.declared.Kind.TheVariants as kind
 use Rattle.gate_table.specs.Kind.{gate_for}
+use Rattle.mask_codes.specs.declared.Next.{Next}
 use Rattle.mask_rule.specs.Rule.{operands, steps_of, twin_of, Many}
 use Rattle.session.specs.declared.Session.{Session}
 use Rattle.session.specs.Asked.{gate_good, place_left}
 use Rattle.session.specs.Lists.{Lists, lists_of, session_of, present, steps, room_for, most_masked, asked}
-use Rattle.session_plan.specs.Plan.{first_asked, PlanIs}
-use Rattle.session_plan.proofs.Openings.{past-count}
+use Rattle.session_plan.specs.Plan.{first_asked, most_bits, PlanIs}
+use Rattle.session_plan.proofs.Openings.{few as few-wires, past-count}
 
 -- the six cases of a record's kind
 kinds : {P : Type 0} (r : GateRecord) → (r.kind ≡ 1 → P) → (r.kind ≡ 2 → P) → (r.kind ≡ 3 → P) → (r.kind ≡ 4 → P) → (r.kind ≡ 5 → P) → (gate_of r ≡ none → P) → P
@@ -174,12 +174,8 @@ module _ (z : Sizes) (codes : List ℕ) (s : Session) (source : List SourceRecor
     place-left = ltb→lt s.gates (length source) yes24.0
 
     -- within the limits
-    pub few : length codes + s.gates < 100000
-    few = omega (arith, ltb→lt (length codes + s.gates) (small z).wires yes24.1, most z)
-      where
-        most : (z : Sizes) → (small z).wires ≤ 100000
-        most Old = omega arith
-        most Whole = omega arith
+    pub few : length codes + s.gates < most_bits
+    few = omega (arith, ltb→lt (length codes + s.gates) (small z).wires yes24.1, few-wires z)
 
     is-gate : gate_of r ≡ some g
     is-gate =
@@ -220,9 +216,9 @@ module _ (z : Sizes) (codes : List ℕ) (s : Session) (source : List SourceRecor
           go true = refl
           go false = refl
 
-      module _ {c : ℕ} {t : Twin} (ec : c ≡ length codes + 2 + s.masked) (et : t ≡ twin_of c k A B)
+      module _ (c : Next) {t : Twin} (ec : c.wire ≡ length codes + 2 + s.masked) (et : t ≡ twin_of c.wire k A B)
           (room : s.masked + many ≤ length masked) (most : s.masked + many ≤ most_masked) where
-        next-is : c ≡ (present codes L).next
+        next-is : c.wire ≡ (present codes L).next
         next-is = omega (arith, ec)
 
         twin-is : result_twin (present codes L) g ≡ t
@@ -239,6 +235,6 @@ module _ (z : Sizes) (codes : List ℕ) (s : Session) (source : List SourceRecor
           place = place-left;
           keep = sym (ap₂ (λ (x : GateRecord) (u : Twin). source_record x u s.masked) (record-of r g is-gate) twin-is);
           made = sym (steps-at ∙ rw (← next-is) refl);
-          places = record { count = m (length codes) c; fits = room; inputs = omega (arith, few); next = omega (arith, ec, few, most) };
+          places = record { count = m (length codes) c.wire; fits = room; inputs = omega (arith, few) };
           session = ap (λ (x : ℕ). session_of (s.gates + 1) (s.masked + x)) (sym count-is);
         }

@@ -20,13 +20,15 @@ use Rattle.netlist.proofs.Tests.{on_bool, true-T, both_true}
 use Rattle.session.specs.Afresh.{open_gates}
 use Rattle.session.specs.Asked.{widths_good}
 use Rattle.session.proofs.More.{past-publics}
+use Rattle.session_plan.specs.Plan.{most_bits}
 
-few : (z : Sizes) → (small z).wires ≤ 100000
+-- both limits admit at most as many
+pub few : (z : Sizes) → (small z).wires ≤ most_bits
 few Old = omega arith
 few Whole = omega arith
 
 -- as many codes as bits, within the limits
-pub few-codes : (z : Sizes) (codes : List ℕ) {n : ℕ} → list_good is_input_code n codes ≡ true → n ≤ (small z).wires → length codes ≤ 100000
+pub few-codes : (z : Sizes) (codes : List ℕ) {n : ℕ} → list_good is_input_code n codes ≡ true → n ≤ (small z).wires → length codes ≤ most_bits
 few-codes z codes {n} e l = omega (
   arith,
   few z,

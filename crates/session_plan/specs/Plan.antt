@@ -1,9 +1,11 @@
 -- What the questions of a step answer, and the plan of what it writes.
-use Rattle.std.specs.Prelude.{ℕ, ◌+◌, ◌^◌, ◌≤◌, ◌<◌, ◌≡◌, Result, Ok, Err, List, [], length}
+use Rattle.std.specs.Prelude.{ℕ, ◌+◌, ◌≤◌, ◌<◌, ◌≡◌, Result, Ok, Err, List, [], length}
 use Rattle.netlist.specs.declared.Gate.{Gate}
 use Rattle.netlist.specs.declared.Question.{Question}
 use Rattle.netlist.specs.declared.Sizes.{Sizes}
+use Rattle.netlist.specs.declared.Sizes.TheVariants.{Whole}
 use Rattle.netlist.specs.Question.{number_of}
+use Rattle.netlist.specs.Netlist.{small}
 use Rattle.netlist.specs.Outcome.{Outcome, refused, done, ask}
 use Rattle.netlist.specs.Mask.{result_twin}
 use Rattle.gate_records.specs.declared.GateRecord.{GateRecord}
@@ -14,6 +16,10 @@ use Rattle.session.specs.Asked.{opening, gate_good, place_left}
 use Rattle.session.specs.Lists.{Lists, present, steps, asked, added}
 use Rattle.session_plan.specs.declared.adding.Plan.{Plan}
 use Rattle.session_plan.specs.declared.adding.Steps.{Steps}
+
+-- the most input bits of a session: it has no more than wires, and of these the larger of Mask's limits admit so many
+abbrev pub most_bits : ℕ
+most_bits = (small Whole).wires
 
 -- an outcome is done
 pub record Yes {A : Type 0} (o : Outcome A) : Type 0 where
@@ -31,14 +37,13 @@ first_asked z n gates places g = ask 24 (place_left z gates (n + gates) places) 
 
 -- the masked gates of a plan, with n input bits
 abbrev pub steps_in : ℕ → Steps → List Gate
-steps_in n x = steps_of n x.c x.kind x.a x.b
+steps_in n x = steps_of n x.c.wire x.kind x.a x.b
 
--- they have places from a place on, in a list of so many, and their numbers stay small
+-- they have places from a place on, in a list of so many, and there are no more input bits than a session has
 pub record Places (n : ℕ) (x : Steps) (at long : ℕ) : Type 0 where
   pub count : x.count ≡ length (steps_in n x)
   pub fits : at + x.count ≤ long
-  pub inputs : n < 2 ^ 30
-  pub next : x.c < 2 ^ 31
+  pub inputs : n ≤ most_bits
 
 -- the gate of a record is admitted, and the plan says what it makes of the lists
 pub record Admits (z : Sizes) (codes : List ℕ) (L : Lists) (r : GateRecord) (p : Plan) : Type 0 where
@@ -59,7 +64,7 @@ pub record Opens (z : Sizes) (widths codes : List ℕ) (room m : ℕ) : Type 0 w
   pub admitted : opening z widths codes room ≡ done []
   pub count : m ≡ length (open_gates codes)
   pub fits : m ≤ room
-  pub few : length codes ≤ 100000
+  pub few : length codes ≤ most_bits
 
 abbrev pub OpenedIs : Sizes → List ℕ → List ℕ → ℕ → Result ℕ Question → Type 0
 OpenedIs z widths codes room (Err q) = opening z widths codes room ≡ refused (number_of q)

@@ -1,5 +1,5 @@
 // Adding a gate: questions 24, 7 to 9 and 14, and what is written.
-ghost use Rattle.std.specs.Prelude.{◌≡◌, List, ◌++◌, map, ◌+◌, ◌<◌, ◌^◌, length, get_or, ltb};
+ghost use Rattle.std.specs.Prelude.{◌≡◌, List, ◌++◌, map, ◌+◌, ◌≤◌, length, get_or, ltb};
 ghost use Rattle.netlist.specs.Mask.{no_twin, input_twins};
 ghost use Rattle.netlist.specs.Read.{operands_given};
 ghost use Rattle.netlist.specs.Services.{stands_for};
@@ -7,7 +7,7 @@ ghost use Rattle.gate_records.specs.declared.GateRecord.{GateRecord as Record};
 ghost use Rattle.gate_records.specs.Records.{gate_as, twin_in};
 ghost use Rattle.session.specs.Asked.{gate_good};
 ghost use Rattle.session.specs.Lists.{lists_of};
-ghost use Rattle.session_plan.specs.Plan.{first_asked, PlanIs};
+ghost use Rattle.session_plan.specs.Plan.{first_asked, most_bits, PlanIs};
 
 use crate::publics;
 use gate_records::{GateRecord, SourceRecord};
@@ -23,7 +23,7 @@ pub struct Steps {
     pub kind: Kind,
     pub a: Twin,
     pub b: Twin,
-    pub c: u32,
+    pub c: Next,
     pub count: usize,
 }
 
@@ -35,7 +35,7 @@ pub struct Plan {
     pub session: Session,
 }
 
-// The most masked gates of a session.
+// The most masked gates of a session, 2^30: so the wires behind them have numbers below 2^31, as the law of `Next` says.
 const MOST: usize = 1073741824;
 
 // Question 8, of a record of a gate of this kind.
@@ -82,21 +82,21 @@ fn questions(
     gate_good(g, inputs + gates)
 }
 
-// The twin of source wire w: an input's by the codes, and otherwise the one in its record.
+// The twin of source wire w: an input's by the codes, and otherwise the one in its record. `mask_twins` has the twin of an input by a
+// function of the public wire: handed that wire, a secret input would have the codes in front of it counted for nothing.
 fn twin(codes: &[u8], source: &[SourceRecord], w: u32) -> Twin
-    requires { length codes.now < 2 ^ 29 }
+    requires { length codes.now ≤ most_bits }
     ensures { result ≡ get_or (input_twins (length codes.now + 5) 0 codes.now ++ map twin_in source.now) w no_twin }
 {
     let wire = w as usize;
     let inputs = codes.len();
     if wire < inputs {
-        let code = codes[wire];
-        if code != 0 {
-            return Twin { wire: w, code };
-        }
-        return Twin {
-            wire: (inputs + 5 + publics(&codes[..wire])) as u32,
-            code: 1,
+        return match codes[wire] {
+            0 => Twin {
+                wire: (inputs + 5 + publics(&codes[..wire])) as u32,
+                code: 1,
+            },
+            code => Twin { wire: w, code },
         };
     }
     entry(source, wire - inputs).twin()
@@ -124,9 +124,11 @@ pub fn planned(
     if MOST < at + many {
         return Err(Question::Room);
     }
-    let c = codes.len() as u32 + 2 + s.masked;
+    let c = Next {
+        wire: codes.len() as u32 + 2 + s.masked,
+    };
     Ok(Plan {
-        keep: g.source(mask_rule::twin(Next { wire: c }, kind, a, b), s.masked),
+        keep: g.source(mask_rule::twin(c, kind, a, b), s.masked),
         steps: Steps {
             kind,
             a,

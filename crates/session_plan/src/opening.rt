@@ -1,6 +1,8 @@
 // Opening a session: questions 4, 5, 11 and 14.
 ghost use Rattle.std.specs.Prelude.{◌≡◌, ◌≤◌, length};
+ghost use Rattle.netlist.specs.declared.Sizes.TheVariants.{Whole};
 ghost use Rattle.netlist.specs.Lists.{sum};
+ghost use Rattle.netlist.specs.Netlist.{small};
 ghost use Rattle.session.specs.Asked.{widths_good};
 ghost use Rattle.session_plan.specs.Plan.{OpenedIs};
 
@@ -14,9 +16,9 @@ pub fn positive(widths: &[u32]) -> bool
     !widths.is_empty() && !widths.contains(&0)
 }
 
-// The sum of at most 16 widths.
+// The sum of as many widths as Mask's limits admit, which 64 bits hold.
 pub fn total(widths: &[u32]) -> u64
-    requires { length widths.now ≤ 16 }
+    requires { length widths.now ≤ (small Whole).inputs }
     ensures { result ≡ sum widths.now }
 {
     widths.iter().map(|w| *w as u64).sum()

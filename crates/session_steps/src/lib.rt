@@ -1,4 +1,6 @@
-// The steps of a session over its lent lists: opening, adding a gate at the end, taking the last one off.
+// The steps of a session over its lent lists: opening, adding a gate at the end, taking the last one off. Masked gates are put into a list as
+// records here, where `mask_pass` writes them as lines: a function for both would take what puts a gate, and that changes a list here, a buffer
+// and a place there, so each would hand in more than the loop that it saves.
 #![tactic(auto)]
 
 ghost use Rattle.std.specs.Prelude.{◌≡◌, ◌≤◌, [], map, length};
@@ -6,32 +8,33 @@ ghost use Rattle.std.proofs.lemmas.List.Edits.{sets};
 ghost use Rattle.gate_records.specs.Records.{record_of};
 ghost use Rattle.session.specs.Afresh.{open_gates};
 ghost use Rattle.session.specs.Lists.{lists_of, session_of, said, off_asked, open_outcome, add_outcome};
-ghost use Rattle.session_plan.specs.Plan.{steps_in, Places};
+ghost use Rattle.session_plan.specs.Plan.{steps_in, most_bits, Places};
 ghost use Rattle.session_steps.specs.Promise.{StepsTo, OpenIs, AddIs};
 
 use gate_records::{GateRecord, SourceRecord};
-use mask_codes::{Masks, Next};
+use mask_codes::Masks;
 use netlist::{Gate, Question, Sizes};
 use session::{Session, Step};
 use session_plan::adding::{Steps, planned};
 use session_plan::opening::plan;
 use session_plan::taking::off;
 
-// A source gate's masked gates, from a place of the list on, with n input bits.
+// A source gate's masked gates, from a place of the list on, with n input bits. By places: each gate is made by its number, so that `iter_mut`
+// would count besides.
 fn write(list: &mut [GateRecord], at: usize, n: u32, x: Steps)
     requires { Places n x at (length list.old) }
     ensures { list.new ≡ sets list.old at (map record_of (steps_in n x)) }
 {
     let masks = Masks { first: n };
-    let c = Next { wire: x.c };
     for k in 0..x.count {
-        list[at + k] = mask_rule::gate(masks, c, x.kind, x.a, x.b, k);
+        list[at + k] = mask_rule::gate(masks, x.c, x.kind, x.a, x.b, k);
     }
 }
 
-// An opening's masked gates, at the front of the list.
+// An opening's masked gates, at the front of the list. `next` is counted: a loop over `filter` gives no place in the list that it writes to but
+// by a second count.
 fn write_opening(list: &mut [GateRecord], codes: &[u8])
-    requires { (length codes.now ≤ 100000) × (length (open_gates codes.now) ≤ length list.old) }
+    requires { (length codes.now ≤ most_bits) × (length (open_gates codes.now) ≤ length list.old) }
     ensures { list.new ≡ sets list.old 0 (map record_of (open_gates codes.now)) }
 {
     let n = codes.len() as u32;
@@ -47,6 +50,7 @@ fn write_opening(list: &mut [GateRecord], codes: &[u8])
     }
 }
 
+// Widths and codes stay parameters of their own, and so does what `add` is handed, here and in `session_plan`: C hands them in one by one.
 fn try_open(
     widths: &[u32],
     codes: &[u8],
@@ -67,11 +71,7 @@ fn try_open(
 pub fn open(widths: &[u32], codes: &[u8], masked: &mut [GateRecord], sizes: Sizes) -> Step
     ensures { OpenIs sizes widths.now codes.now masked.old masked.new result }
 {
-    let none = Session {
-        gates: 0,
-        masked: 0,
-    };
-    Step::of(none, try_open(widths, codes, masked, sizes))
+    Step::of(Session::default(), try_open(widths, codes, masked, sizes))
 }
 
 fn try_add(

@@ -1,27 +1,30 @@
 -- From the results of the parts to what is promised.
 use Rattle.std.specs.Prelude.{Result, Ok, Err}
-use Prim.Native.Nat.{ℕ, ◌+◌}
+use Prim.Native.Nat.{ℕ}
 use mathlib.Core.Path.{◌≡◌, refl, sym, ap, ap₂, ◌∙◌, subst}
 use mathlib.Core.List.{List, [], ◌∷◌, ◌++◌}
 use lib.ListN.{length, take}
 use Rattle.netlist.specs.declared.Question.{Question}
 use Rattle.netlist.specs.declared.Sizes.{Sizes}
+use Rattle.netlist.specs.Lists.{sum}
 use Rattle.netlist.specs.Netlist.{Netlist, small}
 use Rattle.netlist.specs.Question.{number_of}
 use Rattle.netlist.specs.Outcome.{Outcome, refused, done, and_then}
 use Rattle.netlist.specs.Read.{read_netlist}
 use Rattle.netlist.specs.Write.{write_netlist, gate_text}
 use Rattle.netlist.specs.Services.{tables_long, holds, rewrite_outcome, mask_outcome, mask_call, outcome_of, Answers, Delivers}
-use Rattle.netlist.specs.Table.{Tables}
 use Rattle.netlist.proofs.Questions.{ask-done, done-same, and_then-done}
 use Rattle.netlist.proofs.Answering.{answers-as, answers-refused, call-goes-on}
 use Rattle.netlist.proofs.Puts.{length-gates}
 use Rattle.netlist.proofs.Size.{roomy-small, reads-back}
 use Rattle.gate_records.specs.declared.SourceRecord.{SourceRecord}
+use Rattle.gate_table.specs.declared.Gates.{Gates}
+use Rattle.gate_table.specs.Gates.{tables_of}
 use Rattle.write_header.specs.Header.{header_text}
 use Rattle.write_header.proofs.Headers.{header-gates}
 use Rattle.write_netlist.specs.Form.{form_text}
 use Rattle.mask_text.specs.Whole.{text_in, MaskAnswers}
+use Rattle.mask.specs.Fronts.{Read}
 use Rattle.mask.specs.Promise.{Masks}
 use Rattle.mask.proofs.Promised.{mask-as, mask-refused, call-masks}
 use Rattle.session.specs.declared.Session.{Session}
@@ -33,20 +36,42 @@ use Rattle.session_text.proofs.Showing.{shown-made, shown-formed, shown-within}
 
 -- ---- the text of tables that hold a netlist
 
-form-same : {o : Outcome Netlist} {q : Shown} {t : Tables} (a : NetlistAt o t q)
-    → form_text q.count (q.input_bits + q.count) q.widths.now q.outputs.now t ≡ write_netlist a.is
-form-same {o} {q} {t} a =
+form-same : {o : Outcome Netlist} {q : Shown} {gs : Gates} (a : NetlistAt o gs q)
+    → form_text gs.count q.header.wires q.widths.now q.outputs.now (tables_of gs) ≡ write_netlist a.is
+form-same {o} {q} {gs} a =
     let N = a.is in
-    let g : length N.gates ≡ q.count = ap length a.gates ∙ length-gates t q.count in
-    let p : header_text q.count (q.input_bits + q.count) q.widths.now q.outputs.now ≡ header_text (length N.gates) N.wires N.inputs N.outputs
+    let g : length N.gates ≡ gs.count = ap length a.gates ∙ length-gates (tables_of gs) gs.count in
+    let p : header_text gs.count q.header.wires q.widths.now q.outputs.now ≡ header_text (length N.gates) N.wires N.inputs N.outputs
     = λ i. header_text (sym g i) (sym a.wires i) (sym a.inputs i) (sym a.outputs i) in
     ap₂ ◌++◌ p (ap gate_text (sym a.gates)) ∙ header-gates N
 
-pub text-written : {o : Outcome Netlist} {q : Shown} {t : Tables} {e x : List ℕ} {r : Result ℕ Question} → NetlistAt o t q
-    → Delivers (form_text q.count (q.input_bits + q.count) q.widths.now q.outputs.now t) e x r → Answers (and_then o (rewrite_outcome (length e))) e x r
+pub text-written : {o : Outcome Netlist} {q : Shown} {g : Gates} {e x : List ℕ} {r : Result ℕ Question} → NetlistAt o g q
+    → Delivers (form_text g.count q.header.wires q.widths.now q.outputs.now (tables_of g)) e x r → Answers (and_then o (rewrite_outcome (length e))) e x r
 text-written {o} {e = e} {x = x} {r = r} a d =
     let k : Delivers (write_netlist a.is) e x r = subst (λ (bs : List ℕ). Delivers bs e x r) (form-same a) d in
     answers-as (sym (ap (λ (o : Outcome Netlist). and_then o (rewrite_outcome (length e))) a.outcome)) k.answers
+
+-- what Mask reads of them
+pub netlist-read : {o : Outcome Netlist} {q : Shown} {g : Gates} (a : NetlistAt o g q)
+    → Read q.header (tables_of g) g.count q.widths.now q.outputs.now a.is
+netlist-read {o} {q} {g} a = record {
+  holds = record {
+    gates = a.gates;
+    wires = a.wires;
+    ins = ap sum a.inputs ∙ sym q.counted.input_bits;
+    outs = ap sum a.outputs ∙ sym q.counted.output_bits;
+  };
+  inputs = sym a.inputs;
+  outputs = sym a.outputs;
+  formed = a.formed;
+}
+
+-- Mask's answer for it is the one for the outcome
+pub masked-written : {o : Outcome Netlist} {q : Shown} {g : Gates} (codes wanted : List ℕ) {e x f y : List ℕ} {r : Result ℕ Question} (a : NetlistAt o g q)
+    → MaskAnswers (mask_outcome codes wanted (length e) (length f) a.is) e x f y r
+    → MaskAnswers (and_then o (mask_outcome codes wanted (length e) (length f))) e x f y r
+masked-written {o} codes wanted {e} {f = f} a m =
+    mask-as (sym (ap (λ (u : Outcome Netlist). and_then u (mask_outcome codes wanted (length e) (length f))) a.outcome)) m
 
 -- ---- the text's call
 

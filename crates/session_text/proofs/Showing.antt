@@ -4,7 +4,8 @@ use mathlib.Core.Path.{◌≡◌, refl, sym, ap, ◌∙◌, subst}
 use mathlib.Core.List.{List, [], ◌∷◌, ◌++◌}
 use native.Mathlib.Omega.{arith}
 use lib.Dec.{leb, leb→le}
-use lib.ListN.{length, get_or}
+use lib.ListN.{length, take, get_or}
+use lib.Seq.{length-take-le}
 use Rattle.netlist.specs.declared.Gate.{Gate}
 use Rattle.netlist.specs.declared.Limits.{Limits}
 use Rattle.netlist.specs.declared.Sizes.{Sizes}
@@ -13,16 +14,18 @@ use Rattle.netlist.specs.Netlist.{Netlist, small}
 use Rattle.netlist.specs.Header.{Header}
 use Rattle.netlist.specs.Outcome.{Outcome, refused, done, and_then}
 use Rattle.netlist.specs.Read.{netlist_of, WellFormed, Within}
-use Rattle.netlist.specs.Table.{Tables, gates_of}
 use Rattle.netlist.proofs.Tests.{true-T, both}
 use Rattle.netlist.proofs.Questions.{done-same, and_then-done}
 use Rattle.netlist.proofs.Order.{Ordered, end, step, ordered-append, ordered-length, ordered-good}
 use Rattle.gate_records.specs.declared.SourceRecord.{SourceRecord}
+use Rattle.gate_table.specs.declared.Gates.{Gates}
+use Rattle.gate_table.specs.Gates.{gates_in}
 use Rattle.gate_records.specs.Records.{blank_source, gate_in}
 use Rattle.session.specs.Asked.{widths_good, gate_good}
 use Rattle.session_text.specs.declared.shown.Shown.{Shown}
 use Rattle.session_text.specs.Shown.{head_of, head_asked, record_gates, netlist_shown}
 use Rattle.session_text.specs.Parts.{ShownIs, GatesAt, NetlistAt}
+use Rattle.session_text.proofs.Filling.{records-front}
 use Rattle.session_text.proofs.Askings.{Yes, head-yes}
 use Rattle.session_text.proofs.Gates.{admitted}
 
@@ -97,30 +100,36 @@ module _ (z : Sizes) (lengths widths outputs : List ℕ) (gates : ℕ) (source :
   yes : Yes (small z) lengths widths outputs gates (length source)
   yes = head-yes (small z) lengths widths outputs gates (length source) A.head.is
 
-  bits-same : s.input_bits ≡ sum widths
+  bits-same : s.header.input_bits ≡ sum widths
   bits-same = s.counted.input_bits ∙ ap sum A.widths
 
-  same-records : record_gates (sum widths) source gates ≡ record_gates s.input_bits source s.count
-  same-records = ap (λ (n : ℕ). record_gates n source gates) (sym bits-same) ∙ ap (record_gates s.input_bits source) (sym A.count)
+  -- the records that are shown, behind the input bits
+  abbrev shown_records : List SourceRecord
+  shown_records = take gates source
+
+  same-records : record_gates (sum widths) source gates ≡ record_gates s.header.input_bits shown_records (length shown_records)
+  same-records =
+      ap (λ (n : ℕ). record_gates n source gates) (sym bits-same) ∙ sym (records-front s.header.input_bits gates source gates (omega arith))
+      ∙ ap (record_gates s.header.input_bits shown_records) (sym (length-take-le gates source (omega (arith, A.count, A.places))))
 
   -- what follows the records
-  records : {r : Outcome (List Gate)} → record_gates s.input_bits source s.count ≡ r
+  records : {r : Outcome (List Gate)} → record_gates s.header.input_bits shown_records (length shown_records) ≡ r
       → netlist_shown (small z) lengths widths outputs gates source ≡ (and_then r λ gs. done (netlist_of (head_of widths outputs gates) gs))
   records e = goes_on (small z) lengths widths outputs gates source yes
       ∙ ap (λ (o : Outcome (List Gate)). and_then o λ gs. done (netlist_of (head_of widths outputs gates) gs)) (same-records ∙ e)
 
   -- a no of the records
-  pub records-no : {n : ℕ} → record_gates s.input_bits source s.count ≡ refused n → netlist_shown (small z) lengths widths outputs gates source ≡ refused n
+  pub records-no : {n : ℕ} → record_gates s.header.input_bits shown_records (length shown_records) ≡ refused n → netlist_shown (small z) lengths widths outputs gates source ≡ refused n
   records-no e = records e
 
   -- all of them are admitted
-  pub stands-at : {t : Tables} → GatesAt source s t → NetlistAt (netlist_shown (small z) lengths widths outputs gates source) t s
-  stands-at {t} G =
-      let gs = gates_of t s.count in
+  pub stands-at : {g : Gates} → GatesAt s.header.input_bits shown_records g → NetlistAt (netlist_shown (small z) lengths widths outputs gates source) g s
+  stands-at {g} G =
+      let gs = gates_in g in
       record {
         is = netlist_of (head_of widths outputs gates) gs;
         outcome = records G.gates;
-        wires = omega (arith, bits-same, A.count);
+        wires = omega (arith, bits-same, A.count, s.counted.wires);
         inputs = sym A.widths;
         outputs = sym A.outputs;
         gates = refl;

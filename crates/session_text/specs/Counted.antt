@@ -1,14 +1,16 @@
--- The numbers of a session that questions 4 and 5 admit.
+-- The numbers of a session that is shown.
 use Rattle.std.specs.Prelude.{ℕ, ◌+◌, ◌≤◌, ◌≡◌, List, length}
 use Rattle.netlist.specs.declared.Sizes.TheVariants.{Whole}
 use Rattle.netlist.specs.Lists.{sum}
 use Rattle.netlist.specs.Netlist.{small}
+use Rattle.read_header.specs.declared.header.Header.{Header}
 
--- the widths of the input and of the output values, their bits together, and how many gates there are
-pub record Counted (widths outs : List ℕ) (ins bits gates : ℕ) : Type 0 where
-  pub inputs : length widths ≤ 16
-  pub outputs : length outs ≤ 16
-  pub input_bits : ins ≡ sum widths
-  pub output_bits : bits ≡ sum outs
-  pub wires : ins + gates ≤ (small Whole).wires
-  pub few : bits ≤ ins + gates
+-- the widths of the input and of the output values, and the header of so many values, of their bits, and of a wire for each input bit and each gate
+pub record Counted (widths outs : List ℕ) (h : Header) : Type 0 where
+  pub inputs : length widths ≤ (small Whole).inputs
+  pub outputs : length outs ≤ (small Whole).outputs
+  pub input_bits : h.input_bits ≡ sum widths
+  pub output_bits : h.output_bits ≡ sum outs
+  pub wires : h.wires ≡ h.input_bits + h.gates
+  pub most : h.wires ≤ (small Whole).wires
+  pub few : h.output_bits ≤ h.wires

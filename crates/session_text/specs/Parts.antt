@@ -7,10 +7,11 @@ use Rattle.netlist.specs.Question.{number_of}
 use Rattle.netlist.specs.Netlist.{Netlist, small}
 use Rattle.netlist.specs.Outcome.{Outcome, refused, done}
 use Rattle.netlist.specs.Read.{WellFormed}
-use Rattle.netlist.specs.Table.{Tables, gates_of, Wired}
 use Rattle.gate_records.specs.declared.SourceRecord.{SourceRecord}
 use Rattle.gate_records.specs.Records.{gate_in}
 use Rattle.gate_table.specs.declared.Entry.{Entry}
+use Rattle.gate_table.specs.declared.Gates.{Gates}
+use Rattle.gate_table.specs.Gates.{gates_in, WiredGates}
 use Rattle.gate_table.specs.Entry.{Entered}
 use Rattle.session.specs.Asked.{gate_good}
 use Rattle.session_plan.specs.Plan.{Yes}
@@ -22,9 +23,9 @@ pub record ShownIs (z : Sizes) (lengths ins outs : List ℕ) (gates room : ℕ) 
   pub head : Yes (head_asked (small z) lengths ins outs gates room)
   pub widths : s.widths.now ≡ ins
   pub outputs : s.outputs.now ≡ outs
-  pub count : s.count ≡ gates
-  pub places : s.count ≤ room
-  pub tables : (i : ℕ) → i < length lengths → s.input_bits + s.count ≤ get_or lengths i 0
+  pub count : s.header.gates ≡ gates
+  pub places : s.header.gates ≤ room
+  pub tables : (i : ℕ) → i < length lengths → s.header.wires ≤ get_or lengths i 0
 
 -- the answer to questions 1 and 4 to 6, with tables of these lengths
 abbrev pub AskedIs : Sizes → List ℕ → List ℕ → List ℕ → ℕ → ℕ → Result Shown Question → Type 0
@@ -42,32 +43,23 @@ abbrev pub RecordIs : SourceRecord → ℕ → Result Entry Question → Type 0
 RecordIs r next (Err q) = gate_good next (gate_in r) ≡ refused (number_of q)
 RecordIs r next (Ok e) = GateIs r next e
 
--- each gate of an admitted session has a record and places in the tables
-pub record Places (source : List SourceRecord) (ops res : List ℕ) (s : Shown) : Type 0 where
-  pub records : s.count ≤ length source
-  pub operands : s.count ≤ length ops
-  pub results : s.count ≤ length res
+-- the gates of records behind n input bits, in tables
+pub record GatesAt (n : ℕ) (source : List SourceRecord) (g : Gates) : Type 0 where
+  pub gates : record_gates n source (length source) ≡ done (gates_in g)
+  pub wired : WiredGates g (n + length source)
+  pub count : g.count ≡ length source
 
--- the tables hold the records' gates
-pub record GatesAt (source : List SourceRecord) (s : Shown) (t : Tables) : Type 0 where
-  pub gates : record_gates s.input_bits source s.count ≡ done (gates_of t s.count)
-  pub wired : Wired t (s.input_bits + s.count) s.count
+-- the first no of these records, or their gates in the tables
+abbrev pub GatesAre : ℕ → List SourceRecord → Result Gates Question → Type 0
+GatesAre n source (Err e) = record_gates n source (length source) ≡ refused (number_of e)
+GatesAre n source (Ok g) = GatesAt n source g
 
--- the first no of an admitted session's records, or their gates in the tables
-abbrev pub GatesAre : List SourceRecord → Shown → Tables → Result (Unit {0}) Question → Type 0
-GatesAre source s t (Err e) = record_gates s.input_bits source s.count ≡ refused (number_of e)
-GatesAre source s t (Ok u) = GatesAt source s t
-
--- the netlist of an outcome stands in the tables
-pub record NetlistAt (o : Outcome Netlist) (t : Tables) (s : Shown) : Type 0 where
+-- the netlist of an outcome has these gates
+pub record NetlistAt (o : Outcome Netlist) (g : Gates) (s : Shown) : Type 0 where
   pub is : Netlist
   pub outcome : o ≡ done is
-  pub wires : is.wires ≡ s.input_bits + s.count
+  pub wires : is.wires ≡ s.header.wires
   pub inputs : is.inputs ≡ s.widths.now
   pub outputs : is.outputs ≡ s.outputs.now
-  pub gates : is.gates ≡ gates_of t s.count
+  pub gates : is.gates ≡ gates_in g
   pub formed : WellFormed is
-
--- the tables of wires and marks have an entry for each wire
-abbrev pub Long : List ℕ → List ℕ → Shown → Type 0
-Long ws ms s = (s.input_bits + s.count ≤ length ws) × (s.input_bits + s.count ≤ length ms)

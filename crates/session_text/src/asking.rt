@@ -1,5 +1,7 @@
-// Questions 1 and 4 to 6 of a session that is to be shown, over numbers and widths.
+// Questions 1 and 4 to 6 of a session that is to be shown. They are asked of widths and of numbers, and not of a `Given`: the records are not
+// looked at.
 ghost use Rattle.std.specs.Prelude.{◌≡◌, ◌≤◌};
+ghost use Rattle.netlist.specs.declared.Sizes.TheVariants.{Whole};
 ghost use Rattle.netlist.specs.Netlist.{small};
 ghost use Rattle.netlist.specs.Header.{within_limits};
 ghost use Rattle.session_plan.specs.Plan.{NoIs};
@@ -8,11 +10,12 @@ ghost use Rattle.session_text.specs.Parts.{AskedIs};
 
 use crate::shown::Shown;
 use netlist::{Limits, Question, Sizes};
+use read_header::header::Header;
 use session_plan::opening::{positive, total};
 
 // Question 5.
 fn within(l: Limits, widths: &[u32], outputs: &[u32], gates: u32) -> bool
-    requires { (l.inputs ≤ 16) × (l.outputs ≤ 16) }
+    requires { (l.inputs ≤ (small Whole).inputs) × (l.outputs ≤ (small Whole).outputs) }
     ensures { result ≡ within_limits l (head_of widths.now outputs.now gates) }
 {
     if l.inputs < widths.len() {
@@ -74,11 +77,17 @@ pub fn ask<'a>(
     ensures { AskedIs sizes lengths.now widths.now outputs.now gates places result }
 {
     question(widths, outputs, gates, places, lengths, sizes)?;
+    let bits = total(widths);
     Ok(Shown {
+        header: Header {
+            gates,
+            wires: bits as u32 + gates,
+            input_values: widths.len(),
+            input_bits: bits,
+            output_values: outputs.len(),
+            output_bits: total(outputs),
+        },
         widths,
         outputs,
-        input_bits: total(widths) as usize,
-        output_bits: total(outputs) as usize,
-        count: gates as usize,
     })
 }

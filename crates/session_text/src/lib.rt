@@ -4,31 +4,35 @@
 
 pub mod asking;
 pub mod entries;
+pub mod given;
 pub mod results;
 pub mod shown;
 
-ghost use Rattle.netlist.specs.Table.{tables};
-ghost use Rattle.session_text.specs.Parts.{Places, GatesAre};
+ghost use Rattle.std.specs.Prelude.{◌+◌, ◌≤◌, ◌<◌, ◌^◌, length};
+ghost use Rattle.session_text.specs.Parts.{GatesAre};
 
 use crate::entries::entry;
-use crate::shown::Shown;
 use gate_records::SourceRecord;
+use gate_table::{Gates, put};
 use netlist::Question;
 
-// The gates of the first records into the tables, and questions 7 to 9 of each.
-pub fn fill(
+// The gates of records behind n input bits, which are put into the tables, and questions 7 to 9 of each.
+pub fn fill<'t>(
     source: &[SourceRecord],
-    s: Shown,
-    operands: &mut [u64],
-    results: &mut [u64],
-) -> Result<(), Question>
-    requires { Places source.now operands.old results.old s }
-    ensures { GatesAre source.now s.entry (tables operands.new results.new) result }
+    n: usize,
+    operands: &'t mut [u64],
+    results: &'t mut [u64],
+) -> Result<Gates<'t>, Question>
+    requires { (length source.now ≤ length operands.old) × (length source.now ≤ length results.old) × (n + length source.now < 2 ^ 32) }
+    ensures { GatesAre n source.now result }
 {
-    for i in 0..s.count {
-        let e = entry(source[i], s.input_bits + i)?;
-        operands[i] = e.operands;
-        results[i] = e.results;
+    for (i, r) in source.iter().enumerate() {
+        let e = entry(*r, n + i)?;
+        put(operands, results, i, e);
     }
-    Ok(())
+    Ok(Gates {
+        operands,
+        results,
+        count: source.len(),
+    })
 }

@@ -1,14 +1,15 @@
 // A session that questions 1 and 4 to 6 admit.
 ghost use Rattle.session_text.specs.Counted.{Counted};
 
-// The widths of the input and of the output values, the bits that they have together, and how many gates the session has. Its law: questions
-// 4 and 5 admit these numbers.
+use read_header::header::Header;
+
+// The header of a session's netlist, and the widths of its input and of its output values. Its law: at most sixteen values of each kind, the bits
+// are the sums of the widths, there is a wire for each input bit and each gate, and wires and output bits are within the greater limits. The
+// header's own numbers of values are as `ask` makes them, and stand in no law.
 #[derive(Clone, Copy)]
 pub struct Shown<'a> {
+    pub header: Header,
     pub widths: &'a [u32],
     pub outputs: &'a [u32],
-    pub input_bits: usize,
-    pub output_bits: usize,
-    pub count: usize,
-    pub ghost counted: { Counted widths.now outputs.now input_bits output_bits count },
+    pub ghost counted: { Counted widths.now outputs.now header },
 }

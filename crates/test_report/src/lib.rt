@@ -1,17 +1,57 @@
 #![tactic(auto)]
 
-// The line that a test program prints for a group of cases.
+// How many cases of a group agreed, and the line that a test program prints for a group.
+ghost use Rattle.std.specs.Prelude.{◌≡◌, ◌+◌, ◌%◌, ◌^◌, cond};
 ghost use Rattle.write_buffer.specs.Wrote.{Wrote};
 ghost use Rattle.test_report.specs.Line.{tally_line};
 
+// How many cases of a group agreed, and how many it has.
+#[derive(Clone, Copy, Default)]
+pub struct Score {
+    pub agreed: usize,
+    pub cases: usize,
+}
+
+impl Score {
+    // A group of one case.
+    pub fn of(agrees: bool) -> Self
+        ensures agreed { result.agreed ≡ cond agrees 1 0 }
+        ensures cases { result.cases ≡ 1 }
+    {
+        Score {
+            agreed: usize::from(agrees),
+            cases: 1,
+        }
+    }
+
+    // Two groups as one.
+    pub fn join(self, other: Score) -> Self
+        ensures agreed { result.agreed ≡ (self.agreed + other.agreed) % 2 ^ 64 }
+        ensures cases { result.cases ≡ (self.cases + other.cases) % 2 ^ 64 }
+    {
+        Score {
+            agreed: self.agreed.wrapping_add(other.agreed),
+            cases: self.cases.wrapping_add(other.cases),
+        }
+    }
+
+    // One case more.
+    pub fn case(self, agrees: bool) -> Self
+        ensures agreed { result.agreed ≡ (self.agreed + cond agrees 1 0) % 2 ^ 64 }
+        ensures cases { result.cases ≡ (self.cases + 1) % 2 ^ 64 }
+    {
+        self.join(Score::of(agrees))
+    }
+}
+
 // A group's name, how many of its cases agreed, and how many it has.
-pub fn line(out: &mut [u8], name: &[u8], agreed: usize, cases: usize) -> usize
-    ensures { Wrote out.old 0 (tally_line name.now agreed cases) out.new result }
+pub fn line(out: &mut [u8], name: &[u8], score: Score) -> usize
+    ensures { Wrote out.old 0 (tally_line name.now score.agreed score.cases) out.new result }
 {
     let a = write_buffer::bytes(out, 0, name);
     let b = write_buffer::bytes(out, a, b": ");
-    let c = write_buffer::number(out, b, agreed);
+    let c = write_buffer::number(out, b, score.agreed);
     let d = write_buffer::bytes(out, c, b" of ");
-    let e = write_buffer::number(out, d, cases);
+    let e = write_buffer::number(out, d, score.cases);
     write_buffer::put(out, e, b'\n')
 }

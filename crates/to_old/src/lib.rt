@@ -1,4 +1,6 @@
 // From Fashion to the older dialect, gates unchanged. Questions 1 to 9 with the large limits, 15 and 14.
+// Lent tables stay parameters of their own: C lends them one by one, and a struct of `&mut` slices would have to promise at each call
+// that it still holds the same ones.
 #![tactic(auto)]
 
 ghost use Rattle.to_old.specs.Promise.{Promise};
@@ -6,7 +8,8 @@ ghost use Rattle.to_old.specs.Promise.{Promise};
 use netlist::{Answer, Sizes};
 use old_form::Dialect;
 
-// The netlist in `text`, written in the older dialect at the front of `out`. The tables, of any content, are zero on return.
+// The netlist in `text`, written in the older dialect at the front of `out`. The tables, of any content, are zero on return. A call of
+// `convert`, as `from_old` and `rewrite` are: a service each, with a name and a promise of its own.
 pub fn to_old(
     text: &[u8],
     out: &mut [u8],

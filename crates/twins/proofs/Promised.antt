@@ -14,14 +14,11 @@ use Rattle.netlist.specs.Outcome.{refused, done, ask}
 use Rattle.netlist.specs.Read.{read_netlist}
 use Rattle.netlist.specs.Mask.{is_input_code, finish, mask_netlist}
 use Rattle.netlist.specs.Services.{tables_long, list_good, holds, outcome_of}
-use Rattle.netlist.specs.Table.{Tables}
 use Rattle.netlist.proofs.Questions.{done-same, ask-done, and_then-done}
 use Rattle.netlist.proofs.Answering.{call-refused, call-goes-on}
-use Rattle.read_header.specs.declared.header.Header.{Header}
-use Rattle.read_netlist.specs.Whole.{ReadAt}
 use Rattle.netlist_tables.specs.declared.tables.NetlistTables.{NetlistTables}
-use Rattle.netlist_tables.specs.Tables.{TakenFrom, HoldsNetlist}
-use Rattle.netlist_tables.proofs.Taken.{taken-holds}
+use Rattle.netlist_tables.specs.Tables.{HoldsNetlist}
+use Rattle.read_tables.specs.Taken.{TakenOf}
 use Rattle.mask_twins.specs.State.{twins_of}
 use Rattle.netlist.proofs.Carried.{twins-carried}
 use Rattle.mask_twins.proofs.Made.{made, made-back}
@@ -45,17 +42,16 @@ module _ (s : Sizes) (text codes wires out_codes o r g : List ℕ) where
       twins-refused wires out_codes
       (call-refused (tables_long (small s) lengths) (read_netlist (small s) text) (twins_outcome codes (length wires) (length out_codes)) p)
 
-  pub call-read : {x y is os : List ℕ} {t : Tables} {h : Header} {n : NetlistTables} {a : Result ℕ Question}
-      → (tables_long (small s) lengths ≡ true) × ReadAt (small s) text is os t h
-      → TakenFrom h is t n → ((N : Netlist) → HoldsNetlist n N
+  pub call-read : {x y : List ℕ} {n : NetlistTables} {a : Result ℕ Question}
+      → (tables_long (small s) lengths ≡ true) × TakenOf (small s) text n → ((N : Netlist) → HoldsNetlist n N
       → TwinsAnswers (twins_outcome codes (length wires) (length out_codes) N) wires x out_codes y a)
       → TwinsAnswers (call s text codes wires out_codes o r g) wires x out_codes y a
   unfolding twins_call
-  call-read k m d =
+  call-read k d =
       twins-as
       (sym (call-goes-on (tables_long (small s) lengths) (read_netlist (small s) text) (twins_outcome codes (length wires) (length out_codes))
       k.0 k.1.read))
-      (d k.1.is (taken-holds m k.1.holds k.1.inputs))
+      (d k.1.is k.1.holds)
 
   -- a result is the two lists of the source's twins
   record Placed (L : TwinLists) : Type 0 where

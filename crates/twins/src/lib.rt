@@ -10,7 +10,7 @@ ghost use Rattle.twins.specs.Promise.{twins_outcome, TwinsAnswers, call, Promise
 
 use netlist::{Answer, Question, Sizes};
 use netlist_tables::tables::NetlistTables;
-use read_netlist::read::read;
+use read_tables::read;
 
 // Questions 11 and 14, and the twins at the fronts of the buffers, of a netlist that was read: the pass over the gates works in the
 // buffers, and needs no table of its own.
@@ -54,20 +54,16 @@ fn answer(
         operands.old results.old marks.old) wires.old wires.new out_codes.old
         out_codes.new result }
 {
-    let l = sizes.small();
-    let mut inputs = [0u32; 17];
-    let mut outputs = [0u32; 16];
-    let h = read(
+    let mut widths = [0u32; 17];
+    let netlist = read(
         text,
-        &mut inputs,
-        &mut outputs,
+        &mut widths,
         operands,
         results,
         marks,
         &[],
-        l,
+        sizes.small(),
     )?;
-    let netlist = NetlistTables::new(h, &inputs, operands, results);
     deliver(wires, out_codes, netlist, codes)
 }
 

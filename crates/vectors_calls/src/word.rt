@@ -1,22 +1,19 @@
 // Words and wires in lists of bytes: eight bytes and four bytes each, the lowest first.
 use crate::scan;
-use std::num::wrapping_add_usize;
 
 // The word at a place; bytes behind the end are 0.
 fn word(bytes: &[u8], at: usize) -> u64 {
     let mut word = [0u8; 8];
     for (i, b) in word.iter_mut().enumerate() {
-        *b = scan::byte(bytes, wrapping_add_usize(at, i));
+        *b = scan::byte(bytes, at.wrapping_add(i));
     }
     u64::from_le_bytes(word)
 }
 
 // The words of a list of bytes.
 pub(crate) fn take(list: &mut [u64], bytes: &[u8]) {
-    let mut at = 0;
-    for entry in list {
-        *entry = word(bytes, at);
-        at = wrapping_add_usize(at, 8);
+    for (i, entry) in list.iter_mut().enumerate() {
+        *entry = word(bytes, i.wrapping_mul(8));
     }
 }
 

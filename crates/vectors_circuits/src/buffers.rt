@@ -1,7 +1,8 @@
 // Buffers and tables. An array that a function answers is lent at no cost to the proofs; one that is made in place has its length computed
 // each time that it is lent.
-// A function for each length, and none generic in it: the name stands for a length that each caller would else write out.
-use crate::second::{Gate, NO_GATE};
+// A function for each length, and none generic in it: its callers would then name a type, as `let mut text: Text = zeros();`, and each function
+// here would be an alias.
+use crate::second::Gate;
 
 // As long as the list of the circuits' names may be.
 pub(crate) fn names() -> [u8; 4096] {
@@ -29,7 +30,7 @@ pub(crate) fn wires() -> [u32; 73720] {
 
 // As many gates as there are at most.
 pub(crate) fn gates() -> [Gate; 18430] {
-    [NO_GATE; 18430]
+    [Gate::default(); 18430]
 }
 
 // As many entries as a source of Mask has input or output bits at most.

@@ -1,6 +1,9 @@
 // Mask codes, and bits that travel under them. The mask setting m is m0 and twice m1.
 use crate::words;
 
+// Check judges a netlist of at most so many input bits besides the mask pair, by question 12.
+pub(crate) const MOST_BITS: usize = 12;
+
 fn mask(code: u8, m: u8) -> u8 {
     match code {
         1 => m % 2,
@@ -10,12 +13,23 @@ fn mask(code: u8, m: u8) -> u8 {
     }
 }
 
-// A list of the codes from `low` to `high` in turn.
-pub(crate) fn cycle(list: &mut [u8], low: u8, high: u8) {
-    let mut code = low;
+// The codes from `low` to `high`.
+#[derive(Clone, Copy)]
+pub(crate) struct Range {
+    pub(crate) low: u8,
+    pub(crate) high: u8,
+}
+
+// A list of the codes of a range in turn.
+pub(crate) fn cycle(list: &mut [u8], range: Range) {
+    let mut code = range.low;
     for entry in list {
         *entry = code;
-        code = if code < high { code + 1 } else { low };
+        code = if code < range.high {
+            code + 1
+        } else {
+            range.low
+        };
     }
 }
 
@@ -27,7 +41,7 @@ fn under(bit: u8, code: u8, m: u8) -> u8 {
 // The mask pair, behind n input bits.
 fn pair(wires: &mut [u8], n: usize, m: u8) {
     words::put(wires, n, m % 2);
-    words::put(wires, std::num::wrapping_add_usize(n, 1), m / 2);
+    words::put(wires, n.wrapping_add(1), m / 2);
 }
 
 // The input wires: each bit under the mask of its code, and the mask pair behind them, which the first gates of an unmasked
@@ -41,15 +55,12 @@ pub(crate) fn settle(wires: &mut [u8], bits: &[u8], codes: &[u8], m: u8) {
 
 // Whether bits are those of a vector's word, once the masks of their codes are off.
 pub(crate) fn agrees(bits: &[u8], codes: &[u8], m: u8, word: &[u8]) -> bool {
-    if bits.len() != word.len() {
-        return false;
-    }
-    for (i, (bit, wanted)) in bits.iter().zip(word).enumerate() {
-        if under(*bit, words::byte(codes, i), m) != *wanted & 1 {
-            return false;
-        }
-    }
-    true
+    bits.len() == word.len()
+        && bits.iter().zip(word).enumerate().all(|(i, (bit, wanted))| under(
+            *bit,
+            words::byte(codes, i),
+            m,
+        ) == *wanted & 1)
 }
 
 // Whether an output code is the wanted one; any is where 0 is wanted.
@@ -62,10 +73,8 @@ fn suits(wanted: u8, code: u8) -> bool {
 
 // Whether all output codes are as wanted.
 pub(crate) fn suit(wanted: &[u8], codes: &[u8]) -> bool {
-    for (i, entry) in wanted.iter().enumerate() {
-        if !suits(*entry, words::byte(codes, i)) {
-            return false;
-        }
-    }
-    true
+    wanted
+        .iter()
+        .enumerate()
+        .all(|(i, entry)| suits(*entry, words::byte(codes, i)))
 }

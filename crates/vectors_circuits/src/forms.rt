@@ -1,23 +1,20 @@
 // Rewrite: a text in the written form comes back as it is, and so does one that has more spaces and blank lines.
-use crate::score::Score;
 use crate::{buffers, services, words};
+use test_report::Score;
 
 // Whether a text is rewritten as this form of it.
 fn becomes(text: &[u8], form: &[u8]) -> bool {
     let mut out = buffers::text();
-    match services::rewrite(text, &mut out) {
-        Ok(n) => words::part(&out, 0, n) == form,
-        Err(_) => false,
-    }
+    services::rewrite(text, &mut out).is_ok_and(|n| words::part(&out, 0, n) == form)
 }
 
 // A byte, and one more of its kind behind a space or a line's end; answers the place behind them.
 fn twice(out: &mut [u8], at: usize, b: u8) -> usize {
     words::put(out, at, b);
-    let next = std::num::wrapping_add_usize(at, 1);
+    let next = at.wrapping_add(1);
     if b <= 32 {
         words::put(out, next, b);
-        return std::num::wrapping_add_usize(next, 1);
+        return next.wrapping_add(1);
     }
     next
 }

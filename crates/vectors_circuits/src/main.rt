@@ -8,36 +8,63 @@ mod codes;
 mod counts;
 mod forms;
 mod masked;
-mod score;
 mod second;
 mod services;
 mod vectors;
 mod verdicts;
 mod words;
 
+use crate::codes::Range;
 use crate::masked::Masked;
-use crate::score::Score;
+use crate::vectors::{Masking, Vectors};
+use crate::words::Cursor;
 use std::io;
 use std::io::Write;
 use std::rt::Files;
+use test_report::Score;
+
+// The most circuits that the file of names has.
+const CIRCUITS: usize = 100;
 
 // Prints a group's line, as far as 256 bytes hold it behind the circuit's name.
 fn print(rt: &impl Print, circuit: &[u8], group: &[u8], s: Score) -> io::Result<()> {
     let mut out = [0u8; 256];
-    let n = test_report::line(&mut out, group, s.agreed, s.cases);
-    let m = program_text::front(&out, n);
+    let n = test_report::line(&mut out, group, s);
     io::writer(rt).write_all(circuit)?;
     io::writer(rt).write_all(b", ")?;
-    io::writer(rt).write_all(&out[..m])
+    io::writer(rt).write_all(program_text::first(&out, n))
 }
 
 // A circuit on all of its vectors, and its masked netlists under three lists of codes on some eight of them each.
 fn circuit(rt: &impl Print, name: &[u8], text: &[u8], file: &[u8]) -> io::Result<()> {
-    let run = vectors::score(text, file, 1, b"", b"", 1);
-    let step = run.cases / 8 + 1;
-    let a = masked::scored(text, file, step, 1, 1, 0, 0);
-    let b = masked::scored(text, file, step, 1, 3, 1, 3);
-    let c = masked::scored(text, file, step, 3, 3, 0, 3);
+    let plain = Masking {
+        ins: b"",
+        outs: b"",
+        settings: 1,
+    };
+    let run = vectors::score(text, Vectors { file, step: 1 }, plain);
+    let some = Vectors {
+        file,
+        step: run.cases / 8 + 1,
+    };
+    let a = masked::scored(
+        text,
+        some,
+        Range { low: 1, high: 1 },
+        Range { low: 0, high: 0 },
+    );
+    let b = masked::scored(
+        text,
+        some,
+        Range { low: 1, high: 3 },
+        Range { low: 1, high: 3 },
+    );
+    let c = masked::scored(
+        text,
+        some,
+        Range { low: 3, high: 3 },
+        Range { low: 0, high: 3 },
+    );
     print(rt, name, b"run", run)?;
     report(rt, name, forms::score(text), a.join(b.join(c)))
 }
@@ -75,11 +102,11 @@ fn named(rt: &(impl Files + Print), netlist: &[u8], vectors: &[u8]) -> io::Resul
 fn main(rt: HostRuntime) -> io::Result<()> {
     let mut list = buffers::names();
     program_files::read(&rt, b"files", &mut list);
-    let mut at = 0;
-    for _ in 0..100usize {
-        let middle = words::behind(&list, at);
-        named(&rt, words::word(&list, at), words::word(&list, middle))?;
-        at = words::behind(&list, middle);
+    let mut netlist = Cursor::start(&list);
+    for _ in 0..CIRCUITS {
+        let vectors = netlist.behind();
+        named(&rt, netlist.word(), vectors.word())?;
+        netlist = vectors.behind();
     }
     Ok(())
 }

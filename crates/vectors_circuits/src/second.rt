@@ -1,30 +1,24 @@
 // The second evaluator: a reader that takes a netlist's text word by word and trusts it, and one byte a wire. It shares nothing
-// with the tool's reader, tables and evaluator.
+// with the tool's reader, tables and evaluator: document 01 has the cases that are not proved run against a second evaluator.
 use crate::words;
+use crate::words::Cursor;
 
-// A header: how many gates and wires there are, how many input and output bits, and where the gates begin.
+// A header: how many gates and wires there are, and how many input and output bits.
 #[derive(Clone, Copy)]
 pub(crate) struct Shape {
     pub(crate) gates: usize,
     pub(crate) wires: usize,
     pub(crate) ins: usize,
     pub(crate) outs: usize,
-    pub(crate) at: usize,
 }
 
-// A number, and the place behind it.
-#[derive(Clone, Copy)]
-struct Step {
-    value: usize,
-    at: usize,
-}
-
-#[derive(Clone, Copy)]
+#[derive(Clone, Copy, Default)]
 enum Kind {
     Xor,
     And,
     Inv,
     Eqw,
+    #[default]
     Eq,
 }
 
@@ -44,7 +38,7 @@ impl Kind {
 }
 
 // A gate, with the wires of its operands, one operand on both sides, and of its result. EQ has its constant as operand.
-#[derive(Clone, Copy)]
+#[derive(Clone, Copy, Default)]
 pub(crate) struct Gate {
     kind: Kind,
     left: usize,
@@ -52,19 +46,11 @@ pub(crate) struct Gate {
     result: usize,
 }
 
-// A table's entry before its gate is read.
-pub(crate) const NO_GATE: Gate = Gate {
-    kind: Kind::Eq,
-    left: 0,
-    right: 0,
-    result: 0,
-};
-
 // A digit behind a number of at most six digits.
 fn digit(n: usize, b: u8) -> usize {
     if n < 1000000 {
-        if 48 <= b {
-            return n * 10 + (b - 48) as usize;
+        if b'0' <= b {
+            return n * 10 + (b - b'0') as usize;
         }
     }
     0
@@ -78,71 +64,59 @@ fn number(word: &[u8]) -> usize {
     n
 }
 
-// The next word as a number.
-fn next(text: &[u8], at: usize) -> Step {
-    Step {
-        value: number(words::word(text, at)),
-        at: words::behind(text, at),
-    }
+// The next word as a number, and the place behind it.
+fn next(at: Cursor) -> (usize, Cursor) {
+    (number(at.word()), at.behind())
 }
 
 // A header line of values: the sum of the widths.
-fn bits(text: &[u8], at: usize) -> Step {
-    let values = next(text, at);
-    let count = values.value;
-    let mut sum = 0;
-    let mut place = values.at;
-    for _ in 0..count {
-        let width = next(text, place);
-        sum = std::num::wrapping_add_usize(sum, width.value);
-        place = width.at;
+fn bits(at: Cursor) -> (usize, Cursor) {
+    let (values, mut place) = next(at);
+    let mut sum: usize = 0;
+    for _ in 0..values {
+        let (width, behind) = next(place);
+        sum = sum.wrapping_add(width);
+        place = behind;
     }
-    Step {
-        value: sum,
-        at: place,
-    }
+    (sum, place)
 }
 
-pub(crate) fn header(text: &[u8]) -> Shape {
-    let gates = next(text, 0);
-    let wires = next(text, gates.at);
-    let ins = bits(text, wires.at);
-    let outs = bits(text, ins.at);
-    Shape {
-        gates: gates.value,
-        wires: wires.value,
-        ins: ins.value,
-        outs: outs.value,
-        at: outs.at,
-    }
+// A text's header, and where the gates begin.
+pub(crate) fn header(text: &[u8]) -> (Shape, Cursor) {
+    let (gates, at) = next(Cursor::start(text));
+    let (wires, at) = next(at);
+    let (ins, at) = bits(at);
+    let (outs, at) = bits(at);
+    let shape = Shape {
+        gates,
+        wires,
+        ins,
+        outs,
+    };
+    (shape, at)
 }
 
 // The gate of a line, which begins with how many operands there are, and the place behind the line.
-fn line(text: &[u8], at: usize) -> (Gate, usize) {
-    let operands = next(text, at);
-    let one = next(text, operands.at);
-    let left = next(text, one.at);
-    let right = if operands.value == 2 {
-        next(text, left.at)
-    } else {
-        left
-    };
-    let result = next(text, right.at);
+fn line(at: Cursor) -> (Gate, Cursor) {
+    let (operands, at) = next(at);
+    let (_, at) = next(at);
+    let (left, at) = next(at);
+    let (right, at) = if operands == 2 { next(at) } else { (left, at) };
+    let (result, at) = next(at);
     let gate = Gate {
-        kind: Kind::of(words::word(text, result.at)),
-        left: left.value,
-        right: right.value,
-        result: result.value,
+        kind: Kind::of(at.word()),
+        left,
+        right,
+        result,
     };
-    (gate, words::behind(text, result.at))
+    (gate, at.behind())
 }
 
 // The netlist of a text, whose gates go to the front of a table.
 pub(crate) fn read<'g>(text: &[u8], gates: &'g mut [Gate]) -> Circuit<'g> {
-    let shape = header(text);
-    let mut at = shape.at;
+    let (shape, mut at) = header(text);
     for entry in gates.iter_mut().take(shape.gates) {
-        (*entry, at) = line(text, at);
+        (*entry, at) = line(at);
     }
     Circuit { shape, gates }
 }

@@ -1,10 +1,11 @@
 // Check, against the counts of the second evaluator.
-use crate::score::Score;
+use crate::codes::MOST_BITS;
 use crate::{counts, services, words};
 use netlist::Question;
+use test_report::Score;
 
 // The edited netlists: how many of them both judge alike, and how many leak.
-#[derive(Clone, Copy)]
+#[derive(Clone, Copy, Default)]
 pub(crate) struct Edited {
     pub(crate) alike: Score,
     pub(crate) leaks: Score,
@@ -30,10 +31,11 @@ pub(crate) fn refuses_settings(text: &[u8], codes: &[u8]) -> bool {
     services::check(text, codes) == Err(Question::Settings)
 }
 
-fn name(text: &mut [u8], at: usize, a: u8, b: u8, c: u8) {
-    words::put(text, at, a);
-    words::put(text, std::num::wrapping_add_usize(at, 1), b);
-    words::put(text, std::num::wrapping_add_usize(at, 2), c);
+// A name of three letters to a place.
+fn name(text: &mut [u8], at: usize, name: &[u8]) {
+    for (i, b) in name.iter().enumerate() {
+        words::put(text, at.wrapping_add(i), *b);
+    }
 }
 
 // One edited netlist more.
@@ -46,25 +48,22 @@ fn tried(text: &[u8], codes: &[u8], e: Edited) -> Edited {
 
 // How many edits are tried: none where Check refuses the netlist for its input bits.
 fn turns(bits: usize) -> usize {
-    if 12 < bits {
+    if MOST_BITS < bits {
         return 0;
     }
     4
 }
 
-// Edits of a masked netlist, whose text is the first n bytes of a buffer: each makes one XOR an AND, and is taken back.
-pub(crate) fn edits(text: &mut [u8], n: usize, codes: &[u8]) -> Edited {
-    let mut e = Edited {
-        alike: Score::default(),
-        leaks: Score::default(),
-    };
-    let mut place = 0;
+// Edits of a masked netlist: each makes one XOR an AND, and is taken back.
+pub(crate) fn edits(text: &mut [u8], codes: &[u8]) -> Edited {
+    let mut e = Edited::default();
+    let mut place: usize = 0;
     for _ in 0..turns(codes.len()) {
         let at = words::find(text, place, b'X', b'X');
-        name(text, at, b'A', b'N', b'D');
-        e = tried(words::part(text, 0, n), codes, e);
-        name(text, at, b'X', b'O', b'R');
-        place = std::num::wrapping_add_usize(place, n / 5);
+        name(text, at, b"AND");
+        e = tried(text, codes, e);
+        name(text, at, b"XOR");
+        place = place.wrapping_add(text.len() / 5);
     }
     e
 }

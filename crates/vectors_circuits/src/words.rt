@@ -2,52 +2,59 @@
 
 // The byte at a place, and 0 behind the end.
 pub(crate) fn byte(s: &[u8], i: usize) -> u8 {
-    if i < s.len() {
-        return s[i];
-    }
-    0
+    s.get(i).copied().unwrap_or(0)
 }
 
 // A byte to a place; nothing behind the end.
 pub(crate) fn put(s: &mut [u8], i: usize, b: u8) {
-    if i < s.len() {
-        s[i] = b;
+    if let Some(to) = s.get_mut(i) {
+        *to = b;
     }
 }
 
 // The bytes from one place to another, and none where there is no such part.
 pub(crate) fn part(s: &[u8], from: usize, to: usize) -> &[u8] {
-    if to <= s.len() {
-        if from <= to {
-            return &s[from..to];
-        }
-    }
-    &s[0..0]
+    s.get(from..to).unwrap_or(b"")
 }
 
-// A reader of its own: the second evaluator, which it serves, shares nothing with the tool's readers, so that a slip of theirs shows.
+// A reader of its own: the second evaluator, which it serves, shares nothing with the tool's readers, so that a slip of theirs shows:
+// document 01 has cases run against a second evaluator.
 // The first place, not before `from`, of a byte from `low` to `high`; the end where there is none.
 pub(crate) fn find(s: &[u8], from: usize, low: u8, high: u8) -> usize {
-    for i in from..s.len() {
-        let b = byte(s, i);
-        if low <= b && b <= high {
-            return i;
+    part(s, from, s.len())
+        .iter()
+        .position(|b| low <= *b && *b <= high)
+        .map_or(s.len(), |i| from.wrapping_add(i))
+}
+
+// A place in a text of words. Spaces, line ends and the zeros of a buffer's rest part words.
+#[derive(Clone, Copy)]
+pub(crate) struct Cursor<'t> {
+    text: &'t [u8],
+    at: usize,
+}
+
+impl<'t> Cursor<'t> {
+    // The first byte of a text.
+    pub(crate) fn start(text: &'t [u8]) -> Self {
+        Cursor { text, at: 0 }
+    }
+
+    // Where the word begins that stands here or behind.
+    fn begin(self) -> usize {
+        find(self.text, self.at, 33, 255)
+    }
+
+    // Behind that word.
+    pub(crate) fn behind(self) -> Self {
+        Cursor {
+            text: self.text,
+            at: find(self.text, self.begin(), 0, 32),
         }
     }
-    s.len()
-}
 
-// Where the word begins that stands at a place or behind it. Spaces, line ends and the zeros of a buffer's rest part words.
-fn begin(s: &[u8], at: usize) -> usize {
-    find(s, at, 33, 255)
-}
-
-// The place behind that word.
-pub(crate) fn behind(s: &[u8], at: usize) -> usize {
-    find(s, begin(s, at), 0, 32)
-}
-
-// The word itself.
-pub(crate) fn word(s: &[u8], at: usize) -> &[u8] {
-    part(s, begin(s, at), behind(s, at))
+    // The word itself.
+    pub(crate) fn word(self) -> &'t [u8] {
+        part(self.text, self.begin(), self.behind().at)
+    }
 }

@@ -1,5 +1,6 @@
 // The outputs, copied in port order behind all other gates. The tables that are written stay parameters of their own: C lends them one
-// by one, and a struct of `&mut` slices would have to promise at each call that it still holds the same ones.
+// by one, and a struct of `&mut` slices would have to promise at each call that it still holds the same ones. `names`, `states` and `wires`, which
+// are read, are three: the steps before write `states` and `wires`, so that a struct of them would serve these two functions alone.
 #![tactic(auto)]
 
 ghost use Rattle.std.specs.Prelude.{◌+◌, ◌≤◌, ◌<◌, length};
@@ -24,8 +25,8 @@ fn copy(
     w: &[u8],
     free: u32,
 ) -> u32
-    requires { (names.count ≤ length states.now) × (names.count ≤ length wires.now) × (n ≤ free) × (free + 1 < half) }
-    ensures { CopyIs names.entry.text.now names.entry.words.now states.now wires.now names.entry.count n w.now free
+    requires { (length names.words.now ≤ length states.now) × (length names.words.now ≤ length wires.now) × (n ≤ free) × (free + 1 < half) }
+    ensures { CopyIs names.entry.text.now names.entry.words.now states.now wires.now (length names.entry.words.now) n w.now free
         (tables operands.old results.old) (tables operands.new results.new) result }
 {
     if wire_of(names, states, w) != State::ReadableOutput.number() {
@@ -47,9 +48,9 @@ pub fn copies(
     at: usize,
     next: u32,
 )
-    requires { (names.count ≤ length states.now) × (names.count ≤ length wires.now) × (at ≤ length names.text.now) × (n ≤ next)
+    requires { (length names.words.now ≤ length states.now) × (length names.words.now ≤ length wires.now) × (at ≤ length names.text.now) × (n ≤ next)
         × (next + length names.text.now + 1 < half) }
-    ensures { CopiesIs names.entry.text.now names.entry.words.now states.now wires.now names.entry.count n at next
+    ensures { CopiesIs names.entry.text.now names.entry.words.now states.now wires.now (length names.entry.words.now) n at next
         (tables operands.old results.old) (tables operands.new results.new) }
 {
     let text = names.text;

@@ -79,7 +79,7 @@ fn behind(s: Step, kind: Kind) -> Option<Step>
     Some(Step { phase, depth })
 }
 
-// 1 for an operator.
+// 1 for an operator, else 0: a number and no `bool`, since its one caller adds it up.
 fn operators(kind: Kind) -> usize
     ensures { result ≡ operator_code (number_of kind) }
 {

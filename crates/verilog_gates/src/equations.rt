@@ -1,5 +1,6 @@
 // The assignments of a text, one after another. The tables that are written are lent one by one: a struct of `&mut` slices would have to
 // promise at each call that it still holds them.
+ghost use Rattle.std.specs.Prelude.{length};
 ghost use Rattle.netlist.specs.Table.{tables};
 ghost use Rattle.verilog_gates.specs.Operands.{Ready};
 ghost use Rattle.verilog_gates.specs.Equations.{EquationsIs};
@@ -20,8 +21,8 @@ pub fn equations(
     at: usize,
     next: u32,
 ) -> u32
-    requires { Ready names.text.now wires.old names.count n at next }
-    ensures { EquationsIs names.entry.text.now names.entry.words.now n names.entry.count at wires.old next
+    requires { Ready names.text.now wires.old (length names.words.now) n at next }
+    ensures { EquationsIs names.entry.text.now names.entry.words.now n (length names.entry.words.now) at wires.old next
         (tables operands.old results.old) (tables operands.new results.new) wires.new result }
 {
     let text = names.text;

@@ -1,7 +1,10 @@
 // Expressions: three functions that call each other in a cycle. Each reads what stands at a place of the text and puts a gate
 // for each operator into the tables. They go as deep as the parentheses do.
 // The tables of gates are lent by C one by one, and a struct of `&mut` slices would have to promise at each call that it still
-// holds them.
+// holds them. `n` and `next` are two parameters, here, in `equations` and in `copies`: `n` stays while `next` moves, so each call would put a
+// struct of both together again.
+// `names`, `wires` and `n` are three: `equations` writes `wires` between its calls, and would make one value of the three anew for each
+// assignment.
 ghost use Rattle.std.specs.Prelude.{◌+◌, ◌≤◌, ◌<◌, length};
 ghost use Rattle.netlist.specs.Table.{half, tables};
 ghost use Rattle.verilog_gates.specs.Wires.{wire_of};
@@ -35,8 +38,8 @@ pub fn expression(
     from: usize,
     next: u32,
 ) -> Value
-    requires { Ready names.text.now wires.now names.count n from next }
-    ensures { ExprIs (wire_of names.entry.text.now names.entry.words.now wires.now names.entry.count) names.entry.text.now n from next
+    requires { Ready names.text.now wires.now (length names.words.now) n from next }
+    ensures { ExprIs (wire_of names.entry.text.now names.entry.words.now wires.now (length names.entry.words.now)) names.entry.text.now n from next
         (tables operands.old results.old) (tables operands.new results.new) result }
 {
     let mut left = term(names, wires, operands, results, n, from, next);
@@ -63,8 +66,8 @@ fn term(
     from: usize,
     next: u32,
 ) -> Value
-    requires { Ready names.text.now wires.now names.count n from next }
-    ensures { TermIs (wire_of names.entry.text.now names.entry.words.now wires.now names.entry.count) names.entry.text.now n from next
+    requires { Ready names.text.now wires.now (length names.words.now) n from next }
+    ensures { TermIs (wire_of names.entry.text.now names.entry.words.now wires.now (length names.entry.words.now)) names.entry.text.now n from next
         (tables operands.old results.old) (tables operands.new results.new) result }
 {
     let mut left = factor(names, wires, operands, results, n, from, next);
@@ -129,8 +132,8 @@ fn factor(
     from: usize,
     next: u32,
 ) -> Value
-    requires { Ready names.text.now wires.now names.count n from next }
-    ensures { FactorIs (wire_of names.entry.text.now names.entry.words.now wires.now names.entry.count) names.entry.text.now n from next
+    requires { Ready names.text.now wires.now (length names.words.now) n from next }
+    ensures { FactorIs (wire_of names.entry.text.now names.entry.words.now wires.now (length names.entry.words.now)) names.entry.text.now n from next
         (tables operands.old results.old) (tables operands.new results.new) result }
 {
     let text = names.text;

@@ -17,17 +17,17 @@ use Rattle.verilog_names.specs.Names.{number, name_at, names_of, chain_at, newes
 
 -- tables of words that agree before an entry name the same
 module _ (t words words' : List ℕ) where
-  abbrev Agree : ℕ → Type 0
+  abbrev pub Agree : ℕ → Type 0
   Agree n = (i : ℕ) → i < n → get_or words' i 0 ≡ get_or words i 0
 
-  name_agree : (n i : ℕ) → Agree n → i < n → name_at t words' i ≡ name_at t words i
+  pub name_agree : (n i : ℕ) → Agree n → i < n → name_at t words' i ≡ name_at t words i
   name_agree n i a h = ap (λ (e : ℕ). between t (e % half) (e / half)) (a i h)
 
   pub names-agree : (n : ℕ) → Agree n → names_of t words' n ≡ names_of t words n
   names-agree zero a = refl
   names-agree (suc n) a = ap₂ (λ (xs : List (List ℕ)) (x : List ℕ). xs ++ (x ∷ [])) (names-agree n (λ i h. a i (omega (arith, h)))) (name_agree (suc n) n a (omega arith))
 
-  newest-agree : (size k n : ℕ) → Agree n → newest t words' size k n ≡ newest t words size k n
+  pub newest-agree : (size k n : ℕ) → Agree n → newest t words' size k n ≡ newest t words size k n
   unfolding newest
   newest-agree size k zero a = refl
   newest-agree size k (suc n) a =

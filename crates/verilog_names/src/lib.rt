@@ -7,32 +7,29 @@ ghost use Rattle.netlist.specs.Table.{half};
 ghost use Rattle.verilog_tokens.specs.Next.{between};
 ghost use Rattle.verilog_names.specs.Names.{number, found, entry_number, chain_of, Chained, Added};
 
+use halves::{pack, unpack};
 use read_text::bytes::same;
 
-// Names found by chains of equal numbers in lent tables, which are read: so many chains, and so many names of a text. The links are
-// places in a table, since there is no heap and C lends the tables.
+// Names found by chains of equal numbers in lent tables, which are read: a chain for each of `heads`, and a name of the text for each of
+// `words`. The links are places in a table, since there is no heap and C lends the tables: a head or a link is one more than an entry's place,
+// or 0 for none, as C's tables are numbers.
 #[derive(Clone, Copy)]
 pub struct Names<'a> {
     pub text: &'a [u8],
     pub heads: &'a [u64],
     pub words: &'a [u64],
     pub links: &'a [u64],
-    pub size: usize,
-    pub count: usize,
-    ghost chained: { Chained text.now heads.now words.now links.now size count },
+    ghost chained: { Chained text.now heads.now words.now links.now (length heads.now) (length words.now) },
 }
-
-// 2^32: the numbers of names are below it, and a name's end stands in the upper half of its entry of words, above its start.
-const HALF: u64 = 4294967296;
 
 // The number of a name.
 #[tactic(auto, unfolding(crate::specs::Names::number))]
-fn hash(w: &[u8]) -> u64
+fn hash(w: &[u8]) -> u32
     ensures { result ≡ number w.now }
 {
-    let mut h: u64 = 0;
+    let mut h = 0u32;
     for b in w {
-        h = (h * 37 + u64::from(*b)) % HALF;
+        (h, _) = unpack(u64::from(h) * 37 + u64::from(*b));
     }
     h
 }
@@ -50,18 +47,17 @@ fn is_name(text: &[u8], entry: u64, w: &[u8]) -> bool
     requires { (entry % half ≤ entry / half) × (entry / half ≤ length text.now) }
     ensures { result ≡ same_bytes (between text.now (entry % half) (entry / half)) w.now }
 {
-    let from = (entry % HALF) as usize;
-    let to = (entry / HALF) as usize;
-    same(&text[from..to], w)
+    let (from, to) = unpack(entry);
+    same(&text[from as usize..to as usize], w)
 }
 
 impl Names<'_> {
-    // The newest entry with the name w.
+    // The newest entry with the name w. No `for`: the place moves along the links.
     pub fn find(self, w: &[u8]) -> Option<usize>
-        ensures entry { entry_number result ≡ found self.entry.text.now self.entry.words.now w.now self.entry.count }
-        ensures within { IfSome result (λ i. i < self.entry.count) }
+        ensures entry { entry_number result ≡ found self.entry.text.now self.entry.words.now w.now (length self.entry.words.now) }
+        ensures within { IfSome result (λ i. i < length self.entry.words.now) }
     {
-        let mut p = self.heads[chain_of(w, self.size)];
+        let mut p = self.heads[chain_of(w, self.heads.len())];
         while 0 < p {
             let i = (p - 1) as usize;
             if is_name(self.text, self.words[i], w) {
@@ -73,8 +69,8 @@ impl Names<'_> {
     }
 }
 
-// The name between two places as the next entry, newest of its chain. The tables are lent one by one: a struct of `&mut` slices would have
-// to promise at each call that it still holds them.
+// The name between two places as the next entry behind the first `count`, newest of its chain. The tables are lent one by one: a struct of
+// `&mut` slices would have to promise at each call that it still holds them.
 pub fn add(
     text: &[u8],
     from: usize,
@@ -82,16 +78,15 @@ pub fn add(
     heads: &mut [u64],
     words: &mut [u64],
     links: &mut [u64],
-    size: usize,
     count: usize,
 )
-    requires { Chained text.now heads.old words.old links.old size count × (from ≤ to) × (to ≤ length text.now)
+    requires { Chained text.now heads.old words.old links.old (length heads.old) count × (from ≤ to) × (to ≤ length text.now)
         × (count < length words.old) × (count < length links.old) }
     ensures { Added text.now heads.old heads.new words.old words.new
-        links.old links.new size count from to }
+        links.old links.new (length heads.old) count from to }
 {
-    let k = chain_of(&text[from..to], size);
-    words[count] = (from as u64) + (to as u64) * HALF;
+    let k = chain_of(&text[from..to], heads.len());
+    words[count] = pack(from as u32, to as u32);
     links[count] = heads[k];
     heads[k] = (count as u64) + 1;
 }

@@ -1,4 +1,5 @@
 -- Declarations loaded into the tables, one token after another.
+use Rattle.std.specs.Prelude.{Option, Some, None, is_some}
 use Prim.Native.Nat.{ℕ, zero, suc, ◌+◌, ◌≤◌, ◌<◌}
 use mathlib.Core.Path.{◌≡◌, refl, sym, ap, ◌∙◌}
 use mathlib.Core.Bool.{Bool, true, false, not, ◌&&◌, ◌||◌}
@@ -7,7 +8,7 @@ use mathlib.Core.Option.{some}
 use native.Mathlib.Omega.{arith}
 use lib.Dec.{eqb, leb}
 use lib.ListN.{length, take, drop, set, length-append}
-use borrow.Author.Tests.{ne_eqb, eqb-true, eqb-false, lt-leb, leb-true, leb-false}
+use borrow.Author.Tests.{le-leb, ne_eqb, eqb-true, eqb-false, lt-leb, leb-true, leb-false}
 use Rattle.netlist.specs.Lists.{same_bytes}
 use Rattle.netlist.proofs.Tests.{on_bool}
 use Rattle.netlist.proofs.Questions.{some_same}
@@ -16,10 +17,10 @@ use Rattle.verilog.specs.Equations.{Entry, entry}
 use Rattle.verilog.proofs.Listing.{same-equal, same_self}
 use Rattle.verilog_tokens.specs.Next.{code_of, token_of, between, TokenAt}
 use Rattle.verilog_tokens.proofs.Firsts.{never, token-code, first, none_left}
-use Rattle.verilog_names.specs.Names.{name_at, names_of, found, Chained}
+use Rattle.verilog_names.specs.Names.{name_at, names_of, found, entry_number, Chained, Added}
 use Rattle.verilog_names.proofs.Adding.{chained_more, names-added}
 use Rattle.verilog_rules.specs.Stages.{declares, kind_behind, declared_from, behind_declared, keys, kinds, fresh, AllDeclared, NotDeclared}
-use Rattle.verilog_rules.specs.One.{OneSays}
+use Rattle.verilog_rules.specs.One.{NameIs, OneSays}
 
 -- ---- names found and names in the list
 
@@ -56,6 +57,33 @@ found-elem t words w (suc n) =
     none : (a b : Bool) → b ≡ false → (a || b) ≡ a
     none true b e = refl
     none false b e = e
+
+-- ---- a name looked up, and one more
+
+entry-some : (o : Option ℕ) → is_some o ≡ true → 0 < entry_number o
+entry-some None e = absurd (never (sym e))
+entry-some (Some i) e = omega arith
+
+entry-none : (o : Option ℕ) → is_some o ≡ false → entry_number o ≡ 0
+entry-none None e = refl
+entry-none (Some i) e = absurd (never e)
+
+module _ {t heads words links st : List ℕ} {size most count kind from to : ℕ} (o : Option ℕ) (room : count < most)
+    (f : entry_number o ≡ found t words (between t from to) count) where
+  pub name-known : is_some o ≡ true → NameIs t size most count kind from to heads heads words words links links st st false
+  name-known e = record {
+    said = rw (le-leb (count + 1) most (omega (arith, room)), ne_eqb (found t words (between t from to) count) 0 (omega (arith, f, entry-some o e))) refl;
+    added = λ q. absurd (never (sym q));
+    state = λ q. absurd (never (sym q));
+  }
+
+  pub name-new : is_some o ≡ false → {heads' words' links' : List ℕ} {x : ℕ} → Added t heads heads' words words' links links' size count from to → x ≡ kind
+      → NameIs t size most count kind from to heads heads' words words' links links' st (set st count x) true
+  name-new e A k = record {
+    said = rw (le-leb (count + 1) most (omega (arith, room)), sym f ∙ entry-none o e) refl;
+    added = λ q. A;
+    state = λ q. ap (set st count) k;
+  }
 
 -- ---- lists that grow at their end
 

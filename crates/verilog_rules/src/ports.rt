@@ -10,7 +10,7 @@ use verilog_names::Names;
 use verilog_tokens::{Kind, next};
 
 // How many inputs and outputs there are so far.
-#[derive(Clone, Copy)]
+#[derive(Clone, Copy, Default)]
 pub struct Ports {
     pub inputs: u32,
     pub outputs: u32,
@@ -18,8 +18,8 @@ pub struct Ports {
 
 // One port more, if it is an input or an output for the first time.
 fn port(names: Names, states: &mut [u32], wires: &mut [u32], w: &[u8], p: Ports) -> Option<Ports>
-    requires { (names.count ≤ length states.old) × (names.count ≤ length wires.old) × (p.inputs + 1 < half) × (p.outputs + 1 < half) }
-    ensures { PortIs names.entry.text.now names.entry.words.now names.entry.count w.now p.inputs p.outputs
+    requires { (length names.words.now ≤ length states.old) × (length names.words.now ≤ length wires.old) × (p.inputs + 1 < half) × (p.outputs + 1 < half) }
+    ensures { PortIs names.entry.text.now names.entry.words.now (length names.entry.words.now) w.now p.inputs p.outputs
         states.old states.new wires.old wires.new result }
 {
     if advance(names, states, w, State::Input, State::Readable) {
@@ -40,16 +40,13 @@ fn port(names: Names, states: &mut [u32], wires: &mut [u32], w: &[u8], p: Ports)
 
 // The ports from a place on, up to the end of their list. No `for`: the place moves by as much as a token is long.
 pub fn port_list(names: Names, states: &mut [u32], wires: &mut [u32], at: usize) -> Option<Ports>
-    requires { (names.count ≤ length states.old) × (names.count ≤ length wires.old) × (at ≤ length names.text.now)
+    requires { (length names.words.now ≤ length states.old) × (length names.words.now ≤ length wires.old) × (at ≤ length names.text.now)
         × (length names.text.now + 1 < half) }
-    ensures { PortsIs names.entry.text.now names.entry.words.now names.entry.count at states.old states.new
+    ensures { PortsIs names.entry.text.now names.entry.words.now (length names.entry.words.now) at states.old states.new
         wires.old wires.new result }
 {
     let text = names.text;
-    let mut ports = Ports {
-        inputs: 0,
-        outputs: 0,
-    };
+    let mut ports = Ports::default();
     let mut token = next(text, at);
     while token.kind == Kind::Name {
         ports = port(names, states, wires, &text[token.from..token.to], ports)?;

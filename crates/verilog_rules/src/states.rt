@@ -1,7 +1,8 @@
 // The states of names, which only rise.
-ghost use Rattle.std.specs.Prelude.{◌≡◌, ◌≤◌, ◌<◌, eqb, length};
+ghost use Rattle.std.specs.Prelude.{◌≡◌, ◌≤◌, ◌<◌, eqb, leb, length};
 ghost use Rattle.verilog_gates.specs.Wires.{wire_of};
-ghost use Rattle.verilog_rules.specs.States.{state_number, becomes, all_from};
+ghost use Rattle.netlist.specs.Lists.{every};
+ghost use Rattle.verilog_rules.specs.States.{state_number, becomes};
 
 use verilog_names::Names;
 
@@ -27,9 +28,10 @@ impl State {
 
 // Takes a name from one state to another; says whether it was in the first.
 pub fn advance(names: Names, states: &mut [u32], w: &[u8], old: State, new: State) -> bool
-    requires { names.count ≤ length states.old }
-    ensures said { result ≡ eqb (wire_of names.entry.text.now names.entry.words.now states.old names.entry.count w.now) (state_number old) }
-    ensures moved { states.new ≡ becomes names.entry.text.now names.entry.words.now states.old names.entry.count w.now (state_number old) (state_number new) }
+    requires { length names.words.now ≤ length states.old }
+    ensures said { result ≡ eqb (wire_of names.entry.text.now names.entry.words.now states.old (length names.entry.words.now) w.now) (state_number old) }
+    ensures moved { states.new ≡ becomes names.entry.text.now names.entry.words.now states.old (length names.entry.words.now) w.now (state_number old)
+        (state_number new) }
 {
     match names.find(w) {
         Some(i) if states[i] == old.number() => {
@@ -40,11 +42,10 @@ pub fn advance(names: Names, states: &mut [u32], w: &[u8], old: State, new: Stat
     }
 }
 
-// Whether the first states are at least one.
-pub fn all_from(states: &[u32], count: usize, least: State) -> bool
-    requires { count ≤ length states.now }
-    ensures { result ≡ all_from states.now count (state_number least) }
+// Whether all states are at least one.
+pub fn all_from(states: &[u32], least: State) -> bool
+    ensures { result ≡ every (leb (state_number least)) states.now }
 {
     let least = least.number();
-    states[..count].iter().all(|s| least <= *s)
+    states.iter().all(|s| least <= *s)
 }

@@ -32,7 +32,9 @@ pub enum Kind {
     Other,
 }
 
-// A token: what it is, its first byte, and the one behind its last. Places and no slice, since the tables of names store places.
+// A token: what it is, its first byte, and the one behind its last. Places and no slice: the tables of names store both places, and `TokenAt` of
+// specs/ speaks of both. With a word in place of `from`, `add` would compute `from` again, and each clause would have to say where in the text
+// the word lies.
 #[derive(Clone, Copy)]
 pub struct Token {
     pub kind: Kind,

@@ -5,6 +5,10 @@ use Rattle.netlist.specs.declared.Gate.TheVariants.{Xor, And, Inv, Eqw, Eq}
 use Rattle.netlist.specs.Netlist.{Netlist}
 use Rattle.wide.specs.Reach.{places, reach}
 
+-- inputs have lower numbers: there are at most 2^20 wires, and three such numbers fit in an entry of the tables of sets
+abbrev pub members_end : ℕ
+members_end = 1048576
+
 -- the list x ∷ xs and another put together, given what xs makes of a list
 abbrev pub merge_onto : (List ℕ → List ℕ) → ℕ → List ℕ → List ℕ → List ℕ
 merge_onto rest x xs [] = x ∷ xs

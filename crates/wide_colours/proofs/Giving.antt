@@ -1,5 +1,5 @@
 -- Colours given one after the other, and compared.
-use Prim.Native.Nat.{ℕ, zero, suc, ◌+◌, ◌*◌, ◌/◌, ◌%◌, ◌≤◌, ◌<◌}
+use Prim.Native.Nat.{ℕ, zero, suc, max, ◌+◌, ◌*◌, ◌/◌, ◌%◌, ◌≤◌, ◌<◌}
 use mathlib.Core.Path.{◌≡◌, refl, sym, ap, ◌∙◌, subst}
 use mathlib.Core.List.{List, [], ◌∷◌}
 use mathlib.Core.Logic.{◌≢◌}
@@ -13,7 +13,7 @@ use borrow.Author.Tests.{eqb-true, eqb-false, ltb-true, ltb-false}
 use Rattle.netlist.proofs.Tests.{on_bool}
 use Rattle.check_counts.specs.Paint.{code_of, colour_of, codes_of}
 use Rattle.wide.specs.Rule.{colour_at, Different}
-use Rattle.wide_colours.specs.Colours.{Coloured, Kept, Inputs, Seeded}
+use Rattle.wide_colours.specs.Colours.{Upto, Coloured, Kept, Inputs, Seeded}
 
 -- ---- one colour given
 
@@ -91,6 +91,21 @@ seeded-different S I = record {
   some = λ a l. omega (arith, S.each I a l);
   apart = λ a b l m q. omega (arith, S.each I a l, S.each I b m);
 }
+
+-- ---- the highest colour
+
+abbrev pub highest : List ℕ → ℕ
+highest [] = 0
+highest (p ∷ ps) = max (p / 4) (highest ps)
+
+pub highest-upto : (ps : List ℕ) → Upto (highest ps) ps
+highest-upto [] i = omega arith
+highest-upto (p ∷ ps) zero = omega arith
+highest-upto (p ∷ ps) (suc i) = let h = highest-upto ps i in omega (arith, h)
+
+pub highest-below : (ps : List ℕ) (k : ℕ) → Upto k ps → highest ps ≤ k
+highest-below [] k h = omega arith
+highest-below (p ∷ ps) k h = let z = h 0 in let r = highest-below ps k (λ i. h (suc i)) in omega (arith, z, r)
 
 -- ---- the test
 

@@ -3,6 +3,7 @@
 #![tactic(auto)]
 
 ghost use Rattle.std.specs.Prelude.{◌≡◌, true, ℕ, ◌+◌, ◌*◌, ◌%◌, ◌≤◌, ◌<◌, length, get_or, set, take};
+ghost use Rattle.check_counts.specs.Paint.{colour_of};
 ghost use Rattle.wide.specs.Rule.{Different};
 ghost use Rattle.wide_colours.specs.Colours.{Upto, Kept, Seeded};
 
@@ -17,9 +18,15 @@ fn put(paints: &mut [u8], i: usize, colour: u8)
     requires { colour ≤ 12 }
     ensures { paints.new ≡ set paints.old i (get_or paints.old i 0 % 4 + 4 * colour) }
 {
-    if i < paints.len() {
-        paints[i] = paints[i] % 4 + 4 * colour;
-    }
+    lists::put(paints, i, entry(paints, i) % 4 + 4 * colour);
+}
+
+// A paint's colour; 0 where it is none of the twelve.
+fn colour(paint: u8) -> usize
+    ensures { (result ≤ 12) × (0 < result → result ≡ colour_of paint) }
+{
+    let c = (paint / 4) as usize;
+    if MOST < c { 0 } else { c }
 }
 
 // Whether the members of a set have different colours from 1 to 12.
@@ -28,8 +35,8 @@ fn different(m: InputSet, paints: &[u8]) -> bool
 {
     let mut seen = [false; 13];
     for item in &m.items[..m.count] {
-        let c = (entry(paints, *item as usize) / 4) as usize;
-        if c == 0 || MOST < c || seen[c] {
+        let c = colour(entry(paints, *item as usize));
+        if c == 0 || seen[c] {
             return false;
         }
         seen[c] = true;
@@ -44,14 +51,6 @@ pub fn seed(m: InputSet, paints: &mut [u8])
     for (a, item) in m.items[..m.count].iter().enumerate() {
         put(paints, *item as usize, a as u8 + 1);
     }
-}
-
-// A paint's colour; 0 where it is none of the twelve.
-fn colour(paint: u8) -> usize
-    ensures { result ≤ 12 }
-{
-    let c = (paint / 4) as usize;
-    if MOST < c { 0 } else { c }
 }
 
 // How often the members of a set have each colour.
@@ -128,9 +127,9 @@ pub fn most(paints: &[u8]) -> usize
     requires { Upto 12 paints.now }
     ensures { (result ≤ 12) × Upto result paints.now }
 {
-    let mut most = 0;
-    for paint in paints {
-        most = usize::max(most, (*paint / 4) as usize);
-    }
-    most
+    paints
+        .iter()
+        .map(|paint| (*paint / 4) as usize)
+        .max()
+        .unwrap_or(0)
 }

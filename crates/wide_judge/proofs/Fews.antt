@@ -5,13 +5,16 @@ use mathlib.Core.Bool.{Bool, true, false}
 use mathlib.Core.List.{List, [], ◌∷◌}
 use mathlib.Core.Option.{Option}
 use native.Mathlib.Omega.{arith}
+use Rattle.std.specs.Bool.{MatchBool}
+use Rattle.std.specs.List.{range_with_len, AllWithin, HoldsAt}
+use Rattle.std.proofs.lemmas.List.FromFn.{length-range_with_len, get_or-range_with_len}
 use lib.Dec.{T, leb→le}
 use lib.ListN.{length, get_or, take}
 use borrow.Author.Tests.{le-leb}
 use Rattle.netlist.specs.Netlist.{Netlist}
 use Rattle.netlist.specs.Outcome.{Outcome, refused, done, ask}
 use Rattle.netlist.specs.Table.{Tables, Holds}
-use Rattle.netlist.proofs.Tests.{both, pair, is_true, true-T}
+use Rattle.netlist.proofs.Tests.{clash, both, pair, is_true, true-T}
 use Rattle.pairs.specs.Pairs.{all_below}
 use Rattle.pairs.specs.Call.{BothAnswers}
 use Rattle.pairs.proofs.PairCheck.{below_all, all-below}
@@ -134,3 +137,25 @@ module _ {t : Tables} {m W o : ℕ} {N : Netlist} (S : Sets) (codes ws : List �
 pub told-both : {l k : Option WideLeak} {b d : Option ℕ} → l ≡ k → b ≡ d
     → ◌≡◌ {A = Outcome (BothAnswers WideLeak)} (done (record { leak = l; pairs = b })) (done (record { leak = k; pairs = d }))
 told-both e f = λ i. done (record { leak = e i; pairs = f i })
+
+-- ---- the test of every pair
+
+pub few-told : (S : Sets) (ws : List ℕ) (r : Bool)
+    → MatchBool r (AllWithin (λ j. length (pair_at S ws j) ≤ 12) (range_with_len 0 (length ws / 2)) 0 (length (range_with_len 0 (length ws / 2))))
+    ((k : ℕ) × (k < length (range_with_len 0 (length ws / 2))) × HoldsAt (λ j. 12 < length (pair_at S ws j)) (range_with_len 0 (length ws / 2)) k)
+    → (r ≡ true → PairsFew S ws) × (r ≡ false → PairsFew S ws → ⊥)
+few-told S ws true h = (
+  λ _ j l.
+      let e : get_or (range_with_len 0 (length ws / 2)) j 0 ≡ j = omega (arith, get_or-range_with_len 0 (length ws / 2) j 0 l) in
+      subst (λ (i : ℕ). length (pair_at S ws i) ≤ 12) e (h j 0 (omega arith) (omega (arith, l, length-range_with_len 0 (length ws / 2)))),
+  λ e. clash (cc),
+)
+few-told S ws false h = (
+  λ e. clash (cc),
+  λ _ few.
+      let k = h.0 in
+      let l : k < length ws / 2 = omega (arith, h.1, length-range_with_len 0 (length ws / 2)) in
+      let e : get_or (range_with_len 0 (length ws / 2)) k 0 ≡ k = omega (arith, get_or-range_with_len 0 (length ws / 2) k 0 l) in
+      let m : 12 < length (pair_at S ws k) = subst (λ (i : ℕ). 12 < length (pair_at S ws i)) e (h.2 0) in
+      omega (arith, m, few k l),
+)

@@ -1,4 +1,6 @@
-// Questions 10, 11, 21 and 12 of a netlist with many inputs that was read, and the verdicts on its wires and on pairs of them.
+// Questions 10, 11, 21 and 12 of a netlist with many inputs that was read, and the verdicts on its wires and on pairs of them. The tables that
+// are written are parameters of their own: C lends them one by one, and a struct of `&mut` slices would have to promise at each call that it
+// still holds the same ones.
 #![tactic(auto)]
 
 ghost use Rattle.std.specs.Prelude.{◌≡◌, true, false, ℕ, ◌+◌, ◌<◌, ◌≤◌, length, get_or};
@@ -7,6 +9,7 @@ ghost use Rattle.netlist.specs.Outcome.{done, ask};
 ghost use Rattle.netlist.specs.Read.{WellFormed};
 ghost use Rattle.gate_table.specs.Gates.{WiredGates, HoldsGates};
 ghost use Rattle.netlist_tables.specs.Tables.{HoldsNetlist};
+ghost use Rattle.wide.specs.Sets.{members_end};
 ghost use Rattle.wide.specs.Wide.{few_reach, wide_answers, wide_outcome};
 ghost use Rattle.wide_sets.specs.WireSets.{sets_of};
 ghost use Rattle.wide_search.specs.Items.{PairsFew};
@@ -16,9 +19,10 @@ use gate_table::Gates;
 use lists::codes::Codes;
 use netlist::Question;
 use netlist_tables::tables::NetlistTables;
-use wide_search::item;
 use wide_search::items::Items;
+use wide_search::job::Job;
 use wide_search::search::WideFound;
+use wide_search::{item, search};
 use wide_sets::reach;
 use wide_sets::tables::WireSets;
 
@@ -31,12 +35,7 @@ fn pairs_few(pairs: &[u32], sets: WireSets) -> bool
     ensures { (result ≡ true → PairsFew (sets_of sets.entry) pairs.now)
         × (result ≡ false → PairsFew (sets_of sets.entry) pairs.now → ⊥) }
 {
-    for j in 0..pairs.len() / 2 {
-        if item::pair(pairs, sets, j).is_none() {
-            return false;
-        }
-    }
-    true
+    (0..pairs.len() / 2).all(|j| item::pair(pairs, sets, j).is_some())
 }
 
 // Question 12 and the verdicts. The tables of words and sets have one entry for each wire, the paints one for each code.
@@ -55,8 +54,8 @@ fn within(
     paints: &mut [u8],
 ) -> CheckedWide
     requires wired { WiredGates gates (length words.old)
-        × ((i : ℕ) → i < length pairs.now → get_or pairs.now i 0 < length words.old) × (length codes.list.now ≤ 1048576) }
-    requires paints_len { (length paints.old ≡ length codes.list.now) × (length codes.list.now + 2 ≤ length words.old)
+        × ((i : ℕ) → i < length pairs.now → get_or pairs.now i 0 < length words.old) × (length codes.list.now ≤ members_end) }
+    requires lengths { (length paints.old ≡ length codes.list.now) × (length codes.list.now + 2 ≤ length words.old)
         × (length bases.old ≡ length words.old) × (length base.old ≡ length words.old)
         × (length set0.old ≡ length words.old) × (length set1.old ≡ length words.old) × (length set2.old ≡ length words.old)
         × (length set3.old ≡ length words.old) }
@@ -76,9 +75,12 @@ fn within(
     if !pairs_few(pairs, sets) {
         return Err(Question::Settings);
     }
-    let items = Items { sets, pairs };
-    let found = wide_search::search::search(gates, codes, items, paints, marks, words, base, bases);
-    Ok(found)
+    let job = Job {
+        gates,
+        codes,
+        items: Items { sets, pairs },
+    };
+    Ok(search::search(job, paints, marks, words, base, bases))
 }
 
 // Questions 10, 11, 21 and 12 and both verdicts, of a netlist that was read.
@@ -100,7 +102,7 @@ pub fn judge(
         × (netlist.header.wires ≤ length bases.old) × (netlist.header.wires ≤ length set0.old)
         × (netlist.header.wires ≤ length set1.old) × (netlist.header.wires ≤ length set2.old)
         × (netlist.header.wires ≤ length set3.old) × (netlist.header.wires ≤ length paints.old)
-        × (netlist.header.wires ≤ 1048576) }
+        × (netlist.header.wires ≤ members_end) }
     ensures { (N : Netlist) → HoldsNetlist netlist.entry N → WellFormed N → outcome_of result ≡ wide_outcome codes.now pairs.now N }
 {
     let admitted = check_netlist::ask_codes(netlist.header.input_bits, netlist.widths, codes)?;

@@ -5,13 +5,13 @@ use mathlib.Core.Bool.{Bool, true, false}
 use mathlib.Core.List.{List, ◌++◌}
 use mathlib.Core.Option.{none, some}
 use native.Mathlib.Omega.{arith}
-use lib.Dec.{T, ltb}
+use lib.Dec.{ltb}
 use lib.ListN.{length, take, drop, replicate}
 use borrow.Author.Tests.{ltb-true, ltb-false}
 use Rattle.netlist.specs.Netlist.{Netlist}
 use Rattle.netlist.specs.Table.{Tables}
 use Rattle.netlist.specs.Leak.{leak}
-use Rattle.netlist.proofs.Tests.{on_bool}
+use Rattle.netlist.proofs.Tests.{clash, on_bool}
 use Rattle.evaluate.specs.Bare.{bare}
 use Rattle.check_counts.specs.Paint.{codes_of, paint}
 use Rattle.check_counts.specs.Base.{part, count_in}
@@ -50,7 +50,7 @@ first-wires N codes ws W k e = record {
   leaks = λ l. absurd (omega arith);
   bad = λ l. absurd (omega arith);
   before = λ y l. absurd (omega arith);
-  marked = λ y l m. absurd (subst T (sym m ∙ ap (λ (ms : List ℕ). is_marked ms y) e ∙ none-marked k y) tt);
+  marked = λ y l m. let z = ap (λ (ms : List ℕ). is_marked ms y) e ∙ none-marked k y in clash (cc);
   done = λ y l m. absurd (omega arith);
 }
 
@@ -62,7 +62,7 @@ then-pairs {N} {codes} {ws} {W = W} {wire} {pair} k e J = record {
   leaks = J.leaks;
   bad = J.bad;
   before = λ y l. let z : 0 + y ≡ y = omega arith in subst (Judged N codes ws W wire pair) z (J.done y (omega arith) l);
-  marked = λ y l m. absurd (subst T (sym m ∙ ap (λ (ms : List ℕ). is_marked ms y) e ∙ none-marked k y) tt);
+  marked = λ y l m. let z = ap (λ (ms : List ℕ). is_marked ms y) e ∙ none-marked k y in clash (cc);
   done = λ y l m. absurd (omega arith);
 }
 

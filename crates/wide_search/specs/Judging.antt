@@ -2,14 +2,13 @@
 use Rattle.std.specs.Prelude.{ℕ, ◌+◌, ◌-◌, ◌*◌, ◌/◌, ◌≤◌, ◌<◌, true, List, ◌≡◌, T, length, get_or}
 use Rattle.netlist.specs.Netlist.{Netlist}
 use Rattle.netlist.specs.Table.{Tables, Holds}
-use Rattle.gate_table.specs.declared.Gates.{Gates}
 use Rattle.gate_table.specs.Gates.{tables_of}
 use Rattle.pairs.specs.Pairs.{clean_pair}
 use Rattle.wide.specs.Rule.{Level}
 use Rattle.wide.specs.Sets.{reach_set}
 use Rattle.wide_sets.specs.Packed.{Sets, set_at}
-use Rattle.wide_sets.specs.declared.tables.WireSets.{WireSets}
 use Rattle.wide_sets.specs.WireSets.{sets_of}
+use Rattle.wide_search.specs.declared.job.Job.{Job}
 use Rattle.wide_search.specs.Items.{is_marked}
 
 -- the tables hold a netlist, and the sets of its wires
@@ -17,9 +16,9 @@ pub record Given (t : Tables) (m W n : ℕ) (S : Sets) (o : ℕ) (N : Netlist) :
   pub holds : Holds t m W (n + 2) o N
   pub each : (w : ℕ) → w < W → set_at S w ≡ reach_set N n w
 
--- so do tables and sets that are lent to read
-abbrev pub GivenGates : Gates → ℕ → ℕ → WireSets → ℕ → Netlist → Type 0
-GivenGates g W n s o N = Given (tables_of g) g.count W n (sets_of s) o N
+-- so do those of a search
+abbrev pub GivenJob : Job → ℕ → ℕ → Netlist → Type 0
+GivenJob j W o N = Given (tables_of j.gates) j.gates.count W (length j.codes.list.now) (sets_of j.items.sets) o N
 
 -- pair j of a list passes the test
 abbrev pub CleanAt : Netlist → List ℕ → List ℕ → ℕ → Type 0

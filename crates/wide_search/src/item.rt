@@ -1,6 +1,6 @@
 // The items that are to be served, by their numbers: the wires come first, then the listed pairs. An item's set is that of the inputs
 // that reach it.
-ghost use Rattle.std.specs.Prelude.{◌≡◌, ℕ, ◌+◌, ◌*◌, ◌/◌, ◌<◌, length, get_or, take, set as put};
+ghost use Rattle.std.specs.Prelude.{◌≡◌, ℕ, ◌+◌, ◌*◌, ◌/◌, ◌<◌, length, get_or, take};
 ghost use Rattle.wide_sets.specs.Packed.{set_at};
 ghost use Rattle.wide_sets.specs.WireSets.{sets_of};
 ghost use Rattle.wide_sets.specs.Together.{Together};
@@ -8,6 +8,7 @@ ghost use Rattle.wide_search.specs.Items.{is_marked};
 ghost use Rattle.wide_search.specs.Served.{count_of, set_of};
 
 use crate::items::Items;
+use lists::entry;
 use wide_sets::members::InputSet;
 use wide_sets::tables::WireSets;
 use wide_sets::unite;
@@ -42,14 +43,5 @@ pub fn set(items: Items, k: usize) -> InputSet
 pub fn marked(marks: &[u8], x: usize) -> bool
     ensures { result ≡ is_marked marks.now x }
 {
-    x < marks.len() && marks[x] != 0
-}
-
-// Marks an item, where there is a mark for it.
-pub fn mark(marks: &mut [u8], x: usize)
-    ensures { marks.new ≡ put marks.old x 1 }
-{
-    if x < marks.len() {
-        marks[x] = 1;
-    }
+    entry(marks, x) != 0
 }

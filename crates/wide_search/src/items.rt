@@ -7,7 +7,7 @@ use wide_sets::tables::WireSets;
 
 // The wires, by their sets, and the listed pairs of wires; at most twelve inputs reach each wire and each pair. Sets and pairs have a
 // lifetime each: with one for both, the sets would be stored at a shorter one than their own, and the check has no proof of that for a
-// struct that holds references.
+// struct that holds references. The list of pairs stays flat, as C lends it: the definitions of `pairs` speak of entries 2 j and 2 j + 1 of it.
 #[derive(Clone, Copy)]
 pub struct Items<'s, 'p> {
     pub sets: WireSets<'s>,

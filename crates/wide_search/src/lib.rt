@@ -4,5 +4,6 @@
 
 pub mod item;
 pub mod items;
+pub mod job;
 pub mod pass;
 pub mod search;

@@ -1,17 +1,18 @@
 // Passes: the inputs are coloured for as many items as they can serve, and one search over the painted settings judges those. The tables
 // that are written are parameters of their own: C lends them one by one, and a struct of `&mut` slices would have to promise at each call
-// that it still holds the same ones.
+// that it still holds the same ones. `start` stands beside the items and in no struct with them: `search` asks for the wires and then for the
+// pairs of one job, at two starts.
 ghost use Rattle.std.specs.Prelude.{◌≡◌, ℕ, ◌+◌, ◌*◌, ◌/◌, ◌≤◌, ◌<◌, length};
 ghost use Rattle.netlist.specs.Netlist.{Netlist};
 ghost use Rattle.gate_table.specs.Gates.{WiredGates};
 ghost use Rattle.wide_search.specs.Served.{count_of, ServingItems};
-ghost use Rattle.wide_search.specs.Judging.{GivenGates, Judging};
+ghost use Rattle.wide_search.specs.Judging.{GivenJob, Judging};
 
 use crate::item;
 use crate::items::Items;
+use crate::job::Job;
 use check_leak::difference;
-use gate_table::Gates;
-use lists::codes::Codes;
+use lists::put;
 
 // The lowest wire and the first pair that are known not to meet the rule, or the numbers of wires and pairs: numbers and not options, since
 // each pass looks below them.
@@ -31,7 +32,7 @@ fn serve(items: Items, start: usize, x: usize, paints: &mut [u8], marks: &mut [u
     }
     let m = item::set(items, start + x);
     if wide_colours::fit(m, paints) {
-        item::mark(marks, x);
+        put(marks, x, 1);
     }
 }
 
@@ -48,9 +49,7 @@ fn serve_all(items: Items, start: usize, count: usize, paints: &mut [u8], marks:
 // The inputs are coloured for item `start` + x, unless it is marked, and for as many of the items before it as they can serve; the
 // settings that the colours give are searched on wires and pairs that may still be worse.
 fn pass(
-    gates: Gates,
-    codes: Codes,
-    items: Items,
+    job: Job,
     start: usize,
     x: usize,
     worst: Worst,
@@ -60,32 +59,32 @@ fn pass(
     base: &mut [u64],
     bases: &mut [u64],
 ) -> Worst
-    requires wired { WiredGates gates (length words.old)
-        × (start + x < count_of items) }
-    requires paints_len { (length paints.old ≡ length codes.list.now) × (length items.sets.set0.now ≡ length words.old)
-        × (length codes.list.now + 2 ≤ length words.old) × (length bases.old ≡ length words.old) × (length base.old ≡ length words.old)
-        × (worst.wire ≤ length words.old) × (worst.pair ≤ length items.pairs.now / 2) }
+    requires wired { WiredGates job.gates (length words.old)
+        × (start + x < count_of job.items) }
+    requires lengths { (length paints.old ≡ length job.codes.list.now) × (length job.items.sets.set0.now ≡ length words.old)
+        × (length job.codes.list.now + 2 ≤ length words.old) × (length bases.old ≡ length words.old) × (length base.old ≡ length words.old)
+        × (worst.wire ≤ length words.old) × (worst.pair ≤ length job.items.pairs.now / 2) }
     ensures { (result.wire ≤ worst.wire) × (result.pair ≤ worst.pair) × ((o n : ℕ) (N : Netlist)
-        → GivenGates gates.entry (length words.old) (length codes.entry.list.now) items.entry.sets o N → x < n
-        → start + n ≤ length words.old + length items.entry.pairs.now / 2
-        → Judging N codes.entry.list.now items.entry.pairs.now marks.old (length words.old) start n (x + 1)
+        → GivenJob job.entry (length words.old) o N → x < n
+        → start + n ≤ length words.old + length job.entry.items.pairs.now / 2
+        → Judging N job.entry.codes.list.now job.entry.items.pairs.now marks.old (length words.old) start n (x + 1)
         worst.wire worst.pair
-        → Judging N codes.entry.list.now items.entry.pairs.now marks.new (length words.old) start n x
+        → Judging N job.entry.codes.list.now job.entry.items.pairs.now marks.new (length words.old) start n x
         result.wire result.pair) }
 {
     if item::marked(marks, x) {
         return worst;
     }
-    wide_colours::lay(codes.list, paints);
-    let m = item::set(items, start + x);
+    wide_colours::lay(job.codes.list, paints);
+    let m = item::set(job.items, start + x);
     wide_colours::seed(m, paints);
-    serve_all(items, start, x, paints, marks);
+    serve_all(job.items, start, x, paints, marks);
     let blocks = check_leak::search::blocks_of(wide_colours::most(paints));
     let limit = worst.pair;
     let found = pairs_search::search::find(
-        gates,
+        job.gates,
         paints,
-        &items.pairs[..2 * limit],
+        &job.items.pairs[..2 * limit],
         worst.wire,
         blocks,
         words,
@@ -100,9 +99,7 @@ fn pass(
 
 // The items from `start` on, `total` of them, are judged, from the last to the first.
 pub fn passes(
-    gates: Gates,
-    codes: Codes,
-    items: Items,
+    job: Job,
     start: usize,
     total: usize,
     worst: Worst,
@@ -112,23 +109,21 @@ pub fn passes(
     base: &mut [u64],
     bases: &mut [u64],
 ) -> Worst
-    requires wired { WiredGates gates (length words.old)
-        × (start + total ≤ count_of items) }
-    requires paints_len { (length paints.old ≡ length codes.list.now) × (length items.sets.set0.now ≡ length words.old)
-        × (length codes.list.now + 2 ≤ length words.old) × (length bases.old ≡ length words.old) × (length base.old ≡ length words.old)
-        × (worst.wire ≤ length words.old) × (worst.pair ≤ length items.pairs.now / 2) }
+    requires wired { WiredGates job.gates (length words.old)
+        × (start + total ≤ count_of job.items) }
+    requires lengths { (length paints.old ≡ length job.codes.list.now) × (length job.items.sets.set0.now ≡ length words.old)
+        × (length job.codes.list.now + 2 ≤ length words.old) × (length bases.old ≡ length words.old) × (length base.old ≡ length words.old)
+        × (worst.wire ≤ length words.old) × (worst.pair ≤ length job.items.pairs.now / 2) }
     ensures { (result.wire ≤ worst.wire) × (result.pair ≤ worst.pair) × ((o : ℕ) (N : Netlist)
-        → GivenGates gates.entry (length words.old) (length codes.entry.list.now) items.entry.sets o N
-        → Judging N codes.entry.list.now items.entry.pairs.now marks.old (length words.old) start total total
+        → GivenJob job.entry (length words.old) o N
+        → Judging N job.entry.codes.list.now job.entry.items.pairs.now marks.old (length words.old) start total total
         worst.wire worst.pair
-        → Judging N codes.entry.list.now items.entry.pairs.now marks.new (length words.old) start total 0
+        → Judging N job.entry.codes.list.now job.entry.items.pairs.now marks.new (length words.old) start total 0
         result.wire result.pair) }
 {
     let mut worst = worst;
     for x in (0..total).rev() {
-        worst = pass(
-            gates, codes, items, start, x, worst, paints, marks, words, base, bases,
-        );
+        worst = pass(job, start, x, worst, paints, marks, words, base, bases);
     }
     worst
 }

@@ -8,18 +8,15 @@ ghost use Rattle.pairs.specs.Pairs.{clean_pair, first_bad};
 ghost use Rattle.pairs_search.specs.Search.{bad_of};
 ghost use Rattle.wide.specs.Sets.{picked};
 ghost use Rattle.wide.specs.Wide.{listed};
-ghost use Rattle.wide_search.specs.Judging.{GivenGates, Lowest};
+ghost use Rattle.wide_search.specs.Judging.{GivenJob, Lowest};
 ghost use Rattle.wide_search.specs.Told.{told_of};
 
-use crate::items::Items;
+use crate::job::Job;
 use crate::pass;
 use crate::pass::Worst;
 use check_leak::difference::Leak;
-use gate_table::Gates;
-use lists::codes::Codes;
 use pairs_search::search::PairsFound;
 use wide_sets::members::{InputSet, Members};
-use wide_sets::tables::WireSets;
 
 // A leak, whose setting is told by the input bits that are one in it.
 pub type WideLeak = Leak<Members>;
@@ -44,29 +41,25 @@ fn pick(m: InputSet, number: u64) -> Members
 
 // The lowest wire and the first pair that do not meet the rule.
 fn lowest(
-    gates: Gates,
-    codes: Codes,
-    items: Items,
+    job: Job,
     paints: &mut [u8],
     marks: &mut [u8],
     words: &mut [u64],
     base: &mut [u64],
     bases: &mut [u64],
 ) -> Worst
-    requires wired { WiredGates gates (length words.old) }
-    requires paints_len { (length paints.old ≡ length codes.list.now) × (length items.sets.set0.now ≡ length words.old)
-        × (length codes.list.now + 2 ≤ length words.old) × (length bases.old ≡ length words.old) × (length base.old ≡ length words.old) }
-    ensures { (result.wire ≤ length words.old) × (result.pair ≤ length items.entry.pairs.now / 2) × ((o : ℕ) (N : Netlist)
-        → GivenGates gates.entry (length words.old) (length codes.entry.list.now) items.entry.sets o N
-        → Lowest N codes.entry.list.now items.entry.pairs.now (length words.old) result.wire result.pair) }
+    requires wired { WiredGates job.gates (length words.old) }
+    requires lengths { (length paints.old ≡ length job.codes.list.now) × (length job.items.sets.set0.now ≡ length words.old)
+        × (length job.codes.list.now + 2 ≤ length words.old) × (length bases.old ≡ length words.old) × (length base.old ≡ length words.old) }
+    ensures { (result.wire ≤ length words.old) × (result.pair ≤ length job.entry.items.pairs.now / 2) × ((o : ℕ) (N : Netlist)
+        → GivenJob job.entry (length words.old) o N
+        → Lowest N job.entry.codes.list.now job.entry.items.pairs.now (length words.old) result.wire result.pair) }
 {
     let wires = words.len();
-    let listed = items.pairs.len() / 2;
+    let listed = job.items.pairs.len() / 2;
     marks.fill(0);
     let worst = pass::passes(
-        gates,
-        codes,
-        items,
+        job,
         0,
         wires,
         Worst {
@@ -80,40 +73,35 @@ fn lowest(
         bases,
     );
     marks.fill(0);
-    pass::passes(
-        gates, codes, items, wires, listed, worst, paints, marks, words, base, bases,
-    )
+    pass::passes(job, wires, listed, worst, paints, marks, words, base, bases)
 }
 
 // The leak of the lowest wire that does not meet the rule: its inputs take the colours 1, 2, 3 and so on, so that the first number
 // whose counts differ is that of the smallest setting.
 fn tell(
-    gates: Gates,
-    codes: Codes,
-    sets: WireSets,
+    job: Job,
     wire: usize,
     paints: &mut [u8],
     words: &mut [u64],
     base: &mut [u64],
     bases: &mut [u64],
 ) -> Option<WideLeak>
-    requires wired { WiredGates gates (length words.old)
+    requires wired { WiredGates job.gates (length words.old)
         × (wire < length words.old) }
-    requires paints_len { (length paints.old ≡ length codes.list.now) × (length sets.set0.now ≡ length words.old)
-        × (length codes.list.now + 2 ≤ length words.old) × (length bases.old ≡ length words.old) × (length base.old ≡ length words.old) }
-    ensures { (o pair : ℕ) (ws : List ℕ) (N : Netlist) → GivenGates gates.entry (length words.old) (length codes.entry.list.now) sets.entry o N
-        → Lowest N codes.entry.list.now ws (length words.old) wire pair
-        → told_of result ≡ listed (length codes.entry.list.now) (leak_of N codes.entry.list.now) }
+    requires lengths { (length paints.old ≡ length job.codes.list.now) × (length job.items.sets.set0.now ≡ length words.old)
+        × (length job.codes.list.now + 2 ≤ length words.old) × (length bases.old ≡ length words.old) × (length base.old ≡ length words.old) }
+    ensures { (o pair : ℕ) (ws : List ℕ) (N : Netlist) → GivenJob job.entry (length words.old) o N
+        → Lowest N job.entry.codes.list.now ws (length words.old) wire pair
+        → told_of result ≡ listed (length job.entry.codes.list.now) (leak_of N job.entry.codes.list.now) }
 {
-    wide_colours::lay(codes.list, paints);
-    let m = sets.at(wire);
+    wide_colours::lay(job.codes.list, paints);
+    let m = job.items.sets.at(wire);
     wide_colours::seed(m, paints);
-    let none = [0u32; 1];
     let blocks = check_leak::search::blocks_of(m.count);
     let found = pairs_search::search::find(
-        gates,
+        job.gates,
         paints,
-        &none[..0],
+        &[],
         wire + 1,
         blocks,
         words,
@@ -131,32 +119,28 @@ fn tell(
 
 // Whether the gates' netlist is clean under the input codes, and each listed pair of its wires. The sets are those of its wires.
 pub fn search(
-    gates: Gates,
-    codes: Codes,
-    items: Items,
+    job: Job,
     paints: &mut [u8],
     marks: &mut [u8],
     words: &mut [u64],
     base: &mut [u64],
     bases: &mut [u64],
 ) -> WideFound
-    requires wired { WiredGates gates (length words.old) }
-    requires paints_len { (length paints.old ≡ length codes.list.now) × (length items.sets.set0.now ≡ length words.old)
-        × (length codes.list.now + 2 ≤ length words.old) × (length bases.old ≡ length words.old) × (length base.old ≡ length words.old) }
-    ensures { (o : ℕ) (N : Netlist) → GivenGates gates.entry (length words.old) (length codes.entry.list.now) items.entry.sets o N
-        → (told_of result.leak ≡ listed (length codes.entry.list.now) (leak_of N codes.entry.list.now))
-        × (bad_of result.pair ≡ first_bad (clean_pair N codes.entry.list.now) items.entry.pairs.now) }
+    requires wired { WiredGates job.gates (length words.old) }
+    requires lengths { (length paints.old ≡ length job.codes.list.now) × (length job.items.sets.set0.now ≡ length words.old)
+        × (length job.codes.list.now + 2 ≤ length words.old) × (length bases.old ≡ length words.old) × (length base.old ≡ length words.old) }
+    ensures { (o : ℕ) (N : Netlist) → GivenJob job.entry (length words.old) o N
+        → (told_of result.leak ≡ listed (length job.entry.codes.list.now) (leak_of N job.entry.codes.list.now))
+        × (bad_of result.pair ≡ first_bad (clean_pair N job.entry.codes.list.now) job.entry.items.pairs.now) }
 {
-    let worst = lowest(gates, codes, items, paints, marks, words, base, bases);
+    let worst = lowest(job, paints, marks, words, base, bases);
     let leak = if worst.wire < words.len() {
-        tell(
-            gates, codes, items.sets, worst.wire, paints, words, base, bases,
-        )
+        tell(job, worst.wire, paints, words, base, bases)
     } else {
         None
     };
     WideFound {
         leak,
-        pair: (worst.pair < items.pairs.len() / 2).then_some(worst.pair),
+        pair: (worst.pair < job.items.pairs.len() / 2).then_some(worst.pair),
     }
 }

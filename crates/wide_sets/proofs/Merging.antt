@@ -2,14 +2,14 @@
 use Prim.Native.Nat.{ℕ, ◌≤◌}
 use mathlib.Core.Path.{◌≡◌}
 use mathlib.Core.List.{List, ◌++◌}
-use lib.ListN.{length, take, drop}
+use lib.ListN.{length, take}
 use Rattle.wide.specs.Sets.{merge}
 use Rattle.wide_sets.specs.Packed.{Small}
 
-pub record Merging (x y out₀ out : List ℕ) (i j k : ℕ) : Type 0 where
-  pub left : i ≤ length x
-  pub right : j ≤ length y
+pub record Merging (x₀ y₀ out₀ x y out : List ℕ) (k : ℕ) : Type 0 where
   pub passed : k ≤ length out
   pub long : length out ≡ length out₀
-  pub small : Small x → Small y → Small out₀ → Small out
-  pub value : merge x y ≡ take k out ++ merge (drop i x) (drop j y)
+  pub small_left : Small x₀ → Small x
+  pub small_right : Small y₀ → Small y
+  pub small : Small x₀ → Small y₀ → Small out₀ → Small out
+  pub value : merge x₀ y₀ ≡ take k out ++ merge x y

@@ -13,7 +13,7 @@ use Rattle.netlist.specs.declared.Gate.TheVariants.{Xor, And, Inv, Eqw, Eq}
 use Rattle.netlist.specs.Netlist.{Netlist, input_bits, result}
 use Rattle.netlist.specs.Read.{operands_given, is_given, gates_good, WellFormed}
 use Rattle.netlist.specs.Table.{Tables, gate_of, gate_at, gates_of, Holds}
-use Rattle.netlist.proofs.Tests.{on_bool, both}
+use Rattle.netlist.proofs.Tests.{clash, on_bool, both}
 use Rattle.netlist.proofs.Puts.{gates-more}
 use Rattle.netlist.proofs.GoodGates.{GoodGate, good_gate, fresh-ne, given-none, given-cases, results, every-wire-given}
 use Rattle.gate_table.specs.declared.Parts.{Parts}
@@ -116,7 +116,7 @@ module _ {t : Tables} {m W n : ℕ} {S : Sets} {i : ℕ} (R : Reaching t m W n S
       let L = line_set o N H F in
       let k = ap length L.0 in
       let v = H.wires in
-      record { each = λ e. absurd (subst T (sym e) tt); many = λ _ few. let f = few (result g) (omega (arith, L.1)) in omega arith }
+      record { each = λ e. clash (cc); many = λ _ few. let f = few (result g) (omega (arith, L.1)) in omega arith }
 
 pub reaching-all : {t : Tables} {m W n : ℕ} {S : Sets} {i : ℕ} → Reaching t m W n S i → m ≤ i → (o : ℕ) (N : Netlist) → Holds t m W (n + 2) o N
     → WellFormed N → Reached N n S true
@@ -126,7 +126,7 @@ reaching-all {t} {m} {W} {n} {S} {i} R l o N H F = record {
       R.known o N H F w (subst (λ (k : ℕ). T (is_given (n + 2) (results [] (gates_of t k)) w)) (sym e)
       (subst (λ (gs : List Gate). T (is_given (n + 2) (results [] gs) w)) H.gates
       (subst (λ (k : ℕ). T (is_given k (results [] N.gates) w)) H.ins (every-wire-given F w b))));
-  many = λ e. absurd (subst T e tt);
+  many = λ e. clash (cc);
 }
 
 -- ---- a line in the tables
@@ -158,4 +158,4 @@ module _ {t : Tables} {m W n : ℕ} {S S' : Sets} {i : ℕ} {p : Parts} {r : Boo
 
 -- the list became the set
 pub told : {S S' : Sets} {c : ℕ} {is : List ℕ} → Put S S' c is → Lined S S' c is true
-told P = record { put = λ _. P; many = λ e. absurd (subst T e tt) }
+told P = record { put = λ _. P; many = λ e. clash (cc) }

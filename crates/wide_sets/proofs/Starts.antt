@@ -8,14 +8,15 @@ use lib.Dec.{ltb}
 use lib.ListN.{length, get_or, get_or-eq_default}
 use borrow.Author.Tests.{ltb-true, ltb-false}
 use Rattle.netlist.proofs.Tests.{on_bool}
-use Rattle.wide_sets.specs.Packed.{above, count_in, list_in, sets, set_at, start_set, start_entry}
+use Rattle.wide.specs.Sets.{members_end}
+use Rattle.wide_sets.specs.Packed.{second, above, count_in, list_in, sets, set_at, start_set, start_entry}
 
 pub record Started (n : ℕ) (set₀ set₁ : List ℕ) (w : ℕ) : Type 0 where
   pub passed : w ≤ length set₀
   pub long : length set₁ ≡ length set₀
   pub done : (v : ℕ) → v < w → get_or set₁ v 0 ≡ start_entry n v
 
-module _ {n : ℕ} {s t : List ℕ} {w : ℕ} (h : Started n s t w) (all : length s ≤ w) (few : n ≤ 1048576) where
+module _ {n : ℕ} {s t : List ℕ} {w : ℕ} (h : Started n s t w) (all : length s ≤ w) (few : n ≤ members_end) where
   entry : (v : ℕ) → v < length s → get_or t v 0 ≡ start_entry n v
   entry v l = h.done v (omega arith)
 
@@ -37,7 +38,7 @@ module _ {n : ℕ} {s t : List ℕ} {w : ℕ} (h : Started n s t w) (all : lengt
       (λ q. let k = ltb-true v n q in
       let x = entry v l ∙ ap (λ (t : Bool). cond t (v + above) 0) q in
       let o : (v + above) / above ≡ 1 = omega arith in
-      let m : (v + above) % 1048576 ≡ v = omega arith in
+      let m : (v + above) % second ≡ v = omega arith in
       rw (p, q) (ap (λ (e : ℕ). list_in e (get_or b v 0) (get_or c v 0) (get_or d v 0)) x ∙ rw (o, m)))
       (λ q. rw (p, q) (ap (λ (e : ℕ). list_in e (get_or b v 0) (get_or c v 0) (get_or d v 0)) (entry v l ∙ ap (λ (t : Bool). cond t (v + above) 0) q))))
       (λ p. rw (p, and_none (ltb v n)) (ap (λ (e : ℕ). list_in e (get_or b v 0) (get_or c v 0) (get_or d v 0)) (past v (ltb-false v (length s) p))))

@@ -1,9 +1,10 @@
 -- Sets of inputs in four tables: entry w of each belongs to wire w.
 use Rattle.std.specs.Prelude.{ℕ, ◌+◌, ◌/◌, ◌%◌, ◌≤◌, ◌<◌, cond, ◌&&◌, List, [], ◌∷◌, ◌≢◌, ◌≡◌, ltb, length, get_or, take}
+use Rattle.wide.specs.Sets.{members_end}
 
 -- 2^20, 2^40 and 2^60
 abbrev pub second : ℕ
-second = 1048576
+second = members_end
 
 abbrev pub third : ℕ
 third = 1099511627776
@@ -56,7 +57,7 @@ start_entry n w = cond (ltb w n) (w + above) 0
 
 -- members fit in twenty bits
 abbrev pub Small : List ℕ → Type 0
-Small is = (a : ℕ) → get_or is a 0 < second
+Small is = (a : ℕ) → get_or is a 0 < members_end
 
 -- an entry holds three numbers, and a count above them
 pub record Holding (x y z k e : ℕ) : Type 0 where

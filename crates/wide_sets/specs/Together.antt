@@ -1,17 +1,22 @@
 -- Two rising lists put together, number by number.
-use Rattle.std.specs.Prelude.{ℕ, ◌+◌, ◌≤◌, ◌<◌, List, ◌∷◌, ◌≡◌, Option, Some, None, length, take, drop}
-use Rattle.wide.specs.Sets.{merge}
-use Rattle.wide_sets.specs.Packed.{second, Small}
+use Rattle.std.specs.Prelude.{ℕ, ◌+◌, ◌≤◌, ◌<◌, List, [], ◌∷◌, ◌≡◌, Option, Some, None, length, take}
+use Rattle.wide.specs.Sets.{merge, members_end}
+use Rattle.wide_sets.specs.Packed.{Small}
 use Rattle.wide_sets.specs.declared.members.InputSet.{InputSet}
 use Rattle.wide_sets.specs.declared.unite.Head.{Head}
 
--- the next number from two places on, and the places behind it
-pub record Next (x : List ℕ) (i : ℕ) (y : List ℕ) (j : ℕ) (r : Head) : Type 0 where
-  pub left : r.i ≤ length x
-  pub right : r.j ≤ length y
-  pub further : i + j < r.i + r.j
-  pub small : Small x → Small y → r.value < second
-  pub value : merge (drop i x) (drop j y) ≡ r.value ∷ merge (drop r.i x) (drop r.j y)
+-- the first number of both lists together, and what is left of each
+pub record Next (x y : List ℕ) (h : Head) : Type 0 where
+  pub shorter : length h.x.now + length h.y.now < length x + length y
+  pub value_small : Small x → Small y → h.value < members_end
+  pub left_small : Small x → Small h.x.now
+  pub right_small : Small y → Small h.y.now
+  pub value : merge x y ≡ h.value ∷ merge h.x.now h.y.now
+
+-- so unless they have none
+abbrev pub Begins : List ℕ → List ℕ → Option Head → Type 0
+Begins x y (Some h) = Next x y h
+Begins x y None = merge x y ≡ []
 
 -- all numbers stand at the front of a list, or are more than it can hold
 abbrev pub Unites : List ℕ → List ℕ → List ℕ → Option ℕ → Type 0

@@ -1,19 +1,22 @@
 // A set of inputs: in an array of twelve, and in one entry of each of four tables. An entry holds three members of twenty bits; the
 // first entry holds above its three how many there are.
 ghost use Rattle.std.specs.Prelude.{◌≡◌, true, ℕ, ◌≤◌, ◌<◌, length, get_or, take, List, []};
+ghost use Rattle.wide.specs.Sets.{members_end};
 ghost use Rattle.wide_sets.specs.Packed.{list_in, count_in, sets, set_at, size_at, start_entry, start_set, Small, Holding, Put};
 ghost use Rattle.wide_sets.specs.WireSets.{sets_of};
 
 use crate::tables::WireSets;
 
-// A list of inputs: the first `count` items of an array, since there is no heap.
+// A list of inputs: the first `count` items of an array, since there is no heap. No `ArrayVec` of the kit's crate, whose `clone` can fail, so
+// that it is no `Copy`, as a leak told by `Members` is.
 #[derive(Clone, Copy)]
 pub struct Members {
     pub items: [u32; 12],
     pub count: usize,
 }
 
-// Members as a set holds them: at most twelve, and each fits in twenty bits.
+// Members as a set holds them: at most twelve, and each fits in twenty bits. A type of its own, since a list of members that was told, as of
+// the ones of a leak's setting, may hold any numbers.
 #[derive(Clone, Copy)]
 pub struct InputSet {
     pub items: [u32; 12],
@@ -25,11 +28,11 @@ pub struct InputSet {
 
 // The entries of a set.
 #[derive(Clone, Copy)]
-pub struct Entries {
-    pub a: u64,
-    pub b: u64,
-    pub c: u64,
-    pub d: u64,
+struct Entries {
+    a: u64,
+    b: u64,
+    c: u64,
+    d: u64,
 }
 
 // 2^20, 2^40 and 2^60: where the second member, the third and the count begin.
@@ -40,33 +43,33 @@ const THIRD: u64 = 1099511627776;
 const COUNT: u64 = 1152921504606846976;
 
 // The set of four entries.
-fn unpack(a: u64, b: u64, c: u64, d: u64) -> Members
-    ensures { (take result.count result.items ≡ list_in a b c d) × (result.count ≡ count_in a)
+fn unpack(e: Entries) -> Members
+    ensures { (take result.count result.items ≡ list_in e.a e.b e.c e.d) × (result.count ≡ count_in e.a)
         × (length result.items ≡ 12) × Small result.items }
 {
     let items = [
-        (a % SECOND) as u32,
-        (a / SECOND % SECOND) as u32,
-        (a / THIRD % SECOND) as u32,
-        (b % SECOND) as u32,
-        (b / SECOND % SECOND) as u32,
-        (b / THIRD % SECOND) as u32,
-        (c % SECOND) as u32,
-        (c / SECOND % SECOND) as u32,
-        (c / THIRD % SECOND) as u32,
-        (d % SECOND) as u32,
-        (d / SECOND % SECOND) as u32,
-        (d / THIRD % SECOND) as u32,
+        (e.a % SECOND) as u32,
+        (e.a / SECOND % SECOND) as u32,
+        (e.a / THIRD % SECOND) as u32,
+        (e.b % SECOND) as u32,
+        (e.b / SECOND % SECOND) as u32,
+        (e.b / THIRD % SECOND) as u32,
+        (e.c % SECOND) as u32,
+        (e.c / SECOND % SECOND) as u32,
+        (e.c / THIRD % SECOND) as u32,
+        (e.d % SECOND) as u32,
+        (e.d / SECOND % SECOND) as u32,
+        (e.d / THIRD % SECOND) as u32,
     ];
     Members {
         items,
-        count: (a / COUNT) as usize,
+        count: (e.a / COUNT) as usize,
     }
 }
 
 // Three members as an entry.
 fn three(x: u32, y: u32, z: u32) -> u64
-    requires { (x < 1048576) × (y < 1048576) × (z < 1048576) }
+    requires { (x < members_end) × (y < members_end) × (z < members_end) }
     ensures { Holding x y z 0 result }
 {
     x as u64 + y as u64 * SECOND + z as u64 * THIRD
@@ -85,14 +88,19 @@ fn pack(m: InputSet) -> Entries
     }
 }
 
-// The set of wire w, in tables of any content.
+// The set of wire w, in tables of any content: four tables and no `WireSets`, which holds that no set has more than twelve members.
 pub fn get(set0: &[u64], set1: &[u64], set2: &[u64], set3: &[u64], w: usize) -> Members
     requires { (w < length set0.now) × (w < length set1.now) × (w < length set2.now) × (w < length set3.now) }
     ensures { let S = sets set0.now set1.now set2.now set3.now in
         (take result.count result.items ≡ set_at S w) × (result.count ≡ size_at S w)
         × (length result.items ≡ 12) × Small result.items }
 {
-    unpack(set0[w], set1[w], set2[w], set3[w])
+    unpack(Entries {
+        a: set0[w],
+        b: set1[w],
+        c: set2[w],
+        d: set3[w],
+    })
 }
 
 impl<'a> WireSets<'a> {
@@ -156,7 +164,7 @@ pub fn empty(set0: &[u64], w: usize) -> bool
     set0[w] < COUNT
 }
 
-// Whether the entries of two wires are the same.
+// Whether the entries of two wires are the same, in tables of any content, as for `get`.
 pub fn same(set0: &[u64], set1: &[u64], set2: &[u64], set3: &[u64], a: usize, b: usize) -> bool
     requires { (a < length set0.now) × (a < length set1.now) × (a < length set2.now) × (a < length set3.now)
         × (b < length set0.now) × (b < length set1.now) × (b < length set2.now) × (b < length set3.now) }
@@ -176,7 +184,7 @@ pub fn none(set0: &mut [u64], w: usize)
 
 // The first entry of wire w before the first gate line: one of the first n wires is reached by itself, the others by none.
 fn start_entry(w: usize, n: usize) -> u64
-    requires { n ≤ 1048576 }
+    requires { n ≤ members_end }
     ensures { result ≡ start_entry n w }
 {
     if w < n { w as u64 + COUNT } else { 0 }
@@ -184,7 +192,7 @@ fn start_entry(w: usize, n: usize) -> u64
 
 // The sets before the first gate line: each of the first n wires is reached by itself, and the others by none.
 pub fn start(set0: &mut [u64], n: usize)
-    requires { n ≤ 1048576 }
+    requires { n ≤ members_end }
     ensures { ((b c d : List ℕ) (w : ℕ) → set_at (sets set0.new b c d) w ≡ start_set n (length set0.old) w)
         × ((w : ℕ) → count_in (get_or set0.new w 0) ≤ 12) }
 {

@@ -4,7 +4,7 @@ ghost use Rattle.netlist.specs.Netlist.{Netlist};
 ghost use Rattle.netlist.specs.Read.{WellFormed};
 ghost use Rattle.gate_table.specs.Gates.{WiredGates, HoldsGates};
 ghost use Rattle.gate_table.specs.Parts.{gate_by, Within};
-ghost use Rattle.wide.specs.Sets.{merge, gate_set};
+ghost use Rattle.wide.specs.Sets.{merge, gate_set, members_end};
 ghost use Rattle.wide_sets.specs.Packed.{sets, set_at, Sized};
 ghost use Rattle.wide_sets.specs.WireSets.{sets_of};
 ghost use Rattle.wide_sets.specs.Reached.{OneOf, Lined, Reached};
@@ -112,7 +112,8 @@ fn line(set0: &mut [u64], set1: &mut [u64], set2: &mut [u64], set3: &mut [u64], 
 }
 
 // The sets of all wires of the gates' netlist, of which the first n are its inputs besides the mask pair. Says whether at most twelve
-// inputs reach each wire; after a no the tables are of no use.
+// inputs reach each wire; after a no the tables are of no use. By number: a `zip` of the gates' two tables, each cut to the count, would be
+// longer than `gates.at(i)`.
 pub fn reach(
     gates: Gates,
     n: usize,
@@ -122,7 +123,7 @@ pub fn reach(
     set3: &mut [u64],
 ) -> bool
     requires wired { WiredGates gates (length set0.old) }
-    requires n_bound { (n ≤ 1048576) × (length set1.old ≡ length set0.old) × (length set2.old ≡ length set0.old)
+    requires lengths { (n ≤ members_end) × (length set1.old ≡ length set0.old) × (length set2.old ≡ length set0.old)
         × (length set3.old ≡ length set0.old) }
     ensures { let S = sets set0.new set1.new set2.new set3.new in
         (result ≡ true → Sized S (length set0.old)) × ((o : ℕ) (N : Netlist)

@@ -1,77 +1,57 @@
 // Rising lists of input numbers, put together.
-ghost use Rattle.std.specs.Prelude.{◌+◌, ◌<◌, ◌≤◌, length, take};
+ghost use Rattle.std.specs.Prelude.{take};
 ghost use Rattle.wide_sets.specs.Packed.{Small};
-ghost use Rattle.wide_sets.specs.Together.{Next, Unites, Together};
+ghost use Rattle.wide_sets.specs.Together.{Begins, Unites, Together};
 
 use crate::members::InputSet;
 
-// The next number of two lists from places i and j on, and the places behind it.
+// The lowest number of two lists, and what is left of them.
 #[derive(Clone, Copy)]
-pub struct Head {
+pub struct Head<'x, 'y> {
     pub value: u32,
-    pub i: usize,
-    pub j: usize,
+    pub x: &'x [u32],
+    pub y: &'y [u32],
 }
 
-fn next(x: &[u32], i: usize, y: &[u32], j: usize) -> Head
-    requires { (length x.now ≤ 12) × (length y.now ≤ 12) × (i ≤ length x.now) × (j ≤ length y.now)
-        × (i + j < length x.now + length y.now) }
-    ensures { Next x.now i y.now j result }
+// The lowest number of two lists, unless both are empty.
+fn next<'x, 'y>(x: &'x [u32], y: &'y [u32]) -> Option<Head<'x, 'y>>
+    ensures { Begins x.now y.now result }
 {
-    if j == y.len() {
-        return Head {
-            value: x[i],
-            i: i + 1,
-            j,
-        };
-    }
-    if i == x.len() {
-        return Head {
-            value: y[j],
-            i,
-            j: j + 1,
-        };
-    }
-    let p = x[i];
-    let q = y[j];
-    if p < q {
-        return Head {
-            value: p,
-            i: i + 1,
-            j,
-        };
-    }
-    if q < p {
-        return Head {
-            value: q,
-            i,
-            j: j + 1,
-        };
-    }
-    Head {
-        value: p,
-        i: i + 1,
-        j: j + 1,
+    match (x, y) {
+        ([], []) => None,
+        ([p, left @ ..], []) => Some(Head {
+            value: *p,
+            x: left,
+            y,
+        }),
+        ([], [q, left @ ..]) => Some(Head {
+            value: *q,
+            x,
+            y: left,
+        }),
+        ([p, xs @ ..], [q, ys @ ..]) => Some(Head {
+            value: u32::min(*p, *q),
+            x: if *q < *p { x } else { xs },
+            y: if *p < *q { y } else { ys },
+        }),
     }
 }
 
 // How many numbers the two lists have together, which stand at the front of `out`; none where it cannot hold them.
 pub fn unite(x: &[u32], y: &[u32], out: &mut [u32]) -> Option<usize>
-    requires { (length x.now ≤ 12) × (length y.now ≤ 12) }
     ensures { Unites x.now y.now out.new result
         × (Small x.now → Small y.now → Small out.old → Small out.new) }
 {
-    let mut i = 0;
-    let mut j = 0;
+    let mut x = x;
+    let mut y = y;
     let mut k = 0;
-    while i + j < x.len() + y.len() {
-        let h = next(x, i, y, j);
+    while let Some(h) = next(x, y) {
         if k == out.len() {
             return None;
         }
         out[k] = h.value;
-        i = h.i;
-        j = h.j;
+        x = h.x;
+        y = h.y;
         k += 1;
     }
     Some(k)

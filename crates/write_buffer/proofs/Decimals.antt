@@ -88,7 +88,7 @@ digits_last n l = on_bool (ltb n 10) alone more
         let h : 10 ≤ n = ltb-false n 10 e in
         omega (arith, simp length-append at (ap length (decimal-last n l h)))
 
--- the same of n without its last digits
+-- how many digits m has, which is n without its last ones, told by where n reaches
 digits-later : (n m q k : ℕ) → m < 2 ^ 64 → m / 10 ≡ q → reaches 10 m ≡ reaches k n → length (decimal m) ≡ reaches k n + length (decimal q)
 digits-later n m q k l e f = digits_last m l ∙ (λ i. f i + length (decimal (e i)))
 

@@ -1,11 +1,12 @@
 -- Writing in steps.
-use Prim.Native.Nat.{ℕ, ◌+◌, ◌≤◌, ◌<◌}
-use mathlib.Core.Path.{◌≡◌, refl, sym, ap, ◌∙◌}
-use mathlib.Core.List.{List, [], ◌∷◌, ◌++◌}
+use Prim.Native.Nat.{ℕ, ◌+◌, ◌-◌, ◌≤◌, ◌<◌}
+use mathlib.Core.Path.{◌≡◌, refl, sym, ap, ap₂, ◌∙◌}
+use mathlib.Core.List.{List, [], ◌∷◌, ◌++◌, append_assoc}
 use native.Mathlib.Numerals.{add-one}
 use native.Mathlib.Omega.{arith}
-use lib.ListN.{length, get_or, take, length-append}
-use lib.Seq.{sets, length-sets, take-suc, take_all, take_at, sets-eq}
+use lib.ListN.{length, get_or, take, drop, length-append}
+use lib.Seq.{sets, length-sets, take-suc, take_at, sets-eq}
+use borrow.Rule.Slice.PartMut.{put_mid, Post-is}
 use Rattle.write_buffer.specs.Wrote.{Wrote, WroteFew, top, cap}
 use Rattle.write_buffer.proofs.Places.{sets-out, sets-append, sets-cap}
 
@@ -41,17 +42,20 @@ pub record Copied (e : List ℕ) (at : ℕ) (s x : List ℕ) (r i : ℕ) : Type 
   pub passed : i ≤ length s
   pub wrote : Wrote e at (take i s) x r
 
-pub copied_none : (e : List ℕ) (at : ℕ) (s : List ℕ) → length e ≤ top → at ≤ top → Copied e at s e at 0
-copied_none e at s h k = record { passed = omega arith; wrote = wrote_none e at h k }
-
 pub copied_more : {e m x s : List ℕ} {at r t i : ℕ} → Copied e at s m r i → i < length s → Wrote m r (get_or s i 0 ∷ []) x t → Copied e at s x t (i + 1)
 copied_more {s = s} {i = i} a h b = record { passed = omega arith; wrote = rw (add-one, take-suc s i 0) (wrote_then a.wrote b) }
 
-pub copied_all : {e x s : List ℕ} {at r i : ℕ} → Copied e at s x r i → length s ≤ i → Wrote e at s x r
-copied_all {s = s} {i = i} w h = wrote_as (take_all i s h) w.wrote
-
-pub copied-as : {e x s : List ℕ} {at r t i : ℕ} → r ≡ t → Copied e at s x r i → Copied e at s x t i
-copied-as p w = rw p at w
+-- bytes copied over as many of a list that has them
+pub wrote-copied : {e bs zs : List ℕ} {at n : ℕ} → length e ≤ top → at + n ≤ length e → length bs ≡ n → zs ≡ bs
+    → Wrote e at bs (put_mid at (at + n - at) e zs) (at + n)
+wrote-copied {e} {bs} {zs} {at} {n} h room long same = record {
+  room = h;
+  list =
+      ap₂ (λ (z r : List ℕ). take at e ++ (z ++ r)) same
+      (Post-is at (at + n) e (omega arith) ∙ ap (λ (k : ℕ). drop (at + k) e) (sym long))
+      ∙ sym (append_assoc (take at e) bs (drop (at + length bs) e)) ∙ sym (sets-eq bs e at (omega (arith, long, room)));
+  next = omega (arith, h, room, long);
+}
 
 -- as many bytes as they are
 pub exactly : {e x u : List ℕ} {at r : ℕ} → Wrote e at u x r → WroteFew (length u) e at u x r

@@ -1,4 +1,5 @@
-// How many digits a wire's number has, by comparisons.
+// How many digits a wire's number has. By comparisons: the library's `checked_ilog10` is none for 0 and one less than the digits of the others,
+// so each answer of it would have to be mended.
 ghost use Rattle.std.specs.Prelude.{◌<◌};
 ghost use Rattle.write_buffer.specs.Digits.{Counted};
 

@@ -8,6 +8,7 @@
 pub mod digits;
 
 ghost use Rattle.std.specs.Prelude.{◌+◌, ◌≡◌, ◌≤◌, [], ◌∷◌, length};
+ghost use Rattle.netlist.specs.Text.{space};
 ghost use Rattle.netlist.specs.Number.{decimal};
 ghost use Rattle.write_buffer.specs.Wrote.{Wrote, cap};
 
@@ -22,13 +23,11 @@ pub fn moved(at: usize, by: usize) -> usize
 pub fn put(out: &mut [u8], at: usize, b: u8) -> usize
     ensures { Wrote out.old at (b ∷ []) out.new result }
 {
-    if at < out.len() {
-        out[at] = b;
-    }
+    lists::put(out, at, b);
     moved(at, 1)
 }
 
-// Bytes.
+// Bytes. One by one, since a copy would first have to cut them to what the buffer holds behind its place.
 pub fn bytes(out: &mut [u8], at: usize, s: &[u8]) -> usize
     ensures { Wrote out.old at s.now out.new result }
 {
@@ -44,9 +43,7 @@ pub fn store<const N: usize>(out: &mut [u8], at: usize, bytes: [u8; N]) -> usize
     requires { at + N ≤ length out.old }
     ensures { Wrote out.old at bytes.entry out.new result }
 {
-    for (i, b) in bytes.iter().enumerate() {
-        out[at + i] = *b;
-    }
+    out[at..at + N].copy_from_slice(&bytes);
     at + N
 }
 
@@ -56,4 +53,12 @@ pub fn number(out: &mut [u8], at: usize, n: usize) -> usize
 {
     let last = if n < 10 { at } else { number(out, at, n / 10) };
     put(out, last, b'0' + (n % 10) as u8)
+}
+
+// A number with a space in front.
+pub fn spaced(out: &mut [u8], at: usize, n: usize) -> usize
+    ensures { Wrote out.old at (space ∷ decimal n) out.new result }
+{
+    let next = put(out, at, b' ');
+    number(out, next, n)
 }

@@ -7,6 +7,7 @@ pub fn ample(room: usize, header: usize, gates: usize, wires: usize) -> bool
     ensures { result ≡ leb (header + gates * longest_line wires) room }
 {
     let mut none = [0u8; 1];
+    // As `longest_line` says: three numbers, and eleven bytes more.
     let longest = 3 * write_buffer::number(&mut none, 0, wires) + 11;
     header <= room && gates <= (room - header) / longest
 }

@@ -24,17 +24,8 @@ fn counts(out: &mut [u8], at: usize, gates: usize, wires: usize) -> usize
     ensures { Wrote out.old at (line (decimals (gates ∷ wires ∷ []))) out.new result }
 {
     let space = write_buffer::number(out, at, gates);
-    let second = write_buffer::put(out, space, b' ');
-    let end = write_buffer::number(out, second, wires);
+    let end = write_buffer::spaced(out, space, wires);
     write_buffer::put(out, end, b'\n')
-}
-
-// A width with a space in front.
-fn width(out: &mut [u8], at: usize, w: u32) -> usize
-    ensures { Wrote out.old at (spaced (w ∷ [])) out.new result }
-{
-    let next = write_buffer::put(out, at, b' ');
-    write_buffer::number(out, next, w as usize)
 }
 
 // Each width with a space in front.
@@ -43,7 +34,7 @@ fn widths(out: &mut [u8], at: usize, ws: &[u32]) -> usize
 {
     let mut next = at;
     for w in ws {
-        next = width(out, next, *w);
+        next = write_buffer::spaced(out, next, *w as usize);
     }
     next
 }

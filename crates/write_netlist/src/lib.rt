@@ -1,31 +1,23 @@
 // The written form of the netlist that the tables hold, in either dialect, in one pass where the buffer surely holds it, and otherwise measured
-// first.
+// first. The table of words stands beside the form: it is chosen last, in one of two ways, and with a field for it the form would be written
+// out twice.
 #![tactic(auto)]
+
+pub mod form;
 
 ghost use Rattle.std.specs.Prelude.{◌≤◌, ◌<◌, ◌≡◌, leb, length};
 ghost use Rattle.netlist.specs.Services.{Delivers};
-ghost use Rattle.gate_table.specs.Gates.{tables_of, gates_in, WiredGates};
+ghost use Rattle.gate_table.specs.Gates.{gates_in};
 ghost use Rattle.write_buffer.specs.Wrote.{Wrote, top};
 ghost use Rattle.write_header.specs.Header.{header_text_in};
 ghost use Rattle.write_gates.specs.Gates.{WroteGates};
-ghost use Rattle.write_netlist.specs.Form.{form_text, form_text_in};
-ghost use Rattle.write_netlist.specs.Text.{text_of, Within, WiredIn};
+ghost use Rattle.write_netlist.specs.Text.{text_of};
 
+use crate::form::Form;
 use gate_table::Gates;
 use netlist::{Answer, Question};
-use old_form::Dialect;
 use write_header::Shape;
 use write_wires::table::Words;
-
-// The gates of a netlist, the wires and the widths of its header, and the dialect of its text.
-#[derive(Clone, Copy)]
-struct Form<'a> {
-    gates: Gates<'a>,
-    wires: usize,
-    ins: &'a [u32],
-    outs: &'a [u32],
-    dialect: Dialect,
-}
 
 // The header and the blank line.
 fn header_lines(out: &mut [u8], f: Form) -> usize
@@ -46,15 +38,15 @@ fn gate_lines(d: Words, out: &mut [u8], at: usize, gates: Gates) -> usize
     ensures { WroteGates out.old at (gates_in gates.entry) out.new result }
 {
     let mut next = at;
-    for i in 0..gates.count {
-        next = write_gates::gate::entry(d, out, next, gates.operands[i], gates.results[i]);
+    let n = gates.count;
+    for (o, r) in gates.operands[..n].iter().zip(&gates.results[..n]) {
+        next = write_gates::gate::entry(d, out, next, *o, *r);
     }
     next
 }
 
 // The header, the blank line and the gate lines, from the buffer's first place on; answers the place behind them.
 fn write(d: Words, out: &mut [u8], f: Form) -> usize
-    requires count_in_bounds { Within f }
     ensures { Wrote out.old 0 (text_of f.entry) out.new result }
 {
     let at = header_lines(out, f);
@@ -63,7 +55,7 @@ fn write(d: Words, out: &mut [u8], f: Form) -> usize
 
 // Question 14 of the text: yes where lines of the longest kind would fit, and otherwise as it is measured.
 fn holds(d: Words, room: usize, f: Form) -> bool
-    requires wired { WiredIn f × (room < top) }
+    requires { room < top }
     ensures { result ≡ leb (length (text_of f.entry)) room }
 {
     let mut none = [0u8; 1];
@@ -73,7 +65,6 @@ fn holds(d: Words, room: usize, f: Form) -> bool
 
 // Question 14, and then the text.
 fn answer(d: Words, out: &mut [u8], f: Form) -> Answer
-    requires wired { WiredIn f }
     ensures { Delivers (text_of f.entry) out.old out.new result }
 {
     if holds(d, out.len(), f) {
@@ -84,37 +75,12 @@ fn answer(d: Words, out: &mut [u8], f: Form) -> Answer
 }
 
 // Question 14 and the text.
-pub fn deliver_in(
-    out: &mut [u8],
-    gates: Gates,
-    wires: usize,
-    ins: &[u32],
-    outs: &[u32],
-    dialect: Dialect,
-) -> Answer
-    requires { WiredGates gates wires }
-    ensures { Delivers (form_text_in dialect gates.entry.count wires ins.now outs.now
-        (tables_of gates.entry)) out.old out.new result }
+pub fn deliver(out: &mut [u8], f: Form) -> Answer
+    ensures { Delivers (text_of f.entry) out.old out.new result }
 {
-    let f = Form {
-        gates,
-        wires,
-        ins,
-        outs,
-        dialect,
-    };
-    if let Some(none) = Words::none_for(wires) {
+    if let Some(none) = Words::none_for(f.wires) {
         return answer(none, out, f);
     }
     let mut table = [0u64; 2000];
-    answer(Words::of(&mut table, wires), out, f)
-}
-
-// Question 14 and the written form of document 01.
-pub fn deliver(out: &mut [u8], gates: Gates, wires: usize, ins: &[u32], outs: &[u32]) -> Answer
-    requires { WiredGates gates wires }
-    ensures { Delivers (form_text gates.entry.count wires ins.now outs.now
-        (tables_of gates.entry)) out.old out.new result }
-{
-    deliver_in(out, gates, wires, ins, outs, Dialect::Fashion)
+    answer(Words::of(&mut table, f.wires), out, f)
 }

@@ -1,5 +1,7 @@
 // The parts of gate lines of one or two operands. Where the buffer has room for the longest line they are stored straight, by words
 // or digit by digit; near its end a line is written byte by byte as far as it fits; behind it only the line's length is added.
+// The result `c` stands beside the operands: of one array of both, N - 1 would be operands, which no const argument can say, and `head`,
+// `packable` and the definitions of specs/ would have to take the result off again.
 #![tactic(auto)]
 
 ghost use Rattle.std.specs.Prelude.{ℕ, ◌+◌, ◌*◌, ◌≤◌, ◌<◌, ◌≡◌, true, length};
@@ -131,7 +133,7 @@ pub fn spell<const N: usize>(
     store(out, last, name)
 }
 
-// The place behind a line that starts behind the buffer's end.
+// The place behind a line that starts behind the buffer's end. Nine bytes stand in each: the head, the space behind the result, and the name.
 pub fn beyond<const N: usize>(at: usize, operands: [u32; N], c: u32) -> usize
     requires { N ≤ 2 }
     ensures { result ≡ cap (at + (4 + length (front_of operands.entry c))) }

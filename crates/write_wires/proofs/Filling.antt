@@ -108,16 +108,16 @@ adds-ten : (t i : ℕ) → t < 100 → i < 10 → 16 + high t + 65536 * i ≡ ad
 adds-ten t i h l = sym (added-three (10 * t + i) (omega arith) ∙ three-ten t i 16 l ∙ three-sum (t / 10) (t % 10) i 16)
 
 words-ten : (t i : ℕ) → 10 ≤ t → t < 100 → i < 10
-    → 48 + high t + 4 * 72057594037927936 + 65536 * i ≡ packed (10 * t + i)
+    → 48 + high t + 4 * 2 ^ 56 + 65536 * i ≡ packed (10 * t + i)
 words-ten t i p h l =
     let e = three-sum (t / 10) (t % 10) i 48 in
     sym
     (packed-three (10 * t + i) (omega arith) (omega arith) ∙ ap (λ (x : ℕ). x + 4 * 2 ^ 56) (three-ten t i 48 l ∙ e) ∙ last (t / 10) (t % 10))
   where
-    last : (a b : ℕ) → 48 + digits a b + 65536 * i + 4 * 2 ^ 56 ≡ 48 + digits a b + 4 * 72057594037927936 + 65536 * i
+    last : (a b : ℕ) → 48 + digits a b + 65536 * i + 4 * 2 ^ 56 ≡ 48 + digits a b + 4 * 2 ^ 56 + 65536 * i
     last a b = omega arith
 
-pub tens-none : (t : ℕ) → t ≡ 0 → Tens (10 * t) (48 + 8192 + 2 * 72057594037927936) 1 (16 + high t)
+pub tens-none : (t : ℕ) → t ≡ 0 → Tens (10 * t) (48 + 8192 + 2 * 2 ^ 56) 1 (16 + high t)
 tens-none t z = record {
   within = omega arith;
   words = λ i l. sym (packed-one (10 * t + i) (omega arith) ∙ omega arith);
@@ -126,7 +126,7 @@ tens-none t z = record {
 }
 
 pub tens-two : (t : ℕ) → 0 < t → t < 10
-    → Tens (10 * t) (48 + t + 12288 + 2097152 + 3 * 72057594037927936) 256 (16 + high t)
+    → Tens (10 * t) (48 + t + 12288 + 2097152 + 3 * 2 ^ 56) 256 (16 + high t)
 tens-two t p h = record {
   within = omega arith;
   words = λ i l. sym (packed-two (10 * t + i) (omega arith) (omega arith) ∙ omega arith);
@@ -135,7 +135,7 @@ tens-two t p h = record {
 }
 
 pub tens-three : (t : ℕ) → 10 ≤ t → t < 100
-    → Tens (10 * t) (48 + high t + 4 * 72057594037927936) 65536
+    → Tens (10 * t) (48 + high t + 4 * 2 ^ 56) 65536
     (16 + high t)
 tens-three t p h = record {
   within = omega arith;

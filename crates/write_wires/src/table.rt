@@ -4,7 +4,20 @@ ghost use Rattle.write_wires.specs.Packed.{packed, Filled, Tens, WordTable, Word
 
 use crate::TOP;
 
-// Ten entries from `at` on: words that rise by `unit`, and what three digits add, which rises in its third byte.
+// The bytes of a text: the digit 0, and the space behind a number.
+const ZERO: u64 = 48;
+
+const SPACE: u64 = 32;
+
+// What the second, the third and the fourth byte of a word count.
+const SECOND: u64 = 256;
+
+const THIRD: u64 = 65536;
+
+const FOURTH: u64 = 16777216;
+
+// Ten entries from `at` on: words that rise by `unit`, and what three digits add, which rises in its third byte. By places, since
+// an entry of each half is told at once.
 fn ones(d: &mut [u64], at: usize, word: u64, unit: u64, added: u64)
     requires { Filled d.old at × Tens at word unit added }
     ensures { Filled d.new (at + 10) }
@@ -12,23 +25,24 @@ fn ones(d: &mut [u64], at: usize, word: u64, unit: u64, added: u64)
     for i in 0..10 {
         let k = i as u64;
         d[at + i] = word + unit * k;
-        d[1000 + at + i] = added + 65536 * k;
+        d[1000 + at + i] = added + THIRD * k;
     }
 }
 
-// The ten entries of the numbers that begin with the digits of t.
+// The ten entries of the numbers that begin with the digits of t: the texts "0 ", "t0 " or "tt0 " with their lengths, of which the last digit
+// rises, and what the digits "tt0 " add to a word in the place of its space.
 fn ten(d: &mut [u64], t: usize)
     requires { Filled d.old (10 * t) × (t < 100) }
     ensures { Filled d.new (10 * t + 10) }
 {
     let n = t as u64;
-    let high = n / 10 + (48 + n % 10) * 256 + 3145728 + 536870912;
+    let high = n / 10 + (ZERO + n % 10) * SECOND + ZERO * THIRD + SPACE * FOURTH;
     let (word, unit) = match t {
-        0 => (48 + 8192 + 2 * TOP, 1),
-        1..=9 => (48 + n + 12288 + 2097152 + 3 * TOP, 256),
-        _ => (48 + high + 4 * TOP, 65536),
+        0 => (ZERO + SPACE * SECOND + 2 * TOP, 1),
+        1..=9 => (ZERO + n + ZERO * SECOND + SPACE * THIRD + 3 * TOP, SECOND),
+        _ => (ZERO + high + 4 * TOP, THIRD),
     };
-    ones(d, 10 * t, word, unit, 16 + high);
+    ones(d, 10 * t, word, unit, ZERO - SPACE + high);
 }
 
 // The entries of so many tens, a hundred being all.
@@ -50,6 +64,7 @@ pub struct Words<'t> {
 
 impl<'t> Words<'t> {
     // The empty table, for a netlist of up to a hundred wires, where no line is stored by words: so a small call clears no array for them.
+    // By `if`, since the contract has a clause for each answer.
     pub fn none_for(wires: usize) -> Option<Self>
         ensures none { result ≡ None → 100 < wires }
         ensures some { IfSome result (λ w. (wires ≤ 100) × (length w.entries.now ≡ 0)) }
@@ -77,7 +92,8 @@ impl<'t> Words<'t> {
         }
     }
 
-    // The word of a number.
+    // The word of a number: its own below a thousand, and else that of its thousands, whose space, the last of the text, gives way to three
+    // digits and a space.
     pub fn look(self, n: u32) -> u64
         requires { Worded (length self.entries.now) n }
         ensures { result ≡ packed n }

@@ -3,11 +3,11 @@ use Rattle.std.proofs.lemmas.Result.{err_from_is_err_and}
 use Rattle.certify.proofs.Calling.{answer-not, answer-read}
 use Rattle.certify.proofs.answer.Goals as goal
 
-pub returns-in_err-h : goal.returns-in_err-h
-returns-in_err-h c =
+pub returns-in_err-netlist : goal.returns-in_err-netlist
+returns-in_err-netlist c =
     let s = c.args in
     let p = err_from_is_err_and c.from_residual.result c.from_residual.ensures.1 in
-    let k = rw c.large-l.ensures at c.in_err-h.ensures in
+    let k = rw c.large.ensures at c.in_err-netlist.ensures in
     rw (p.1, p.2)
     (answer-not s.sizes s.text.now s.codes.now s.operands.now s.results.now s.marks.now s.words.now s.base.now s.records.now
     s.leak.now s.ones.now k)
@@ -15,6 +15,5 @@ returns-in_err-h c =
 pub returns : goal.returns
 returns c =
     let s = c.args in
-    let k = rw c.large-l.ensures at c.in_ok-h.ensures in
-    answer-read s.sizes s.text.now s.codes.now s.operands.now s.results.now s.marks.now s.words.now s.base.now s.records.now k
-    c.new-netlist.ensures c.judge.ensures
+    let k = rw c.large.ensures at c.in_ok-netlist.ensures in
+    answer-read s.sizes s.text.now s.codes.now s.operands.now s.results.now s.marks.now s.words.now s.base.now s.records.now k c.judge.ensures

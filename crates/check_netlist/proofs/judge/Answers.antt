@@ -4,8 +4,8 @@ use lib.Seq.{length-take-le}
 use Rattle.check_netlist.proofs.Judging.{asked-bits}
 use Rattle.check_netlist.proofs.judge.Goals as goal
 
-pub leaks-found-requires-clause-codes_len_bound : goal.leaks-found-requires-clause-codes_len_bound
-leaks-found-requires-clause-codes_len_bound c =
+pub leaks-found-requires-clause-lengths : goal.leaks-found-requires-clause-lengths
+leaks-found-requires-clause-lengths c =
     let a = c.args in
     let p = c.requires in
     let same = ap length c.in_ok-admitted.ensures.given in

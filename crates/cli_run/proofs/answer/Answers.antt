@@ -5,5 +5,6 @@ use Rattle.cli_run.proofs.answer.Goals as goal
 
 pub returns : goal.returns
 returns c =
-    answer-short c.args.netlist.now c.args.inputs.now _ c.requires (omega arith)
-    c.list-n.ensures.same c.run.ensures.answers
+    answer-short c.args.netlist.now c.args.inputs.now _
+    (record { bits = omega arith; operands = omega arith; results = omega arith; marks = omega arith; words = omega arith }) (omega arith)
+    c.list.ensures c.run.ensures.answers

@@ -11,15 +11,9 @@ read-requires c =
     let p = c.requires in
     let F = small-fits c.args.sizes in
     rw c.small.ensures (record {
-      heads_value = (p.sizes_in_bounds.3, p.sizes_in_bounds.4, p.sizes_in_bounds.2);
-      table_in_bounds = (p.sizes_in_bounds_2.0, p.sizes_in_bounds_2.1, p.sizes_in_bounds_2.2, p.sizes_in_bounds_2.3);
-      text_bound = (
-        F.names,
-        F.tables,
-        F.places,
-        omega (arith, F.gates, p.sizes_in_bounds.0),
-        omega (arith, F.gates, p.sizes_in_bounds.1),
-      );
+      cleared = p.cleared;
+      names_fit = p.names_fit;
+      limits = (F.names, F.tables, F.places, omega (arith, F.gates, p.gates_fit.0), omega (arith, F.gates, p.gates_fit.1));
     })
 
 pub returns-in_err-m : goal.returns-in_err-m

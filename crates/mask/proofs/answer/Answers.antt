@@ -14,5 +14,6 @@ pub returns : goal.returns
 returns c =
     let s = c.args in
     let k = rw c.small-l.ensures at c.in_ok-h.ensures in
+    let e = c.new-source.ensures in
     call-read s.sizes s.text.now s.codes.now s.wanted.now s.out.now s.out_codes.now s.operands.now s.results.now s.wires.now s.marks.now k
-    c.ask_lists.ensures
+    (rw (e.0, e.1, e.2) at c.ask_lists.ensures)

@@ -41,12 +41,12 @@ returns-in_err-h c =
     let p = err_from_is_err_and c.from_residual.result c.from_residual.ensures.1 in
     let k = rw c.small-l.ensures at c.in_err-h.ensures in
     rw (p.1, p.2)
-    (call-not s.sizes s.text.now s.codes.now s.wanted.now s.budget s.out.now s.ins.now s.ends.now s.tally.now s.operands.now
+    (call-not s.sizes s.text.now s.codes.now s.wanted.now s.budget s.out.now s.in_codes.now s.out_codes.now s.tally.now s.operands.now
     s.results.now s.wires.now s.marks.now s.ways.now s.best.now s.spans.now k)
 
 pub returns : goal.returns
 returns c =
     let s = c.args in
     let k = rw c.small-l.ensures at c.in_ok-h.ensures in
-    call-read s.sizes s.text.now s.codes.now s.wanted.now s.budget s.out.now s.ins.now s.ends.now s.tally.now s.operands.now
+    call-read s.sizes s.text.now s.codes.now s.wanted.now s.budget s.out.now s.in_codes.now s.out_codes.now s.tally.now s.operands.now
     s.results.now s.wires.now s.marks.now s.ways.now s.best.now s.spans.now k c.deliver.ensures

@@ -1,8 +1,10 @@
 -- `choose`: the search on the fronts of the tables, and its choice put to use.
 use mathlib.Core.Path.{sym, ◌∙◌}
-use lib.ListN.{take}
-use lib.Seq.{length-take-le, length_front}
-use Rattle.fewest_apply.proofs.Applying.{wired-chosen}
+use Prim.Native.Nat.{◌-◌}
+use mathlib.Core.List.{◌++◌}
+use lib.ListN.{length, take, drop, length-drop}
+use lib.Seq.{take_all, length-take-le, length_front}
+use Rattle.fewest_apply.proofs.Applying.{swapped-cut, wired-chosen}
 use Rattle.mask_fewest.proofs.Giving.{places, fits-fronts, chose}
 use native.Mathlib.Omega.{arith}
 use Rattle.mask_fewest.proofs.choose.Goals as goal
@@ -27,16 +29,24 @@ swap-requires c =
     let p = c.requires.0 in
     let R = c.search-r in
     let f = length_front c.args.best.now R.new.best c.args.h.wires R.auto.best in
-    let pl = places p.source in (p.fronts.wired.operands, p.fronts.wired.results, omega (arith, p.best))
+    let pl = places p.source in
+    let l = length-take-le c.args.h.gates c.args.results.now p.fronts.wired.results in (
+      omega (arith, l, p.fronts.wired.operands),
+      omega (arith, l, p.best),
+    )
 
 pub returns : goal.returns
 returns c =
     let a = c.args in let p = c.requires.0 in let W = a.h.wires in
     let R = c.search-r in let m = length-take-le W a.marks.now p.fronts.marks in
-    let g = length_front a.ways.now R.new.way W R.auto.way in let pl = places p.source in (
-      wired-chosen c.swap.ensures p.fronts.wired,
+    let g = length_front a.ways.now R.new.way W R.auto.way in let pl = places p.source in
+    let n = length a.codes.now in
+    let best = R.new.best ++ drop W a.best.now in
+    let l = length-drop n best in
+    let S = rw (take_all (length best - n) (drop n best) (omega arith)) at (swapped-cut a.h.gates p.fronts.wired.results c.swap.ensures) in (
+      wired-chosen S p.fronts.wired,
       λ N Q. chose N
           R.new.best a.best.now Q c.requires.1 (R.auto.best ∙ length-take-le W a.best.now p.best)
-          (R.ensures N (rw m Q)) c.swap.ensures c.codes.ensures
+          (R.ensures N (rw m Q)) S c.codes.ensures
           (omega (arith, p.ways)),
     )

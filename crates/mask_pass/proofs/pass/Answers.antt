@@ -25,13 +25,14 @@ overflow_add-result c =
 pub returns : goal.returns
 returns c =
     let a = c.args in
+    let j = a.source in
     let p = c.requires.ready in
     let s = c.start-first in
     let g = c.write_all-place in
-    let wires = g.auto.wire ∙ s.auto.wire in
-    let codes = g.auto.code ∙ s.auto.code ∙ p.codes in
-    λ N h. pass-made (tables_of a.gates) a.gates.count (length a.wire.now) s.result a.codes.now a.wanted.now
-    s.new.wire s.new.code g.new.wire g.new.code N h g.result
+    let wires = g.auto.twin_wires ∙ s.auto.twin_wires in
+    let codes = g.auto.twin_codes ∙ s.auto.twin_codes ∙ p.codes in
+    λ N h. pass-made (tables_of j.gates) j.gates.count (length a.twin_wires.now) s.result j.codes.now j.wanted.now
+    s.new.twin_wires s.new.twin_codes g.new.twin_wires g.new.twin_codes N h g.result
     p.outs wires codes s.ensures
     c.mask_gates-second.ensures
     c.publics-third.ensures g.ensures c.outs-end.ensures

@@ -5,5 +5,5 @@ use Rattle.mask_text.proofs.deliver.Goals as goal
 
 pub overflow_sub-gate_count : goal.overflow_sub-gate_count
 overflow_sub-gate_count c =
-    let s = c.args in
+    let s = c.args.source in
     omega (arith, least-counted s.codes.now s.wanted.now c.count-wires.ensures)

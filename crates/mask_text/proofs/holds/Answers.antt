@@ -6,6 +6,6 @@ use Rattle.mask_text.proofs.holds.Goals as goal
 
 pub returns-then-ample : goal.returns-then-ample
 returns-then-ample c =
-    let a = c.args.j in
+    let a = c.args.j.source in
     λ N h z F. sym (text-ample h a.codes.now a.wanted.now z F (omega arith) c.header-header.ensures
     c.requires.ready.1 (sym c.ample.ensures ∙ c.if-ample.true))

@@ -4,5 +4,5 @@ use Rattle.mask_text.proofs.write.Goals as goal
 
 pub returns : goal.returns
 returns c =
-    let s = c.args.j in
+    let s = c.args.j.source in
     λ N a z. write-made a s.codes.now s.wanted.now z c.header-at.ensures (c.pass-end.ensures N a.holds)

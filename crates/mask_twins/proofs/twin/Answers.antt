@@ -3,4 +3,4 @@ use Rattle.mask_twins.proofs.States.{twins-at}
 use Rattle.mask_twins.proofs.twin.Goals as goal
 
 pub returns : goal.returns
-returns c = let a = c.args in twins-at a.wire.now a.code.now a.w c.requires.0 c.requires.1
+returns c = let a = c.args in twins-at a.twin_wires.now a.twin_codes.now a.w c.requires.0 c.requires.1

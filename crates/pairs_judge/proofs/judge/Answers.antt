@@ -9,8 +9,8 @@ use Rattle.pairs.specs.Call.{pairs_good}
 use Rattle.pairs_judge.proofs.Judging.{good-below, told, answered}
 use Rattle.pairs_judge.proofs.judge.Goals as goal
 
-pub search-found-requires-clause-codes_len_bound : goal.search-found-requires-clause-codes_len_bound
-search-found-requires-clause-codes_len_bound c =
+pub search-found-requires-clause-lengths : goal.search-found-requires-clause-lengths
+search-found-requires-clause-lengths c =
     let p = c.requires in
     let a = c.args in
     let m = a.netlist in

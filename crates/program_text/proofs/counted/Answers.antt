@@ -3,4 +3,4 @@ use Rattle.program_text.proofs.Files.{counted-front}
 use Rattle.program_text.proofs.counted.Goals as goal
 
 pub returns : goal.returns
-returns c = counted-front _ _ _ c.front-n.ensures.value.1 c.without_end.ensures
+returns c = counted-front _ _ _ c.first.ensures c.without_end.ensures

@@ -6,4 +6,4 @@ pub loop-b-preserved : goal.loop-b-preserved
 loop-b-preserved c = listing-more c.loop-b.invariant c.loop-b-test.true c.entry.ensures
 
 pub returns : goal.returns
-returns c = listed c.counted-n.ensures c.loop-b.invariant c.loop-b-test.false
+returns c = (listed c.counted-n.ensures c.loop-b.invariant c.loop-b-test.false).same

@@ -9,12 +9,12 @@ pub returns-in_err-e : goal.returns-in_err-e
 returns-in_err-e c =
     let l = c.loop-i in
     let p = err_from_is_err_and c.from_residual.result c.from_residual.ensures.1 in
-    rw (p.1, p.2) (filled_no c.args.source.now c.args.s l.i (tables l.operands l.results) l.invariant c.loop-i-test.true _ c.in_err-e.ensures)
+    rw (p.1, p.2) (filled_no c.args.n c.args.source.now l.i (tables l.operands l.results) l.invariant c.loop-i-test.true _ c.in_err-e.ensures)
 
 pub loop-i-preserved : goal.loop-i-preserved
 loop-i-preserved c =
     let l = c.loop-i in
     let q = c.requires in
-    filled_more c.args.source.now c.args.s l.i (tables l.operands l.results) l.invariant c.loop-i-test.true c.in_ok-e.e
-    (record { operands = omega (arith, c.loop-i-test.true, q.operands, l.auto.operands); results = omega (arith, c.loop-i-test.true, q.results, l.auto.results) })
-    c.in_ok-e.ensures
+    rw c.put.ensures (filled_more c.args.n c.args.source.now l.i (tables l.operands l.results) l.invariant c.loop-i-test.true c.in_ok-e.e
+    (record { operands = omega (arith, c.loop-i-test.true, q.0, l.auto.operands); results = omega (arith, c.loop-i-test.true, q.1, l.auto.results) })
+    c.in_ok-e.ensures)

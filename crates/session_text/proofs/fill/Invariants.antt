@@ -4,4 +4,4 @@ use Rattle.session_text.proofs.Filling.{Filled}
 use Rattle.session_text.proofs.fill.Given as goal
 
 abbrev pub invariant-loop-i : goal.invariant-loop-i
-invariant-loop-i l = Filled l.source l.s l.i (tables l.operands l.results)
+invariant-loop-i l = Filled l.n l.source l.i (tables l.operands l.results)

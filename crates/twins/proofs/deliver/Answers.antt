@@ -37,5 +37,5 @@ returns c =
     let v = length-take-le c.args.netlist.header.wires c.args.out_codes.now b in
     λ N m.
     twins-14 m.gates codes q
-    (placed codes (holds-codes m.gates codes q) (omega (arith, k, c.args.netlist.header.inputs_are_wires)) a b (t.auto.wire ∙ w) (t.auto.code ∙ v)
+    (placed codes (holds-codes m.gates codes q) (omega (arith, k, c.args.netlist.header.inputs_are_wires)) a b (t.auto.twin_wires ∙ w) (t.auto.twin_codes ∙ v)
     (finished-same (sym w) t.ensures))

@@ -10,16 +10,16 @@ returns-in_default c =
     settle-unread c.loop-text.invariant (this_number c.loop-text.token.kind Assign c.loop-text-test.ensures)
     c.next-name.ensures c.next-equals.ensures c.in_default.ensures.1 refl
 
-pub returns-then-not-target : goal.returns-then-not-target
-returns-then-not-target c =
+pub returns-then-not-assign : goal.returns-then-not-assign
+returns-then-not-assign c =
     settle-closed c.loop-text.invariant (this_number c.loop-text.token.kind Assign c.loop-text-test.ensures)
-    c.next-name.ensures c.next-equals.ensures c.in-Some.ensures c.target.ensures c.if-not-target.true
+    c.next-name.ensures c.next-equals.ensures c.in-Some.ensures c.assign.ensures c.if-not-assign.true
 
 pub loop-text-preserved : goal.loop-text-preserved
 loop-text-preserved c =
     settle-on c.loop-text.invariant (this_number c.loop-text.token.kind Assign c.loop-text-test.ensures)
-    c.next-name.ensures c.next-equals.ensures c.in-Some.ensures c.target.ensures refl c.if-not-target.false
-    c.target.auto.states c.next-token-in-loop-text.ensures
+    c.next-name.ensures c.next-equals.ensures c.in-Some.ensures c.assign.ensures refl c.if-not-assign.false
+    c.assign.auto.states c.next-token-in-loop-text.ensures
 
 pub returns : goal.returns
 returns c = settle-end c.loop-text.invariant (other_number c.loop-text.token.kind Assign c.loop-text-test.ensures)

@@ -1,11 +1,12 @@
 -- One assignment after another.
+use Rattle.std.proofs.Common.{length}
 use Rattle.verilog_tokens.specs.Kind.{number_of}
 use Rattle.verilog_gates.proofs.Joins.{left}
 use Rattle.verilog_assigns.proofs.Settling.{Settling}
 use Rattle.verilog_assigns.proofs.assigns.Given as goal
 
 abbrev pub invariant-loop-text : goal.invariant-loop-text
-invariant-loop-text l = Settling l.names.text.now l.names.words.now l.names.count l.at l.initial.states l.states (number_of l.token.kind) l.token.to
+invariant-loop-text l = Settling l.names.text.now l.names.words.now (length l.names.words.now) l.at l.initial.states l.states (number_of l.token.kind) l.token.to
 
 abbrev pub decreases-loop-text : goal.decreases-loop-text
 decreases-loop-text l = left l.names.text.now (number_of l.token.kind) l.token.to

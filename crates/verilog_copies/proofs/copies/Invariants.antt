@@ -1,4 +1,5 @@
 -- One port after another.
+use Rattle.std.proofs.Common.{length}
 use Rattle.verilog_tokens.specs.Kind.{number_of}
 use Rattle.verilog_gates.proofs.Joins.{left}
 use Rattle.verilog_copies.proofs.Copying.{Copying}
@@ -6,7 +7,7 @@ use Rattle.verilog_copies.proofs.copies.Given as goal
 
 abbrev pub invariant-loop-text : goal.invariant-loop-text
 invariant-loop-text l =
-    Copying l.names.text.now l.names.words.now l.states l.wires l.names.count l.n l.at l.next l.initial.operands l.initial.results
+    Copying l.names.text.now l.names.words.now l.states l.wires (length l.names.words.now) l.n l.at l.next l.initial.operands l.initial.results
     l.operands l.results (number_of l.token.kind) l.token.from l.token.to l.free
 
 abbrev pub decreases-loop-text : goal.decreases-loop-text

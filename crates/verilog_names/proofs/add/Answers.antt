@@ -1,6 +1,6 @@
 -- Three stores.
 use Prim.Native.Nat.{ℕ, ◌+◌}
-use mathlib.Core.Path.{refl, ap}
+use mathlib.Core.Path.{ap}
 use lib.ListN.{set, get_or}
 use Rattle.verilog_names.proofs.add.Goals as goal
 
@@ -8,7 +8,7 @@ pub returns : goal.returns
 returns c = record {
   headed = ap (λ (k : ℕ). set c.args.heads.now k
       (c.args.count + 1)) c.chain_of-k.ensures.0;
-  worded = refl;
+  worded = ap (λ (e : ℕ). set c.args.words.now c.args.count e) c.pack.ensures;
   linked = ap
       (λ (k : ℕ). set c.args.links.now
       c.args.count (get_or c.args.heads.now

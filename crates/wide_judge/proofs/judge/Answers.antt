@@ -13,8 +13,8 @@ use Rattle.wide_judge.proofs.Judging.{answered}
 use native.Mathlib.Omega.{arith}
 use Rattle.wide_judge.proofs.judge.Goals as goal
 
-pub within-requires-clause-paints_len : goal.within-requires-clause-paints_len
-within-requires-clause-paints_len c =
+pub within-requires-clause-lengths : goal.within-requires-clause-lengths
+within-requires-clause-lengths c =
     let a = c.args in
     let m = a.netlist in
     let p = c.requires in

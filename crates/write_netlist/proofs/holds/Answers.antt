@@ -8,5 +8,5 @@ pub returns-then-ample : goal.returns-then-ample
 returns-then-ample c =
     let f = c.args.f in
     c.if-ample.true
-    ∙ sym (form-ample f.dialect f.gates.count f.wires f.ins.now f.outs.now (omega arith) c.requires.wired.0
-    c.header_lines-header.ensures c.requires.wired.1 (sym c.ample.ensures ∙ c.if-ample.true))
+    ∙ sym (form-ample f.dialect f.gates.count f.wires f.ins.now f.outs.now (omega arith) f.wired
+    c.header_lines-header.ensures c.requires (sym c.ample.ensures ∙ c.if-ample.true))

@@ -6,9 +6,12 @@ use Rattle.aiger_ands.proofs.ands.ands.Goals as goal
 
 pub returns-in_err-count-clause-ands : goal.returns-in_err-count-clause-ands
 returns-in_err-count-clause-ands c =
-    rw c.from_residual.ensures (building-no c.loop.invariant.built _ c.loop-test.true c.in_err-count.ensures.line.0, omega arith)
+    rw c.from_residual.ensures (
+      λ most z. building-no (c.loop.invariant.built most z) _ c.loop-test.true (c.in_err-count.ensures.line.0 most (omega (arith, z))),
+      omega arith,
+    )
 
 pub loop-preserved : goal.loop-preserved
 loop-preserved c =
     let m = c.in_ok-count.ensures.line in
-    record { built = building-more c.loop.invariant.built m.0; few = omega (arith, m.1); behind = search rules }
+    record { built = λ most z. building-more (c.loop.invariant.built most z) (m.0 most (omega (arith, z))); few = omega (arith, m.1); behind = search rules }

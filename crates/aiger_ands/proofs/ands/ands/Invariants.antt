@@ -1,5 +1,7 @@
 -- The lines so far are AND lines, and have at most three gates each.
-use Prim.Native.Nat.{◌*◌, ◌≤◌}
+use Prim.Native.Nat.{ℕ, ◌+◌, ◌*◌, ◌≤◌}
+use mathlib.Core.Path.{◌≡◌}
+use lib.ListN.{length}
 use Rattle.aiger_lines.specs.LineAnswers.{lines_left, Behind}
 use Rattle.netlist.specs.Table.{tables}
 use Rattle.aiger_ands.proofs.AndLoop.{Building}
@@ -7,8 +9,8 @@ use Rattle.aiger_ands.proofs.ands.ands.Given as goal
 
 abbrev pub invariant-loop : goal.invariant-loop
 invariant-loop l = record {
-  built : Building (lines_left l.fn.lines) l.most l.n l.fn.table (tables l.fn.operands l.fn.results) l.table (tables l.operands l.results)
-      (lines_left l.left) l.count l.counter;
+  built : (most : ℕ) → length l.fn.table ≡ most + 1 → Building (lines_left l.fn.lines) most l.n l.fn.table (tables l.fn.operands l.fn.results) l.table
+      (tables l.operands l.results) (lines_left l.left) l.count l.counter;
   few : l.count ≤ 3 * l.counter;
   behind : Behind l.fn.lines l.left;
 }

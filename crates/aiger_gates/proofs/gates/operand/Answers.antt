@@ -14,6 +14,8 @@ returns-then-x-eq0 c = (
 
 pub returns : goal.returns
 returns c =
-    let not-own : 2 ≤ c.args.x → c.args.x % 2 ≡ 0 → ⊥ =
-    elim c.else-x-ge2.branch [ else-x-ge2-via-then-x-ge2+else-x-eq0 w ↦ λ h e. w.if-x-eq0.false e | else-x-ge2-via-else-x-ge2 w ↦ λ h e. absurd (omega (arith, h, w.if-x-ge2.false)) ] in
+    let not-own : 2 ≤ c.args.x → c.args.x % 2 ≡ 0 → ⊥ = elim c.else-x-ge2.branch [
+      | else-x-ge2-via-then-x-ge2+else-x-eq0 w ↦ λ h e. w.if-x-eq0.false e
+      | else-x-ge2-via-else-x-ge2 w ↦ λ h e. absurd (omega (arith, h, w.if-x-ge2.false))
+    ] in
     (operand-out _ _ _ _ _ _ refl _ not-own c.out_gate.ensures, omega arith)

@@ -5,13 +5,15 @@ use Rattle.aiger_outputs.proofs.MarkedLines.{marks-more, marks-no, marks-high}
 use Rattle.aiger_outputs.proofs.marks.mark_literals.Goals as goal
 
 pub returns-in_err-x-clause-marks : goal.returns-in_err-x-clause-marks
-returns-in_err-x-clause-marks c = rw c.from_residual.ensures (marks-no c.loop.invariant.marked _ c.loop-test.true c.in_err-x.ensures.line)
+returns-in_err-x-clause-marks c =
+    rw c.from_residual.ensures (λ most z. marks-no (c.loop.invariant.marked most z) _ c.loop-test.true c.in_err-x.ensures.line)
 
-pub returns-then-most-x-clause-marks : goal.returns-then-most-x-clause-marks
-returns-then-most-x-clause-marks c = marks-high c.loop.invariant.marked _ c.loop-test.true c.in_ok-x.ensures.line c.if-most-x.true
+pub returns-then-marks-x-clause-marks : goal.returns-then-marks-x-clause-marks
+returns-then-marks-x-clause-marks c = λ most z.
+    marks-high (c.loop.invariant.marked most z) _ c.loop-test.true c.in_ok-x.ensures.line (omega (arith, z, c.if-marks-x.true))
 
 pub loop-preserved : goal.loop-preserved
 loop-preserved c = record {
-  marked = rw c.mark.ensures (marks-more c.loop.invariant.marked c.in_ok-x.ensures.line c.if-most-x.false (omega arith));
+  marked = λ most z. rw c.mark.ensures (marks-more (c.loop.invariant.marked most z) c.in_ok-x.ensures.line (omega (arith, z, c.if-marks-x.false)) (omega arith));
   behind = search rules;
 }

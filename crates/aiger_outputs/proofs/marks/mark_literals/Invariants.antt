@@ -1,10 +1,13 @@
 -- The variables of the lines so far have marks.
+use Prim.Native.Nat.{ℕ, ◌+◌}
+use mathlib.Core.Path.{◌≡◌}
+use lib.ListN.{length}
 use Rattle.aiger_lines.specs.LineAnswers.{lines_left, Behind}
 use Rattle.aiger_outputs.specs.OutAnswers.{MarksAt}
 use Rattle.aiger_outputs.proofs.marks.mark_literals.Given as goal
 
 abbrev pub invariant-loop : goal.invariant-loop
 invariant-loop l = record {
-  marked : MarksAt (lines_left l.fn.lines) l.counter l.most l.marks (lines_left l.left);
+  marked : (most : ℕ) → length l.fn.marks ≡ most + 1 → MarksAt (lines_left l.fn.lines) l.counter most l.marks (lines_left l.left);
   behind : Behind l.fn.lines l.left;
 }

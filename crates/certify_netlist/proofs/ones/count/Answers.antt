@@ -1,25 +1,19 @@
 -- `certify_netlist::ones::count` meets its contract.
-use Prim.Native.Nat.{◌/◌, ◌^◌}
+use Prim.Native.Nat.{ℕ, ◌/◌, ◌^◌}
+use mathlib.Core.Path.{◌≡◌, ◌∙◌}
+use borrow.Author.Rules.{rules}
+use lib.Dec.{eqb}
+use lib.Bits.{bit_and}
 use lib.ListN.{get_or}
-use lib.Bits.{and_le_r}
+use Rattle.std.specs.List.{count_by}
 use Rattle.evaluate.specs.Lane.{lane}
-use Rattle.evaluate.proofs.Lanes.{bit-low}
-use Rattle.certify_netlist.proofs.Counting.{counting_more, ones-few}
-use native.Mathlib.Omega.{arith}
+use Rattle.certify_netlist.proofs.Counting.{counted, lane_test}
 use Rattle.certify_netlist.proofs.ones.count.Goals as goal
 
-pub overflow_add-many : goal.overflow_add-many
-overflow_add-many c =
-    let s = c.args in
-    let i = c.loop-word.word-index in
-    omega (
-      arith,
-      and_le_r (get_or s.words.now i 0 / 2 ^ s.place) 1,
-      c.loop-word.invariant,
-      ones-few (λ i. lane s.place (get_or s.words.now i 0)) i,
-    )
-
-pub loop-word-preserved : goal.loop-word-preserved
-loop-word-preserved c =
-    counting_more (λ k. lane c.args.place (get_or c.args.words.now k 0)) c.loop-word.word-index c.loop-word.invariant
-    (bit-low c.args.place (get_or c.args.words.now c.loop-word.word-index 0))
+pub returns : goal.returns
+returns c =
+    let j = c.args.place in
+    let words = c.args.words.now in
+    let p = λ (n : ℕ). eqb (bit_and (n / 2 ^ j) 1) 1 in
+    let e : c.count.result ≡ count_by p words = search rules in
+    e ∙ counted p (λ i. lane j (get_or words i 0)) words (λ i. lane_test j (get_or words i 0))

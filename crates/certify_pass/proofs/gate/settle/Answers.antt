@@ -2,15 +2,15 @@
 use Rattle.certify_pass.proofs.Steps.{read_known, put-leaf}
 use Rattle.certify_pass.proofs.gate.settle.Goals as goal
 
-pub returns-then-public : goal.returns-then-public
-returns-then-public c = λ N codes H.
+pub returns-then-shows_public : goal.returns-then-shows_public
+returns-then-shows_public c = λ N codes H.
     let K = read_known c.args.w c.args.k c.requires.2 H.known c.in-Some.ensures.0 c.in-Some.ensures.1 in
     record {
       known = put-leaf c.put.ensures H.known (c.in-Some-leaf_of.ensures N codes H.known K);
-      marked = c.mark.ensures N codes (c.public.ensures N codes _ H.marked K c.if-public.true) H.marked;
+      marked = c.mark.ensures N codes (c.shows_public.ensures N codes _ H.marked K c.if-shows_public.true) H.marked;
     }
 
-pub returns-else-public : goal.returns-else-public
-returns-else-public c = λ N codes H.
+pub returns-else-shows_public : goal.returns-else-shows_public
+returns-else-shows_public c = λ N codes H.
     let K = read_known c.args.w c.args.k c.requires.2 H.known c.in-Some.ensures.0 c.in-Some.ensures.1 in
     record { known = put-leaf c.put.ensures H.known (c.in-Some-leaf_of.ensures N codes H.known K); marked = H.marked }

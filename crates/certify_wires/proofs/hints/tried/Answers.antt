@@ -6,6 +6,6 @@ use Rattle.certify_wires.proofs.hints.tried.Goals as goal
 
 pub returns : goal.returns
 returns c = λ N codes T R L.
-    hint-law c.args.leaf _ (c.one_atom.ensures c.if-not-one_atom.false) (omega arith) (omega arith)
+    hint-law c.args.leaf _ (c.is_same_atom.ensures c.if-not-is_same_atom.false) (omega arith) (omega arith)
     c.if-atom.false R
-    (known_at _ T c.in-Some.ensures.0 c.in-Some.ensures.1) L
+    (known_at _ T c.in_ok-s.ensures.0 c.in_ok-s.ensures.1) L

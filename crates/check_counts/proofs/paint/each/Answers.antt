@@ -2,11 +2,14 @@
 use mathlib.Core.Path.{ap, ◌∙◌}
 use lib.ListN.{length, take}
 use lib.Seq.{take_at}
-use Rattle.netlist.proofs.Laid.{laid_more, laid-all}
+use Rattle.netlist.proofs.Laid.{laid_none, laid_more, laid-all}
 use Rattle.check_counts.specs.Paint.{paint_each}
 use Rattle.check_counts.proofs.Paints.{length-each, each_at}
 use native.Mathlib.Omega.{arith}
 use Rattle.check_counts.proofs.paint.each.Goals as goal
+
+pub loop-i-init : goal.loop-i-init
+loop-i-init c = (laid_none 0 _ _, omega arith)
 
 pub loop-i-preserved : goal.loop-i-preserved
 loop-i-preserved c =

@@ -5,4 +5,4 @@ use Rattle.gate_table.specs.Gates.{tables_of}
 use Rattle.check_leak.proofs.search.find.Given as goal
 
 abbrev pub invariant-loop-block : goal.invariant-loop-block
-invariant-loop-block l = Finding (tables_of l.gates) l.gates.count (length l.initial.words) l.paints l.publics l.blocks l.words l.base l.best l.block
+invariant-loop-block l = Finding (tables_of l.b.gates) l.b.gates.count (length l.initial.words) l.b.paints.now l.b.publics l.blocks l.words l.base l.best l.block

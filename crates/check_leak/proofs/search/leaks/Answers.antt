@@ -1,15 +1,22 @@
 -- `search::leaks`: Check's search is that by colours with a colour for each input.
-use mathlib.Core.Path.{subst}
+use mathlib.Core.Path.{ap, ◌∙◌, subst}
 use mathlib.Core.Bool.{true, false}
 use mathlib.Core.List.{List}
 use Prim.Native.Nat.{ℕ, ◌*◌}
 use lib.ListN.{length}
 use Rattle.evaluate.specs.Bare.{bare}
 use Rattle.check_counts.specs.Base.{count_in}
+use Rattle.check_counts.proofs.Paints.{length-each}
+use native.Mathlib.Omega.{arith}
 use Rattle.check_leak.specs.Difference.{LowestDifference}
 use Rattle.check_leak.proofs.Answers.{tells-found}
 use Rattle.gate_table.specs.Gates.{tables_of}
 use Rattle.check_leak.proofs.search.leaks.Goals as goal
+
+pub find-requires-clause-lengths : goal.find-requires-clause-lengths
+find-requires-clause-lengths c =
+    let n = ap length c.each-paints.ensures ∙ length-each 0 c.args.codes.list.now in
+    (omega (arith, n, c.requires.lengths), c.requires.lengths.2, c.blocks_of.ensures.1)
 
 pub returns : goal.returns
 returns c = λ n o N h. let a = c.args in

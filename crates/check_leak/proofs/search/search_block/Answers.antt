@@ -18,11 +18,11 @@ refresh-requires c =
     let k = run.auto.words in
     record {
       wired = wired-same k c.requires.wired;
-      paints_in_bounds = (omega (arith, c.requires.paints_in_bounds.0, k), c.requires.paints_in_bounds.1 ∙ sym k);
-      fact = subst
+      lengths = (omega (arith, c.requires.lengths.0, k), c.requires.lengths.1 ∙ sym k);
+      held = subst
           (λ (W : ℕ). Counted (bare t c.args.b.gates.count W) true c.args.b.paints.now (ones_of run.new.words) c.args.block
           × Ready c.args.b.publics (bare t c.args.b.gates.count W) c.args.b.paints.now c.args.base.now c.args.block)
-          (sym k) (run-block-law run.ensures, c.requires.paints_in_bounds.3);
+          (sym k) (run-block-law run.ensures, c.requires.lengths.3);
     }
 
 pub returns : goal.returns

@@ -11,9 +11,8 @@ pub returns : goal.returns
 returns c N h =
     let words = c.args.words.now in
     let list = c.args.list.now in
-    let laid = copied-front list words c.copy_from_slice.ensures.after refl c.requires.list_in_bounds.0 in
+    let fits = c.requires.list_in_bounds in
+    let laid = copied-front list words c.copy_from_slice.ensures.after refl fits.0 in
     let wires = c.wires in
-    wide-law words list _ wires.new.words
-    h laid c.requires.list_in_bounds.0 (wires.auto.words ∙ ap length laid ∙ length-sets words 0 list) c.requires.list_in_bounds.1 c.args.out.now
-    _ (λ i. search rules) wires.ensures
-    c.copy_from_slice-2.ensures.after c.requires.list_in_bounds.2
+    wide-law words list _ wires.new.words h laid fits.0 (wires.auto.words ∙ ap length laid ∙ length-sets words 0 list) fits.1
+    _ (λ i. search rules) wires.ensures c.copy_from_slice-2.ensures.after

@@ -6,8 +6,8 @@ use Rattle.gate_table.specs.Gates.{tables_of}
 use Rattle.fewest_search.proofs.search.search.Given as goal
 
 abbrev pub invariant-loop-least : goal.invariant-loop-least
-invariant-loop-least l = Standing (tables_of l.job.gates) l.job.gates.count l.job.codes.now l.job.wanted.now
-    (length l.job.codes.now + l.job.gates.count) l.budget l.way l.best l.code l.lows l.least l.stop l.left
+invariant-loop-least l = Standing (tables_of l.source.gates) l.source.gates.count l.source.codes.now l.source.wanted.now
+    (length l.source.codes.now + l.source.gates.count) l.budget l.way l.best l.wire_codes l.least_before l.least l.stop l.left
 
 abbrev pub decreases-loop-least : goal.decreases-loop-least
 decreases-loop-least l = l.left

@@ -5,7 +5,7 @@ use Rattle.fewest_walk.proofs.Ending.{ends-most, ends-few}
 use Rattle.fewest_walk.proofs.outputs.outputs.Goals as goal
 
 pub overflow_add-sum : goal.overflow_add-sum
-overflow_add-sum c = let h = rw (c.in-Some.ensures.steps.0, c.in-Some.ensures.steps.1) at c.loop-e.invariant in omega (arith, h, c.output-sum.ensures, ends-most c.args.code.now c.args.wanted.now)
+overflow_add-sum c = let h = rw (c.in-Some.ensures.steps.0, c.in-Some.ensures.steps.1) at c.loop-e.invariant in omega (arith, h, c.output-sum.ensures, ends-most c.args.out_codes.now c.args.wanted.now)
 
 pub loop-e-preserved : goal.loop-e-preserved
 loop-e-preserved c = let h = rw (c.in-Some.ensures.steps.0, c.in-Some.ensures.steps.1) at c.loop-e.invariant in omega (arith, h, c.output-sum.ensures)

@@ -8,8 +8,9 @@ use Rattle.mask_pass.proofs.count.count.Goals as goal
 pub returns : goal.returns
 returns c =
     let a = c.args in
+    let s = a.source in
     let p = c.requires in
     let t = c.place_twins-next in
-    λ N h. pass-count (tables_of a.gates) a.gates.count (length a.wire.now) a.codes.now a.wanted.now
-    t.new.wire t.new.code N h
-    p.outs t.auto.wire (t.auto.code ∙ p.codes) (t.ensures.state N h)
+    λ N h. pass-count (tables_of s.gates) s.gates.count (length a.twin_wires.now) s.codes.now s.wanted.now
+    t.new.twin_wires t.new.twin_codes N h
+    p.outs t.auto.twin_wires (t.auto.twin_codes ∙ p.codes) (t.ensures.state N h)

@@ -5,5 +5,5 @@ use Rattle.mask_pass.proofs.gates.step.Goals as goal
 pub returns : goal.returns
 returns c =
     let a = c.args in
-    step-made a.wire.now a.code.now a.g _ c.of.ensures
-    c.twin-a.ensures c.twin-b.ensures c.emit-end.ensures
+    rw (c.put.ensures.0, c.put.ensures.1) (step-made a.twin_wires.now a.twin_codes.now a.g _ c.of.ensures
+    c.twin-a.ensures c.twin-b.ensures c.emit-end.ensures)

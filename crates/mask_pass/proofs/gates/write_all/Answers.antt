@@ -6,4 +6,4 @@ pub loop-i-preserved : goal.loop-i-preserved
 loop-i-preserved c =
     let s = c.step in
     emitting-more c.loop-i.invariant
-    s.auto.wire s.auto.code (rw c.at.ensures at s.ensures)
+    s.auto.twin_wires s.auto.twin_codes (rw c.at.ensures at s.ensures)

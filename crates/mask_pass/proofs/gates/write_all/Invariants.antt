@@ -8,4 +8,4 @@ use Rattle.mask_pass.proofs.gates.write_all.Given as goal
 abbrev pub invariant-loop-i : goal.invariant-loop-i
 invariant-loop-i l =
     Emitting l.initial.out l.at l.masks.first (tables_of l.gates)
-    (state_of l.c l.initial.wire l.initial.code) l.out l.place l.next (length l.initial.wire) l.wire l.code l.i
+    (state_of l.c l.initial.twin_wires l.initial.twin_codes) l.out l.place l.next (length l.initial.twin_wires) l.twin_wires l.twin_codes l.i

@@ -4,7 +4,7 @@ use Rattle.mask_pass.proofs.outs.outs.Goals as goal
 
 pub loop-i-preserved : goal.loop-i-preserved
 loop-i-preserved c =
-    let p = c.requires.wanted_value in
+    let p = c.requires.as_many in
     outed-more c.loop-i.invariant
     c.loop-i-test.true p.0 p.1 c.twin-t.ensures
     c.one-place.ensures

@@ -4,8 +4,8 @@ use Rattle.mask_twins.proofs.inputs.inputs.Goals as goal
 
 pub loop-i-preserved : goal.loop-i-preserved
 loop-i-preserved c =
-    entered-more c.loop-i.invariant c.loop-i-test.true
-    c.requires.1 c.input-t.ensures c.past-next.ensures
+    rw (c.put.ensures.0, c.put.ensures.1) (entered-more c.loop-i.invariant c.loop-i-test.true
+    c.requires.1 c.input-t.ensures c.past-next.ensures)
 
 pub returns : goal.returns
 returns c = entered_all c.loop-i.invariant c.loop-i-test.false

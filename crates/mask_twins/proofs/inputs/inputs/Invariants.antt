@@ -3,4 +3,4 @@ use Rattle.mask_twins.proofs.Starts.{Entered}
 use Rattle.mask_twins.proofs.inputs.inputs.Given as goal
 
 abbrev pub invariant-loop-i : goal.invariant-loop-i
-invariant-loop-i l = Entered l.c l.codes l.initial.wire l.initial.code l.wire l.code l.next l.i
+invariant-loop-i l = Entered l.c l.codes l.initial.twin_wires l.initial.twin_codes l.twin_wires l.twin_codes l.next l.i

@@ -4,6 +4,6 @@ use Rattle.mask_twins.proofs.inputs.start.Goals as goal
 
 pub returns : goal.returns
 returns c =
-    started c.args.c c.args.codes.now c.args.wire.now c.args.code.now c.requires.0
+    started c.args.c c.args.codes.now c.args.twin_wires.now c.args.twin_codes.now c.requires.0
     (c.fill.ensures.after (λ y p. p))
     (c.fill-2.ensures.after (λ y p. p)) c.inputs.ensures

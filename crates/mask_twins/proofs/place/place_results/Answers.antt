@@ -5,5 +5,5 @@ use Rattle.mask_twins.proofs.place.place_results.Goals as goal
 pub loop-i-preserved : goal.loop-i-preserved
 loop-i-preserved c =
     let s = c.step-next in
-    advancing-more c.loop-i.invariant s.auto.wire s.auto.code
+    advancing-more c.loop-i.invariant s.auto.twin_wires s.auto.twin_codes
     (rw c.at.ensures at s.ensures)

@@ -7,5 +7,5 @@ use Rattle.mask_twins.proofs.place.place_results.Given as goal
 
 abbrev pub invariant-loop-i : goal.invariant-loop-i
 invariant-loop-i l =
-    Advancing (tables_of l.gates) (state_of l.c l.initial.wire l.initial.code) l.next (length l.initial.wire)
-    l.wire l.code l.i
+    Advancing (tables_of l.gates) (state_of l.c l.initial.twin_wires l.initial.twin_codes) l.next (length l.initial.twin_wires)
+    l.twin_wires l.twin_codes l.i

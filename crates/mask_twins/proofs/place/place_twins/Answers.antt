@@ -12,8 +12,8 @@ returns c =
     let s = c.start-first in
     let g = c.place_results in
     record {
-      state = λ N h. finished (tables_of a.gates) a.gates.count (length a.wire.now) a.codes.now N h
-          g.new.wire g.new.code s.ensures g.ensures.state;
+      state = λ N h. finished (tables_of a.gates) a.gates.count (length a.twin_wires.now) a.codes.now N h
+          g.new.twin_wires g.new.twin_codes s.ensures g.ensures.state;
       grown = omega (arith, started-most s.ensures, g.ensures.grown);
     }
 

@@ -8,19 +8,19 @@ pub returns-then-block-eq0 : goal.returns-then-block-eq0
 returns-then-block-eq0 c =
     let a = c.args in
     let first = c.repeat in
-    let secret = (c.requires.fact.1 c.if-b.false).0 in
-    let long = first.auto.bases ∙ c.requires.paints_in_bounds.1 in
+    let secret = (c.requires.held.1 c.if-b.false).0 in
+    let long = first.auto.bases ∙ c.requires.lengths.1 in
     let zero = c.if-block-eq0.true in
     let counts = c.tally-then-block-eq0.ensures in (
-      record { words = first-words a.b.paints.now secret a.block zero c.requires.fact.0 long first.ensures; counts = counts },
+      record { words = first-words a.b.paints.now secret a.block zero c.requires.held.0 long first.ensures; counts = counts },
       λ _. (
         secret,
-        λ _. record { words = first-words a.b.paints.now secret (a.block + 1) zero c.requires.fact.0 long first.ensures; counts = counts },
+        λ _. record { words = first-words a.b.paints.now secret (a.block + 1) zero c.requires.held.0 long first.ensures; counts = counts },
       ),
     )
 
 pub returns-else-block-eq0 : goal.returns-else-block-eq0
 returns-else-block-eq0 c =
-    let r = c.requires.fact.1 c.if-b.false in
+    let r = c.requires.held.1 c.if-b.false in
     let held = r.1 c.if-block-eq0.false in
     (held, λ _. (r.0, λ _. record { words = same-words c.args.b.paints.now r.0 c.args.block (c.args.block + 1) held.words; counts = held.counts }))

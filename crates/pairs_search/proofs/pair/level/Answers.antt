@@ -1,7 +1,6 @@
 -- `level`: the difference of both wires together, and those of each.
-use mathlib.Core.Path.{sym, subst, ◌∙◌}
-use lib.Dec.{T}
 use borrow.Author.Tests.{eqb-true, eq-eqb}
+use Rattle.netlist.proofs.Tests.{clash}
 use Rattle.pairs_search.proofs.Levels.{agreed-level, level-agreed, none-level, level-none}
 use borrow.Author.Rules.{rules}
 use Rattle.pairs_search.proofs.pair.level.Goals as goal
@@ -11,10 +10,12 @@ returns-then-agreed c =
     let a = c.args in
     let held = c.counts-held in
     let both = c.differ-both in (
-      λ e. agreed-level a.words.now a.bases.now a.base.now a.u a.v held.result both.result held.ensures both.ensures
-          (c.requires.4 c.if-agreed.true) c.requires.0 c.requires.1 (eqb-true _ 0 e),
-      λ e all. subst T (sym (eq-eqb _ 0 (level-agreed a.words.now a.bases.now a.base.now a.u a.v held.result both.result held.ensures
-          both.ensures (search rules) all)) ∙ e) tt,
+      λ e. agreed-level a.h.words.now a.h.bases.now a.h.base.now a.u a.v held.result both.result held.ensures both.ensures
+          (c.requires.2 c.if-agreed.true) c.requires.0 c.requires.1 (eqb-true _ 0 e),
+      λ e all.
+          let z = eq-eqb _ 0 (level-agreed a.h.words.now a.h.bases.now a.h.base.now a.u a.v held.result both.result held.ensures
+          both.ensures (search rules) all) in
+          clash (cc),
     )
 
 pub returns : goal.returns
@@ -24,8 +25,10 @@ returns c =
     let both = c.differ-both in
     let one = c.differ-first in
     let two = c.differ-second in (
-      λ e. none-level a.words.now a.bases.now a.base.now a.u a.v held.result both.result held.ensures both.ensures
+      λ e. none-level a.h.words.now a.h.bases.now a.h.base.now a.u a.v held.result both.result held.ensures both.ensures
           one.result two.result one.ensures two.ensures (eqb-true _ 0 e),
-      λ e all. subst T (sym (eq-eqb _ 0 (level-none a.words.now a.bases.now a.base.now a.u a.v held.result both.result held.ensures
-          both.ensures one.result two.result one.ensures two.ensures (search rules) (search rules) (search rules) all)) ∙ e) tt,
+      λ e all.
+          let z = eq-eqb _ 0 (level-none a.h.words.now a.h.bases.now a.h.base.now a.u a.v held.result both.result held.ensures
+          both.ensures one.result two.result one.ensures two.ensures (search rules) (search rules) (search rules) all) in
+          clash (cc),
     )

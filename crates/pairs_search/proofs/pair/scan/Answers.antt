@@ -1,6 +1,17 @@
--- `scan`: the pairs before this one are level.
-use Rattle.pairs_search.proofs.Uneven.{uneven-some}
+-- `scan`: the pairs before the first that is not level are level.
+use Prim.Native.Nat.{ℕ, ◌<◌}
+use borrow.Author.Rules.{rules}
+use borrow.Author.Tests.{tests}
+use Rattle.std.proofs.lemmas.Iterator.{first_from_Range}
+use Rattle.pairs_search.specs.Level.{held_in, held_base, LevelAt}
+use Rattle.pairs_search.proofs.Uneven.{uneven-found}
 use Rattle.pairs_search.proofs.pair.scan.Goals as goal
 
-pub returns-then-not-level : goal.returns-then-not-level
-returns-then-not-level c = uneven-some c.loop-j.j c.loop-j-test.true c.loop-j.invariant (c.level.ensures.1 c.if-not-level.true)
+pub returns : goal.returns
+returns c =
+    let a = c.args in
+    let P : ℕ → ℕ → Type 0 = LevelAt (held_base a.h.bases.now a.h.base.now) (held_in a.h.words.now) a.pairs.now in
+    uneven-found c.find.result
+    (first_from_Range _ _ _ _ (λ j. ((s : ℕ) → s < 16 → P j s) → ⊥) (λ j. (s : ℕ) → s < 16 → P j s) c.find.ensures.ran
+    (λ x q k. search (rules, tests))
+    (λ x q k. search (rules, tests)))

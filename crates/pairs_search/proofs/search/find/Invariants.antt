@@ -6,5 +6,5 @@ use Rattle.pairs_search.proofs.search.find.Given as goal
 
 abbrev pub invariant-loop-block : goal.invariant-loop-block
 invariant-loop-block l =
-    Finding (tables_of l.gates) l.gates.count (length l.initial.words) l.limit l.paints l.pairs l.publics
+    Finding (tables_of l.b.gates) l.b.gates.count (length l.initial.words) l.limit l.b.paints.now l.pairs l.b.publics
     l.blocks l.words l.bases l.base l.best l.block

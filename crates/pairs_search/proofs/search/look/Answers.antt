@@ -6,5 +6,5 @@ pub returns : goal.returns
 returns c =
     let a = c.args in
     rw c.or.ensures
-    (look-law a.words.now a.bases.now a.base.now a.pairs.now a.limit a.block c.scan-pair.result
-    (rw c.limit-wires.ensures at c.scan-found.ensures) (rw c.unwrap_or-before.ensures at c.scan-pair.ensures) c.better.ensures)
+    (look-law a.h.words.now a.h.bases.now a.h.base.now a.pairs.now a.limit a.block c.scan-pair.result
+    (rw c.limit-wires.ensures at c.scan-found.ensures) c.requires.2 (rw c.unwrap_or-before.ensures at c.scan-pair.ensures) c.better.ensures)

@@ -1,16 +1,24 @@
 -- `search`: both answers, from what was found with a colour for each input.
-use mathlib.Core.Path.{subst}
+use mathlib.Core.Path.{ap, ◌∙◌, subst}
 use mathlib.Core.Bool.{true, false}
 use mathlib.Core.List.{List}
 use Prim.Native.Nat.{ℕ, ◌*◌, ◌/◌}
 use lib.ListN.{length}
 use Rattle.evaluate.specs.Bare.{bare}
+use native.Mathlib.Omega.{arith}
+use Rattle.check_counts.proofs.Paints.{length-each}
 use Rattle.check_leak.proofs.Answers.{tells-found}
 use Rattle.pairs_search.specs.Level.{counts_of}
 use Rattle.pairs_search.specs.Search.{Found}
 use Rattle.pairs_search.proofs.Finds.{tells-pairs}
 use Rattle.gate_table.specs.Gates.{tables_of}
 use Rattle.pairs_search.proofs.search.search.Goals as goal
+
+pub find-requires-clause-lengths : goal.find-requires-clause-lengths
+find-requires-clause-lengths c =
+    let n = ap length c.each-paints.ensures ∙ length-each 0 c.args.codes.list.now in
+    let r = c.requires.lengths in
+    (omega (arith, n, r.1), r.2, r.3, c.blocks_of.ensures.1, omega arith, r.4)
 
 pub returns : goal.returns
 returns c = λ n o N h. let a = c.args in

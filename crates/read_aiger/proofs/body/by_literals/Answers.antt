@@ -14,20 +14,21 @@ returns-in_err-count c =
     let q = c.keep_literals in
     let L = kept-literals H l c.args.results.now q.new.kept c.requires.1 q.auto.kept c.in_ok-rest.ensures.kept.0 in
     rw c.from_residual-in_err-count.ensures (
-      λ ls A. lines-no-ands H ls A L (c.in_err-count.ensures.ands.0 _ _ (wires-length H ls A) (standing-first H ls A _)),
+      λ ls A. lines-no-ands H ls A L (c.in_err-count.ensures.ands.0 H.most c.requires.0 _ _ (wires-length H ls A) (standing-first H ls A _)),
       omega arith,
     )
 
-pub returns-then-not-outputs : goal.returns-then-not-outputs
-returns-then-not-outputs c =
+pub returns-in_err-outputs : goal.returns-in_err-outputs
+returns-in_err-outputs c =
     let H = head_said c.args.h in
     let l = lines_left c.args.lines in
     let r = c.args.results.now in
     let q = c.keep_literals in
-    let L = kept-literals H l r q.new.kept c.requires.1 q.auto.kept c.in_ok-rest.ensures.kept.0 in (
+    let L = kept-literals H l r q.new.kept c.requires.1 q.auto.kept c.in_ok-rest.ensures.kept.0 in
+    rw c.from_residual-in_err-outputs.ensures (
       λ ls A. whole-no-outs H l r q.new.kept c.requires.1 q.auto.kept c.ands.new.results c.ands.auto.results ls A L
-          (c.in_ok-count.ensures.ands.0 _ _ (wires-length H ls A) (standing-first H ls A (tables c.args.operands.now _)))
-          (rw c.if-not-outputs.true at c.outputs.ensures),
+          (c.in_ok-count.ensures.ands.0 H.most c.requires.0 _ _ (wires-length H ls A) (standing-first H ls A (tables c.args.operands.now _)))
+          c.in_err-outputs.ensures,
       omega arith,
     )
 
@@ -39,7 +40,7 @@ returns c =
     let q = c.keep_literals in
     let L = kept-literals H l r q.new.kept c.requires.1 q.auto.kept c.in_ok-rest.ensures.kept.0 in (
       λ ls A. whole-made H l r q.new.kept c.requires.1 q.auto.kept c.ands.new.results c.ands.auto.results ls A L
-          (c.in_ok-count.ensures.ands.0 _ _ (wires-length H ls A) (standing-first H ls A (tables c.args.operands.now _)))
-          (rw c.if-not-outputs.false at c.outputs.ensures),
+          (c.in_ok-count.ensures.ands.0 H.most c.requires.0 _ _ (wires-length H ls A) (standing-first H ls A (tables c.args.operands.now _)))
+          c.in_ok-outputs.ensures,
       omega (arith, c.in_ok-count.ensures.ands.1),
     )

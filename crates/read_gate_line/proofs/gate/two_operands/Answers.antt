@@ -1,7 +1,6 @@
 -- Three numbers, the name and the line's end.
 use mathlib.Core.Path.{refl}
 use Rattle.read_gate_line.proofs.GateWords.{line-behind, line-no-number, line-named, named-gate, named-exact}
-use borrow.Author.Rules.{rules}
 use Rattle.read_gate_line.proofs.gate.two_operands.Goals as goal
 
 pub returns-in_err-a : goal.returns-in_err-a

@@ -1,11 +1,11 @@
 -- One question after another.
-use Rattle.std.proofs.Common.{arith, ◌≡◌, refl}
-use borrow.Author.Tests.{le-leb, lt-leb}
+use Rattle.std.proofs.Common.{arith, ◌≡◌, ◌*◌, drop, length-append, sym}
+use lib.Seq.{length-take-le}
 use Rattle.std.proofs.lemmas.Result.{err_from_is_err_and}
 use Rattle.netlist.specs.declared.Question.TheVariants.{Grammar, Names}
-use Rattle.read_verilog.proofs.Answers.{long-text, no-form, tree, rules-broken, at, too-deep, no-room, netlist-read}
+use Rattle.read_verilog.proofs.Answers.{long-text, no-form, tree, rules-broken, at, too-deep, no-room, few-wires, netlist-read}
+use Rattle.read_verilog.proofs.Cutting.{cut-length, rules-cut}
 use Rattle.read_verilog.proofs.Made.{gates-put}
-use Rattle.read_verilog.proofs.read.read.Goals.{then-l-all-via-then-l-all, then-l-all-via-else-l-all+then-l-lt1, then-l-all-via-else-l-all+else-l-lt1+then-l-lt1-2}
 use Rattle.read_verilog.proofs.read.read.Goals as goal
 
 pub returns-then-l-text : goal.returns-then-l-text
@@ -35,49 +35,85 @@ returns-then-form-gt-DEEPEST c =
 pub overflow_add-gates : goal.overflow_add-gates
 overflow_add-gates c =
     let T = tree c.args.l c.args.text.now (omega (arith, c.if-l-text.false)) (rw c.in_ok-form.ensures.ok_part at c.walk.ensures) in
-    omega (arith, T.few, c.requires.text_bound.2, c.if-l-text.false)
+    omega (arith, T.few, c.requires.limits.2, c.if-l-text.false)
 
-pub overflow_add-all : goal.overflow_add-all
-overflow_add-all c =
+pub admitted-requires : goal.admitted-requires
+admitted-requires c =
     let T = tree c.args.l c.args.text.now (omega (arith, c.if-l-text.false)) (rw c.in_ok-form.ensures.ok_part at c.walk.ensures) in
-    omega (arith, T.few, c.requires.text_bound.2, c.if-l-text.false)
+    omega (arith, T.few, c.requires.limits.2, c.if-l-text.false)
 
-pub returns-then-l-all : goal.returns-then-l-all
-returns-then-l-all c =
+pub returns-in_err-numbers : goal.returns-in_err-numbers
+returns-in_err-numbers c =
     let T = tree c.args.l c.args.text.now (omega (arith, c.if-l-text.false)) (rw c.in_ok-form.ensures.ok_part at c.walk.ensures) in
     let K = rw c.in_ok-k.ensures.ok_part at c.rules.ensures in
-    no-room T K (omega (arith, c.if-form-gt-DEEPEST.false)) (elim c.then-l-all.branch [
-      | then-l-all-via-then-l-all w ↦ rw (lt-leb _ _ w.if-l-all.true) refl
-      | then-l-all-via-else-l-all+then-l-lt1 w ↦ rw (le-leb _ _ w.if-l-all.false, lt-leb _ _ w.if-l-lt1.true) refl
-      | then-l-all-via-else-l-all+else-l-lt1+then-l-lt1-2 w ↦ rw (le-leb _ _ w.if-l-all.false, le-leb _ _ w.if-l-lt1.false, lt-leb _ _ w.if-l-lt1-2.true) refl
-    ])
+    let p = err_from_is_err_and c.from_residual-in_err-numbers.result c.from_residual-in_err-numbers.ensures.1 in
+    let e = c.in_err-numbers.ensures in
+    rw (p.1, p.2, e.1) (no-room T K (omega (arith, c.if-form-gt-DEEPEST.false)) e.0)
+
+pub slice_bounds-names-end : goal.slice_bounds-names-end
+slice_bounds-names-end c =
+    let T = tree c.args.l c.args.text.now (omega (arith, c.if-l-text.false)) (rw c.in_ok-form.ensures.ok_part at c.walk.ensures) in
+    let N = (at T (rw c.in_ok-k.ensures.ok_part at c.rules.ensures)).names in
+    let l = length-append c.rules.new.words (drop (c.args.l.table * 8) c.args.words.now) in
+    omega (arith, N.worded, l)
+
+pub slice_bounds-names-end-2 : goal.slice_bounds-names-end-2
+slice_bounds-names-end-2 c =
+    let T = tree c.args.l c.args.text.now (omega (arith, c.if-l-text.false)) (rw c.in_ok-form.ensures.ok_part at c.walk.ensures) in
+    let N = (at T (rw c.in_ok-k.ensures.ok_part at c.rules.ensures)).names in
+    let l = length-append c.rules.new.words (drop (c.args.l.table * 8) c.args.words.now) in
+    sym (length-take-le _ _ (omega (arith, N.worded, l)))
+
+pub slice_bounds-names-end-3 : goal.slice_bounds-names-end-3
+slice_bounds-names-end-3 c =
+    let T = tree c.args.l c.args.text.now (omega (arith, c.if-l-text.false)) (rw c.in_ok-form.ensures.ok_part at c.walk.ensures) in
+    let N = (at T (rw c.in_ok-k.ensures.ok_part at c.rules.ensures)).names in
+    N.linked
+
+pub slice_bounds-names-end-4 : goal.slice_bounds-names-end-4
+slice_bounds-names-end-4 c =
+    let T = tree c.args.l c.args.text.now (omega (arith, c.if-l-text.false)) (rw c.in_ok-form.ensures.ok_part at c.walk.ensures) in
+    let N = (at T (rw c.in_ok-k.ensures.ok_part at c.rules.ensures)).names in
+    sym (length-take-le _ _ N.linked)
 
 pub invariant_of-names : goal.invariant_of-names
 invariant_of-names c =
     let T = tree c.args.l c.args.text.now (omega (arith, c.if-l-text.false)) (rw c.in_ok-form.ensures.ok_part at c.walk.ensures) in
-    let K = rw c.in_ok-k.ensures.ok_part at c.rules.ensures in
-    record { chained = (at T K).names }
+    let K = rules-cut (drop (c.args.l.table * 8) c.args.words.now) (rw c.in_ok-k.ensures.ok_part at c.rules.ensures) in
+    let e = cut-length _ _ (at T K).names.worded in
+    record { chained = rw (e, c.rules.auto.heads) (at T K).names }
 
 pub equations-requires : goal.equations-requires
 equations-requires c =
     let T = tree c.args.l c.args.text.now (omega (arith, c.if-l-text.false)) (rw c.in_ok-form.ensures.ok_part at c.walk.ensures) in
-    let K = rw c.in_ok-k.ensures.ok_part at c.rules.ensures in
+    let K = rules-cut (drop (c.args.l.table * 8) c.args.words.now) (rw c.in_ok-k.ensures.ok_part at c.rules.ensures) in
     let A = at T K in
-    let b = c.requires.text_bound in
-    record { wired = A.wired; within = A.assigns_within; first = omega arith; room = omega (arith, b.2, c.if-l-text.false, c.if-l-all.false) }
+    let e = cut-length _ _ A.names.worded in
+    let b = c.requires.limits in
+    let few = few-wires T K (omega (arith, c.if-form-gt-DEEPEST.false)) c.in_ok-numbers.ensures.0 in
+    record { wired = omega (arith, e, A.wired); within = A.assigns_within; first = omega arith; room = omega (arith, b.2, c.if-l-text.false, few) }
 
 pub copies-requires : goal.copies-requires
 copies-requires c =
     let T = tree c.args.l c.args.text.now (omega (arith, c.if-l-text.false)) (rw c.in_ok-form.ensures.ok_part at c.walk.ensures) in
-    let K = rw c.in_ok-k.ensures.ok_part at c.rules.ensures in
+    let K = rules-cut (drop (c.args.l.table * 8) c.args.words.now) (rw c.in_ok-k.ensures.ok_part at c.rules.ensures) in
     let A = at T K in
-    let b = c.requires.text_bound in
-    (A.stated, omega (arith, A.wired, c.equations.auto.wires), A.ports_within, omega arith, omega (arith, b.2, c.if-l-text.false, c.if-l-all.false))
+    let e = cut-length _ _ A.names.worded in
+    let b = c.requires.limits in
+    let few = few-wires T K (omega (arith, c.if-form-gt-DEEPEST.false)) c.in_ok-numbers.ensures.0 in (
+      omega (arith, e, A.stated),
+      omega (arith, e, A.wired, c.equations.auto.wires),
+      A.ports_within,
+      omega arith,
+      omega (arith, b.2, c.if-l-text.false, few),
+    )
 
 pub returns : goal.returns
 returns c =
     let T = tree c.args.l c.args.text.now (omega (arith, c.if-l-text.false)) (rw c.in_ok-form.ensures.ok_part at c.walk.ensures) in
-    let K = rw c.in_ok-k.ensures.ok_part at c.rules.ensures in
-    let b = c.requires.text_bound in
-    netlist-read T K (omega (arith, c.if-form-gt-DEEPEST.false)) (omega (arith, c.if-l-all.false)) c.if-l-lt1.false c.if-l-lt1-2.false b.3 b.4 (omega (arith, b.2))
-    (gates-put c.equations.ensures c.copies.ensures)
+    let K = rules-cut (drop (c.args.l.table * 8) c.args.words.now) (rw c.in_ok-k.ensures.ok_part at c.rules.ensures) in
+    let e = cut-length _ _ (at T K).names.worded in
+    let b = c.requires.limits in
+    let n = c.in_ok-numbers.ensures in
+    rw n.1 (netlist-read T K (omega (arith, c.if-form-gt-DEEPEST.false)) n.0 b.3 b.4 (omega (arith, b.2))
+    (gates-put (rw e at c.equations.ensures) (rw e at c.copies.ensures)))

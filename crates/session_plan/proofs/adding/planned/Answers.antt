@@ -25,4 +25,4 @@ returns-then-at-many-gt-MOST c = λ masked lm. let a = c.args in
 pub returns : goal.returns
 returns c = λ masked lm. let a = c.args in
     rw c.source.ensures (admits a.sizes a.codes.now a.s a.source.now masked a.g c.in_ok-kind.kind c.in_ok-kind.ensures c.twin-a.ensures c.twin-b.ensures c.count-many.ensures
-    refl c.twin.ensures (omega (arith, lm)) (omega arith))
+    _ refl c.twin.ensures (omega (arith, lm)) (omega arith))

@@ -4,11 +4,11 @@ use Rattle.gate_records.specs.Records.{blank_source, twin_in}
 use Rattle.session_plan.proofs.Adds.{twin-record, twin-secret, twin-public}
 use Rattle.session_plan.proofs.adding.twin.Goals as goal
 
-pub returns-then-code-ne0 : goal.returns-then-code-ne0
-returns-then-code-ne0 c = let a = c.args in twin-secret a.codes.now a.source.now a.w (omega arith) (omega arith)
+pub returns-in-0 : goal.returns-in-0
+returns-in-0 c = let a = c.args in rw c.publics.ensures (twin-public a.codes.now a.source.now a.w (omega arith) c.in-0.is)
 
-pub returns-then-wire-inputs : goal.returns-then-wire-inputs
-returns-then-wire-inputs c = let a = c.args in rw c.publics.ensures (twin-public a.codes.now a.source.now a.w (omega arith) (omega arith))
+pub returns-in_default : goal.returns-in_default
+returns-in_default c = let a = c.args in twin-secret a.codes.now a.source.now a.w (omega arith) (omega arith)
 
 pub returns : goal.returns
 returns c = let a = c.args in c.twin.ensures ∙ ap twin_in (c.entry.ensures blank_source (λ x p. search rules)) ∙ twin-record a.codes.now a.source.now a.w (omega arith)

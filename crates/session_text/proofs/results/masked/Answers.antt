@@ -11,7 +11,7 @@ returns c =
     let m = c.masked_in-answer in
     record {
       answers = m.ensures;
-      masks = masked-masks a.sizes a.widths.now a.outputs.now a.s a.source.now a.codes.now a.wanted.now a.operands.now a.results.now a.wires.now
+      masks = masked-masks a.sizes a.g.widths.now a.g.outputs.now a.g.session a.g.source.now a.codes.now a.wanted.now a.operands.now a.results.now a.wires.now
           a.marks.now m.ensures;
       operands = c.fill.ensures.after (λ y e. e) ∙ ap (λ (n : ℕ). replicate n 0) m.auto.operands;
       results = c.fill-2.ensures.after (λ y e. e) ∙ ap (λ (n : ℕ). replicate n 0) m.auto.results;

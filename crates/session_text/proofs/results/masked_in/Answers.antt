@@ -4,7 +4,7 @@ use Rattle.std.proofs.lemmas.Result.{err_from_is_err_and}
 use Rattle.netlist.specs.Netlist.{small}
 use Rattle.session_text.specs.Shown.{masked_call}
 use Rattle.session_text.proofs.Showing.{head-no, records-no, stands-at}
-use Rattle.session_text.proofs.Calling.{masked-no}
+use Rattle.session_text.proofs.Calling.{masked-no, masked-written, netlist-read}
 use Rattle.session_text.proofs.results.masked_in.Goals as goal
 
 pub returns-in_err-shown : goal.returns-in_err-shown
@@ -12,22 +12,24 @@ returns-in_err-shown c =
     let a = c.args in
     let p = err_from_is_err_and c.from_residual.result c.from_residual.ensures.1 in
     let lengths : List ℕ = length a.operands.now ∷ length a.results.now ∷ length a.marks.now ∷ length a.wires.now ∷ [] in
-    rw (p.1, p.2) (masked-no a.sizes a.widths.now a.outputs.now a.s a.source.now a.codes.now a.wanted.now a.out.now a.out_codes.now
+    rw (p.1, p.2) (masked-no a.sizes a.g.widths.now a.g.outputs.now a.g.session a.g.source.now a.codes.now a.wanted.now a.out.now a.out_codes.now
     a.operands.now a.results.now a.wires.now a.marks.now
-    (head-no (small a.sizes) lengths a.widths.now a.outputs.now a.s.gates a.source.now c.in_err-shown.ensures))
+    (head-no (small a.sizes) lengths a.g.widths.now a.g.outputs.now a.g.session.gates a.g.source.now c.in_err-shown.ensures))
 
-pub returns-in_err-fill : goal.returns-in_err-fill
-returns-in_err-fill c =
+pub returns-in_err-gates : goal.returns-in_err-gates
+returns-in_err-gates c =
     let a = c.args in
-    let p = err_from_is_err_and c.from_residual-in_err-fill.result c.from_residual-in_err-fill.ensures.1 in
+    let p = err_from_is_err_and c.from_residual-in_err-gates.result c.from_residual-in_err-gates.ensures.1 in
     let lengths : List ℕ = length a.operands.now ∷ length a.results.now ∷ length a.marks.now ∷ length a.wires.now ∷ [] in
-    rw (p.1, p.2) (masked-no a.sizes a.widths.now a.outputs.now a.s a.source.now a.codes.now a.wanted.now a.out.now a.out_codes.now
+    rw (p.1, p.2) (masked-no a.sizes a.g.widths.now a.g.outputs.now a.g.session a.g.source.now a.codes.now a.wanted.now a.out.now a.out_codes.now
     a.operands.now a.results.now a.wires.now a.marks.now
-    (records-no a.sizes lengths a.widths.now a.outputs.now a.s.gates a.source.now c.in_ok-shown.ensures c.in_err-fill.ensures))
+    (records-no a.sizes lengths a.g.widths.now a.g.outputs.now a.g.session.gates a.g.source.now c.in_ok-shown.ensures c.in_err-gates.ensures))
 
 pub returns : goal.returns
 unfolding masked_call
 returns c =
     let a = c.args in
     let lengths : List ℕ = length a.operands.now ∷ length a.results.now ∷ length a.marks.now ∷ length a.wires.now ∷ [] in
-    c.mask_tables.ensures _ (stands-at a.sizes lengths a.widths.now a.outputs.now a.s.gates a.source.now c.in_ok-shown.ensures c.in_ok-fill.ensures)
+    let n = stands-at a.sizes lengths a.g.widths.now a.g.outputs.now a.g.session.gates a.g.source.now c.in_ok-shown.ensures c.in_ok-gates.ensures in
+    let e = c.new-coded.ensures in
+    masked-written a.codes.now a.wanted.now n (rw (e.1, e.2) at (c.ask_lists.ensures n.is (rw e.0 (netlist-read n))))

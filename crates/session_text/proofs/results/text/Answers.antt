@@ -11,7 +11,7 @@ returns c =
     let w = c.written-answer in
     record {
       answers = w.ensures;
-      shows = text-shows a.sizes a.widths.now a.outputs.now a.s a.source.now a.operands.now a.results.now w.ensures;
+      shows = text-shows a.sizes a.g.widths.now a.g.outputs.now a.g.session a.g.source.now a.operands.now a.results.now w.ensures;
       operands = c.fill.ensures.after (λ y e. e) ∙ ap (λ (n : ℕ). replicate n 0) w.auto.operands;
       results = c.fill-2.ensures.after (λ y e. e) ∙ ap (λ (n : ℕ). replicate n 0) w.auto.results;
     }

@@ -4,7 +4,7 @@ use Rattle.std.proofs.lemmas.Result.{err_from_is_err_and}
 use Rattle.netlist.specs.Netlist.{small}
 use Rattle.session_text.specs.Shown.{text_call}
 use Rattle.session_text.proofs.Showing.{head-no, records-no, stands-at}
-use Rattle.session_text.proofs.Calling.{text-no}
+use Rattle.session_text.proofs.Calling.{text-no, text-written}
 use Rattle.session_text.proofs.results.written.Goals as goal
 
 pub returns-in_err-shown : goal.returns-in_err-shown
@@ -12,20 +12,20 @@ returns-in_err-shown c =
     let a = c.args in
     let p = err_from_is_err_and c.from_residual.result c.from_residual.ensures.1 in
     let lengths : List ℕ = length a.operands.now ∷ length a.results.now ∷ [] in
-    rw (p.1, p.2) (text-no a.sizes a.widths.now a.outputs.now a.s a.source.now a.out.now a.operands.now a.results.now
-    (head-no (small a.sizes) lengths a.widths.now a.outputs.now a.s.gates a.source.now c.in_err-shown.ensures))
+    rw (p.1, p.2) (text-no a.sizes a.g.widths.now a.g.outputs.now a.g.session a.g.source.now a.out.now a.operands.now a.results.now
+    (head-no (small a.sizes) lengths a.g.widths.now a.g.outputs.now a.g.session.gates a.g.source.now c.in_err-shown.ensures))
 
-pub returns-in_err-fill : goal.returns-in_err-fill
-returns-in_err-fill c =
+pub returns-in_err-gates : goal.returns-in_err-gates
+returns-in_err-gates c =
     let a = c.args in
-    let p = err_from_is_err_and c.from_residual-in_err-fill.result c.from_residual-in_err-fill.ensures.1 in
+    let p = err_from_is_err_and c.from_residual-in_err-gates.result c.from_residual-in_err-gates.ensures.1 in
     let lengths : List ℕ = length a.operands.now ∷ length a.results.now ∷ [] in
-    rw (p.1, p.2) (text-no a.sizes a.widths.now a.outputs.now a.s a.source.now a.out.now a.operands.now a.results.now
-    (records-no a.sizes lengths a.widths.now a.outputs.now a.s.gates a.source.now c.in_ok-shown.ensures c.in_err-fill.ensures))
+    rw (p.1, p.2) (text-no a.sizes a.g.widths.now a.g.outputs.now a.g.session a.g.source.now a.out.now a.operands.now a.results.now
+    (records-no a.sizes lengths a.g.widths.now a.g.outputs.now a.g.session.gates a.g.source.now c.in_ok-shown.ensures c.in_err-gates.ensures))
 
 pub returns : goal.returns
 unfolding text_call
 returns c =
     let a = c.args in
     let lengths : List ℕ = length a.operands.now ∷ length a.results.now ∷ [] in
-    c.write.ensures _ (stands-at a.sizes lengths a.widths.now a.outputs.now a.s.gates a.source.now c.in_ok-shown.ensures c.in_ok-fill.ensures)
+    text-written (stands-at a.sizes lengths a.g.widths.now a.g.outputs.now a.g.session.gates a.g.source.now c.in_ok-shown.ensures c.in_ok-gates.ensures) c.deliver.ensures

@@ -1,4 +1,5 @@
 -- One assignment after another.
+use Rattle.std.proofs.Common.{length}
 use Rattle.verilog_tokens.specs.Kind.{number_of}
 use Rattle.verilog_gates.proofs.Joins.{left}
 use Rattle.verilog_gates.proofs.Assigning.{Going}
@@ -6,7 +7,7 @@ use Rattle.verilog_gates.proofs.equations.equations.Given as goal
 
 abbrev pub invariant-loop-text : goal.invariant-loop-text
 invariant-loop-text l =
-    Going l.names.text.now l.names.words.now l.initial.wires l.initial.operands l.initial.results l.names.count l.n l.at l.next
+    Going l.names.text.now l.names.words.now l.initial.wires l.initial.operands l.initial.results (length l.names.words.now) l.n l.at l.next
     (number_of l.token.kind) l.token.to l.free l.wires l.operands l.results
 
 abbrev pub decreases-loop-text : goal.decreases-loop-text

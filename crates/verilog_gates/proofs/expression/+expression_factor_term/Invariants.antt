@@ -16,7 +16,7 @@ decreases-term l = 3 * (length l.names.text.now - l.from) + 1
 
 abbrev pub invariant-expression-loop-names : goal.invariant-expression-loop-names
 invariant-expression-loop-names l = Looping
-    (Terms (wire_of l.names.text.now l.names.words.now l.wires l.names.count) l.names.text.now l.n l.from l.next)
+    (Terms (wire_of l.names.text.now l.names.words.now l.wires (length l.names.words.now)) l.names.text.now l.n l.from l.next)
     l.initial.operands l.initial.results l.operands l.results l.initial.left l.left
 
 abbrev pub decreases-expression-loop-names : goal.decreases-expression-loop-names
@@ -24,7 +24,7 @@ decreases-expression-loop-names l = left l.names.text.now (number_of l.left.toke
 
 abbrev pub invariant-term-loop-names : goal.invariant-term-loop-names
 invariant-term-loop-names l = Looping
-    (Factors (wire_of l.names.text.now l.names.words.now l.wires l.names.count) l.names.text.now l.n l.from l.next)
+    (Factors (wire_of l.names.text.now l.names.words.now l.wires (length l.names.words.now)) l.names.text.now l.n l.from l.next)
     l.initial.operands l.initial.results l.operands l.results l.initial.left l.left
 
 abbrev pub decreases-term-loop-names : goal.decreases-term-loop-names

@@ -1,5 +1,5 @@
 -- Down the chain of the name.
-use Rattle.std.proofs.Common.{arith, ℕ, ◌-◌, refl, sym, ap, ◌∙◌}
+use Rattle.std.proofs.Common.{arith, ℕ, ◌-◌, refl, sym, ap, ◌∙◌, length}
 use Rattle.verilog_names.specs.Names.{chain_at, newest}
 use Rattle.verilog_names.proofs.Chains.{find-start, find-on, find-here, find_none, newest-within}
 use Rattle.verilog_names.proofs.Names.find.Goals as goal
@@ -7,8 +7,8 @@ use Rattle.verilog_names.proofs.Names.find.Goals as goal
 pub loop-p-init : goal.loop-p-init
 loop-p-init c =
     let x = c.args.self in
-    find-start x.text.now x.words.now c.args.w.now x.size x.count _
-    (x.chained.headed _ c.chain_of.ensures.1 ∙ ap (λ (k : ℕ). newest x.text.now x.words.now x.size k x.count) c.chain_of.ensures.0)
+    find-start x.text.now x.words.now c.args.w.now (length x.heads.now) (length x.words.now) _
+    (x.chained.headed _ c.chain_of.ensures.1 ∙ ap (λ (k : ℕ). newest x.text.now x.words.now (length x.heads.now) k (length x.words.now)) c.chain_of.ensures.0)
 
 pub returns-then-is_name-clause-entry : goal.returns-then-is_name-clause-entry
 returns-then-is_name-clause-entry c = find-here _ _ _ _ _ _ _ c.loop-p-test.true refl (sym c.is_name.ensures ∙ c.if-is_name.true) c.loop-p.invariant
@@ -20,7 +20,7 @@ loop-p-smaller c =
     omega (
       arith,
       x.chained.older i (omega (arith, c.loop-p.invariant.within)),
-      newest-within x.text.now x.words.now x.size (chain_at x.text.now x.words.now x.size i) i,
+      newest-within x.text.now x.words.now (length x.heads.now) (chain_at x.text.now x.words.now (length x.heads.now) i) i,
     )
 
 pub loop-p-preserved : goal.loop-p-preserved

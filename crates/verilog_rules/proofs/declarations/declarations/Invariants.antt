@@ -1,4 +1,5 @@
 -- One token after another.
+use Rattle.std.proofs.Common.{length}
 use Rattle.verilog_tokens.specs.Kind.{number_of}
 use Rattle.verilog_gates.proofs.Joins.{left}
 use Rattle.verilog_rules.specs.States.{kind_number}
@@ -7,7 +8,7 @@ use Rattle.verilog_rules.proofs.declarations.declarations.Given as goal
 
 abbrev pub invariant-loop-token : goal.invariant-loop-token
 invariant-loop-token l =
-    Declaring l.text l.at l.size l.most l.initial.heads l.initial.words l.initial.links l.initial.states l.heads l.words l.links l.states
+    Declaring l.text l.at (length l.initial.heads) (length l.initial.words) l.initial.heads l.initial.words l.initial.links l.initial.states l.heads l.words l.links l.states
     (number_of l.token.kind) l.token.from l.token.to l.place l.so_far.count (kind_number l.so_far.kind)
 
 abbrev pub decreases-loop-token : goal.decreases-loop-token

@@ -1,4 +1,5 @@
 -- One port after another.
+use Rattle.std.proofs.Common.{length}
 use Rattle.verilog_tokens.specs.Kind.{number_of}
 use Rattle.verilog_gates.proofs.Joins.{left}
 use Rattle.verilog_rules.proofs.Seating.{Seating}
@@ -6,7 +7,7 @@ use Rattle.verilog_rules.proofs.ports.port_list.Given as goal
 
 abbrev pub invariant-loop-text : goal.invariant-loop-text
 invariant-loop-text l =
-    Seating l.names.text.now l.names.words.now l.names.count l.at l.initial.states l.initial.wires l.states l.wires
+    Seating l.names.text.now l.names.words.now (length l.names.words.now) l.at l.initial.states l.initial.wires l.states l.wires
     (number_of l.token.kind) l.token.from l.token.to l.ports.inputs l.ports.outputs
 
 abbrev pub decreases-loop-text : goal.decreases-loop-text

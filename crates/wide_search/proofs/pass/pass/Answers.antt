@@ -22,32 +22,32 @@ most-requires c =
     (c.seed.ensures.coloured.upto
     (subst (Upto 12) (sym
     c.lay.ensures)
-    (codes-upto c.args.codes.list.now c.args.codes.small)))
+    (codes-upto c.args.job.codes.list.now c.args.job.codes.small)))
 
-pub find-found-requires-clause-paints_in_bounds : goal.find-found-requires-clause-paints_in_bounds
-find-found-requires-clause-paints_in_bounds c =
-    let p = c.requires.paints_len in
+pub find-found-requires-clause-lengths : goal.find-found-requires-clause-lengths
+find-found-requires-clause-lengths c =
+    let p = c.requires.lengths in
     let a = c.args in
     let long = c.serve_all.auto.paints ∙
     c.seed.auto.paints ∙ c.lay.auto.paints ∙ p.0 in
-    let two : 2 * a.worst.pair ≤ length a.items.pairs.now = omega (arith, p.6) in
-    let e = length-take-le (2 * a.worst.pair) a.items.pairs.now two in (
+    let two : 2 * a.worst.pair ≤ length a.job.items.pairs.now = omega (arith, p.6) in
+    let e = length-take-le (2 * a.worst.pair) a.job.items.pairs.now two in (
       omega (arith, p.2, long),
       p.3,
       p.4,
       c.blocks_of-blocks.ensures.1,
       p.5,
-      λ i l. let g = get_or-take (2 * a.worst.pair) a.items.pairs.now i 0 (omega (arith, l, e)) in
-          omega (arith, g, a.items.below i (omega (arith, l, e, two)), p.1),
+      λ i l. let g = get_or-take (2 * a.worst.pair) a.job.items.pairs.now i 0 (omega (arith, l, e)) in
+          omega (arith, g, a.job.items.below i (omega (arith, l, e, two)), p.1),
     )
 
 pub returns : goal.returns
 returns c =
-    let p = c.requires.paints_len in
+    let p = c.requires.lengths in
     let a = c.args in
-    let S = sets_of a.items.sets in
+    let S = sets_of a.job.items.sets in
     let W = length a.words.now in
-    let ws = a.items.pairs.now in
+    let ws = a.job.items.pairs.now in
     let lay = c.lay in
     let seed = c.seed in
     let serve = c.serve_all in
@@ -55,28 +55,28 @@ returns c =
     let ps₁ = seed.new.paints in
     let ps = serve.new.paints in
     let ms = serve.new.marks in
-    let plain : codes_of ps ≡ a.codes.list.now = serve.ensures.kept.coloured.codes ∙ seed.ensures.coloured.codes ∙ ap codes_of lay.ensures ∙ codes-plain
-    a.codes.list.now a.codes.small in
+    let plain : codes_of ps ≡ a.job.codes.list.now = serve.ensures.kept.coloured.codes ∙ seed.ensures.coloured.codes ∙ ap codes_of lay.ensures ∙ codes-plain
+    a.job.codes.list.now a.job.codes.small in
     let item = c.set-m.ensures ∙ ap (λ (Y : ℕ). item_set S ws Y (a.start + a.x)) p.1 in
     let seeded = subst (λ (is : List ℕ). Seeded is ps₀ ps₁) item seed.ensures in
     let served = subst (λ (Y : ℕ). Serving S ws Y a.start a.marks.now ms ps₁ ps) p.1 serve.ensures in
-    let below : (i : ℕ) → i < length ws → get_or ws i 0 < W = λ i l. omega (arith, c.args.items.below i l, p.1) in
-    let t = tables_of a.gates in
+    let below : (i : ℕ) → i < length ws → get_or ws i 0 < W = λ i l. omega (arith, c.args.job.items.below i l, p.1) in
+    let t = tables_of a.job.gates in
     let most = c.most in
     let even : 2 * a.worst.pair ≤ length ws = omega (arith, p.6) in
     let find = c.find-found in
     rw (c.limit.ensures, c.unwrap_or.ensures) (
-      lower-wire t a.gates.count W S a.codes.list.now ws below p.2 ps plain most.result
+      lower-wire t a.job.gates.count W S a.job.codes.list.now ws below p.2 ps plain most.result
           c.blocks_of-blocks.result a.worst.wire
           a.worst.pair most.ensures.1
           c.blocks_of-blocks.ensures.0 even find.result
           find.ensures,
-      lower-pair t a.gates.count W S a.codes.list.now ws below p.2 ps plain most.result
+      lower-pair t a.job.gates.count W S a.job.codes.list.now ws below p.2 ps plain most.result
           c.blocks_of-blocks.result a.worst.wire
           a.worst.pair most.ensures.1
           c.blocks_of-blocks.ensures.0 even find.result
           find.ensures,
-      λ o n N G l k J. passed t a.gates.count W S a.codes.list.now ws below p.2 ps plain most.result
+      λ o n N G l k J. passed t a.job.gates.count W S a.job.codes.list.now ws below p.2 ps plain most.result
           c.blocks_of-blocks.result a.worst.wire
           a.worst.pair most.ensures.1
           c.blocks_of-blocks.ensures.0 even find.result

@@ -11,7 +11,7 @@ pub loop-x-preserved : goal.loop-x-preserved
 loop-x-preserved c =
     let h = c.loop-x.invariant in
     let r = c.pass-worst in
-    let q = c.requires.paints_len in
+    let q = c.requires.lengths in
     passing-more h c.loop-x-test.true (omega (arith, c.requires.wired.1, q.1)) r.auto.paints r.auto.marks r.auto.words r.auto.base r.auto.bases r.ensures.0 r.ensures.1
     r.ensures.2
 
@@ -23,6 +23,6 @@ returns c =
     let z : c.loop-x.x ≡ 0 = omega (arith, c.loop-x-test.false) in (
       h.lower,
       h.fewer,
-      λ o N G J. subst (λ (y : ℕ). Judging N a.codes.list.now a.items.pairs.now at.marks (length a.words.now) a.start a.total y
+      λ o N G J. subst (λ (y : ℕ). Judging N a.job.codes.list.now a.job.items.pairs.now at.marks (length a.words.now) a.start a.total y
           at.worst.wire at.worst.pair) z (h.judged o N G J),
     )

@@ -7,6 +7,6 @@ use Rattle.wide_search.proofs.pass.passes.Given as goal
 
 abbrev pub invariant-loop-x : goal.invariant-loop-x
 invariant-loop-x l =
-    Passing (tables_of l.gates) l.gates.count (length l.initial.words)
-    (sets_of l.items.sets) l.codes.list.now l.items.pairs.now l.start l.total l.initial.paints l.initial.marks l.initial.base l.initial.bases l.initial.worst.wire
+    Passing (tables_of l.job.gates) l.job.gates.count (length l.initial.words)
+    (sets_of l.job.items.sets) l.job.codes.list.now l.job.items.pairs.now l.start l.total l.initial.paints l.initial.marks l.initial.base l.initial.bases l.initial.worst.wire
     l.initial.worst.pair l.paints l.marks l.words l.base l.bases l.worst.wire l.worst.pair l.x

@@ -18,5 +18,5 @@ returns-then-fit c =
     let D = subst (λ (is : List ℕ). Different is fit.new.paints) c.set-m.ensures
     (fit.ensures.1 c.if-fit.true) in
     subst (λ (ms : List ℕ). Serving S a.items.pairs.now (length a.items.sets.set0.now) a.start a.marks.now ms a.paints.now fit.new.paints)
-    (sym c.mark.ensures)
+    (sym c.put.ensures)
     (serving-mark a.marks.now a.x fit.ensures.0 D)

@@ -15,15 +15,15 @@ returns c =
     let a = c.args in
     let low = c.lowest-worst in
     let w = low.auto.words in
-    let t = tables_of a.gates in
-    let S = sets_of a.items.sets in
+    let t = tables_of a.job.gates in
+    let S = sets_of a.job.items.sets in
     λ o N G.
     let L = low.ensures.2 o N G in (
       elim c.if-worst-words.branch [
         | then-worst-words w' ↦
-            rw w'.leak-is (w'.tell-leak.ensures o low.result.pair a.items.pairs.now N
-            (subst (λ (Y : ℕ). Given t a.gates.count Y (length a.codes.list.now) S o N) (sym w) G)
-            (subst (λ (Y : ℕ). Lowest N a.codes.list.now a.items.pairs.now Y low.result.wire low.result.pair) (sym w) L))
+            rw w'.leak-is (w'.tell-leak.ensures o low.result.pair a.job.items.pairs.now N
+            (subst (λ (Y : ℕ). Given t a.job.gates.count Y (length a.job.codes.list.now) S o N) (sym w) G)
+            (subst (λ (Y : ℕ). Lowest N a.job.codes.list.now a.job.items.pairs.now Y low.result.wire low.result.pair) (sym w) L))
         | else-worst-words w' ↦ rw w'.leak-is (sym (clean-told G L (omega (arith, w'.if-worst-words.false, w))))
       ],
       rw c.then_some.ensures (pairs-told L),

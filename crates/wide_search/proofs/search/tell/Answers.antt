@@ -15,12 +15,12 @@ use Rattle.wide_search.proofs.search.tell.Goals as goal
 pub returns-in_err-leak : goal.returns-in_err-leak
 returns-in_err-leak c =
     let a = c.args in
-    let p = c.requires.paints_len in
+    let p = c.requires.lengths in
     let m = c.at-m.result in
     let ps = c.seed.new.paints in
-    let cs = a.codes.list.now in
+    let cs = a.job.codes.list.now in
     let B = c.blocks_of-blocks.result in
-    let plain : codes_of ps ≡ cs = c.seed.ensures.coloured.codes ∙ ap codes_of c.lay.ensures ∙ codes-plain cs a.codes.small in
+    let plain : codes_of ps ≡ cs = c.seed.ensures.coloured.codes ∙ ap codes_of c.lay.ensures ∙ codes-plain cs a.job.codes.small in
     let count = length-take-le m.count m.items (omega (arith, m.few, m.long)) in
     λ o pair ws N G L.
     let f = seeded-wire cs G a.wire c.requires.wired.1 (take m.count m.items) c.lay.new.paints ps c.at-m.ensures.0
@@ -30,13 +30,13 @@ returns-in_err-leak c =
 pub returns : goal.returns
 returns c =
     let a = c.args in
-    let p = c.requires.paints_len in
+    let p = c.requires.lengths in
     let m = c.at-m.result in
     let ps = c.seed.new.paints in
-    let cs = a.codes.list.now in
+    let cs = a.job.codes.list.now in
     let B = c.blocks_of-blocks.result in
     let leak = c.in_ok-leak.leak in
-    let plain : codes_of ps ≡ cs = c.seed.ensures.coloured.codes ∙ ap codes_of c.lay.ensures ∙ codes-plain cs a.codes.small in
+    let plain : codes_of ps ≡ cs = c.seed.ensures.coloured.codes ∙ ap codes_of c.lay.ensures ∙ codes-plain cs a.job.codes.small in
     let count = length-take-le m.count m.items (omega (arith, m.few, m.long)) in
     λ o pair ws N G L.
     let f = seeded-wire cs G a.wire c.requires.wired.1 (take m.count m.items) c.lay.new.paints ps c.at-m.ensures.0

@@ -7,7 +7,7 @@ use Rattle.wide_sets.proofs.members.unpack.Goals as goal
 
 pub returns : goal.returns
 returns c =
-    let a = c.args in
+    let a = c.args.e in
     let z = three_of a.d [] in
     let y = three_of a.c z in
     let x = three_of a.b y in

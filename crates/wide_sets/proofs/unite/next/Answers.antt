@@ -1,9 +1,26 @@
 -- `next`: by its cases.
 use native.Mathlib.Omega.{arith}
-use Rattle.wide_sets.proofs.Nexts.{next-first}
+use mathlib.Core.Path.{refl, ap}
+use borrow.Author.Rules.{rules}
+use Rattle.wide_sets.proofs.Nexts.{next-first, next-second, next-both}
 use Rattle.wide_sets.proofs.unite.next.Goals as goal
+use Rattle.wide_sets.proofs.unite.next.Goals.{then-q-p, else-q-p, then-p-q, else-p-q}
 
-pub returns-then-j-y : goal.returns-then-j-y
-returns-then-j-y c =
-    next-first c.args.x.now c.args.y.now c.args.i c.args.j
-    c.if-j-y.true (omega arith)
+pub returns-in-len1-up-empty : goal.returns-in-len1-up-empty
+returns-in-len1-up-empty c = next-first _ c.args.x.now c.args.y.now (search rules) (λ l. search rules) refl refl refl
+
+pub returns-in-empty-len1-up : goal.returns-in-empty-len1-up
+returns-in-empty-len1-up c = next-second _ c.args.x.now c.args.y.now (search rules) (λ l. search rules) refl refl refl
+
+pub returns-after-p-q : goal.returns-after-p-q
+returns-after-p-q c =
+    elim c.if-q-p.branch [
+      | then-q-p v ↦ elim c.if-p-q.branch [
+        | then-p-q w ↦ absurd (omega (arith, v.if-q-p.true, w.if-p-q.true))
+        | else-p-q w ↦ next-second _ c.args.x.now c.args.y.now (search rules) (λ _. v.if-q-p.true) (omega (arith, c.min.ensures, v.if-q-p.true)) (ap (λ r. r.now) v.result-is) (ap (λ r. r.now) w.result-is)
+      ]
+      | else-q-p v ↦ elim c.if-p-q.branch [
+        | then-p-q w ↦ next-first _ c.args.x.now c.args.y.now (search rules) (λ _. w.if-p-q.true) (omega (arith, c.min.ensures, w.if-p-q.true)) (ap (λ r. r.now) v.result-is) (ap (λ r. r.now) w.result-is)
+        | else-p-q w ↦ next-both _ c.args.x.now c.args.y.now (search rules) (search rules) (omega (arith, v.if-q-p.false, w.if-p-q.false)) (omega (arith, c.min.ensures, w.if-p-q.false)) (ap (λ r. r.now) v.result-is) (ap (λ r. r.now) w.result-is)
+      ]
+    ]

@@ -3,24 +3,26 @@ use mathlib.Core.Path.{refl, sym, ◌∙◌}
 use Rattle.aiger_lines.proofs.NumberLines.{numbering_start, numbering-more, numbering-short, numbering-stray, numbering-long, numbering-end}
 use Rattle.aiger_lines.proofs.Places.{spaces-at, whole-at, none-at, more-at, end-at}
 use Rattle.aiger_lines.proofs.Strays.{stray-within}
+use lib.ListN.{length-replicate}
 use borrow.Author.Rules.{rules}
 use native.Mathlib.Omega.{arith}
 use Rattle.aiger_lines.proofs.lines.Lines.numbers.Goals as goal
 
 pub invariant_of-past_spaces : goal.invariant_of-past_spaces
-invariant_of-past_spaces c = record { within = omega (arith, c.args.self.clean, stray-within c.args.self.text.now) }
+invariant_of-past_spaces g c = record { within = omega (arith, c.args.self.clean, stray-within c.args.self.text.now) }
 
 pub loop-entry-init : goal.loop-entry-init
-loop-entry-init c =
-    (c.past_spaces-at.ensures.same, c.args.self.at, numbering_start _ _ _ (search rules), spaces-at refl c.past_spaces-at.ensures)
+loop-entry-init g c =
+    (c.past_spaces-at.ensures.same, c.args.self.at, numbering_start _ _ _ _ (search rules) (length-replicate _ _), spaces-at refl c.past_spaces-at.ensures)
 
 pub returns-in_err-v-clause-line : goal.returns-in_err-v-clause-line
-returns-in_err-v-clause-line c =
+returns-in_err-v-clause-line g c =
     let i = c.loop-entry.invariant in
-    rw c.from_residual.ensures (numbering-short i.2 i.3 (omega (arith, c.loop-entry-test.true, i.2.size)) (none-at c.loop-entry.at i.0 c.in_err-v.ensures))
+    let none = none-at c.loop-entry.at i.0 c.in_err-v.ensures in
+    rw c.from_residual.ensures (numbering-short i.2 i.3 (omega (arith, c.loop-entry-test.true, i.2.size)) none)
 
 pub loop-entry-preserved : goal.loop-entry-preserved
-loop-entry-preserved c =
+loop-entry-preserved g c =
     let i = c.loop-entry.invariant in
     let same = c.in_ok-v.ensures.same ∙ i.0 in (
       c.past_spaces-at-in-loop-entry.ensures.same ∙ same,
@@ -30,21 +32,22 @@ loop-entry-preserved c =
     )
 
 pub returns-then-is_stray-clause-line : goal.returns-then-is_stray-clause-line
-returns-then-is_stray-clause-line c = let i = c.loop-entry.invariant in numbering-stray i.2 i.3 (sym c.is_stray.ensures ∙ c.if-is_stray.true)
+returns-then-is_stray-clause-line g c = let i = c.loop-entry.invariant in numbering-stray i.2 i.3 (sym c.is_stray.ensures ∙ c.if-is_stray.true)
 
 pub returns-in_err-next-clause-line : goal.returns-in_err-next-clause-line
-returns-in_err-next-clause-line c =
+returns-in_err-next-clause-line g c =
     let i = c.loop-entry.invariant in
-    rw c.from_residual-in_err-next.ensures (numbering-long i.2 i.3 (omega (arith, c.loop-entry-test.false, i.2.size)) (more-at c.loop-entry.at i.0 c.in_err-next.ensures))
+    let more = more-at c.loop-entry.at i.0 c.in_err-next.ensures in
+    rw c.from_residual-in_err-next.ensures (numbering-long i.2 i.3 (omega (arith, c.loop-entry-test.false, i.2.size)) more)
 
-pub invariant_of-result : goal.invariant_of-result
-invariant_of-result c =
+pub invariant_of-behind : goal.invariant_of-behind
+invariant_of-behind g c =
     let i = c.loop-entry.invariant in
-    record {
-      clean = (numbering-end i.2 i.3 (omega (arith, c.loop-entry-test.false, i.2.size)) _ (sym c.is_stray.ensures ∙ c.if-is_stray.false) (end-at i.0 c.in_ok-next.ensures)).1;
-    }
+    let end = end-at i.0 c.in_ok-next.ensures in
+    record { clean = (numbering-end i.2 i.3 (omega (arith, c.loop-entry-test.false, i.2.size)) _ (sym c.is_stray.ensures ∙ c.if-is_stray.false) end).1 }
 
 pub returns-clause-line : goal.returns-clause-line
-returns-clause-line c =
+returns-clause-line g c =
     let i = c.loop-entry.invariant in
-    (numbering-end i.2 i.3 (omega (arith, c.loop-entry-test.false, i.2.size)) _ (sym c.is_stray.ensures ∙ c.if-is_stray.false) (end-at i.0 c.in_ok-next.ensures)).0
+    let end = end-at i.0 c.in_ok-next.ensures in
+    (numbering-end i.2 i.3 (omega (arith, c.loop-entry-test.false, i.2.size)) _ (sym c.is_stray.ensures ∙ c.if-is_stray.false) end).0

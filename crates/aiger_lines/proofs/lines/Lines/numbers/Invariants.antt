@@ -1,11 +1,11 @@
 -- The numbers before the entry are in the table, and the spaces behind them are passed.
 use Rattle.std.proofs.Common.{ℕ, ◌≡◌}
-use lib.ListN.{length}
 use Rattle.read_text.specs.Line.{Scanned}
 use Rattle.aiger_lines.specs.Stray.{is_plain}
 use Rattle.aiger_lines.proofs.NumberLines.{Numbering}
 use Rattle.aiger_lines.proofs.lines.Lines.numbers.Given as goal
 
 abbrev pub invariant-loop-entry : goal.invariant-loop-entry
-invariant-loop-entry l =
-    (l.at.text ≡ l.self.text) × (p : ℕ) × Numbering l.self.text.now l.self.at (length l.fn.into) l.into p l.entry-index × Scanned is_plain l.self.text.now p l.at.at
+invariant-loop-entry g l =
+    (l.at.text ≡ l.self.text) × (p : ℕ) × Numbering l.self.text.now l.self.at g.row.N l.entry-items p l.entry-index
+    × Scanned is_plain l.self.text.now p l.at.at

@@ -1,8 +1,0 @@
--- `certify_records::leaf::own` meets its contract.
-use mathlib.Core.Path.{ap}
-use Prim.Native.Nat.{ℕ, ◌+◌, ◌*◌}
-use Rattle.evaluate.proofs.Lanes.{bit-low}
-use Rattle.certify_records.proofs.leaf.own.Goals as goal
-
-pub returns : goal.returns
-returns c = ap (λ (b : ℕ). 8 * c.args.wire + (2 * c.args.m + b)) (bit-low c.args.m c.args.t)

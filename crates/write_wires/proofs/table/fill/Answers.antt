@@ -1,1 +1,0 @@
--- `fill`: the entries of the first t tens are filled.
