@@ -19,6 +19,7 @@ pub enum State {
 }
 
 impl State {
+    /// The number that a table of states holds for it.
     pub fn number(self) -> u32
         ensures { result ≡ state_number self }
     {
