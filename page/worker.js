@@ -1,0 +1,95 @@
+// The library in a Worker: the page asks by a name and a list, and is answered when the call is done.
+import { Engine } from './engine.js';
+import { bitsOf, coneOf, gatesOf, shapeOf, withAllOutputs } from './netlist.js';
+import { maskOf } from './values.js';
+
+const encode = (text) => new TextEncoder().encode(text);
+const decode = (bytes) => new TextDecoder().decode(bytes);
+
+/** The most wires that a picture shows. */
+const MOST_DRAWN = 120;
+
+/** The notations that a text can be in, the likeliest first. */
+function notationsOf(text) {
+  if (text.startsWith('aag ')) return ['aiger'];
+  return /^\s*module\b/.test(text) ? ['equations'] : ['fashion', 'old'];
+}
+
+/** The written form of a text, with its notation and shape. A text that no notation fits is refused as its likeliest. */
+function read(engine, text, notation) {
+  const bytes = encode(text);
+  const tried = (notation ? [notation] : notationsOf(text)).map((each) => ({ notation: each, ...engine.read(bytes, each) }));
+  const read = tried.find((each) => !each.refused);
+  if (!read) return { ...(tried.find((each) => each.refused !== 4) ?? tried[0]), source: text };
+  const written = decode(read.text);
+  return { notation: read.notation, text: written, shape: shapeOf(written) };
+}
+
+function mask(engine, text, codes, wanted) {
+  const masked = engine.mask(encode(text), Uint8Array.from(codes), Uint8Array.from(wanted));
+  if (masked.refused) return { ...masked, source: text };
+  const written = decode(masked.text);
+  return { text: written, codes: masked.codes, shape: shapeOf(written) };
+}
+
+function check(engine, text, codes) {
+  return { ...engine.check(encode(text), Uint8Array.from(codes)), source: text };
+}
+
+function run(engine, text, bits) {
+  return { ...engine.run(encode(text), Uint8Array.from(bits)), source: text };
+}
+
+/**
+ * Every wire of a masked netlist in several input settings under the four mask settings, by one call of Run64: bit
+ * 4s + m0 + 2 m1 of a wire's number is the wire in setting s.
+ */
+function wiresIn(engine, text, codes, settings) {
+  const lanes = settings.flatMap((setting, index) => [0, 1, 2, 3].map((masks) => ({ setting, masks, bit: 4 * index + masks })));
+  const word = (bitOf) => lanes.reduce((sum, lane) => sum | BigInt(bitOf(lane)) << BigInt(lane.bit), 0n);
+  const inputs = codes.map((code, bit) => word(({ setting, masks }) => setting[bit] ^ maskOf(code, masks & 1, masks >> 1)));
+  const pair = [word(({ masks }) => masks & 1), word(({ masks }) => masks >> 1)];
+  return engine.run64(encode(withAllOutputs(text)), BigUint64Array.from([...inputs, ...pair]));
+}
+
+/** What is seen on every wire in the settings, as numbers. */
+function seen(engine, text, codes, settings) {
+  const ran = wiresIn(engine, text, codes, settings);
+  return ran.refused ? ran : { wires: [...ran.words].map(Number) };
+}
+
+/** The wires that reach a wire, as a picture shows them: gates, and what each is in a setting and in its base. */
+function cone(engine, text, codes, wire, ones) {
+  const own = codes.map((_, bit) => (ones.includes(bit) ? 1 : 0));
+  const base = own.map((bit, place) => (codes[place] === 0 ? bit : 0));
+  const ran = wiresIn(engine, text, codes, [base, own]);
+  if (ran.refused) return ran;
+  const gates = gatesOf(text);
+  const { wires, cut } = coneOf(gates, wire, MOST_DRAWN);
+  const drawn = new Set(wires);
+  const inputs = bitsOf(shapeOf(text).inputs);
+  const nodes = wires.map((each) => {
+    const { kind, operands } = gates.get(each) ?? { kind: each < inputs ? 'input' : '', operands: [] };
+    return { wire: each, kind, operands: operands.filter((operand) => drawn.has(operand)), all: operands, seen: Number(ran.words[each]) };
+  });
+  return { nodes, cut };
+}
+
+const ANSWERS = { read, mask, check, run, seen, cone };
+
+let opening;
+self.onmessage = async ({ data: { id, service, list } }) => {
+  try {
+    if (service === 'open') {
+      opening = Engine.open(list[0]);
+      await opening;
+      return self.postMessage({ id, answer: true });
+    }
+    const engine = await opening;
+    const start = performance.now();
+    const answer = ANSWERS[service](engine, ...list);
+    self.postMessage({ id, answer, milliseconds: performance.now() - start, memory: engine.memory });
+  } catch (error) {
+    self.postMessage({ id, error: String(error) });
+  }
+};
