@@ -1,7 +1,7 @@
 //! The library's calls with every working table and result buffer lent by the caller.
 //!
-//! Each call takes the old limits or those for whole ciphers ([`Sizes`]). Question 1 asks at least
-//! [`Sizes::small`] entries of each working table of [`mask`] and [`Sizes::large`] of those of the
+//! Each call takes the standard limits or those for whole ciphers ([`Sizes`]). Question 1 asks at least
+//! [`Sizes::source_wires`] entries of each working table of [`mask`] and [`Sizes::masked_wires`] of those of the
 //! others; longer ones are fine, and take longer to clear. What a table holds does not matter; it is
 //! zero along its whole length on return from every call, a refused one too.
 //!
@@ -10,7 +10,7 @@
 
 #![allow(clippy::too_many_arguments)]
 
-use crate::{Refused, Sizes};
+use crate::{Refusal, Sizes};
 
 extern "C" {
     fn fidrovelj_rewrite(
@@ -107,10 +107,10 @@ extern "C" {
 }
 
 /// An answer of the library: a result, or less than 0 by the refusing question's number.
-pub(crate) fn answer(answer: i64) -> Result<usize, Refused> {
+pub(crate) fn answer(answer: i64) -> Result<usize, Refusal> {
     match usize::try_from(answer) {
         Ok(result) => Ok(result),
-        Err(_) => Err(Refused(u8::try_from(-answer).expect("a question has a small number"))),
+        Err(_) => Err(u8::try_from(-answer).ok().and_then(Refusal::from_number).expect("a refusal has a number")),
     }
 }
 
@@ -122,7 +122,7 @@ pub fn rewrite(
     results: &mut [u64],
     marks: &mut [u8],
     sizes: Sizes,
-) -> Result<usize, Refused> {
+) -> Result<usize, Refusal> {
     // SAFETY: each pointer and length is that of a slice, and slices behind `&mut` overlap no other.
     answer(unsafe {
         fidrovelj_rewrite(
@@ -151,7 +151,7 @@ pub fn run(
     marks: &mut [u8],
     words: &mut [u64],
     sizes: Sizes,
-) -> Result<usize, Refused> {
+) -> Result<usize, Refusal> {
     // SAFETY: as in `rewrite`.
     answer(unsafe {
         fidrovelj_run(
@@ -185,7 +185,7 @@ pub fn run64(
     marks: &mut [u8],
     words: &mut [u64],
     sizes: Sizes,
-) -> Result<usize, Refused> {
+) -> Result<usize, Refusal> {
     // SAFETY: as in `rewrite`.
     answer(unsafe {
         fidrovelj_run64(
@@ -221,7 +221,7 @@ pub fn mask(
     wires: &mut [u32],
     marks: &mut [u8],
     sizes: Sizes,
-) -> Result<usize, Refused> {
+) -> Result<usize, Refusal> {
     // SAFETY: as in `rewrite`.
     answer(unsafe {
         fidrovelj_mask(
@@ -260,7 +260,7 @@ pub fn check(
     words: &mut [u64],
     base: &mut [u64],
     sizes: Sizes,
-) -> Result<bool, Refused> {
+) -> Result<bool, Refusal> {
     // SAFETY: as in `rewrite`.
     let leaks = answer(unsafe {
         fidrovelj_check(

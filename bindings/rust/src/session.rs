@@ -1,7 +1,8 @@
 //! Sessions: gates added and taken off.
 
 use crate::lent::answer;
-use crate::{Masked, Refused, Sizes, Tables};
+use crate::tables::front;
+use crate::{Masked, Refusal, Sizes, Tables};
 
 /// A gate of a session, as the library's lists hold it: a kind, the operands and the result wire.
 #[repr(C)]
@@ -136,10 +137,10 @@ extern "C" {
 }
 
 /// A step's answer: the session behind it, or the question and the session that the call gave with it.
-fn step(step: Step) -> Result<SessionState, (Refused, SessionState)> {
+fn step(step: Step) -> Result<SessionState, (Refusal, SessionState)> {
     match step.refused {
         0 => Ok(step.session),
-        question => Err((Refused(question), step.session)),
+        number => Err((Refusal::from_number(number).expect("a refusal has a number"), step.session)),
     }
 }
 
@@ -150,7 +151,7 @@ pub fn session_open_lent(
     codes: &[u8],
     masked: &mut [GateRecord],
     sizes: Sizes,
-) -> Result<SessionState, (Refused, SessionState)> {
+) -> Result<SessionState, (Refusal, SessionState)> {
     // SAFETY: each pointer and length is that of a slice, and slices behind `&mut` overlap no other.
     step(unsafe {
         fidrovelj_session_open(
@@ -174,7 +175,7 @@ pub fn session_add_lent(
     source: &mut [SourceGate],
     masked: &mut [GateRecord],
     sizes: Sizes,
-) -> Result<SessionState, (Refused, SessionState)> {
+) -> Result<SessionState, (Refusal, SessionState)> {
     // SAFETY: as in `session_open_lent`.
     step(unsafe {
         fidrovelj_session_add(
@@ -195,7 +196,7 @@ pub fn session_add_lent(
 pub fn session_take_off_lent(
     session: SessionState,
     source: &[SourceGate],
-) -> Result<SessionState, (Refused, SessionState)> {
+) -> Result<SessionState, (Refusal, SessionState)> {
     // SAFETY: as in `session_open_lent`.
     step(unsafe { fidrovelj_session_take_off(session, source.as_ptr(), source.len()) })
 }
@@ -209,7 +210,7 @@ pub fn session_gate_lent(session: SessionState, gate: u32, source: &[SourceGate]
 }
 
 /// Writes the session's netlist to `out` in the written form, with input and output values of these widths: its length.
-/// Question 1 asks [`Sizes::small`] entries of each table.
+/// Question 1 asks [`Sizes::source_wires`] entries of each table.
 #[allow(clippy::too_many_arguments)]
 pub fn session_text_lent(
     session: SessionState,
@@ -220,7 +221,7 @@ pub fn session_text_lent(
     operands: &mut [u64],
     results: &mut [u64],
     sizes: Sizes,
-) -> Result<usize, Refused> {
+) -> Result<usize, Refusal> {
     // SAFETY: as in `session_open_lent`.
     answer(unsafe {
         fidrovelj_session_text(
@@ -259,7 +260,7 @@ pub fn session_masked_lent(
     wires: &mut [u32],
     marks: &mut [u8],
     sizes: Sizes,
-) -> Result<usize, Refused> {
+) -> Result<usize, Refusal> {
     // SAFETY: as in `session_open_lent`.
     answer(unsafe {
         fidrovelj_session_masked(
@@ -335,10 +336,10 @@ impl Gate {
 /// however many there are.
 ///
 /// ```
-/// # use fidrovelj::{check, mask, Gate, Refused, Session, Sizes, Tables};
+/// # use fidrovelj::{check, mask, Gate, Refusal, Session, Sizes, Tables};
 /// let tables = &mut Tables::new();
 /// // Two values of one bit, under masks m0 and m1: wires 0 and 1.
-/// let mut session = Session::open(&[1, 1], &[1, 2], Sizes::Old)?;
+/// let mut session = Session::open(&[1, 1], &[1, 2], Sizes::Standard)?;
 /// let and = session.add(Gate::And(0, 1))?;
 /// assert_eq!((and, session.masked_gates().len()), (2, 10));
 /// session.add(Gate::Xor(and, and))?;
@@ -354,8 +355,8 @@ impl Gate {
 /// assert_eq!(check(&masked.text, &[1, 2], tables)?, None);
 ///
 /// // Wire 9 is not there yet.
-/// assert_eq!(session.add(Gate::Inv(9)), Err(Refused(8)));
-/// # Ok::<(), Refused>(())
+/// assert_eq!(session.add(Gate::Inv(9)), Err(Refusal::Operands));
+/// # Ok::<(), Refusal>(())
 /// ```
 #[derive(Clone, Debug)]
 pub struct Session {
@@ -369,10 +370,10 @@ pub struct Session {
 
 impl Session {
     /// A session without gates, with input values of these widths and a mask code, 0 to 3, for each input bit; 0 is a
-    /// public bit. Mask's limits hold: there may be [`Sizes::small`] wires.
+    /// public bit. Mask's limits hold: there may be [`Sizes::source_wires`] wires.
     ///
     /// Widths that are none or 0 are refused by 4, too many values or bits by 5, and codes by 11.
-    pub fn open(widths: &[u32], codes: &[u8], sizes: Sizes) -> Result<Session, Refused> {
+    pub fn open(widths: &[u32], codes: &[u8], sizes: Sizes) -> Result<Session, Refusal> {
         let mut masked = vec![GateRecord::default(); 3 + codes.len()];
         let state = session_open_lent(widths, codes, &mut masked, sizes).map_err(|(refused, _)| refused)?;
         let (widths, codes) = (widths.to_vec(), codes.to_vec());
@@ -381,7 +382,7 @@ impl Session {
 
     /// Adds a gate at the end: the number of its wire, which is the next. An operand that is no wire yet is refused by 8,
     /// a gate beyond the most wires by 24.
-    pub fn add(&mut self, gate: Gate) -> Result<u32, Refused> {
+    pub fn add(&mut self, gate: Gate) -> Result<u32, Refusal> {
         // The lists are long enough for any gate: eight masked ones at most.
         let (gates, masked) = (self.state.gates as usize, self.state.masked as usize);
         if self.source.len() == gates {
@@ -398,7 +399,7 @@ impl Session {
     }
 
     /// Takes the last gate off, and gives it back. Where there is none, it is refused by 23.
-    pub fn undo(&mut self) -> Result<Gate, Refused> {
+    pub fn undo(&mut self) -> Result<Gate, Refusal> {
         let last = self.gates().last().map(Gate::of);
         self.state = session_take_off_lent(self.state, &self.source).map_err(|(refused, _)| refused)?;
         Ok(last.expect("a gate was taken off"))
@@ -425,18 +426,28 @@ impl Session {
     }
 
     /// The netlist, in the written form, with output values of these widths: their bits are the last wires. Widths that are
-    /// none or 0 are refused by 4, too many values or bits by 5. The tables are to be of the session's sizes, or larger: else 1.
-    pub fn text(&self, outputs: &[u32], tables: &mut Tables) -> Result<Vec<u8>, Refused> {
+    /// none or 0 are refused by 4, too many values or bits by 5. Tables that are kept to smaller sizes than the session's
+    /// are refused by 1.
+    ///
+    /// ```
+    /// # use fidrovelj::{Gate, Refusal, Session, Sizes, Tables};
+    /// let mut session = Session::open(&[1], &[1], Sizes::Standard)?;
+    /// session.add(Gate::Inv(0))?;
+    /// assert_eq!(session.text(&[1], &mut Tables::new())?, b"1 2\n1 1\n1 1\n\n1 1 0 1 INV\n");
+    /// # Ok::<(), Refusal>(())
+    /// ```
+    pub fn text(&self, outputs: &[u32], tables: &mut Tables) -> Result<Vec<u8>, Refusal> {
+        let sizes = tables.sizes_for(self.sizes);
         let t = tables;
-        let small = self.small(t);
+        let table = sizes.source_wires();
         let length = session_text_lent(
             self.state,
             &self.widths,
             outputs,
             &self.source,
-            &mut t.text,
-            &mut t.operands[..small],
-            &mut t.results[..small],
+            front(&mut t.text, sizes.text()),
+            front(&mut t.operands, table),
+            front(&mut t.results, table),
             self.sizes,
         )?;
         Ok(t.text[..length].to_vec())
@@ -444,9 +455,20 @@ impl Session {
 
     /// What [`mask`](crate::mask) gives for that netlist, with a wanted code, 0 to 3, for each output bit: other lists are
     /// refused by 13.
-    pub fn masked(&self, outputs: &[u32], wanted: &[u8], tables: &mut Tables) -> Result<Masked, Refused> {
+    ///
+    /// ```
+    /// # use fidrovelj::{mask, Gate, Refusal, Session, Sizes, Tables};
+    /// let tables = &mut Tables::new();
+    /// let mut session = Session::open(&[1], &[1], Sizes::Standard)?;
+    /// session.add(Gate::Inv(0))?;
+    /// let text = session.text(&[1], tables)?;
+    /// assert_eq!(session.masked(&[1], &[2], tables)?, mask(&text, &[1], &[2], tables)?);
+    /// # Ok::<(), Refusal>(())
+    /// ```
+    pub fn masked(&self, outputs: &[u32], wanted: &[u8], tables: &mut Tables) -> Result<Masked, Refusal> {
+        let sizes = tables.sizes_for(self.sizes);
         let t = tables;
-        let small = self.small(t);
+        let table = sizes.source_wires();
         let length = session_masked_lent(
             self.state,
             &self.widths,
@@ -454,19 +476,14 @@ impl Session {
             &self.source,
             &self.codes,
             wanted,
-            &mut t.text,
-            &mut t.bits,
-            &mut t.operands[..small],
-            &mut t.results[..small],
-            &mut t.wires[..small],
-            &mut t.marks[..small],
+            front(&mut t.text, sizes.text()),
+            front(&mut t.bits, sizes.masked_wires()),
+            front(&mut t.operands, table),
+            front(&mut t.results, table),
+            front(&mut t.wires, table),
+            front(&mut t.marks, table),
             self.sizes,
         )?;
         Ok(Masked { text: t.text[..length].to_vec(), codes: t.bits[..wanted.len()].to_vec() })
-    }
-
-    /// How many entries of each table a call gets: as many as the session's sizes ask, or all where there are fewer.
-    fn small(&self, tables: &Tables) -> usize {
-        self.sizes.small().min(tables.wires.len())
     }
 }

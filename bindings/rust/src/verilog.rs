@@ -1,7 +1,8 @@
 //! Equations in Verilog.
 
 use crate::lent::answer;
-use crate::{Refused, Sizes, Tables};
+use crate::tables::front;
+use crate::{Refusal, Sizes, Tables};
 
 extern "C" {
     fn fidrovelj_from_verilog(
@@ -28,7 +29,7 @@ extern "C" {
 }
 
 /// Tables of names, which [`from_verilog_lent`] is lent: one entry of each has eight numbers, so each needs eight times
-/// [`Sizes::small`].
+/// [`Sizes::source_wires`].
 pub struct NameTables<'a> {
     /// The newest name of each chain.
     pub heads: &'a mut [u64],
@@ -50,7 +51,7 @@ pub fn from_verilog_lent(
     results: &mut [u64],
     names: NameTables,
     sizes: Sizes,
-) -> Result<usize, Refused> {
+) -> Result<usize, Refusal> {
     // SAFETY: each pointer and length is that of a slice, and slices behind `&mut` overlap no other.
     answer(unsafe {
         fidrovelj_from_verilog(
@@ -84,24 +85,27 @@ pub fn from_verilog_lent(
 /// deeper than 32 by 18.
 ///
 /// ```
-/// # use fidrovelj::{from_verilog, Refused, Tables};
+/// # use fidrovelj::{from_verilog, Refusal, Tables};
 /// let tables = &mut Tables::new();
 /// let text = from_verilog(b"module m(y, a, b); input a, b; output y; assign y = a ^ ~b; endmodule", tables)?;
 /// assert_eq!(text, b"3 5\n1 2\n1 1\n\n1 1 1 2 INV\n2 1 0 2 3 XOR\n1 1 3 4 EQW\n");
 ///
-/// assert_eq!(from_verilog(b"module m(y, a); input a; output y; assign y = ~~a; endmodule", tables), Err(Refused(16)));
-/// assert_eq!(from_verilog(b"module m(y, a); input a; output y; assign y = y; endmodule", tables), Err(Refused(17)));
-/// # Ok::<(), Refused>(())
+/// assert_eq!(from_verilog(b"module m(y, a); input a; output y; assign y = ~~a; endmodule", tables), Err(Refusal::Grammar));
+/// assert_eq!(from_verilog(b"module m(y, a); input a; output y; assign y = y; endmodule", tables), Err(Refusal::Names));
+/// # Ok::<(), Refusal>(())
 /// ```
-pub fn from_verilog(text: &[u8], tables: &mut Tables) -> Result<Vec<u8>, Refused> {
-    let t = tables;
-    let names = NameTables {
-        heads: &mut t.words,
-        words: &mut t.base,
-        links: &mut t.links,
-        states: &mut t.states,
-        wires: &mut t.name_wires,
-    };
-    let length = from_verilog_lent(text, &mut t.text, &mut t.operands, &mut t.results, names, t.sizes)?;
-    Ok(t.text[..length].to_vec())
+pub fn from_verilog(text: &[u8], tables: &mut Tables) -> Result<Vec<u8>, Refusal> {
+    tables.lend(|t, sizes| {
+        let (table, names) = (sizes.source_wires(), 8 * sizes.source_wires());
+        let names = NameTables {
+            heads: front(&mut t.words, names),
+            words: front(&mut t.base, names),
+            links: front(&mut t.links, names),
+            states: front(&mut t.states, names),
+            wires: front(&mut t.name_wires, names),
+        };
+        let (operands, results) = (front(&mut t.operands, table), front(&mut t.results, table));
+        let length = from_verilog_lent(text, front(&mut t.text, sizes.text()), operands, results, names, sizes)?;
+        Ok(t.text[..length].to_vec())
+    })
 }

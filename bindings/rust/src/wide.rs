@@ -3,7 +3,8 @@
 #![allow(clippy::too_many_arguments)]
 
 use crate::lent::answer;
-use crate::{Refused, Sizes, Tables};
+use crate::tables::front;
+use crate::{Refusal, Sizes, Tables};
 
 extern "C" {
     fn fidrovelj_check_wide(
@@ -48,7 +49,7 @@ extern "C" {
 /// Whether a netlist of any number of input bits leaks, and whether a listed pair of its wires does: 1 for a leak
 /// and 2 more for a bad pair. A leak's wire, how many input bits are one in its setting, and both counts go to
 /// `leak`, those input bits to `ones`, at most twelve; how many pairs stand before the first bad one goes to
-/// `bad`. A list too short for what it is to be told is refused by 14. Question 1 asks [`Sizes::large`] entries of
+/// `bad`. A list too short for what it is to be told is refused by 14. Question 1 asks [`Sizes::masked_wires`] entries of
 /// each table.
 pub fn check_wide_lent(
     text: &[u8],
@@ -69,7 +70,7 @@ pub fn check_wide_lent(
     set3: &mut [u64],
     paints: &mut [u8],
     sizes: Sizes,
-) -> Result<usize, Refused> {
+) -> Result<usize, Refusal> {
     // SAFETY: each pointer and length is that of a slice, and slices behind `&mut` overlap no other.
     answer(unsafe {
         fidrovelj_check_wide(
@@ -142,43 +143,45 @@ pub struct Wide {
 /// says.
 ///
 /// ```
-/// # use fidrovelj::{check, check_wide, Refused, Tables, WideLeak};
+/// # use fidrovelj::{check, check_wide, Refusal, Tables, WideLeak};
 /// let tables = &mut Tables::new();
 /// // Twenty bits under m0, then m0 and m1, which are wires 20 and 21. Wire 22 takes the mask off bit 17.
 /// let text = b"2 24\n2 20 2\n1 1\n\n2 1 17 20 22 XOR\n2 1 3 21 23 XOR\n";
-/// assert_eq!(check(text, &[1; 20], tables), Err(Refused(12)));
+/// assert_eq!(check(text, &[1; 20], tables), Err(Refusal::Settings));
 ///
 /// let found = check_wide(text, &[1; 20], &[], tables)?;
 /// assert_eq!(found.leak, Some(WideLeak { wire: 22, ones: vec![17], base: 0, own: 4 }));
 ///
 /// // Wires 3 and 23, one after the other in a register, are under m0 and under both masks; 3 and 20 show bit 3.
 /// assert_eq!(check_wide(text, &[1; 20], &[3, 23, 3, 20], tables)?.bad, Some(1));
-/// # Ok::<(), Refused>(())
+/// # Ok::<(), Refusal>(())
 /// ```
-pub fn check_wide(text: &[u8], codes: &[u8], pairs: &[u32], tables: &mut Tables) -> Result<Wide, Refused> {
-    let t = tables;
+pub fn check_wide(text: &[u8], codes: &[u8], pairs: &[u32], tables: &mut Tables) -> Result<Wide, Refusal> {
     let (mut leak, mut ones, mut bad) = ([0; 4], [0; 12], [0; 1]);
-    let [set0, set1, set2, set3] = &mut t.sets;
-    let answer = check_wide_lent(
-        text,
-        codes,
-        pairs,
-        &mut leak,
-        &mut ones,
-        &mut bad,
-        &mut t.operands,
-        &mut t.results,
-        &mut t.marks,
-        &mut t.words,
-        &mut t.base,
-        &mut t.bases,
-        set0,
-        set1,
-        set2,
-        set3,
-        &mut t.bits,
-        t.sizes,
-    )?;
+    let answer = tables.lend(|t, sizes| {
+        let table = sizes.masked_wires();
+        let [set0, set1, set2, set3] = &mut t.sets;
+        check_wide_lent(
+            text,
+            codes,
+            pairs,
+            &mut leak,
+            &mut ones,
+            &mut bad,
+            front(&mut t.operands, table),
+            front(&mut t.results, table),
+            front(&mut t.marks, table),
+            front(&mut t.words, table),
+            front(&mut t.base, table),
+            front(&mut t.bases, table),
+            front(set0, table),
+            front(set1, table),
+            front(set2, table),
+            front(set3, table),
+            front(&mut t.bits, table),
+            sizes,
+        )
+    })?;
     let [wire, many, base, own] = leak;
     Ok(Wide {
         leak: (answer & 1 != 0).then(|| WideLeak { wire, ones: ones[..many as usize].to_vec(), base, own }),

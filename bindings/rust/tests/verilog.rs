@@ -239,11 +239,11 @@ fn library(text: &[u8], tables: usize, room: usize, sizes: Sizes) -> Result<Vec<
     assert!([states, wires].iter().flatten().all(|&x| x == 0));
     let length = *answer.as_ref().unwrap_or(&0);
     assert!(out[length..].iter().all(|&b| b == 0xaa));
-    answer.map(|n| out[..n].to_vec()).map_err(|refused| refused.0)
+    answer.map(|n| out[..n].to_vec()).map_err(|refused| refused.number())
 }
 
 fn compare(text: &[u8], tables: usize, room: usize) -> Result<Vec<u8>, u8> {
-    let a = library(text, tables, room, Sizes::Old);
+    let a = library(text, tables, room, Sizes::Standard);
     let b = second(text, tables, room);
     assert_eq!(a, b, "{}", String::from_utf8_lossy(&text[..text.len().min(2000)]));
     a
@@ -496,7 +496,7 @@ fn circuits() {
             let words: Vec<&str> = line.split(' ').collect();
             let bits: Vec<u8> = words[0].bytes().map(|b| b - b'0').collect();
             let want: Vec<u8> = words[1].bytes().map(|b| b - b'0').collect();
-            let got = reference::run(&[], &made, &bits, 100_000, reference::netlist::Sizes::Old);
+            let got = reference::run(&[], &made, &bits, 100_000, reference::netlist::Sizes::Standard);
             assert_eq!(got, Ok(want), "{name}: {line}");
         }
         count += 1;
