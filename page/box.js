@@ -16,10 +16,10 @@ export function save(text, name, type = 'text/plain') {
   setTimeout(() => URL.revokeObjectURL(link.href), 1000);
 }
 
-/** Writes one field for each value into a fieldset; what stands in fields of the same number stays. */
+/** Writes one field for each value into a fieldset; what stands in fields of the same widths stays. */
 export function fields(fieldset, widths, name, start) {
-  const before = [...fieldset.querySelectorAll('input')].map((input) => input.value);
-  const kept = before.length === widths.length ? before : [];
+  const kept = fieldset.dataset.widths === String(widths) ? fieldValues(fieldset) : [];
+  fieldset.dataset.widths = widths;
   fieldset.querySelectorAll('label').forEach((label) => label.remove());
   widths.forEach((width, index) => {
     const label = document.createElement('label');
@@ -88,6 +88,7 @@ export class Box extends EventTarget {
     this.part('note').hidden = whole;
     this.part('note').textContent = `The beginning is shown of ${text.length.toLocaleString('en')} bytes; all of it is used.`;
     this.part('notation').value = '';
+    [this.part('codes'), this.part('ends')].forEach((fieldset) => delete fieldset.dataset.widths);
     await this.look();
     this.#fill('codes', codes);
     this.#fill('ends', ends);

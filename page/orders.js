@@ -63,11 +63,12 @@ export class Orders {
       mark.tabIndex = place === index ? 0 : -1;
     });
     this.steps = stepsOf(TREES[index], this.terms);
+    this.counts = undefined;
     at('tree-name').textContent = treeName(TREES[index], this.terms);
+    at('slider').value = 7;
     const [steps, counts] = [this.steps, await countsOf(this.steps, this.codes)];
     if (steps !== this.steps) return;
     this.counts = counts;
-    at('slider').value = 7;
     await this.#tell();
   }
 
@@ -76,6 +77,7 @@ export class Orders {
     const many = Number(at('slider').value);
     const { steps } = this;
     at('done').textContent = `${many} of 7`;
+    if (!this.counts) return;
     const verdict = await verdictOf(steps, many, this.codes);
     if (steps !== this.steps || many !== Number(at('slider').value)) return;
     const step = steps.find(({ wire }) => wire === verdict.wire);

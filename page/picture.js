@@ -10,7 +10,7 @@ const CELL = 9;
 
 /** A wire under the mask settings m0 m1 = 00, 10, 01, 11, as the four low bits of a number, where it is a mask. */
 const PATTERNS = { 1: 0b1010, 2: 0b1100, 3: 0b0110 };
-export const FOLLOWS = { 0: 'no mask', 1: 'm0', 2: 'm1', 3: 'm0 ⊕ m1', mixed: 'a product with masks' };
+export const FOLLOWS = { 0: 'no mask', 1: 'm0', 2: 'm1', 3: 'm0 ⊕ m1', mixed: 'mixed masks' };
 
 const namespace = 'http://www.w3.org/2000/svg';
 
@@ -69,7 +69,7 @@ function box({ node, x, y }, told, mark) {
     label(kind, x + WIDE - 8, y + 18, 'kind'),
     ...cells(base, x + 8, y + 24), label(`${count(base)}`, x + 8 + 4 * CELL + 4, y + 32, 'count'),
     ...cells(own, x + 8, y + 37), label(`${count(own)}`, x + 8 + 4 * CELL + 4, y + 45, 'count'),
-    label(FOLLOWS[follows(node)].replace('a product with masks', 'mixed'), x + WIDE - 8, y + 40, 'mask'),
+    label(FOLLOWS[follows(node)].replace(' masks', ''), x + WIDE - 8, y + 40, 'mask'),
     ...more);
 }
 

@@ -33,6 +33,7 @@ export class Running {
     const box = this.boxes[at('which').value];
     const widths = box.netlist?.shape.inputs ?? [];
     const pair = (index) => box.pair && index === widths.length - 1;
+    say('', 'Its output values stand here.');
     fields(at('values'), widths, (index) => (pair(index) ? 'm0 and m1' : `value ${index}`), '0x0');
     at('under-label').hidden = !box.pair;
   }

@@ -38,6 +38,7 @@ export function refusalWords({ refused, words, place, source }) {
 export function inputName(bit, inputs) {
   const values = inputs.slice(0, -1);
   if (values.length === 1) return `bit ${bit}`;
+  if (values.every((width) => width === 1)) return `value ${bit}`;
   let first = 0;
   for (const [value, width] of values.entries()) {
     if (bit < first + width) return `bit ${bit - first} of value ${value}`;
@@ -61,8 +62,9 @@ export function verdictWords(verdict, { wires, inputs }) {
     return `Not decided: every wire below wire ${verdict.wire} is known to be clean, and of that wire neither could be shown.`;
   }
   const names = verdict.ones.map((bit) => inputName(bit, inputs));
-  const shown = names.length > 12 ? `${names.slice(0, 12).join(', ')} and ${names.length - 12} more` : names.join(', ');
+  const last = names.length > 12 ? `${names.length - 12} more` : names.pop();
+  const shown = [names.slice(0, 12).join(', '), last].filter(Boolean).join(' and ');
   return `Leak: wire ${verdict.wire} is one for ${verdict.own} of the four mask settings where of the input bits ` +
-    `${shown} alone ${names.length === 1 ? 'is' : 'are'} one, and for ${verdict.base} of them where the secret bits are zero` +
+    `${shown} alone ${verdict.ones.length === 1 ? 'is' : 'are'} one, and for ${verdict.base} of them where the secret bits are zero` +
     ` (${HOW[verdict.how]}).`;
 }

@@ -15,30 +15,29 @@ function notationsOf(text) {
   return /^\s*module\b/.test(text) ? ['equations'] : ['fashion', 'old'];
 }
 
-/** The written form of a text, with its notation and shape. A text that no notation fits is refused as its likeliest. */
+/**
+ * The written form of a text, with its notation and shape. A text that no notation fits is refused as the likeliest, or as
+ * the one in which its gates were come to.
+ */
 function read(engine, text, notation) {
   const bytes = encode(text);
   const tried = (notation ? [notation] : notationsOf(text)).map((each) => ({ notation: each, ...engine.read(bytes, each) }));
   const read = tried.find((each) => !each.refused);
-  if (!read) return { ...(tried.find((each) => each.refused !== 4) ?? tried[0]), source: text };
+  if (!read) return tried.find((each) => each.refused > 6) ?? tried[0];
   const written = decode(read.text);
   return { notation: read.notation, text: written, shape: shapeOf(written) };
 }
 
 function mask(engine, text, codes, wanted) {
   const masked = engine.mask(encode(text), Uint8Array.from(codes), Uint8Array.from(wanted));
-  if (masked.refused) return { ...masked, source: text };
+  if (masked.refused) return masked;
   const written = decode(masked.text);
   return { text: written, codes: masked.codes, shape: shapeOf(written) };
 }
 
-function check(engine, text, codes) {
-  return { ...engine.check(encode(text), Uint8Array.from(codes)), source: text };
-}
+const check = (engine, text, codes) => engine.check(encode(text), Uint8Array.from(codes));
 
-function run(engine, text, bits) {
-  return { ...engine.run(encode(text), Uint8Array.from(bits)), source: text };
-}
+const run = (engine, text, bits) => engine.run(encode(text), Uint8Array.from(bits));
 
 /**
  * Every wire of a masked netlist in several input settings under the four mask settings, by one call of Run64: bit
@@ -88,6 +87,7 @@ self.onmessage = async ({ data: { id, service, list } }) => {
     const engine = await opening;
     const start = performance.now();
     const answer = ANSWERS[service](engine, ...list);
+    if (answer.refused) answer.source = list[0];
     self.postMessage({ id, answer, milliseconds: performance.now() - start, memory: engine.memory });
   } catch (error) {
     self.postMessage({ id, error: String(error) });
