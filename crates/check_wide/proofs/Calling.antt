@@ -1,44 +1,74 @@
 -- From the netlist that was read to the outcome of a call, and what an answer says of it.
-use Prim.Native.Nat.{ℕ, ◌-◌, ◌≤◌}
+use Prim.Native.Nat.{ℕ, ◌+◌, ◌-◌, ◌/◌, ◌%◌, ◌≤◌}
 use Rattle.std.specs.Prelude as std
 use Rattle.std.specs.Prelude.{Result, Ok, Err}
-use mathlib.Core.Path.{◌≡◌, refl, sym, ap, ◌∙◌}
-use mathlib.Core.Bool.{true}
+use mathlib.Core.Path.{◌≡◌, refl, sym, ap, ap₂, subst, ◌∙◌}
+use mathlib.Core.Bool.{Bool, true, false, ◌&&◌}
 use mathlib.Core.List.{List, [], ◌∷◌}
 use mathlib.Core.Option.{Option, none, some}
 use native.Mathlib.Omega.{arith}
-use lib.ListN.{length}
+use lib.Dec.{eqb, leb, leb→le}
+use lib.ListN.{length, take}
+use lib.Seq.{length-take-le}
+use borrow.Author.Tests.{leb-false}
 use Rattle.netlist.specs.declared.Refusal.{Refusal}
 use Rattle.netlist.specs.declared.Sizes.{Sizes}
 use Rattle.netlist.specs.declared.Sizes.TheVariants.{Standard, Whole}
 use Rattle.netlist.specs.Netlist.{Netlist, masked_limits, input_bits}
 use Rattle.netlist.specs.Outcome.{Outcome, refused, done, ask, and_then}
 use Rattle.netlist.specs.Read.{read_netlist, WellFormed}
-use Rattle.masking.specs.Mask.{is_input_code}
-use Rattle.masking.specs.Leak.{Found, leak}
+use Rattle.masking.specs.Mask.{is_input_code, is_public}
+use Rattle.masking.specs.Leak.{setting, public_only, count, Found, leak}
 use Rattle.netlist.specs.Services.{tables_long, list_good}
 use Rattle.masking.specs.Calls.{ends_in_masks}
 use Rattle.netlist.proofs.Accepted.{accepted}
 use Rattle.netlist.proofs.Answering.{call-refused, call-goes-on}
 use Rattle.netlist.proofs.Questions.{done-same, ask-done, and_then-done}
 use Rattle.masking.proofs.LeakSearch.{none-clean, found-lowest}
-use Rattle.netlist.proofs.Tests.{clash}
+use Rattle.netlist.proofs.Tests.{clash, on_bool, true-T}
 use Rattle.reader.specs.declared.netlist_tables.NetlistTables.{NetlistTables}
 use Rattle.reader.specs.Tables.{HoldsNetlist}
 use Rattle.reader.specs.Taken.{TakenOf}
 use Rattle.check_pairs.specs.Call.{BothAnswers, pairs_good}
 use Rattle.check_pairs.proofs.PairCheck.{pairs-judged}
+use Rattle.check_wide.specs.Reach.{places}
 use Rattle.check_wide.specs.Sets.{members_end}
 use Rattle.check_wide.specs.Wide.{WideLeak, listed, few_reach, wide_answers, wide_outcome, wide_call}
 use Rattle.check_wide.specs.Told as search
-use Rattle.check_wide.specs.Told.{WideFound, told_of}
+use Rattle.check_wide.specs.Told.{WideFound, told, told_of, Rising, OnesTold}
 use Rattle.check_wide.specs.Verdict.{both_of, outcome_of}
 use Rattle.check_wide.specs.Promise.{call, WiresJudged, Judged}
+use Rattle.check_wide.proofs.Places.{places-rise}
 
 -- numbers of wires fit in twenty bits
 pub wires-upto : (s : Sizes) → (masked_limits s).table ≤ members_end
 wires-upto Standard = omega arith
 wires-upto Whole = omega arith
+
+-- the ones of two equal leaks
+some-ones : {p q : WideLeak} → ◌≡◌ {A = Option WideLeak} (some p) (some q) → p.ones ≡ q.ones
+some-ones e = cc
+
+ok_same : {f g : WideFound} → ◌≡◌ {A = Result WideFound Refusal} (Ok f) (Ok g) → f ≡ g
+ok_same e = cc
+
+-- a setting without ones is its own base
+zero-and : (b : Bool) → (b && false) ≡ false
+zero-and true = refl
+zero-and false = refl
+
+own-base : (es : List ℕ) (s i : ℕ) → length (places i (setting (length es) s)) ≡ 0
+    → public_only es (setting (length es) s) ≡ setting (length es) s
+own-base [] s i e = refl
+own-base (e ∷ es) s i z = go (eqb (s % 2) 1) (own-base es (s / 2) (i + 1)) z
+  where
+    go : (b : Bool)
+        → (length (places (i + 1) (setting (length es) (s / 2))) ≡ 0
+        → public_only es (setting (length es) (s / 2)) ≡ setting (length es) (s / 2))
+        → length (places i (b ∷ setting (length es) (s / 2))) ≡ 0
+        → public_only (e ∷ es) (b ∷ setting (length es) (s / 2)) ≡ b ∷ setting (length es) (s / 2)
+    go true f z = absurd (omega arith)
+    go false f z = ap₂ (λ (c : Bool) (y : List Bool). c ∷ y) (zero-and (is_public e)) (f z)
 
 module _ (s : Sizes) (text codes ws o r g w b z s0 s1 s2 s3 p : List ℕ) where
   abbrev lengths : List ℕ
@@ -100,6 +130,38 @@ module _ (s : Sizes) (text codes ws o r g w b z s0 s1 s2 s3 p : List ℕ) where
   wires-judged (std.Some p) N e = λ clean. some-leak (length codes) (leak N codes) e
       (λ x h. let f = found-lowest N codes x h in
       f.breaks (clean x.wire f.wire))
+
+  -- the ones of a leak
+  ones-told : (N : Netlist) (p : WideLeak) → some p ≡ listed (length codes) (leak N codes)
+      → (1 ≤ length p.ones) × Rising p.ones
+  ones-told N p e = some-leak (length codes) (leak N codes) e (λ x h.
+      let F = found-lowest N codes x h in
+      let same : p.ones ≡ places 0 (setting (length codes) x.at) = some-ones (e ∙ ap (listed (length codes)) h) in (
+        on_bool (leb 1 (length p.ones))
+            (λ t. leb→le 1 (length p.ones) (true-T _ t))
+            (λ t. absurd (F.other (sym (ap (count N codes x.wire) (own-base codes x.at 0
+            (let z : length p.ones ≡ length (places 0 (setting (length codes) x.at)) = ap length same in
+            let y = leb-false 1 (length p.ones) t in omega arith)))))),
+        subst Rising (sym same) (places-rise 0 (setting (length codes) x.at)),
+      ))
+
+  pub call-ones : (a : Result WideFound Refusal) → outcome_of a ≡ call s text codes ws o r g w b z s0 s1 s2 s3 p
+      → (f : WideFound) → a ≡ Ok f → (l : search.WideLeak) → f.leak ≡ std.Some l → OnesTold l
+  call-ones (Err q) e f h l k = clash (cc)
+  call-ones (Ok g) e f h l k =
+      let same : g ≡ f = ok_same h in
+      let found : g.leak ≡ std.Some l = ap (λ (x : WideFound). x.leak) same ∙ k in
+      let a : BothAnswers WideLeak = both_of g in
+      let d = call-done a e in
+      let answers = answers-are d.0 a d.2 in
+      let list : some (told l) ≡ listed (length codes) (leak d.0 codes)
+      = sym (ap (λ (x : BothAnswers WideLeak). x.leak) answers ∙ ap told_of found) in
+      let long = l.setting.long in
+      let few = l.setting.few in
+      let many : length (take l.setting.count l.setting.items) ≡ l.setting.count
+      = length-take-le l.setting.count l.setting.items (omega arith) in
+      let k = ones-told d.0 (told l) list in
+      record { count = sym many; some = (let one = k.0 in omega arith); few = few; rising = k.1 }
 
   -- both answers follow the rules
   pub call-judged : (a : Result WideFound Refusal) → outcome_of a ≡ call s text codes ws o r g w b z s0 s1 s2 s3 p

@@ -19,6 +19,14 @@ place-below k (true ∷ ks) zero l = omega arith
 place-below k (true ∷ ks) (suc a) l = let h = place-below (k + 1) ks a (omega arith) in omega arith
 place-below k (false ∷ ks) a l = let h = place-below (k + 1) ks a l in omega arith
 
+pub places-rise : (k : ℕ) (ks : List Bool) (a b : ℕ) → a < b → b < length (places k ks)
+    → get_or (places k ks) a 0 < get_or (places k ks) b 0
+places-rise k [] a b l m = absurd (omega arith)
+places-rise k (true ∷ ks) a zero l m = absurd (omega arith)
+places-rise k (true ∷ ks) zero (suc b) l m = let h = place-from (k + 1) ks b (omega arith) in omega arith
+places-rise k (true ∷ ks) (suc a) (suc b) l m = places-rise (k + 1) ks a b (omega arith) (omega arith)
+places-rise k (false ∷ ks) a b l m = places-rise (k + 1) ks a b l m
+
 pub places-apart : (k : ℕ) (ks : List Bool) (a b : ℕ) → a < length (places k ks) → b < length (places k ks)
     → get_or (places k ks) a 0 ≡ get_or (places k ks) b 0 → a ≡ b
 places-apart k [] a b l m e = absurd (omega arith)

@@ -12,7 +12,7 @@ use Rattle.check_pairs.specs.Call.{BothAnswers}
 use Rattle.check_pairs.specs.Search.{bad_of}
 use Rattle.check_wide.specs.Wide.{WideLeak, wide_call}
 use Rattle.check_wide.specs.Told as search
-use Rattle.check_wide.specs.Told.{WideFound}
+use Rattle.check_wide.specs.Told.{WideFound, OnesTold}
 use Rattle.check_wide.specs.Verdict.{outcome_of}
 
 -- the outcome of a call that is handed its sizes, a text, input codes, a list of pairs, and tables of operands,
@@ -42,6 +42,8 @@ pub record Promise (s : Sizes) (text codes pairs o o' r r' g g' w w' b b' z z' s
     (a : Result WideFound Refusal) : Type 0 where
   -- the answers are those of the check over all settings of all inputs
   pub outcome : outcome_of a ≡ call s text codes pairs o r g w b z s0 s1 s2 s3 p
+  -- a leak tells as many input bits as it says, one to twelve, in rising order
+  pub ones : (f : WideFound) → a ≡ Ok f → (p : search.WideLeak) → f.leak ≡ Some p → OnesTold p
   -- they judge the netlist that the text reads as
   pub judged : (N : Netlist) → read_netlist (masked_limits s) text ≡ done N → Judged N codes pairs a
   pub operands : Cleared o o'

@@ -15,8 +15,16 @@ pub struct Members {
     pub count: usize,
 }
 
-/// Members as a set holds them: at most twelve, and each fits in twenty bits. A type of its own, since a list of
-/// members that was told, as of the ones of a leak's setting, may hold any numbers.
+/// The input bits that are one in a leak's setting: the first `count` items of an array, at most twelve.
+#[derive(Clone, Copy)]
+pub struct Ones {
+    pub items: [u32; 12],
+    pub count: usize,
+    ghost few: { count ≤ 12 },
+    ghost long: { length items ≡ 12 },
+}
+
+/// Members as a set holds them: at most twelve, and each fits in twenty bits.
 #[derive(Clone, Copy)]
 pub struct InputSet {
     pub items: [u32; 12],

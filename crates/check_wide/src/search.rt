@@ -11,21 +11,21 @@ ghost use Rattle.check_wide.specs.Judging.{GivenJob, Lowest};
 ghost use Rattle.check_wide.specs.Told.{told_of};
 
 use crate::job::Job;
-use crate::members::{InputSet, Members};
+use crate::members::{InputSet, Ones};
 use crate::pass;
 use crate::pass::Worst;
 use check_pairs::search::PairsFound;
 use leak_search::difference::Leak;
 
 /// A leak, whose setting is told by the input bits that are one in it.
-pub type WideLeak = Leak<Members>;
+pub type WideLeak = Leak<Ones>;
 
 /// What was found on wires and pairs, with such a leak.
-pub type WideFound = PairsFound<Members>;
+pub type WideFound = PairsFound<Ones>;
 
 // Of the members of a set, those whose bit of a number is one. Each is written, and the next written over it where its
 // bit is zero.
-fn pick(members: InputSet, number: u64) -> Members
+fn pick(members: InputSet, number: u64) -> Ones
     ensures { take result.count result.items ≡ picked (take members.count members.items) number }
 {
     let mut items = [0u32; 12];
@@ -36,7 +36,7 @@ fn pick(members: InputSet, number: u64) -> Members
         count += (rest % 2) as usize;
         rest /= 2;
     }
-    Members { items, count }
+    Ones { items, count }
 }
 
 // The lowest wire and the first pair that do not meet the rule.

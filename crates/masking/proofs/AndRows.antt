@@ -12,26 +12,13 @@ use Rattle.netlist.specs.Netlist.{result}
 use Rattle.netlist.specs.Eval.{differs, made}
 use Rattle.masking.specs.Mask.{is_code, Row, rows, row_gates, and_twin}
 use Rattle.masking.specs.Leak.{mask_of, count_of}
+use Rattle.masking.specs.AndBits.{row_bit, row_bits, operand_bits}
 use Rattle.netlist.specs.Lists.{below}
 use Rattle.netlist.proofs.Tests.{both, All, empty, each, all_head, all_tail, all_map, all_append, all-at}
 use Rattle.netlist.proofs.EachNumber.{every_bit, every_bit-at, every4, every4-at, below_at, same, same-eq}
 use Rattle.masking.proofs.CodeLaws.{every_two-at}
 use Rattle.netlist.proofs.Models.{Models}
 use Rattle.netlist.proofs.Order.{Ordered, end, step, two-below, AllWires}
-
--- the bit that a row makes of the bits of the places, and the bits that rows make, each of them the next place
-abbrev row_bit : Row → List Bool → Bool
-row_bit r vs = cond r.is_and (get_or vs r.first false && get_or vs r.second false)
-    (differs (get_or vs r.first false) (get_or vs r.second false))
-
-abbrev pub row_bits : List Row → List Bool → List Bool
-row_bits [] vs = []
-row_bits (r ∷ rs) vs = row_bit r vs ∷ row_bits rs (vs ++ (row_bit r vs ∷ []))
-
--- places 0 to 4: the bits s and t under codes e and f, the two masks, and the OR of m0 and m1
-abbrev pub operand_bits : ℕ → ℕ → Bool → Bool → Bool → Bool → List Bool
-operand_bits e f s t m0 m1 = differs s (mask_of m0 m1 e) ∷ differs t (mask_of m0 m1 f) ∷ mask_of m0 m1 e ∷ mask_of m0 m1
-    f ∷ (m0 || m1) ∷ []
 
 -- s1 to s7
 unfoldable pub step_bits : ℕ → ℕ → Bool → Bool → Bool → Bool → List Bool

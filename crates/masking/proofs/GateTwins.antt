@@ -22,7 +22,8 @@ use Rattle.masking.proofs.MaskedBits.{xor-law, not-differs}
 use Rattle.netlist.proofs.GoodGates.{GoodGate, good_gate, results, given-cases}
 use Rattle.netlist.proofs.Models.{Models}
 use Rattle.netlist.proofs.Order.{AllWires}
-use Rattle.masking.proofs.AndRows.{row_bits, operand_bits, step_bits, and-law, step_counts, and-count, walk_rows}
+use Rattle.masking.specs.AndBits.{row_bits, operand_bits}
+use Rattle.masking.proofs.AndRows.{step_bits, and-law, step_counts, and-count, walk_rows}
 use Rattle.masking.proofs.AndRows.{rows-wires}
 use Rattle.masking.proofs.Placed.{Placed, prepare, and_places, AllPlaced, place-gate, twin-new, twin-old}
 use Rattle.masking.proofs.Carries.{Family, Satisfies, Balanced, Carries, Masks, satisfies-split, balanced}

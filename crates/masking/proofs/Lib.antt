@@ -1,9 +1,7 @@
 pub mod AndRows
-pub mod Breaks
 pub mod Carried
 pub mod Carries
 pub mod CodeLaws
-pub mod CodeTables
 pub mod Counted
 pub mod Edges
 pub mod GateCount
@@ -19,8 +17,6 @@ pub mod OutputTwins
 pub mod Placed
 pub mod PublicGates
 pub mod PublicTwins
-pub mod ReadAlike
 pub mod Search
-pub mod Secrets
 pub mod Settings
 pub mod Shape

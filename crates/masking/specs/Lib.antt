@@ -1,3 +1,4 @@
+pub mod AndBits
 pub mod Calls
 pub mod Changes
 pub mod GateCount

@@ -8,11 +8,11 @@ use Rattle.netlist.specs.Eval.{wire_bits}
 use Rattle.masking.specs.Mask.{mask_netlist}
 use Rattle.masking.specs.Leak.{count, leak}
 use Rattle.masking.specs.Calls.{mask_call, check_call}
-use Rattle.program.specs.Programs.{list_file, mask_program}
+use Rattle.program.specs.Programs.{list_file, mask_program, check_program}
 use Rattle.theorems.specs.Known.{Known, rows}
 use mathlib.Core.Path.{refl}
 
 pub known-results : Known rows
 unfolding words word_lines number decimal gate_line opening read_netlist write_netlist wire_bits mask_netlist count leak
-    mask_call check_call list_file mask_program
+    mask_call check_call list_file mask_program check_program
 known-results = refl

@@ -9,14 +9,15 @@ use Rattle.netlist.specs.Read.{read_netlist}
 use Rattle.masking.specs.Mask.{mask_netlist}
 use Rattle.masking.specs.Leak.{count, Found}
 use Rattle.masking.specs.Calls.{MaskedText, mask_call, check_call}
-use Rattle.program.specs.Programs.{mask_program}
+use Rattle.program.specs.Programs.{mask_program, check_program}
 
 -- a call: Mask or Check with its tables' lengths, text, lists and buffer lengths; the program *mask* on its three
--- files; or the counts of wires of the masked netlist of a text, for an input setting
+-- files, or *check* on its two; or the counts of wires of the masked netlist of a text, for an input setting
 pub data Call : Type 0 where
   mask : (tables text codes wanted : List ℕ) → (text_room code_room : ℕ) → Call
   check : (tables text codes : List ℕ) → Call
   mask_files : (netlist inputs outputs : List ℕ) → Call
+  check_files : (netlist inputs : List ℕ) → Call
   counts : (text codes wanted wires : List ℕ) → List Bool → Call
 
 pub data Answer : Type 0 where
@@ -42,6 +43,7 @@ outcome_of (mask tables text codes wanted text_room code_room)
     = and_then (mask_call (source_limits Standard) tables text codes wanted text_room code_room) mask_answer
 outcome_of (check tables text codes) = and_then (check_call (masked_limits Standard) tables text codes) check_answer
 outcome_of (mask_files netlist inputs outputs) = done (prints (mask_program netlist inputs outputs))
+outcome_of (check_files netlist inputs) = done (prints (check_program netlist inputs))
 outcome_of (counts text codes wanted wires x) = and_then (read_netlist (source_limits Standard) text)
     (count_answer codes wanted wires x)
 
@@ -80,8 +82,8 @@ step_counts = done (are (1 ∷ 1 ∷ 1 ∷ 2 ∷ 1 ∷ 2 ∷ 2 ∷ []))
 abbrev pub m4 : Bool → Bool → KnownResult
 m4 a b = known (counts and_source (1 ∷ 2 ∷ []) (0 ∷ []) step_wires (a ∷ b ∷ [])) step_counts
 
--- M1, as *mask* prints it and as a call of the service, and M2 to M9 in order; the empty text of M8 comes once with
--- thirteen codes, more than question 12 admits: 4 is put first
+-- M1, as *mask* prints it and as a call of the service, and M2 to M9 in order, M5 to M7 also as *check* prints them;
+-- the empty text of M8 comes once with thirteen codes, more than question 12 admits: 4 is put first
 abbrev pub rows : List KnownResult
 rows =
     known (mask_files and_source (ascii "12\n") (ascii "0\n")) (done (prints (ascii "1\n" ++ and_masked)))
@@ -95,8 +97,13 @@ rows =
     ∷ m4 false true
     ∷ m4 true true
     ∷ known (check check_tables (ascii "1 4\n2 1 2\n1 1\n2 1 0 1 3 XOR\n") (1 ∷ [])) (done (leaks 3 1 0 4))
+    ∷ known (check_files (ascii "1 4\n2 1 2\n1 1\n2 1 0 1 3 XOR\n") (ascii "1\n"))
+    (done (prints (ascii "leak 3 1 0 4\n")))
     ∷ known (check check_tables (ascii "1 4\n2 1 2\n1 1\n2 1 0 1 3 XOR\n") (2 ∷ [])) (done clean)
+    ∷ known (check_files (ascii "1 4\n2 1 2\n1 1\n2 1 0 1 3 XOR\n") (ascii "2\n")) (done (prints (ascii "clean\n")))
     ∷ known (check check_tables (ascii "1 4\n2 1 2\n1 1\n2 1 0 1 3 AND\n") (1 ∷ [])) (done (leaks 3 1 2 0))
+    ∷ known (check_files (ascii "1 4\n2 1 2\n1 1\n2 1 0 1 3 AND\n") (ascii "1\n"))
+    (done (prints (ascii "leak 3 1 2 0\n")))
     ∷ known (mask mask_tables [] (1 ∷ []) (0 ∷ []) 60000 1) (refused 4)
     ∷ known (check check_tables [] (1 ∷ [])) (refused 4)
     ∷ known (check check_tables [] (replicate 13 1)) (refused 4)

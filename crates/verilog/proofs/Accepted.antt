@@ -1,7 +1,7 @@
 -- The netlist of an accepted text of equations.
 use Prim.Native.Nat.{ℕ, ◌≤◌}
 use mathlib.Core.Path.{◌≡◌, sym, ap, subst, ◌∙◌}
-use mathlib.Core.Bool.{◌&&◌}
+use mathlib.Core.Bool.{false, ◌&&◌}
 use mathlib.Core.List.{List}
 use lib.Dec.{T, leb, leb→le}
 use lib.ListN.{length}
@@ -21,13 +21,14 @@ use Rattle.verilog.specs.Syntax.{Module, Stands}
 use Rattle.verilog.specs.Parse.{parse}
 use Rattle.verilog.specs.Depth.{shallow}
 use Rattle.verilog.specs.Rules.{rules_kept}
+use Rattle.verilog.specs.Equations.{input_ports, look, entries, assigned}
 use Rattle.verilog.specs.Made.{netlist_made}
 use Rattle.verilog.specs.Call.{made_outcome, read_equations, equations_call}
 use Rattle.verilog.specs.Delivered.{Reads, Delivered}
 use Rattle.verilog.proofs.Parsing.{parse-sound, parse-complete}
 use Rattle.verilog.proofs.Naming.{kept}
-use Rattle.verilog.proofs.Making.{made-well_formed}
-use Rattle.verilog.proofs.Solving.{made-computes}
+use Rattle.verilog.proofs.Making.{made-well_formed, made-outputs}
+use Rattle.verilog.proofs.Solving.{equations-solved, made-computes}
 
 made-within : (L : Limits) (N : Netlist) → T (within_limits L (header_of N)) → Within L N
 made-within L N t =
@@ -66,6 +67,11 @@ equations-read L t N e =
       formed = made-well_formed K;
       within = made-within L M k₅.0;
       computes = made-computes K;
+      solves = made-outputs K;
+      solution = λ ins l. record {
+        bits = look false (assigned (entries (input_ports m) ins) m.assigns);
+        solves = equations-solved K ins l;
+      };
     })
 
 -- its written form reads back as it

@@ -15,6 +15,7 @@ use Rattle.netlist.specs.GateReader.{reader_says}
 use Rattle.netlist.specs.Services.{rewrite_call, run_call}
 use Rattle.masking.specs.Calls.{mask_call, check_call}
 use Rattle.netlist.proofs.LineEnds.{NoCR, lf_ends-none, ends-alike}
+use Rattle.theorems.specs.Texts.{LineEndsAlike}
 
 ends-shorter : (t : List ℕ) → length (lf_ends t) ≤ length t
 ends-shorter [] = omega arith
@@ -25,39 +26,50 @@ ends-shorter (x ∷ xs) = go (eqb x cr && at_lf xs) (ends-shorter xs)
     go false h = omega arith
 
 module _ (L : Limits) (t : List ℕ) (n : length t ≤ L.text) (h : NoCR (lf_ends t)) where
-  pub opening-alike : opening L (lf_ends t) ≡ opening L t
+  opening-alike : opening L (lf_ends t) ≡ opening L t
   unfolding opening
   opening-alike =
       let k : length (lf_ends t) ≤ L.text = omega (arith, ends-shorter t) in
       rw (le-leb (length (lf_ends t)) L.text k, le-leb (length t) L.text n, lf_ends-none h, ends-alike t)
 
-  pub read_alike : read_netlist L (lf_ends t) ≡ read_netlist L t
+  read_alike : read_netlist L (lf_ends t) ≡ read_netlist L t
   unfolding read_netlist
   read_alike = rw (opening-alike, ends-alike t)
 
   -- ---- services
 
-  pub rewrite-alike : (tables : List ℕ) (room : ℕ) → rewrite_call L tables (lf_ends t) room
+  rewrite-alike : (tables : List ℕ) (room : ℕ) → rewrite_call L tables (lf_ends t) room
       ≡ rewrite_call L tables t room
   unfolding rewrite_call
   rewrite-alike tables room = rw read_alike
 
-  pub run-alike : (tables list : List ℕ) (room : ℕ) → run_call L tables (lf_ends t) list room
+  run-alike : (tables list : List ℕ) (room : ℕ) → run_call L tables (lf_ends t) list room
       ≡ run_call L tables t list room
   unfolding run_call
   run-alike tables list room = rw read_alike
 
-  pub mask-alike : (tables codes wanted : List ℕ) (text_room code_room : ℕ)
+  mask-alike : (tables codes wanted : List ℕ) (text_room code_room : ℕ)
       → mask_call L tables (lf_ends t) codes wanted text_room code_room ≡ mask_call L tables t codes wanted text_room
       code_room
   unfolding mask_call
   mask-alike tables codes wanted text_room code_room = rw read_alike
 
-  pub check-alike : (tables codes : List ℕ) → check_call L tables (lf_ends t) codes ≡ check_call L tables t codes
+  check-alike : (tables codes : List ℕ) → check_call L tables (lf_ends t) codes ≡ check_call L tables t codes
   unfolding check_call
   check-alike tables codes = rw read_alike
 
   -- the gate reader, asked for the k-th time
-  pub reader-alike : (k : ℕ) → reader_says L (lf_ends t) k ≡ reader_says L t k
+  reader-alike : (k : ℕ) → reader_says L (lf_ends t) k ≡ reader_says L t k
   unfolding reader_says
   reader-alike k = rw (opening-alike, ends-alike t)
+
+pub line-ends-alike : LineEndsAlike
+line-ends-alike L t n h = record {
+  opened = opening-alike L t n h;
+  netlist = read_alike L t n h;
+  rewritten = rewrite-alike L t n h;
+  run = run-alike L t n h;
+  masked = mask-alike L t n h;
+  checked = check-alike L t n h;
+  gate = reader-alike L t n h;
+}
