@@ -7,6 +7,7 @@ ghost use Rattle.from_aiger.specs.HeadAnswers.{head_said, head_asked, HeadIs};
 use crate::counts::HeadNumbers;
 use crate::lines::Lines;
 use netlist::{Limits, Refusal};
+use text::bytes::same;
 
 // What a file begins with.
 const OPENING: [u8; 4] = *b"aag ";
@@ -15,7 +16,7 @@ const OPENING: [u8; 4] = *b"aag ";
 fn is_opening(text: &[u8]) -> bool
     ensures { result ≡ opens text.now }
 {
-    text.starts_with(&OPENING)
+    same(&text[..text.len().min(OPENING.len())], &OPENING)
 }
 
 // 19 for a header without inputs or outputs or with too many variables, then 20 for one with latches.

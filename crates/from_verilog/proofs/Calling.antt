@@ -1,7 +1,7 @@
 -- From a text that was read to the promise.
 use Rattle.std.specs.Prelude.{Err, Ok, Result}
 use Prim.Native.Nat.{ℕ, ◌+◌, ◌*◌, ◌≤◌, ◌<◌}
-use mathlib.Core.Path.{◌≡◌, sym, ap, ◌∙◌}
+use mathlib.Core.Path.{◌≡◌, refl, sym, ap, ◌∙◌}
 use mathlib.Core.Bool.{true, false}
 use mathlib.Core.List.{List, [], ◌∷◌}
 use native.Mathlib.Omega.{arith}
@@ -12,14 +12,18 @@ use Rattle.netlist.specs.declared.Sizes.TheVariants.{Standard, Whole}
 use Rattle.netlist.specs.declared.Refusal.{Refusal}
 use Rattle.netlist.specs.declared.Refusal.TheVariants as Q
 use Rattle.netlist.specs.Netlist.{source_limits}
-use Rattle.netlist.specs.Outcome.{and_then}
+use Rattle.netlist.specs.Refusal.{number_of}
+use Rattle.netlist.specs.Outcome.{Outcome, refused, done, and_then}
 use Rattle.netlist.specs.Services.{tables_long, rewrite_outcome, outcome_of, Answers}
 use Rattle.netlist.specs.Table.{half}
+use Rattle.netlist.proofs.Questions.{refused-done}
 use Rattle.netlist.proofs.Answering.{answers_one, answers-rest, tables-long}
 use Rattle.verilog.specs.Call.{read_equations, equations_call}
 use Rattle.verilog.specs.Delivered.{Delivered}
+use Rattle.verilog.specs.Unread.{Unread}
 use Rattle.verilog.proofs.Accepted.{equations-delivered}
-use Rattle.from_verilog.specs.Promise.{entries_of, call}
+use Rattle.verilog.proofs.Refused.{grammar-unread, unread-grammar}
+use Rattle.from_verilog.specs.Promise.{entries_of, lengths, call}
 
 -- what the reader requires of the limits of the sizes
 pub record Fits (L : Limits) : Type 0 where
@@ -74,6 +78,42 @@ long s a b c d e f g h =
       wires = entries-long g L.table y.0;
     }
 
+refused-same : {A : Type 0} {p q : ℕ} → ◌≡◌ {A = Outcome A} (refused p) (refused q) → p ≡ q
+refused-same e = cc
+
+-- the question with number 16
+sixteen : (q : Refusal) → number_of q ≡ 16 → q ≡ Q.Grammar
+sixteen Q.Tables e = absurd (omega arith)
+sixteen Q.Length e = absurd (omega arith)
+sixteen Q.Bytes e = absurd (omega arith)
+sixteen Q.Header e = absurd (omega arith)
+sixteen Q.Limits e = absurd (omega arith)
+sixteen Q.Count e = absurd (omega arith)
+sixteen Q.Line e = absurd (omega arith)
+sixteen Q.Operands e = absurd (omega arith)
+sixteen Q.Wire e = absurd (omega arith)
+sixteen Q.Masks e = absurd (omega arith)
+sixteen Q.Inputs e = absurd (omega arith)
+sixteen Q.Settings e = absurd (omega arith)
+sixteen Q.Wanted e = absurd (omega arith)
+sixteen Q.Room e = absurd (omega arith)
+sixteen Q.OldForm e = absurd (omega arith)
+sixteen Q.Grammar e = refl
+sixteen Q.Names e = absurd (omega arith)
+sixteen Q.Depth e = absurd (omega arith)
+sixteen Q.Aiger e = absurd (omega arith)
+sixteen Q.Latches e = absurd (omega arith)
+sixteen Q.Pairs e = absurd (omega arith)
+sixteen Q.Budget e = absurd (omega arith)
+sixteen Q.Gate e = absurd (omega arith)
+sixteen Q.Place e = absurd (omega arith)
+sixteen Q.Seam e = absurd (omega arith)
+
+-- an answer that stands for a refusal by 16
+refused-16 : (out : List ℕ) (a : Result ℕ Refusal) → outcome_of out a ≡ refused 16 → a ≡ Err Q.Grammar
+refused-16 out (Ok n) e = absurd (refused-done 16 _ (sym e))
+refused-16 out (Err q) e = ap (λ (q : Refusal). Err q) (sixteen q (refused-same e))
+
 -- question 1
 module _ (s : Sizes) (text out o r h w l st ws : List ℕ) where
   pub call-one : tables_long (source_limits s) (length o ∷ length r ∷ entries_of (length h) ∷ entries_of (length w) ∷
@@ -103,3 +143,16 @@ module _ (s : Sizes) (text out o r h w l st ws : List ℕ) where
       equations-delivered s (length o ∷ length r ∷ entries_of (length h) ∷ entries_of (length w) ∷ entries_of (length l)
       ∷ entries_of (length st) ∷ entries_of
       (length ws) ∷ []) text (length out) (take n x) (sym k.outcome ∙ ap (outcome_of x) p)
+
+  -- question 16
+  pub call-grammar : {x : List ℕ} {a : Result ℕ Refusal} → Answers (call s text out o r h w l st ws) out x a
+      → a ≡ Err Q.Grammar → Unread (source_limits s) (lengths o r h w l st ws) text
+  call-grammar {x} {a} k e =
+      grammar-unread (source_limits s) (lengths o r h w l st ws) text (length out)
+      (sym k.outcome ∙ ap (outcome_of x) e)
+
+  pub call-unread : {x : List ℕ} {a : Result ℕ Refusal} → Answers (call s text out o r h w l st ws) out x a
+      → Unread (source_limits s) (lengths o r h w l st ws) text → a ≡ Err Q.Grammar
+  call-unread {x} {a} k U =
+      refused-16 x a
+      (k.outcome ∙ unread-grammar (source_limits s) (lengths o r h w l st ws) text (length out) U)

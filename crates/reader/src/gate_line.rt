@@ -70,8 +70,12 @@ fn last_word(at: Cursor, named: Option<GateNumbers>) -> Option<(GateNumbers, Cur
 fn one_operand(at: Cursor) -> Option<(GateNumbers, Cursor)>
     ensures { LineIs at.entry (one (line_words (left at.entry))) result }
 {
-    let (a, at1) = at.next_number()?;
-    let (c, at2) = at1.next_number()?;
+    let Some((a, at1)) = at.next_number() else {
+        return None;
+    };
+    let Some((c, at2)) = at1.next_number() else {
+        return None;
+    };
     let (name, end) = at2.next_word();
     last_word(end, gate1(name, a, c))
 }
@@ -80,9 +84,15 @@ fn one_operand(at: Cursor) -> Option<(GateNumbers, Cursor)>
 fn two_operands(at: Cursor) -> Option<(GateNumbers, Cursor)>
     ensures { LineIs at.entry (two (line_words (left at.entry))) result }
 {
-    let (a, at1) = at.next_number()?;
-    let (b, at2) = at1.next_number()?;
-    let (c, at3) = at2.next_number()?;
+    let Some((a, at1)) = at.next_number() else {
+        return None;
+    };
+    let Some((b, at2)) = at1.next_number() else {
+        return None;
+    };
+    let Some((c, at3)) = at2.next_number() else {
+        return None;
+    };
     let (name, end) = at3.next_word();
     last_word(end, gate2(name, a, b, c))
 }

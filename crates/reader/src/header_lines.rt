@@ -27,8 +27,12 @@ pub struct HeaderNumbers {
 pub(crate) fn counts_line(at: Cursor) -> Option<(u32, u32, Cursor)>
     ensures { CountsIs at.entry result }
 {
-    let (gates, at1) = at.next_number()?;
-    let (wires, at2) = at1.next_number()?;
+    let Some((gates, at1)) = at.next_number() else {
+        return None;
+    };
+    let Some((wires, at2)) = at1.next_number() else {
+        return None;
+    };
     let next = at2.line_end()?;
     Some((gates, wires, next))
 }
@@ -47,7 +51,9 @@ fn read_widths<'t>(at: Cursor<'t>, table: &mut [u32]) -> Option<(usize, u128, Cu
         if let Some(next) = here.line_end() {
             return Some((n, sum, next));
         }
-        let (width, on) = here.next_number()?;
+        let Some((width, on)) = here.next_number() else {
+            return None;
+        };
         if width == 0 {
             return None;
         }
@@ -63,7 +69,9 @@ fn values_line<'t>(at: Cursor<'t>, table: &mut [u32]) -> Option<(usize, u128, Cu
     ensures { WidthsIs at.entry (values (numbers (line_words (left at.entry))))
         table.new result }
 {
-    let (count, on) = at.next_number()?;
+    let Some((count, on)) = at.next_number() else {
+        return None;
+    };
     let (n, sum, next) = read_widths(on, table)?;
     if count == 0 {
         return None;

@@ -13,7 +13,9 @@ use text::cursor::Cursor;
 fn parties_line(at: Cursor) -> Option<(Parties, Cursor)>
     ensures { PartiesIs at.entry result }
 {
-    let (one, following) = at.next_number()?;
+    let Some((one, following)) = at.next_number() else {
+        return None;
+    };
     let (two, output, next) = counts_line(following)?;
     if one == 0 {
         return None;

@@ -7,8 +7,12 @@ use text::cursor::Cursor;
 fn usual_operands(at: Cursor) -> Option<(u32, Cursor)>
     ensures { UsualIs at.entry result }
 {
-    let (operands, at1) = at.take_digit()?;
-    let (results, at2) = at1.take_digit()?;
+    let Some((operands, at1)) = at.take_digit() else {
+        return None;
+    };
+    let Some((results, at2)) = at1.take_digit() else {
+        return None;
+    };
     if results == 1 {
         return Some((operands, at2));
     }
@@ -19,8 +23,12 @@ fn usual_operands(at: Cursor) -> Option<(u32, Cursor)>
 fn any_operands(at: Cursor) -> Option<(u32, Cursor)>
     ensures { OperandsIs at.entry result }
 {
-    let (operands, at1) = at.next_number()?;
-    let (results, at2) = at1.next_number()?;
+    let Some((operands, at1)) = at.next_number() else {
+        return None;
+    };
+    let Some((results, at2)) = at1.next_number() else {
+        return None;
+    };
     if results != 1 {
         return None;
     }
