@@ -14,12 +14,13 @@ use Rattle.netlist.specs.Services.{tables_long, list_good}
 use Rattle.netlist.proofs.Tests.{both}
 use Rattle.netlist.proofs.Questions.{done-same, ask-done, and_then-done}
 use Rattle.netlist.proofs.Accepted.{accepted}
+use Rattle.masking.proofs.Counted.{counted}
 use Rattle.masking.proofs.MaskedText.{masked-reads}
 use Rattle.fewest.specs.Choice.{is_call_code, choice}
 use Rattle.fewest.specs.Fewest.{masked_under, given}
 use Rattle.fewest.specs.Call.{Result, Room, result_of, room_for, deliver, fewest_outcome, fewest_call}
 use Rattle.fewest.specs.Worth.{Worth}
-use Rattle.fewest.proofs.Chosen.{CallInputs, chosen-inputs, chosen-unmask, chosen-clean, chosen-within}
+use Rattle.fewest.proofs.Chosen.{CallInputs, chosen-inputs, chosen-unmask, chosen-clean, chosen-twins, chosen-within}
 use Rattle.fewest.proofs.Floor.{given-first, given-takes, above_floor, distance}
 
 pub worth : (s : Sizes) (tables text codes wanted : List ℕ) (budget : ℕ) (room : Room) (R : Result)
@@ -65,8 +66,10 @@ worth s tables text codes wanted budget room R e =
         netlist = (masked_under N codes wanted d).netlist;
         back = masked-reads s (chosen-inputs C d t) (chosen-within C d t A.within);
         steps = refl;
+        count = counted (chosen-inputs C d t);
         unmasks = chosen-unmask C d t;
         equal_counts = chosen-clean C d t;
+        twins = chosen-twins C d t;
         least = above_floor N codes wanted l budget b;
         near = distance N codes wanted l budget b;
       },

@@ -12,12 +12,14 @@ use Rattle.netlist.specs.declared.Gate.{Gate}
 use Rattle.netlist.specs.declared.Gate.TheVariants.{Xor, And, Inv, Eqw, Eq}
 use Rattle.netlist.specs.Lists.{every}
 use Rattle.netlist.specs.Netlist.{Netlist, input_bits, output_bits, result}
-use Rattle.netlist.specs.Eval.{made, bits_at, run_gates, wire_bits, outputs_of}
+use Rattle.netlist.specs.Eval.{differs, made, bits_at, run_gates, wire_bits, outputs_of}
 use Rattle.netlist.specs.Read.{operands_given, is_given, result_good, gates_good, WellFormed, Within}
-use Rattle.masking.specs.Mask.{is_input_code, is_wanted}
+use Rattle.masking.specs.Mask.{is_input_code, is_wanted, no_twin, finish}
 use Rattle.masking.specs.Unmask.{Unmasks}
-use Rattle.masking.specs.Leak.{Clean}
+use Rattle.masking.specs.Leak.{mask_of, Clean}
+use Rattle.masking.specs.Twins.{Twins}
 use Rattle.netlist.proofs.Tests.{both, pair, on_bool}
+use Rattle.masking.proofs.Carried.{twins-carried}
 use Rattle.masking.proofs.MaskInputs.{MaskInputs}
 use Rattle.masking.proofs.Masking.{outputs-unmask, counts-equal}
 use Rattle.fewest.specs.Choice.{Choice, is_call_code, is_free, input_ways, ways, chosen_code, chosen_codes, chosen_gate}
@@ -161,6 +163,25 @@ module _ {N : Netlist} {codes wanted : List ℕ} (C : CallInputs N codes wanted)
   -- and each wire's count is the same for all input settings that agree in their public bits
   pub chosen-clean : Clean (masked_under N codes wanted d).netlist (chosen_inputs codes d)
   chosen-clean = counts-equal chosen-inputs
+
+  -- each source wire has the twin that the masking steps leave under the choice
+  pub chosen-twins : Twins N (chosen_inputs codes d) (masked_under N codes wanted d).netlist
+      (finish (chosen_source N d) (chosen_inputs codes d)).twins
+  chosen-twins =
+      let T = twins-carried chosen-inputs in
+      record {
+        many = T.many;
+        each = λ w l.
+            let A = T.each w l in
+            record {
+              wire = A.wire;
+              code = A.code;
+              carries = λ m0 m1 x k. A.carries m0 m1 x k
+                  ∙ ap (λ (v : List Bool). differs (bits_at v w)
+                  (mask_of m0 m1 (get_or (finish (chosen_source N d) (chosen_inputs codes d)).twins w no_twin).code))
+                  (chosen-wires N d x);
+            };
+      }
 
   pub chosen-within : {L : _} → Within L N → Within L (chosen_source N d)
   chosen-within H = record { wires = H.wires; inputs = H.inputs; outputs = H.outputs }
