@@ -58,7 +58,8 @@ export class Box extends EventTarget {
     });
     this.part('file').addEventListener('change', ({ target }) => target.files[0] && this.open(target.files[0]));
     this.part('notation').addEventListener('change', () => this.look());
-    this.part('save').addEventListener('click', () => this.#save());
+    this.part('save').addEventListener('click', () => save(this.text, this.file));
+    this.part('save-codes')?.addEventListener('click', () => this.#saveCodes());
     this.root.addEventListener('dragover', (event) => {
       event.preventDefault();
       this.root.classList.add('over');
@@ -143,12 +144,10 @@ export class Box extends EventTarget {
     return fieldValues(this.part(name)).flatMap((word, index) => codesFrom(word, widths[index]));
   }
 
-  #save() {
-    save(this.text, this.file);
-    if (!this.pair || !this.netlist) return;
-    const line = (name) => `${name === 'codes' ? 'inputs' : 'outputs'} ` +
-      fieldValues(this.part(name)).map((word, index) => `${index}=${word.trim()}`).join(',');
-    save(`${line('codes')}\n${line('ends')}\n`, this.file.replace('.txt', '.codes'));
+  /** Offers the codes, a line for those of the inputs and one for those of the outputs, by value. */
+  #saveCodes() {
+    const line = (name) => fieldValues(this.part(name)).map((word, index) => `${index}=${word.trim()}`).join(',');
+    save(`inputs ${line('codes')}\noutputs ${line('ends')}\n`, this.file.replace('.txt', '.codes'));
   }
 }
 

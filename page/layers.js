@@ -62,7 +62,7 @@ function settle(layers) {
   layers.forEach(number);
   for (let round = 0; round < 8; round++) {
     const outward = round % 2 === 0;
-    for (const layer of outward ? layers : layers.toReversed()) {
+    for (const layer of outward ? layers : [...layers].reverse()) {
       const middle = new Map(layer.map((place) => [place, mean(outward ? place.next : place.before, place.order)]));
       layer.sort((left, right) => middle.get(left) - middle.get(right));
       number(layer);

@@ -26,7 +26,8 @@ function draw({ nodes, cut }, told) {
   const drawn = picture(nodes, told);
   at('leak').hidden = false;
   at('picture').replaceChildren(drawn);
-  at('picture').scrollLeft = drawn.width.baseVal.value;
+  const [width, height] = [drawn.width.baseVal.value, drawn.height.baseVal.value];
+  at('picture').scrollTo(width, (height - at('picture').clientHeight) / 2);
   at('meeting').textContent = meetingWords(nodes, told) +
     (cut ? ` Of the wires that reach it the nearest ${nodes.length} are drawn.` : '');
   at('list').replaceChildren(...nodes.map((node) => {

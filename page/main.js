@@ -83,6 +83,5 @@ try {
   document.documentElement.dataset.ready = 'yes';
 } catch (error) {
   at('trouble').hidden = false;
-  at('trouble').textContent = `This browser cannot run the page (${error.message}). It needs WebAssembly of 64-bit memory: ` +
-    'Chromium, Chrome or Edge from version 133 on, or Firefox from 134 on.';
+  at('trouble').textContent = `This browser cannot run the page (${error.message}). ${at('needs').textContent.trim()}`;
 }

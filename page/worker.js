@@ -39,8 +39,11 @@ const check = (engine, text, codes) => engine.check(encode(text), Uint8Array.fro
 
 const run = (engine, text, bits) => engine.run(encode(text), Uint8Array.from(bits));
 
+/** The lanes of Run64 that a number of the page holds: those of eight settings. */
+const LANES = 0xffffffffn;
+
 /**
- * Every wire of a masked netlist in several input settings under the four mask settings, by one call of Run64: bit
+ * Every wire of a masked netlist in up to eight input settings under the four mask settings, by one call of Run64: bit
  * 4s + m0 + 2 m1 of a wire's number is the wire in setting s.
  */
 function wiresIn(engine, text, codes, settings) {
@@ -48,13 +51,8 @@ function wiresIn(engine, text, codes, settings) {
   const word = (bitOf) => lanes.reduce((sum, lane) => sum | BigInt(bitOf(lane)) << BigInt(lane.bit), 0n);
   const inputs = codes.map((code, bit) => word(({ setting, masks }) => setting[bit] ^ maskOf(code, masks & 1, masks >> 1)));
   const pair = [word(({ masks }) => masks & 1), word(({ masks }) => masks >> 1)];
-  return engine.run64(encode(withAllOutputs(text)), BigUint64Array.from([...inputs, ...pair]));
-}
-
-/** What is seen on every wire in the settings, as numbers. */
-function seen(engine, text, codes, settings) {
-  const ran = wiresIn(engine, text, codes, settings);
-  return ran.refused ? ran : { wires: [...ran.words].map(Number) };
+  const ran = engine.run64(encode(withAllOutputs(text)), BigUint64Array.from([...inputs, ...pair]));
+  return ran.refused ? ran : { wires: Array.from(ran.words, (each) => Number(each & LANES)) };
 }
 
 /** The wires that reach a wire, as a picture shows them: gates, and what each is in a setting and in its base. */
@@ -69,12 +67,12 @@ function cone(engine, text, codes, wire, ones) {
   const inputs = bitsOf(shapeOf(text).inputs);
   const nodes = wires.map((each) => {
     const { kind, operands } = gates.get(each) ?? { kind: each < inputs ? 'input' : '', operands: [] };
-    return { wire: each, kind, operands: operands.filter((operand) => drawn.has(operand)), all: operands, seen: Number(ran.words[each]) };
+    return { wire: each, kind, operands: operands.filter((operand) => drawn.has(operand)), all: operands, seen: ran.wires[each] & 0xff };
   });
   return { nodes, cut };
 }
 
-const ANSWERS = { read, mask, check, run, seen, cone };
+const ANSWERS = { read, mask, check, run, seen: wiresIn, cone };
 
 let opening;
 self.onmessage = async ({ data: { id, service, list } }) => {

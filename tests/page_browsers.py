@@ -42,6 +42,16 @@ class Browser:
         self.run(f"const list = document.querySelector({json.dumps(selector)}); list.value = {json.dumps(value)}; "
                  "list.dispatchEvent(new Event('change', {bubbles: true}))")
 
+    def downloaded(self, name, seconds=30):
+        """What a file of that name holds, once it is downloaded."""
+        path = os.path.join(self.folder, name)
+        end = time.time() + seconds
+        while not os.path.exists(path) or os.path.exists(path + ".part"):
+            assert time.time() < end, f"{self.name}: {name} was not downloaded"
+            time.sleep(0.1)
+        with open(path) as file:
+            return file.read()
+
     def close(self):
         self.process.terminate()
         try:
@@ -138,6 +148,9 @@ class Chromium(Browser):
         for kind in ("dragEnter", "dragOver", "drop"):
             self.call("Input.dispatchDragEvent", type=kind, x=x, y=y, data=data)
 
+    def downloads(self):
+        self.call("Page.setDownloadBehavior", behavior="allow", downloadPath=self.folder)
+
     def size(self, width, height):
         self.call("Emulation.setDeviceMetricsOverride", width=width, height=height, deviceScaleFactor=1, mobile=False)
 
@@ -227,6 +240,9 @@ class Firefox(Browser):
             const data = new DataTransfer(); data.items.add(new File([bytes], {json.dumps(path.name)}));
             for (const kind of ['dragenter', 'dragover', 'drop'])
               document.querySelector({json.dumps(selector)}).dispatchEvent(new DragEvent(kind, {{dataTransfer: data, bubbles: true, cancelable: true}}))""")
+
+    def downloads(self):
+        """They go to the profile's folder from the start."""
 
     def size(self, width, height):
         self.call("WebDriver:SetWindowRect", width=width, height=height)
