@@ -40,8 +40,9 @@ export class Box extends EventTarget {
     root.querySelector('.place').replaceWith(document.getElementById('box').content.cloneNode(true));
     Object.assign(this, { root, file, pair, text: '', asked: 0, netlist: undefined });
     this.part = (name) => root.querySelector(`.${name}`);
-    this.part('codes').querySelector('legend').textContent = 'Mask codes: a digit for each bit, or one for all (0: public)';
-    this.part('ends').querySelector('legend').textContent = ends;
+    const legend = (name, words) => (this.part(name).querySelector('legend').textContent = words);
+    legend('codes', 'Mask codes: a digit for each bit, or one for all (0: public)');
+    legend('ends', ends);
     this.part('text').setAttribute('aria-labelledby', root.getAttribute('aria-labelledby'));
     this.part('codes').hidden = this.part('ends').hidden = true;
     this.#listen();
@@ -49,12 +50,11 @@ export class Box extends EventTarget {
 
   #listen() {
     const area = this.part('text');
-    let pause;
     area.addEventListener('input', () => {
-      clearTimeout(pause);
+      clearTimeout(this.pause);
       this.text = area.value;
       this.netlist = undefined;
-      pause = setTimeout(() => this.look(), 250);
+      this.pause = setTimeout(() => this.look(), 250);
     });
     this.part('file').addEventListener('change', ({ target }) => target.files[0] && this.open(target.files[0]));
     this.part('notation').addEventListener('change', () => this.look());
@@ -87,7 +87,8 @@ export class Box extends EventTarget {
     area.value = whole ? text : `${text.slice(0, text.lastIndexOf('\n', SHOWN / 100))}\n…`;
     area.readOnly = !whole;
     this.part('note').hidden = whole;
-    this.part('note').textContent = `The beginning is shown of ${text.length.toLocaleString('en')} bytes; all of it is used.`;
+    const bytes = text.length.toLocaleString('en');
+    this.part('note').textContent = `The beginning is shown of ${bytes} bytes; all of it is used.`;
     this.part('notation').value = '';
     [this.part('codes'), this.part('ends')].forEach((fieldset) => delete fieldset.dataset.widths);
     await this.look();
@@ -103,6 +104,7 @@ export class Box extends EventTarget {
 
   /** Asks the library what the text is, says it, and makes the fields for its values. */
   async look() {
+    clearTimeout(this.pause);
     const turn = ++this.asked;
     this.netlist = undefined;
     if (this.text.trim() === '') return this.say('', '');
@@ -125,7 +127,7 @@ export class Box extends EventTarget {
   /** The netlist that the text was read as, or undefined where it was refused, which the box says itself. */
   async read() {
     if (!this.netlist) await this.look();
-    if (this.text.trim() === '') this.say('refused', 'There is no netlist yet: drop a file, paste a text, or take an example.');
+    if (this.text.trim() === '') this.say('refused', 'There is no netlist yet: drop or paste one, or take an example.');
     return this.netlist;
   }
 

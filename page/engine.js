@@ -65,6 +65,22 @@ export class Engine {
     return `fidrovelj_${name}` in this.#exports;
   }
 
+  /** The library's version in words, where this build tells it. */
+  get version() {
+    const number = this.#exports.fidrovelj_version?.();
+    if (number === undefined) return undefined;
+    return [number / 10000, number / 100 % 100, number % 100].map(Math.floor).join('.');
+  }
+
+  /** The words of a refusal by its number, where this build tells them. */
+  words(refused) {
+    if (!this.has('refusal')) return undefined;
+    const most = 1000;
+    this.#grow(this.#base + BigInt(most));
+    const length = Number(this.#exports.fidrovelj_refusal(refused, this.#base, BigInt(most)));
+    return new TextDecoder().decode(this.#bytes(Number(this.#base), length));
+  }
+
   /** The written form of a text in one of the notations that are read, or a refusal. */
   read(text, notation) {
     const service = { fashion: 'rewrite', old: 'from_old', aiger: 'from_aiger', equations: 'from_verilog' }[notation];
@@ -91,10 +107,12 @@ export class Engine {
   /** A word of sixty-four settings for each output bit, of one for each input bit, or a refusal. */
   run64(text, words) {
     const rooms = (size) => [room(LIMITS[size].masked, 8)];
-    return this.#sized('run64', [text, words], rooms, (length, [out]) => ({ words: this.#numbers(out, length).slice() }));
+    return this.#sized('run64', [text, words], rooms, (length, [out]) => ({
+      words: this.#numbers(out, length).slice(),
+    }));
   }
 
-  /** The verdict on a masked netlist, by the service that can give it: Check, else Certify, else Check of many inputs. */
+  /** The verdict on a masked netlist, by the service that can give it: Check, Certify, or Check of many inputs. */
   check(text, codes) {
     const exact = this.#check(text, codes);
     if (exact.refused !== 12) return exact;

@@ -37,7 +37,7 @@ function draw({ nodes, cut }, told) {
   }));
 }
 
-/** The wires that meet in the leaking one. That each alone is clean follows where the check tells the lowest leaking wire. */
+/** The wires that meet in the leaking one. Each alone is clean where the check tells the lowest wire that leaks. */
 function meetingWords(nodes, told) {
   const [root] = nodes;
   const operands = [...new Set(root.operands)].map((wire) => nodes.find((node) => node.wire === wire));

@@ -29,7 +29,8 @@ async function mask() {
   await masked.set(answer.text, {
     codes: codeWords(codes, netlist.shape.inputs), ends: codeWords(answer.codes, netlist.shape.outputs),
   });
-  sayVerdict('', `Masked: ${netlist.shape.gates.toLocaleString('en')} gates became ${answer.shape.gates.toLocaleString('en')}. Check says whether a wire leaks.`);
+  const [before, now] = [netlist, answer].map(({ shape }) => shape.gates.toLocaleString('en'));
+  sayVerdict('', `Masked: ${before} gates became ${now}. Check says whether a wire leaks.`);
 }
 
 async function check() {
@@ -67,14 +68,16 @@ function examples() {
 
 heard.addEventListener('answer', ({ detail: { service, milliseconds, memory } }) => {
   if (memory === undefined) return;
-  at('foot').textContent = `Last call: ${service}, ${milliseconds.toFixed(1)} ms; the library has ${Math.ceil(memory / 2 ** 20)} MB of memory.`;
+  const [time, megabytes] = [milliseconds.toFixed(1), Math.ceil(memory / 2 ** 20)];
+  at('foot').textContent = `Last call: ${service}, ${time} ms; the library has ${megabytes} MB of memory.`;
 });
 
 /** The bytes of the module, which the page carries in base64. */
-const wasm = () => Uint8Array.from(atob(at('wasm').textContent.replaceAll(/\s/g, '')), (letter) => letter.charCodeAt(0));
+const wasm = () => Uint8Array.from(atob(at('wasm').textContent.trim()), (letter) => letter.charCodeAt(0));
 
 try {
-  await start(at('worker').textContent, wasm());
+  const { version } = await start(at('worker').textContent, wasm());
+  at('version').textContent = version ? ` Version ${version}.` : '';
   button('mask', source, mask);
   button('check', masked, check);
   examples();

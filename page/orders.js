@@ -3,15 +3,19 @@ import { at } from './dom.js';
 import { countsOf, netlistOf, sameTree, stepsOf, termsOf, treeName, treeOfMask, treesOf, verdictOf } from './steps.js';
 
 const TREES = treesOf([0, 1, 2, 3, 4]);
+const BITS = ['the bit of A', 'the bit of B'];
+
+/** How many steps the slider has. */
+const stepsDone = () => Number(at('slider').value);
 
 export class Orders {
   /** take: what to do with a netlist and its codes that a person wants to check above. */
   constructor(take) {
-    Object.assign(this, { take, turn: 0, chosen: 0, joined: [] });
+    Object.assign(this, { take, turn: 0, chosen: undefined, joined: [] });
     ['code-a', 'code-b'].forEach((id) => at(id).addEventListener('change', () => this.try()));
     at('slider').addEventListener('input', () => this.#tell());
     at('again').addEventListener('click', () => this.#start());
-    at('take-steps').addEventListener('click', () => this.take(netlistOf(this.steps, Number(at('slider').value)), this.codes));
+    at('take-steps').addEventListener('click', () => this.take(netlistOf(this.steps, stepsDone()), this.codes));
     at('trees').addEventListener('keydown', (event) => this.#move(event));
   }
 
@@ -26,20 +30,21 @@ export class Orders {
     this.own = TREES.findIndex((tree) => sameTree(tree, own));
     this.#marks(verdicts);
     const clean = verdicts.filter(({ verdict }) => verdict === 'clean').length;
-    at('trees-words').textContent = `${clean} of ${TREES.length} ways are clean, ${TREES.length - clean} leak. Mask takes the ` +
-      `way with a frame: ${treeName(TREES[this.own], this.terms)}.`;
+    at('trees-words').textContent = `${clean} of ${TREES.length} ways are clean, ${TREES.length - clean} leak. ` +
+      `Mask takes the way with a frame: ${treeName(TREES[this.own], this.terms)}.`;
     this.#start();
-    await this.choose(this.chosen || this.own);
+    await this.choose(this.chosen ?? this.own);
   }
 
   #marks(verdicts) {
     at('trees').replaceChildren(...TREES.map((tree, index) => {
       const leaks = verdicts[index].verdict !== 'clean';
       const mark = document.createElement('button');
-      Object.assign(mark, { type: 'button', textContent: leaks ? '✕' : '○', title: treeName(tree, this.terms), tabIndex: -1 });
+      const title = treeName(tree, this.terms);
+      Object.assign(mark, { type: 'button', textContent: leaks ? '✕' : '○', title, tabIndex: -1 });
       mark.className = `${leaks ? 'leak-mark' : 'clean-mark'} ${index === this.own ? 'own' : ''}`;
       mark.setAttribute('role', 'radio');
-      mark.setAttribute('aria-label', `${treeName(tree, this.terms)}: ${leaks ? 'leaks' : 'clean'}`);
+      mark.setAttribute('aria-label', `${title}: ${leaks ? 'leaks' : 'clean'}`);
       mark.addEventListener('click', () => this.choose(index));
       return mark;
     }));
@@ -74,20 +79,23 @@ export class Orders {
 
   /** Says what the check finds after as many steps as the slider has. */
   async #tell() {
-    const many = Number(at('slider').value);
+    const many = stepsDone();
     const { steps } = this;
     at('done').textContent = `${many} of 7`;
     if (!this.counts) return;
     const verdict = await verdictOf(steps, many, this.codes);
-    if (steps !== this.steps || many !== Number(at('slider').value)) return;
-    const step = steps.find(({ wire }) => wire === verdict.wire);
+    if (steps !== this.steps || many !== stepsDone()) return;
     this.#rows(many, verdict.wire);
     at('tree-verdict').className = `status ${verdict.verdict}`;
-    at('tree-verdict').textContent = verdict.verdict === 'clean'
-      ? `Clean after ${many} of 7 steps.`
-      : `Leak: step ${steps.indexOf(step) + 1}, ${step.name}, is one for ${verdict.own} of the four mask settings where ` +
-        `${verdict.ones.map((bit) => ['the bit of A', 'the bit of B'][bit]).join(' and ')} ${verdict.ones.length === 1 ? 'is' : 'are'} ` +
-        `one, and for ${verdict.base} where both are zero.`;
+    const clean = verdict.verdict === 'clean';
+    at('tree-verdict').textContent = clean ? `Clean after ${many} of 7 steps.` : this.#leakWords(verdict);
+  }
+
+  #leakWords({ wire, ones, own, base }) {
+    const index = this.steps.findIndex((step) => step.wire === wire);
+    const bits = `${ones.map((bit) => BITS[bit]).join(' and ')} ${ones.length === 1 ? 'is' : 'are'} one`;
+    return `Leak: step ${index + 1}, ${this.steps[index].name}, is one for ${own} of the four mask settings where ` +
+      `${bits}, and for ${base} where both are zero.`;
   }
 
   #rows(many, leaking) {

@@ -47,8 +47,9 @@ export function nodeName(node, told) {
 
 /** What a node shows, in words. */
 export function nodeWords(node, told) {
-  const counts = `one for ${count(node.seen & 15)} of the four mask settings where the secrets are zero, for ${count(node.seen >> 4)} in the leak's setting`;
-  return `${nodeName(node, told)}: ${counts}; under ${FOLLOWS[follows(node)]}`;
+  const [base, own] = [count(node.seen & 15), count(node.seen >> 4)];
+  return `${nodeName(node, told)}: one for ${base} of the four mask settings where the secret bits are zero, ` +
+    `for ${own} in the leak's setting; under ${FOLLOWS[follows(node)]}`;
 }
 
 function cells(four, left, top) {
@@ -57,16 +58,21 @@ function cells(four, left, top) {
   }));
 }
 
+/** What a box says of its wire: its gate, or what input it is. */
+function kindOf({ kind, wire }, codes) {
+  if (kind !== 'input') return kind;
+  return wire < codes.length ? `in · code ${codes[wire]}` : `m${wire - codes.length}`;
+}
+
 function box({ node, x, y }, told, mark) {
-  const kind = node.kind === 'input' ? (node.wire < told.codes.length ? `in · code ${told.codes[node.wire]}` : `m${node.wire - told.codes.length}`) : node.kind;
   const [base, own] = [node.seen & 15, node.seen >> 4];
-  const label = (text, left, top, kindOf) => svg('text', { x: left, y: top, class: kindOf }, text);
+  const label = (text, left, top, part) => svg('text', { x: left, y: top, class: part }, text);
   const more = node.all.length > node.operands.length ? [label('…', x - 12, y + HIGH / 2, 'more')] : [];
   return svg('g', { class: `node follow-${follows(node)} ${mark}`, 'data-wire': node.wire },
     svg('title', {}, nodeWords(node, told)),
     svg('rect', { x, y, width: WIDE, height: HIGH, rx: 7, class: 'frame' }),
     label(String(node.wire), x + 8, y + 18, 'wire'),
-    label(kind, x + WIDE - 8, y + 18, 'kind'),
+    label(kindOf(node, told.codes), x + WIDE - 8, y + 18, 'kind'),
     ...cells(base, x + 8, y + 24), label(`${count(base)}`, x + 8 + 4 * CELL + 4, y + 32, 'count'),
     ...cells(own, x + 8, y + 37), label(`${count(own)}`, x + 8 + 4 * CELL + 4, y + 45, 'count'),
     label(FOLLOWS[follows(node)].replace(' masks', ''), x + WIDE - 8, y + 40, 'mask'),
@@ -92,8 +98,8 @@ function measure(layers) {
 }
 
 /**
- * The picture of a cone. told: the masked netlist's input widths and codes, the leaking wires, and the causes among them,
- * where they are known; else the explained wire alone is marked.
+ * The picture of a cone. told: the masked netlist's input widths and codes, and where they are known the wires that
+ * leak; else the explained wire alone is marked.
  */
 export function picture(nodes, told) {
   const layers = layersOf(nodes);
@@ -106,11 +112,12 @@ export function picture(nodes, told) {
     const meeting = root.operands.includes(node.wire) ? ' meets' : '';
     return `${told.leaking?.has(node.wire) ? 'leaks' : ''}${meeting}`;
   };
-  const lines = places.flatMap((from) => from.next.map((to) => line(from, to, `follow-${follows(nodeOf(from, nodes))} ${meets(from, to) ? 'meets' : ''}`)));
+  const lines = places.flatMap((from) => {
+    const colour = `follow-${follows(nodes.find(({ wire }) => wire === from.wire))}`;
+    return from.next.map((to) => line(from, to, `${colour} ${meets(from, to) ? 'meets' : ''}`));
+  });
   return svg('svg', {
     xmlns: namespace, width, height, viewBox: `0 0 ${width} ${height}`, role: 'img',
     'aria-label': `The ${nodes.length} wires that reach wire ${root.wire}, in layers`,
   }, ...lines, ...places.filter((place) => place.node).map((place) => box(place, told, mark(place))));
 }
-
-const nodeOf = (place, nodes) => place.node ?? nodes.find((node) => node.wire === place.wire);

@@ -54,10 +54,11 @@ export class Running {
     const under = box.pair && at('under').checked;
     const pair = bits.slice(-2);
     if (under) bits = [...withMasks(bits.slice(0, -2), box.codes(), pair), ...pair];
+    const ends = under && box.ends();
     const answer = await ask('run', text, bits);
     if (answer.refused) return say('refused', refusalWords(answer));
-    const plain = under ? withMasks(answer.bits, box.ends(), pair) : answer.bits;
-    const words = byValue(plain, outputs).map(bitsTo).map(({ hex, bits: each }, index) => `value ${index}: ${hex} (bits ${each})`);
-    say('', words.join('\n'));
+    const plain = under ? withMasks(answer.bits, ends, pair) : answer.bits;
+    const values = byValue(plain, outputs).map(bitsTo);
+    say('', values.map((value, index) => `value ${index}: ${value.hex} (bits ${value.bits})`).join('\n'));
   }
 }

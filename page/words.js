@@ -2,8 +2,9 @@
 
 /** The names of the questions (docs/RULES.md, Questions), for a library that does not tell its refusals in words. */
 const QUESTIONS = [
-  '', 'Tables', 'Length', 'Bytes', 'Header', 'Limits', 'Count', 'Line', 'Operands', 'Wire', 'Masks', 'Inputs', 'Settings',
-  'Wanted', 'Room', 'OldForm', 'Grammar', 'Names', 'Depth', 'Aiger', 'Latches', 'Pairs', 'Budget', 'Gate', 'Place', 'Seam',
+  '', 'Tables', 'Length', 'Bytes', 'Header', 'Limits', 'Count', 'Line', 'Operands', 'Wire', 'Masks', 'Inputs',
+  'Settings', 'Wanted', 'Room', 'OldForm', 'Grammar', 'Names', 'Depth', 'Aiger', 'Latches', 'Pairs', 'Budget', 'Gate',
+  'Place', 'Seam',
 ];
 
 export const NOTATIONS = {
@@ -31,7 +32,8 @@ export function refusalWords({ refused, words, place, source }) {
   const from = Math.max(0, place.column - 60);
   const shown = line.slice(from, from + 100).replaceAll('\r', ' ');
   const number = `${place.line} | `;
-  return `${head}\nLine ${place.line}, column ${place.column}:\n${number}${shown}\n${' '.repeat(number.length + place.column - 1 - from)}^`;
+  const caret = `${' '.repeat(number.length + place.column - 1 - from)}^`;
+  return `${head}\nLine ${place.line}, column ${place.column}:\n${number}${shown}\n${caret}`;
 }
 
 /** An input bit by its value, where there are several. */
@@ -59,12 +61,12 @@ export function verdictWords(verdict, { wires, inputs }) {
     return `Clean: none of the ${plural(wires, 'wire')} tells anything of the secret bits (${HOW[verdict.how]}).`;
   }
   if (verdict.verdict === 'undecided') {
-    return `Not decided: every wire below wire ${verdict.wire} is known to be clean, and of that wire neither could be shown.`;
+    return `Not decided: every wire below wire ${verdict.wire} is clean, and of that one neither was shown.`;
   }
   const names = verdict.ones.map((bit) => inputName(bit, inputs));
   const last = names.length > 12 ? `${names.length - 12} more` : names.pop();
   const shown = [names.slice(0, 12).join(', '), last].filter(Boolean).join(' and ');
-  return `Leak: wire ${verdict.wire} is one for ${verdict.own} of the four mask settings where of the input bits ` +
-    `${shown} alone ${verdict.ones.length === 1 ? 'is' : 'are'} one, and for ${verdict.base} of them where the secret bits are zero` +
-    ` (${HOW[verdict.how]}).`;
+  const { wire, own, base, ones, how } = verdict;
+  return `Leak: wire ${wire} is one for ${own} of the four mask settings where of the input bits ${shown} alone ` +
+    `${ones.length === 1 ? 'is' : 'are'} one, and for ${base} of them where the secret bits are zero (${HOW[how]}).`;
 }

@@ -16,12 +16,13 @@ function notationsOf(text) {
 }
 
 /**
- * The written form of a text, with its notation and shape. A text that no notation fits is refused as the likeliest, or as
- * the one in which its gates were come to.
+ * The written form of a text, with its notation and shape. A text that no notation fits is refused as the likeliest,
+ * or as the one in which its gates were come to.
  */
 function read(engine, text, notation) {
   const bytes = encode(text);
-  const tried = (notation ? [notation] : notationsOf(text)).map((each) => ({ notation: each, ...engine.read(bytes, each) }));
+  const notations = notation ? [notation] : notationsOf(text);
+  const tried = notations.map((each) => ({ notation: each, ...engine.read(bytes, each) }));
   const read = tried.find((each) => !each.refused);
   if (!read) return tried.find((each) => each.refused > 6) ?? tried[0];
   const written = decode(read.text);
@@ -47,10 +48,11 @@ const LANES = 0xffffffffn;
  * 4s + m0 + 2 m1 of a wire's number is the wire in setting s.
  */
 function wiresIn(engine, text, codes, settings) {
-  const lanes = settings.flatMap((setting, index) => [0, 1, 2, 3].map((masks) => ({ setting, masks, bit: 4 * index + masks })));
-  const word = (bitOf) => lanes.reduce((sum, lane) => sum | BigInt(bitOf(lane)) << BigInt(lane.bit), 0n);
-  const inputs = codes.map((code, bit) => word(({ setting, masks }) => setting[bit] ^ maskOf(code, masks & 1, masks >> 1)));
-  const pair = [word(({ masks }) => masks & 1), word(({ masks }) => masks >> 1)];
+  const pairs = [[0, 0], [1, 0], [0, 1], [1, 1]];
+  const lanes = settings.flatMap((setting) => pairs.map(([m0, m1]) => ({ setting, m0, m1 })));
+  const word = (bitOf) => lanes.reduce((sum, lane, bit) => sum | BigInt(bitOf(lane)) << BigInt(bit), 0n);
+  const inputs = codes.map((code, bit) => word(({ setting, m0, m1 }) => setting[bit] ^ maskOf(code, m0, m1)));
+  const pair = [word(({ m0 }) => m0), word(({ m1 }) => m1)];
   const ran = engine.run64(encode(withAllOutputs(text)), BigUint64Array.from([...inputs, ...pair]));
   return ran.refused ? ran : { wires: Array.from(ran.words, (each) => Number(each & LANES)) };
 }
@@ -67,7 +69,8 @@ function cone(engine, text, codes, wire, ones) {
   const inputs = bitsOf(shapeOf(text).inputs);
   const nodes = wires.map((each) => {
     const { kind, operands } = gates.get(each) ?? { kind: each < inputs ? 'input' : '', operands: [] };
-    return { wire: each, kind, operands: operands.filter((operand) => drawn.has(operand)), all: operands, seen: ran.wires[each] & 0xff };
+    const shown = operands.filter((operand) => drawn.has(operand));
+    return { wire: each, kind, operands: shown, all: operands, seen: ran.wires[each] & 0xff };
   });
   return { nodes, cut };
 }
@@ -79,13 +82,12 @@ self.onmessage = async ({ data: { id, service, list } }) => {
   try {
     if (service === 'open') {
       opening = Engine.open(list[0]);
-      await opening;
-      return self.postMessage({ id, answer: true });
+      return self.postMessage({ id, answer: { version: (await opening).version } });
     }
     const engine = await opening;
     const start = performance.now();
     const answer = ANSWERS[service](engine, ...list);
-    if (answer.refused) answer.source = list[0];
+    if (answer.refused) Object.assign(answer, { source: list[0], words: engine.words(answer.refused) });
     self.postMessage({ id, answer, milliseconds: performance.now() - start, memory: engine.memory });
   } catch (error) {
     self.postMessage({ id, error: String(error) });

@@ -89,6 +89,7 @@ class Chromium(Browser):
         self.session = self.call("Target.attachToTarget", targetId=target, flatten=True)["sessionId"]
         self.call("Page.enable")
         self.call("Runtime.enable")
+        self.call("Emulation.setScrollbarsHidden", hidden=True)
         self.version = self.call("Browser.getVersion")["product"]
 
     def call(self, method, **params):
@@ -171,12 +172,13 @@ class Firefox(Browser):
         with socket.socket() as free:
             free.bind(("127.0.0.1", 0))
             port = free.getsockname()[1]
-        with open(os.path.join(self.folder, "user.js"), "w") as prefs:
-            prefs.write(f'user_pref("marionette.port", {port});\nuser_pref("browser.shell.checkDefaultBrowser", false);\n'
-                        'user_pref("datareporting.policy.dataSubmissionEnabled", false);\n'
-                        f'user_pref("browser.download.dir", "{self.folder}");\nuser_pref("browser.download.folderList", 2);\n')
+        prefs = {"marionette.port": port, "browser.shell.checkDefaultBrowser": False, "browser.download.folderList": 2,
+                 "datareporting.policy.dataSubmissionEnabled": False, "browser.download.dir": self.folder}
+        with open(os.path.join(self.folder, "user.js"), "w") as file:
+            file.writelines(f"user_pref({json.dumps(name)}, {json.dumps(value)});\n" for name, value in prefs.items())
         self.process = subprocess.Popen(
-            [program, "--headless", "--marionette", "-remote-allow-system-access", "--no-remote", "--profile", self.folder],
+            [program, "--headless", "--marionette", "-remote-allow-system-access", "--no-remote",
+             "--profile", self.folder],
             stdout=subprocess.DEVNULL, stderr=subprocess.DEVNULL, stdin=subprocess.DEVNULL,
             env={**os.environ, "HOME": self.folder, "MOZ_HEADLESS": "1"})
         self.socket = self.connect(port)
@@ -236,10 +238,13 @@ class Firefox(Browser):
         self.call("WebDriver:ElementSendKeys", id=self.element(selector), text=str(path))
 
     def drop(self, selector, path):
-        self.run(f"""const bytes = Uint8Array.from(atob({json.dumps(base64.b64encode(path.read_bytes()).decode())}), (letter) => letter.charCodeAt(0));
-            const data = new DataTransfer(); data.items.add(new File([bytes], {json.dumps(path.name)}));
+        letters = json.dumps(base64.b64encode(path.read_bytes()).decode())
+        self.run(f"""const bytes = Uint8Array.from(atob({letters}), (letter) => letter.charCodeAt(0));
+            const dataTransfer = new DataTransfer();
+            dataTransfer.items.add(new File([bytes], {json.dumps(path.name)}));
             for (const kind of ['dragenter', 'dragover', 'drop'])
-              document.querySelector({json.dumps(selector)}).dispatchEvent(new DragEvent(kind, {{dataTransfer: data, bubbles: true, cancelable: true}}))""")
+              document.querySelector({json.dumps(selector)})
+                .dispatchEvent(new DragEvent(kind, {{dataTransfer, bubbles: true, cancelable: true}}))""")
 
     def downloads(self):
         """They go to the profile's folder from the start."""
@@ -250,9 +255,9 @@ class Firefox(Browser):
         self.call("WebDriver:SetWindowRect", width=2 * width - inner[0], height=2 * height - inner[1])
 
     def dark(self, wanted):
+        name = "layout.css.prefers-color-scheme.content-override"
         self.call("Marionette:SetContext", value="chrome")
-        self.call("WebDriver:ExecuteScript", args=[],
-                  script=f"Services.prefs.setIntPref('layout.css.prefers-color-scheme.content-override', {0 if wanted else 1})")
+        self.call("WebDriver:ExecuteScript", script=f"Services.prefs.setIntPref('{name}', {int(not wanted)})", args=[])
         self.call("Marionette:SetContext", value="content")
 
     def picture(self, path):
@@ -261,7 +266,8 @@ class Firefox(Browser):
 
 def found():
     """The browsers that are installed."""
-    for kind, names in ((Chromium, ("chromium", "chromium-browser", "google-chrome")), (Firefox, ("firefox-esr", "firefox"))):
+    known = {Chromium: ("chromium", "chromium-browser", "google-chrome"), Firefox: ("firefox-esr", "firefox")}
+    for kind, names in known.items():
         program = next(filter(None, map(shutil.which, names)), None)
         if program:
             yield kind, program

@@ -1,7 +1,7 @@
 /* The calls that the page makes, made of the native library: what tests/page compares the page with.
  *
  * usage: page_native read NOTATION FILE      the written form: fashion, old, aiger or equations
- *        page_native mask FILE CODES WANTED  a line of output codes, then the masked text; lists are digits, a digit a bit
+ *        page_native mask FILE CODES WANTED  a line of output codes, then the masked text; a list has a digit a bit
  *        page_native check FILE CODES        clean, leak WIRE BASE OWN ONES.., or undecided WIRE
  *        page_native run FILE BITS           the output bits
  * A refusal is printed as: refused NUMBER. */
@@ -16,7 +16,8 @@
 #define NAMES (8 * FIDROVELJ_WHOLE_SMALL_TABLE)
 
 static uint8_t text[TEXT + 1], out[TEXT], list[WIRES], wanted[WIRES], out_list[WIRES], marks[WIRES], paints[WIRES];
-static uint64_t operands[WIRES], results[WIRES], words[WIRES], base[WIRES], bases[WIRES], sets[4][WIRES], records[15L * WIRES];
+static uint64_t operands[WIRES], results[WIRES], words[WIRES], base[WIRES], bases[WIRES], sets[4][WIRES];
+static uint64_t records[15L * WIRES];
 static uint64_t heads[NAMES], names[NAMES], links[NAMES], leak[4], ones[WIRES], bad[1];
 static uint32_t wires[FIDROVELJ_WHOLE_SMALL_TABLE], states[NAMES], name_wires[NAMES];
 static size_t text_len;
@@ -60,8 +61,8 @@ static int64_t read_as(const char *notation, uint8_t sizes)
         return fidrovelj_from_old(text, text_len, out, TEXT, PLAIN, sizes);
     if (strcmp(notation, "aiger") == 0)
         return fidrovelj_from_aiger(text, text_len, out, TEXT, operands, WIRES, results, WIRES, wires, SMALL, sizes);
-    return fidrovelj_from_verilog(text, text_len, out, TEXT, operands, WIRES, results, WIRES, heads, NAMES, names, NAMES,
-                                  links, NAMES, states, NAMES, name_wires, NAMES, sizes);
+    return fidrovelj_from_verilog(text, text_len, out, TEXT, operands, WIRES, results, WIRES, heads, NAMES, names,
+                                  NAMES, links, NAMES, states, NAMES, name_wires, NAMES, sizes);
 }
 
 static void told(int64_t answer, int by_ones)
@@ -91,14 +92,14 @@ static void check(size_t codes, uint8_t sizes)
         told(answer, 0);
         return;
     }
-    answer = fidrovelj_certify(text, text_len, list, codes, leak, 4, ones, WIRES, PLAIN, words, WIRES, base, WIRES, records,
-                               15L * WIRES, sizes);
+    answer = fidrovelj_certify(text, text_len, list, codes, leak, 4, ones, WIRES, PLAIN, words, WIRES, base, WIRES,
+                               records, 15L * WIRES, sizes);
     uint64_t wire = leak[0];
     if (answer == 2) {
         uint32_t no_pairs[1];
-        answer = fidrovelj_check_wide(text, text_len, list, codes, no_pairs, 0, leak, 4, ones, WIRES, bad, 1, PLAIN, words,
-                                      WIRES, base, WIRES, bases, WIRES, sets[0], WIRES, sets[1], WIRES, sets[2], WIRES,
-                                      sets[3], WIRES, paints, WIRES, sizes);
+        answer = fidrovelj_check_wide(text, text_len, list, codes, no_pairs, 0, leak, 4, ones, WIRES, bad, 1, PLAIN,
+                                      words, WIRES, base, WIRES, bases, WIRES, sets[0], WIRES, sets[1], WIRES, sets[2],
+                                      WIRES, sets[3], WIRES, paints, WIRES, sizes);
         if (answer == -12) {
             leak[0] = wire;
             answer = 2;
@@ -116,8 +117,8 @@ int main(int argc, char **argv)
     } else if (argc == 5 && strcmp(call, "mask") == 0) {
         read_file(argv[2]);
         size_t codes = read_list(list, argv[3]), ends = read_list(wanted, argv[4]);
-        int64_t length = fidrovelj_mask(text, text_len, list, codes, wanted, ends, out, TEXT, out_list, WIRES, operands, WIRES,
-                                        results, WIRES, wires, SMALL, marks, WIRES, FIDROVELJ_WHOLE);
+        int64_t length = fidrovelj_mask(text, text_len, list, codes, wanted, ends, out, TEXT, out_list, WIRES, operands,
+                                        WIRES, results, WIRES, wires, SMALL, marks, WIRES, FIDROVELJ_WHOLE);
         for (size_t i = 0; length >= 0 && i < ends; i++)
             putchar('0' + out_list[i]);
         if (length >= 0)
@@ -129,7 +130,8 @@ int main(int argc, char **argv)
     } else if (argc == 4 && strcmp(call, "run") == 0) {
         read_file(argv[2]);
         size_t bits = read_list(list, argv[3]);
-        int64_t count = fidrovelj_run(text, text_len, list, bits, out_list, WIRES, PLAIN, words, WIRES, FIDROVELJ_WHOLE);
+        int64_t count = fidrovelj_run(text, text_len, list, bits, out_list, WIRES, PLAIN, words, WIRES,
+                                      FIDROVELJ_WHOLE);
         for (int64_t i = 0; i < count; i++)
             putchar('0' + out_list[i]);
         if (count < 0)
