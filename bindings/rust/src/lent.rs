@@ -110,7 +110,9 @@ extern "C" {
 pub(crate) fn answer(answer: i64) -> Result<usize, Refusal> {
     match usize::try_from(answer) {
         Ok(result) => Ok(result),
-        Err(_) => Err(u8::try_from(-answer).ok().and_then(Refusal::from_number).expect("a refusal has a number")),
+        Err(_) => {
+            Err(u8::try_from(-answer).ok().and_then(Refusal::from_number).expect("a refusal has a number"))
+        }
     }
 }
 

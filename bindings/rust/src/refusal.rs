@@ -132,7 +132,9 @@ impl Refusal {
             Refusal::Bytes => "a byte that no text has",
             Refusal::Header => "the header lines have not the stated form",
             Refusal::Limits => "too many wires or values, or more bits than wires",
-            Refusal::Count => "the gate count is not the wires less the input bits, or not the number of gate lines",
+            Refusal::Count => {
+                "the gate count is not the wires less the input bits, or not the number of gate lines"
+            }
             Refusal::Line => "the line is none of the five gates",
             Refusal::Operands => "an operand is neither an input nor the result of an earlier line",
             Refusal::Wire => "the result wire is an input, above the last wire or given twice",

@@ -105,7 +105,8 @@ pub fn from_verilog(text: &[u8], tables: &mut Tables) -> Result<Vec<u8>, Refusal
             wires: front(&mut t.name_wires, names),
         };
         let (operands, results) = (front(&mut t.operands, table), front(&mut t.results, table));
-        let length = from_verilog_lent(text, front(&mut t.text, sizes.text()), operands, results, names, sizes)?;
+        let length =
+            from_verilog_lent(text, front(&mut t.text, sizes.text()), operands, results, names, sizes)?;
         Ok(t.text[..length].to_vec())
     })
 }

@@ -104,7 +104,7 @@ fn second(
     let mut wires = HashMap::new();
     let give = |wires: &mut HashMap<u32, usize>, literal: u32, wire: usize| {
         let good =
-            literal > 1 && literal % 2 == 0 && literal / 2 <= most && !wires.contains_key(&(literal / 2));
+            literal > 1 && literal.is_multiple_of(2) && literal / 2 <= most && !wires.contains_key(&(literal / 2));
         wires.insert(literal / 2, wire);
         ask(19, good)
     };

@@ -332,7 +332,9 @@ fn by_hand() {
     let zero = source(1, &[Xor(0, 0, 1)]);
     let and_xor = source(3, &[And(0, 1, 3), Xor(3, 2, 4)]);
     let all = u64::MAX;
-    let rows: [(&str, &Netlist, &[u8], &[u8], u64, &[u8], u64, u64); 27] = [
+    // What it is, the source, codes, wanted codes and budget; then the input codes given, the changes and the floor.
+    type Row<'a> = (&'a str, &'a Netlist, &'a [u8], &'a [u8], u64, &'a [u8], u64, u64);
+    let rows: [Row; 27] = [
         // Neither a free input nor an AND: one choice, which is all.
         ("one wire", &source(1, &[]), &[2], &[0], 1, &[2], 0, 0),
         ("one wire, another code wanted", &source(1, &[]), &[2], &[1], 1, &[2], 1, 1),

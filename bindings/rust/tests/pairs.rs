@@ -51,7 +51,7 @@ fn outcome(tables: &[usize], text: &[u8], codes: &[u8], pairs: &[u32]) -> Result
     // Check has one table less, and puts the same questions to all.
     let leak = reference::check(tables, text, codes, reference::netlist::Sizes::Standard)?;
     let netlist = read(&LARGE, text).expect("Check has read it");
-    ask(21, pairs.len() % 2 == 0 && pairs.iter().all(|&wire| (wire as usize) < netlist.wires))?;
+    ask(21, pairs.len().is_multiple_of(2) && pairs.iter().all(|&wire| (wire as usize) < netlist.wires))?;
     let pairs: Vec<_> = pairs.chunks(2).map(|pair| (pair[0] as usize, pair[1] as usize)).collect();
     let bad = pairs.iter().position(|&(u, v)| !clean(&netlist, codes, u, v));
     Ok((leak, bad.map(|place| place as u64)))
@@ -93,7 +93,7 @@ fn assert_call(
     let wanted = expected.as_ref().map(number).map_err(|&question| Refusal::from_number(question).unwrap());
     let shown_text = String::from_utf8_lossy(&text[..text.len().min(4_000)]);
     assert_eq!(answer, wanted, "{name}: {codes:?} {pairs:?}\n{shown_text}");
-    let (wanted_leak, wanted_bad) = expected.clone().unwrap_or((None, None));
+    let (wanted_leak, wanted_bad) = expected.unwrap_or((None, None));
     let mut front = vec![77; rooms[0]];
     if let Some(numbers) = wanted_leak {
         front[..4].copy_from_slice(&numbers);

@@ -117,14 +117,14 @@ fn expression<'a>(r: &mut Reader<'a>) -> Result<(Vec<Step<'a>>, usize), u8> {
             r.at += 1;
             match part {
                 b"&" | b"^" => {
-                    while stack.last().map_or(false, |&top| strength(top) >= strength(part[0])) {
+                    while stack.last().is_some_and(|&top| strength(top) >= strength(part[0])) {
                         pop(&mut out, stack.pop().unwrap());
                     }
                     stack.push(part[0]);
                     break;
                 }
                 b")" | b";" => {
-                    while stack.last().map_or(false, |&top| top != b'(') {
+                    while stack.last().is_some_and(|&top| top != b'(') {
                         pop(&mut out, stack.pop().unwrap());
                     }
                     if part == b";" {

@@ -264,7 +264,7 @@ fn choose_lengths(random: &mut Random, call: &mut Call) {
 fn call_on_many_inputs(random: &mut Random) -> Call {
     let (netlist, mut codes) = many_inputs(random);
     let mut pairs = random_pairs(random, netlist.wires);
-    if random.percent(50) && pairs.len() % 2 == 0 {
+    if random.percent(50) && pairs.len().is_multiple_of(2) {
         // Pairs of wires that stand near each other share inputs.
         for pair in pairs.chunks_mut(2) {
             pair[1] = pair[0].saturating_add(random.below(4) as u32).min(netlist.wires as u32 - 1);
@@ -562,18 +562,18 @@ fn broken(netlist: &Netlist, skip: usize) -> Option<Netlist> {
     let bits = netlist.input_bits() - 2;
     let mut other = netlist.clone();
     // s4 XOR s5, then wire n+4, where it was s5 XOR wire n+4, then s4.
-    let orders = netlist.gates.windows(2).enumerate().filter_map(|(place, pair)| match *pair {
+    let mut orders = netlist.gates.windows(2).enumerate().filter_map(|(place, pair)| match *pair {
         [Gate::Xor(s5, either, s6), Gate::Xor(s4, last, s7)] if either == bits + 4 && last == s6 => {
             Some((place, [Gate::Xor(s4, s5, s6), Gate::Xor(s6, either, s7)]))
         }
         _ => None,
     });
-    if let Some((place, pair)) = orders.skip(skip).next() {
+    if let Some((place, pair)) = orders.nth(skip) {
         other.gates[place..place + 2].copy_from_slice(&pair);
         return Some(other);
     }
     // An XOR reads the wire whose mask was to be changed first.
-    let changes = netlist.gates.windows(2).enumerate().filter_map(|(place, pair)| match *pair {
+    let mut changes = netlist.gates.windows(2).enumerate().filter_map(|(place, pair)| match *pair {
         [Gate::Xor(b, mask, changed), Gate::Xor(a, second, c)]
             if (bits..bits + 3).contains(&mask) && second == changed =>
         {
@@ -581,7 +581,7 @@ fn broken(netlist: &Netlist, skip: usize) -> Option<Netlist> {
         }
         _ => None,
     });
-    let (place, gate) = changes.skip(skip).next()?;
+    let (place, gate) = changes.nth(skip)?;
     other.gates[place] = gate;
     Some(other)
 }
