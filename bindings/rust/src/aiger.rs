@@ -22,6 +22,17 @@ extern "C" {
 
 /// Writes the netlist made of an AIGER file to `out`, in the written form: its length. Question 1 asks
 /// [`Sizes::source_wires`] entries of each table.
+///
+/// ```
+/// # use fidrovelj::{from_aiger_lent, Refusal, Sizes};
+/// # let sizes = Sizes::Standard;
+/// let (mut operands, mut results) = (vec![0; sizes.source_wires()], vec![0; sizes.source_wires()]);
+/// let (mut variables, mut out) = (vec![0; sizes.source_wires()], vec![0; sizes.text()]);
+/// let copy = b"aag 1 1 0 1 0\n2\n2\n";
+/// let length = from_aiger_lent(copy, &mut out, &mut operands, &mut results, &mut variables, sizes)?;
+/// assert_eq!(&out[..length], b"1 2\n1 1\n1 1\n\n1 1 0 1 EQW\n");
+/// # Ok::<(), Refusal>(())
+/// ```
 pub fn from_aiger_lent(
     text: &[u8],
     out: &mut [u8],

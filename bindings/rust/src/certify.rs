@@ -35,6 +35,22 @@ extern "C" {
 /// setting, the base's count and its own; those input bits go to `ones`, rising. Of an answer 2 the lowest wire
 /// that is not known to be clean goes to the first entry of `leak`. A list too short for its numbers is refused
 /// by 14. Question 1 asks [`Sizes::records`] entries of `records` and [`Sizes::masked_wires`] of each other table.
+///
+/// ```
+/// # use fidrovelj::{certify_lent, Refusal, Sizes};
+/// # let sizes = Sizes::Standard;
+/// let table = || vec![0; sizes.masked_wires()];
+/// let (mut operands, mut results, mut words, mut base) = (table(), table(), table(), table());
+/// let (mut marks, mut records) = (vec![0; sizes.masked_wires()], vec![0; sizes.records()]);
+/// let (mut leak, mut ones) = ([0; 4], [0; 1]);
+/// let open = b"1 4\n2 1 2\n1 1\n2 1 0 1 3 XOR\n";
+/// let answer = certify_lent(
+///     open, &[1], &mut leak, &mut ones, &mut operands, &mut results, &mut marks, &mut words, &mut base, &mut records,
+///     sizes,
+/// )?;
+/// assert_eq!((answer, leak, ones), (1, [3, 1, 0, 4], [0]));
+/// # Ok::<(), Refusal>(())
+/// ```
 #[allow(clippy::too_many_arguments)]
 pub fn certify_lent(
     text: &[u8],
@@ -78,6 +94,17 @@ pub fn certify_lent(
 }
 
 /// What [`certify`] says of a netlist.
+///
+/// ```
+/// use fidrovelj::{certify, Certified, Tables};
+///
+/// let open = b"1 4\n2 1 2\n1 1\n2 1 0 1 3 XOR\n";
+/// match certify(open, &[1], &mut Tables::new())? {
+///     Certified::Leak { wire, .. } => assert_eq!(wire, 3),
+///     other => panic!("{other:?}"),
+/// }
+/// # Ok::<(), fidrovelj::Refusal>(())
+/// ```
 #[derive(Clone, Debug, PartialEq, Eq, Hash)]
 pub enum Certified {
     /// Each wire's count of ones over the four mask settings is the same for all input settings that agree

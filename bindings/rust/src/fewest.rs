@@ -46,6 +46,23 @@ extern "C" {
 /// Writes the masked text of the first choice with the fewest mask changes to `out`, the codes of its input bits
 /// to `in_codes` and of its output bits to `out_codes`, and its changes and the floor to the two entries of
 /// `tally`: the text's length. Question 1 asks [`Sizes::source_wires`] entries of each table.
+///
+/// ```
+/// # use fidrovelj::{mask_fewest_lent, Refusal, Sizes};
+/// # let sizes = Sizes::Standard;
+/// let wide = || vec![0u64; sizes.source_wires()];
+/// let bytes = || vec![0u8; sizes.source_wires()];
+/// let (mut operands, mut results, mut spans, mut wires) = (wide(), wide(), wide(), vec![0; sizes.source_wires()]);
+/// let (mut marks, mut ways, mut best, mut out) = (bytes(), bytes(), bytes(), vec![0; sizes.text()]);
+/// let (mut in_codes, mut out_codes, mut tally) = ([0; 2], [0; 1], [0; 2]);
+/// let and = b"1 3\n2 1 1\n1 1\n2 1 0 1 2 AND\n";
+/// mask_fewest_lent(
+///     and, &[4, 4], &[0], 18, &mut out, &mut in_codes, &mut out_codes, &mut tally, &mut operands, &mut results,
+///     &mut wires, &mut marks, &mut ways, &mut best, &mut spans, sizes,
+/// )?;
+/// assert_eq!((in_codes, tally), ([1, 2], [0, 0]));
+/// # Ok::<(), Refusal>(())
+/// ```
 pub fn mask_fewest_lent(
     text: &[u8],
     codes: &[u8],
@@ -102,6 +119,14 @@ pub fn mask_fewest_lent(
 }
 
 /// What [`mask_fewest`] gives.
+///
+/// ```
+/// # use fidrovelj::{codes, mask_fewest, Refusal, Tables};
+/// let and = b"1 3\n2 1 1\n1 1\n2 1 0 1 2 AND\n";
+/// let fewest = mask_fewest(and, &[codes::FREE; 2], &[codes::ANY], 18, &mut Tables::new())?;
+/// assert_eq!((fewest.input_codes.as_slice(), fewest.changes), ([1, 2].as_slice(), 0));
+/// # Ok::<(), Refusal>(())
+/// ```
 #[derive(Clone, PartialEq, Eq, Hash)]
 pub struct Fewest {
     /// The masked netlist's text, in the written form.

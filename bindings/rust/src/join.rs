@@ -34,6 +34,21 @@ extern "C" {
 
 /// Writes two masked blocks, joined, to `out`, in the written form: its length. Question 1 asks
 /// [`Sizes::masked_wires`] entries of each table.
+///
+/// ```
+/// # use fidrovelj::{join_lent, mask, Refusal, Sizes, Tables};
+/// # let sizes = Sizes::Standard;
+/// let table = || vec![0u64; sizes.masked_wires()];
+/// let (mut operands, mut results, mut words, mut base) = (table(), table(), table(), table());
+/// let (mut marks, mut out) = (vec![0; sizes.masked_wires()], vec![0; sizes.text()]);
+/// let inverter = mask(b"1 2\n1 1\n1 1\n1 1 0 1 INV\n", &[1], &[1], &mut Tables::new())?;
+/// let length = join_lent(
+///     &inverter.text, &inverter.text, &[1], &[1], &[1], &mut out, &mut operands, &mut results, &mut marks, &mut words,
+///     &mut base, sizes,
+/// )?;
+/// assert!(out[..length].starts_with(b"10 13\n2 1 2\n1 1\n"));
+/// # Ok::<(), Refusal>(())
+/// ```
 #[allow(clippy::too_many_arguments)]
 pub fn join_lent(
     first: &[u8],

@@ -117,6 +117,17 @@ pub(crate) fn answer(answer: i64) -> Result<usize, Refusal> {
 }
 
 /// Writes the written form of a netlist to `out`: its length.
+///
+/// ```
+/// use fidrovelj::{lent, Refusal, Sizes};
+///
+/// let sizes = Sizes::Standard;
+/// let (mut operands, mut results) = (vec![0; sizes.masked_wires()], vec![0; sizes.masked_wires()]);
+/// let (mut marks, mut out) = (vec![0; sizes.masked_wires()], [0; 100]);
+/// let length = lent::rewrite(b"0 1\n1 1\n1 1", &mut out, &mut operands, &mut results, &mut marks, sizes)?;
+/// assert_eq!(&out[..length], b"0 1\n1 1\n1 1\n\n");
+/// # Ok::<(), Refusal>(())
+/// ```
 pub fn rewrite(
     text: &[u8],
     out: &mut [u8],
@@ -144,6 +155,18 @@ pub fn rewrite(
 }
 
 /// Writes the output bits of a netlist on the input bits `list` to `out`, one entry a bit: how many.
+///
+/// ```
+/// # use fidrovelj::{lent, Refusal, Sizes};
+/// # let sizes = Sizes::Standard;
+/// let table = || vec![0; sizes.masked_wires()];
+/// let (mut operands, mut results, mut words) = (table(), table(), table());
+/// let (mut marks, mut out) = (vec![0; sizes.masked_wires()], [0; 1]);
+/// let inverter = b"1 2\n1 1\n1 1\n1 1 0 1 INV\n";
+/// lent::run(inverter, &[0], &mut out, &mut operands, &mut results, &mut marks, &mut words, sizes)?;
+/// assert_eq!(out, [1]);
+/// # Ok::<(), Refusal>(())
+/// ```
 pub fn run(
     text: &[u8],
     list: &[u8],
@@ -178,6 +201,18 @@ pub fn run(
 
 /// Writes the output words of a netlist on the input words `list` to `out`, one entry a bit: how many.
 /// Bit j of each word belongs to setting j.
+///
+/// ```
+/// # use fidrovelj::{lent, Refusal, Sizes};
+/// # let sizes = Sizes::Standard;
+/// let table = || vec![0; sizes.masked_wires()];
+/// let (mut operands, mut results, mut words) = (table(), table(), table());
+/// let (mut marks, mut out) = (vec![0; sizes.masked_wires()], [0; 1]);
+/// let inverter = b"1 2\n1 1\n1 1\n1 1 0 1 INV\n";
+/// lent::run64(inverter, &[5], &mut out, &mut operands, &mut results, &mut marks, &mut words, sizes)?;
+/// assert_eq!(out, [!5]);
+/// # Ok::<(), Refusal>(())
+/// ```
 pub fn run64(
     text: &[u8],
     list: &[u64],
@@ -212,6 +247,20 @@ pub fn run64(
 
 /// Writes the masked netlist's text to `out` and the code of each output bit to `out_codes`: the
 /// text's length. There are as many codes as `wanted` has entries.
+///
+/// ```
+/// # use fidrovelj::{lent, Refusal, Sizes};
+/// # let sizes = Sizes::Standard;
+/// let table = || vec![0; sizes.source_wires()];
+/// let (mut operands, mut results, mut wires) = (table(), table(), vec![0; sizes.source_wires()]);
+/// let (mut marks, mut out, mut codes) = (vec![0; sizes.source_wires()], vec![0; sizes.text()], [0; 1]);
+/// let copy = b"1 2\n1 1\n1 1\n1 1 0 1 EQW\n";
+/// lent::mask(
+///     copy, &[3], &[0], &mut out, &mut codes, &mut operands, &mut results, &mut wires, &mut marks, sizes,
+/// )?;
+/// assert_eq!(codes, [3]);
+/// # Ok::<(), Refusal>(())
+/// ```
 pub fn mask(
     text: &[u8],
     codes: &[u8],
@@ -252,6 +301,20 @@ pub fn mask(
 
 /// Whether a netlist leaks. If so, `leak` gets the wire, the setting, the count of the setting that
 /// this is compared with, and its own; if not, it stays as it was.
+///
+/// ```
+/// # use fidrovelj::{lent, Refusal, Sizes};
+/// # let sizes = Sizes::Standard;
+/// let table = || vec![0; sizes.masked_wires()];
+/// let (mut operands, mut results, mut words, mut base) = (table(), table(), table(), table());
+/// let (mut marks, mut leak) = (vec![0; sizes.masked_wires()], [0; 4]);
+/// let open = b"1 4\n2 1 2\n1 1\n2 1 0 1 3 XOR\n";
+/// let leaks = lent::check(
+///     open, &[1], &mut leak, &mut operands, &mut results, &mut marks, &mut words, &mut base, sizes,
+/// )?;
+/// assert!(leaks && leak == [3, 1, 0, 4]);
+/// # Ok::<(), Refusal>(())
+/// ```
 pub fn check(
     text: &[u8],
     codes: &[u8],

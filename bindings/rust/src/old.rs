@@ -36,6 +36,17 @@ extern "C" {
 
 /// Writes the netlist of a text in the older dialect to `out`, in the written form: its length. Question 1
 /// asks [`Sizes::masked_wires`] entries of each table.
+///
+/// ```
+/// # use fidrovelj::{from_old_lent, Refusal, Sizes};
+/// # let sizes = Sizes::Standard;
+/// let (mut operands, mut results) = (vec![0; sizes.masked_wires()], vec![0; sizes.masked_wires()]);
+/// let (mut marks, mut out) = (vec![0; sizes.masked_wires()], [0; 100]);
+/// let text = b"1 2\n1 0 1\n1 1 0 1 INV\n";
+/// let length = from_old_lent(text, &mut out, &mut operands, &mut results, &mut marks, sizes)?;
+/// assert_eq!(&out[..length], b"1 2\n1 1\n1 1\n\n1 1 0 1 INV\n");
+/// # Ok::<(), Refusal>(())
+/// ```
 pub fn from_old_lent(
     text: &[u8],
     out: &mut [u8],
@@ -64,6 +75,17 @@ pub fn from_old_lent(
 
 /// Writes a netlist to `out` in the older dialect: its length. Question 1 asks [`Sizes::masked_wires`] entries of
 /// each table.
+///
+/// ```
+/// # use fidrovelj::{to_old_lent, Refusal, Sizes};
+/// # let sizes = Sizes::Standard;
+/// let (mut operands, mut results) = (vec![0; sizes.masked_wires()], vec![0; sizes.masked_wires()]);
+/// let (mut marks, mut out) = (vec![0; sizes.masked_wires()], [0; 100]);
+/// let text = b"1 2\n1 1\n1 1\n1 1 0 1 INV\n";
+/// let length = to_old_lent(text, &mut out, &mut operands, &mut results, &mut marks, sizes)?;
+/// assert_eq!(&out[..length], b"1 2\n1 0 1\n\n1 1 0 1 INV\n");
+/// # Ok::<(), Refusal>(())
+/// ```
 pub fn to_old_lent(
     text: &[u8],
     out: &mut [u8],

@@ -38,6 +38,20 @@ extern "C" {
 /// numbers go to `leak`, and 2 more for a bad pair; how many pairs stand before it goes to `bad`. A
 /// list too short for its numbers is refused by 14. Question 1 asks [`Sizes::masked_wires`] entries of each
 /// table.
+///
+/// ```
+/// # use fidrovelj::{check_pairs_lent, Refusal, Sizes};
+/// # let sizes = Sizes::Standard;
+/// let table = || vec![0u64; sizes.masked_wires()];
+/// let (mut operands, mut results, mut words, mut base, mut bases) = (table(), table(), table(), table(), table());
+/// let (mut marks, mut leak, mut bad) = (vec![0; sizes.masked_wires()], [0; 4], [0; 1]);
+/// let answer = check_pairs_lent(
+///     b"0 3\n2 1 2\n1 1\n", &[1], &[0, 2, 0, 1], &mut leak, &mut bad, &mut operands, &mut results, &mut marks,
+///     &mut words, &mut base, &mut bases, sizes,
+/// )?;
+/// assert_eq!((answer, bad), (2, [1]));
+/// # Ok::<(), Refusal>(())
+/// ```
 pub fn check_pairs_lent(
     text: &[u8],
     codes: &[u8],
@@ -83,6 +97,13 @@ pub fn check_pairs_lent(
 }
 
 /// Both answers of [`check_pairs`].
+///
+/// ```
+/// # use fidrovelj::{check_pairs, Pairs, Refusal, Tables};
+/// let found = check_pairs(b"0 3\n2 1 2\n1 1\n", &[1], &[0, 1], &mut Tables::new())?;
+/// assert_eq!(found, Pairs { leak: None, bad: Some(0) });
+/// # Ok::<(), Refusal>(())
+/// ```
 #[derive(Clone, Copy, Debug, PartialEq, Eq)]
 pub struct Pairs {
     /// The leak on one wire, if there is one: what [`check`](crate::check) says.

@@ -5,6 +5,13 @@ use crate::tables::front;
 use crate::{Masked, Refusal, Sizes, Tables};
 
 /// A gate of a session, as the library's lists hold it: a kind, the operands and the result wire.
+///
+/// ```
+/// use fidrovelj::GateRecord;
+///
+/// let and = GateRecord { kind: 2, first: 0, second: 1, result: 2 };
+/// assert_eq!(and.result, 2);
+/// ```
 #[repr(C)]
 #[derive(Clone, Copy, Debug, Default, PartialEq, Eq, Hash)]
 pub struct GateRecord {
@@ -19,6 +26,15 @@ pub struct GateRecord {
 }
 
 /// A source gate of a session, and where its result stands in the masked netlist.
+///
+/// ```
+/// # use fidrovelj::{Gate, Refusal, Session, Sizes};
+/// let mut session = Session::open(&[1], &[3], Sizes::Standard)?;
+/// session.add(Gate::Inv(0))?;
+/// let gate = session.gates()[0];
+/// assert_eq!((gate.kind, gate.wire, gate.code), (3, 6, 3));
+/// # Ok::<(), Refusal>(())
+/// ```
 #[repr(C)]
 #[derive(Clone, Copy, Debug, Default, PartialEq, Eq, Hash)]
 pub struct SourceGate {
@@ -39,6 +55,11 @@ pub struct SourceGate {
 }
 
 /// How many source gates and how many masked gates stand at the front of a session's lists.
+///
+/// ```
+/// # use fidrovelj::SessionState;
+/// assert_eq!(SessionState::default(), SessionState { gates: 0, masked: 0 });
+/// ```
 #[repr(C)]
 #[derive(Clone, Copy, Debug, Default, PartialEq, Eq, Hash)]
 pub struct SessionState {
@@ -146,6 +167,15 @@ fn step(step: Step) -> Result<SessionState, (Refusal, SessionState)> {
 
 /// Opens a session with input values of these widths and a code, 0 to 3, for each input bit: writes the masked gates
 /// that stand before those of the source to the front of `masked`. A refusal (4, 5, 11, 14) writes nothing.
+///
+/// ```
+/// # use fidrovelj::{session_open_lent, GateRecord, Refusal, Sizes};
+/// # let sizes = Sizes::Standard;
+/// let mut masked = [GateRecord::default(); 40];
+/// let session = session_open_lent(&[2], &[1, 2], &mut masked, sizes).map_err(|(refusal, _)| refusal)?;
+/// assert_eq!((session.gates, session.masked), (0, 3));
+/// # Ok::<(), Refusal>(())
+/// ```
 pub fn session_open_lent(
     widths: &[u32],
     codes: &[u8],
@@ -168,6 +198,17 @@ pub fn session_open_lent(
 
 /// Adds a gate at the end: its record to `source` and its masked gates to `masked`, behind those that are there. A
 /// refusal (24, 7, 8, 9, 14) writes nothing.
+///
+/// ```
+/// # use fidrovelj::{session_open_lent, session_add_lent, GateRecord, Refusal, Sizes, SourceGate};
+/// # let sizes = Sizes::Standard;
+/// let (mut source, mut masked) = ([SourceGate::default(); 4], [GateRecord::default(); 40]);
+/// let session = session_open_lent(&[2], &[1, 2], &mut masked, sizes).map_err(|(refusal, _)| refusal)?;
+/// let and = GateRecord { kind: 2, first: 0, second: 1, result: 2 };
+/// let session = session_add_lent(session, and, &[1, 2], &mut source, &mut masked, sizes).map_err(|(no, _)| no)?;
+/// assert_eq!((session.gates, session.masked, source[0].wire), (1, 10, 13));
+/// # Ok::<(), Refusal>(())
+/// ```
 pub fn session_add_lent(
     session: SessionState,
     gate: GateRecord,
@@ -193,6 +234,18 @@ pub fn session_add_lent(
 }
 
 /// Takes the last gate off. The lists are not written.
+///
+/// ```
+/// # use fidrovelj::{session_take_off_lent, session_open_lent, session_add_lent, GateRecord, Refusal, Sizes, SourceGate};
+/// # let sizes = Sizes::Standard;
+/// let (mut source, mut masked) = ([SourceGate::default(); 4], [GateRecord::default(); 40]);
+/// let session = session_open_lent(&[2], &[1, 2], &mut masked, sizes).map_err(|(refusal, _)| refusal)?;
+/// let and = GateRecord { kind: 2, first: 0, second: 1, result: 2 };
+/// let session = session_add_lent(session, and, &[1, 2], &mut source, &mut masked, sizes).map_err(|(no, _)| no)?;
+/// let session = session_take_off_lent(session, &source).map_err(|(refusal, _)| refusal)?;
+/// assert_eq!(session.gates, 0);
+/// # Ok::<(), Refusal>(())
+/// ```
 pub fn session_take_off_lent(
     session: SessionState,
     source: &[SourceGate],
@@ -202,6 +255,18 @@ pub fn session_take_off_lent(
 }
 
 /// Gate number `gate`, counted from 0, or nothing where there is no such gate.
+///
+/// ```
+/// # use fidrovelj::{session_gate_lent, session_open_lent, session_add_lent, GateRecord, Refusal, Sizes, SourceGate};
+/// # let sizes = Sizes::Standard;
+/// let (mut source, mut masked) = ([SourceGate::default(); 4], [GateRecord::default(); 40]);
+/// let session = session_open_lent(&[2], &[1, 2], &mut masked, sizes).map_err(|(refusal, _)| refusal)?;
+/// let and = GateRecord { kind: 2, first: 0, second: 1, result: 2 };
+/// let session = session_add_lent(session, and, &[1, 2], &mut source, &mut masked, sizes).map_err(|(no, _)| no)?;
+/// assert_eq!(session_gate_lent(session, 0, &source).map(|gate| gate.kind), Some(2));
+/// assert_eq!(session_gate_lent(session, 1, &source), None);
+/// # Ok::<(), Refusal>(())
+/// ```
 pub fn session_gate_lent(session: SessionState, gate: u32, source: &[SourceGate]) -> Option<SourceGate> {
     // SAFETY: as in `session_open_lent`.
     let record = unsafe { fidrovelj_session_gate(session, gate, source.as_ptr(), source.len()) };
@@ -211,6 +276,20 @@ pub fn session_gate_lent(session: SessionState, gate: u32, source: &[SourceGate]
 
 /// Writes the session's netlist to `out` in the written form, with input and output values of these widths: its length.
 /// Question 1 asks [`Sizes::source_wires`] entries of each table.
+///
+/// ```
+/// # use fidrovelj::{session_text_lent, session_open_lent, session_add_lent, GateRecord, Refusal, Sizes, SourceGate};
+/// # let sizes = Sizes::Standard;
+/// let (mut source, mut masked) = ([SourceGate::default(); 4], [GateRecord::default(); 40]);
+/// let session = session_open_lent(&[2], &[1, 2], &mut masked, sizes).map_err(|(refusal, _)| refusal)?;
+/// let and = GateRecord { kind: 2, first: 0, second: 1, result: 2 };
+/// let session = session_add_lent(session, and, &[1, 2], &mut source, &mut masked, sizes).map_err(|(no, _)| no)?;
+/// let (mut operands, mut results) = (vec![0; sizes.source_wires()], vec![0; sizes.source_wires()]);
+/// let mut out = [0; 100];
+/// let length = session_text_lent(session, &[2], &[1], &source, &mut out, &mut operands, &mut results, sizes)?;
+/// assert_eq!(&out[..length], b"1 3\n1 2\n1 1\n\n2 1 0 1 2 AND\n");
+/// # Ok::<(), Refusal>(())
+/// ```
 #[allow(clippy::too_many_arguments)]
 pub fn session_text_lent(
     session: SessionState,
@@ -245,6 +324,24 @@ pub fn session_text_lent(
 
 /// Writes what [`mask`](crate::mask) gives for that text to `out`, and the code of each output bit to `out_codes`: the masked
 /// text's length.
+///
+/// ```
+/// # use fidrovelj::{session_masked_lent, session_open_lent, session_add_lent, GateRecord, Refusal, Sizes, SourceGate};
+/// # let sizes = Sizes::Standard;
+/// let (mut source, mut masked) = ([SourceGate::default(); 4], [GateRecord::default(); 40]);
+/// let session = session_open_lent(&[2], &[1, 2], &mut masked, sizes).map_err(|(refusal, _)| refusal)?;
+/// let and = GateRecord { kind: 2, first: 0, second: 1, result: 2 };
+/// let session = session_add_lent(session, and, &[1, 2], &mut source, &mut masked, sizes).map_err(|(no, _)| no)?;
+/// let (mut operands, mut results) = (vec![0; sizes.source_wires()], vec![0; sizes.source_wires()]);
+/// let (mut wires, mut marks) = (vec![0; sizes.source_wires()], vec![0; sizes.source_wires()]);
+/// let (mut out, mut codes) = ([0; 1000], [0; 1]);
+/// session_masked_lent(
+///     session, &[2], &[1], &source, &[1, 2], &[0], &mut out, &mut codes, &mut operands, &mut results, &mut wires,
+///     &mut marks, sizes,
+/// )?;
+/// assert_eq!(codes, [1]);
+/// # Ok::<(), Refusal>(())
+/// ```
 #[allow(clippy::too_many_arguments)]
 pub fn session_masked_lent(
     session: SessionState,
@@ -293,6 +390,12 @@ pub fn session_masked_lent(
 }
 
 /// A gate for a [`Session`]: its operands. Its result is the next wire.
+///
+/// ```
+/// use fidrovelj::Gate;
+///
+/// assert_eq!(format!("{:?}", Gate::And(0, 1)), "And(0, 1)");
+/// ```
 #[derive(Clone, Copy, Debug, PartialEq, Eq, Hash)]
 pub enum Gate {
     /// One when the two differ.
@@ -373,6 +476,12 @@ impl Session {
     /// public bit. Mask's limits hold: there may be [`Sizes::source_wires`] wires.
     ///
     /// Widths that are none or 0 are refused by 4, too many values or bits by 5, and codes by 11.
+    ///
+    /// ```
+    /// # use fidrovelj::{Refusal, Session, Sizes};
+    /// assert!(Session::open(&[1, 1], &[1, 2], Sizes::Standard).is_ok());
+    /// assert_eq!(Session::open(&[1, 1], &[1], Sizes::Standard).unwrap_err(), Refusal::Inputs);
+    /// ```
     pub fn open(widths: &[u32], codes: &[u8], sizes: Sizes) -> Result<Session, Refusal> {
         let mut masked = vec![GateRecord::default(); 3 + codes.len()];
         let state = session_open_lent(widths, codes, &mut masked, sizes).map_err(|(refused, _)| refused)?;
@@ -382,6 +491,14 @@ impl Session {
 
     /// Adds a gate at the end: the number of its wire, which is the next. An operand that is no wire yet is refused by 8,
     /// a gate beyond the most wires by 24.
+    ///
+    /// ```
+    /// # use fidrovelj::{Gate, Refusal, Session, Sizes};
+    /// let mut session = Session::open(&[1, 1], &[1, 2], Sizes::Standard)?;
+    /// assert_eq!(session.add(Gate::And(0, 1))?, 2);
+    /// assert_eq!(session.add(Gate::Inv(7)), Err(Refusal::Operands));
+    /// # Ok::<(), Refusal>(())
+    /// ```
     pub fn add(&mut self, gate: Gate) -> Result<u32, Refusal> {
         // The lists are long enough for any gate: eight masked ones at most.
         let (gates, masked) = (self.state.gates as usize, self.state.masked as usize);
@@ -399,6 +516,15 @@ impl Session {
     }
 
     /// Takes the last gate off, and gives it back. Where there is none, it is refused by 23.
+    ///
+    /// ```
+    /// # use fidrovelj::{Gate, Refusal, Session, Sizes};
+    /// let mut session = Session::open(&[1, 1], &[1, 2], Sizes::Standard)?;
+    /// session.add(Gate::And(0, 1))?;
+    /// assert_eq!(session.undo()?, Gate::And(0, 1));
+    /// assert_eq!(session.undo(), Err(Refusal::Gate));
+    /// # Ok::<(), Refusal>(())
+    /// ```
     pub fn undo(&mut self) -> Result<Gate, Refusal> {
         let last = self.gates().last().map(Gate::of);
         self.state = session_take_off_lent(self.state, &self.source).map_err(|(refused, _)| refused)?;
@@ -406,21 +532,54 @@ impl Session {
     }
 
     /// The number of wires: the input bits and the gates.
+    ///
+    /// ```
+    /// # use fidrovelj::{Gate, Refusal, Session, Sizes};
+    /// let mut session = Session::open(&[1, 1], &[1, 2], Sizes::Standard)?;
+    /// session.add(Gate::And(0, 1))?;
+    /// assert_eq!(session.wires(), 3);
+    /// # Ok::<(), Refusal>(())
+    /// ```
     pub fn wires(&self) -> u32 {
         self.codes.len() as u32 + self.state.gates
     }
 
     /// The source gates, each with the masked wire that its result stands on and the code of its mask.
+    ///
+    /// ```
+    /// # use fidrovelj::{Gate, Refusal, Session, Sizes};
+    /// let mut session = Session::open(&[1, 1], &[1, 2], Sizes::Standard)?;
+    /// session.add(Gate::And(0, 1))?;
+    /// assert_eq!(session.gates()[0].result, 2);
+    /// # Ok::<(), Refusal>(())
+    /// ```
     pub fn gates(&self) -> &[SourceGate] {
         &self.source[..self.state.gates as usize]
     }
 
     /// The masked gates before the copies of the output bits.
+    ///
+    /// ```
+    /// # use fidrovelj::{Gate, Refusal, Session, Sizes};
+    /// let mut session = Session::open(&[1, 1], &[1, 2], Sizes::Standard)?;
+    /// session.add(Gate::And(0, 1))?;
+    /// assert_eq!(session.masked_gates().len(), 10);
+    /// # Ok::<(), Refusal>(())
+    /// ```
     pub fn masked_gates(&self) -> &[GateRecord] {
         &self.masked[..self.state.masked as usize]
     }
 
     /// Gate number `gate`, counted from 0, or nothing where there is no such gate.
+    ///
+    /// ```
+    /// # use fidrovelj::{Gate, Refusal, Session, Sizes};
+    /// let mut session = Session::open(&[1, 1], &[1, 2], Sizes::Standard)?;
+    /// session.add(Gate::And(0, 1))?;
+    /// assert_eq!(session.gate(0).map(|gate| gate.code), Some(1));
+    /// assert_eq!(session.gate(1), None);
+    /// # Ok::<(), Refusal>(())
+    /// ```
     pub fn gate(&self, gate: u32) -> Option<SourceGate> {
         session_gate_lent(self.state, gate, &self.source)
     }

@@ -106,6 +106,13 @@ pub struct Tables {
 
 impl Tables {
     /// Tables without entries, which grow with the calls that they are lent to.
+    ///
+    /// ```
+    /// use fidrovelj::{run, Tables};
+    ///
+    /// assert_eq!(run(b"0 1\n1 1\n1 1\n", &[1], &mut Tables::new())?, [1]);
+    /// # Ok::<(), fidrovelj::Refusal>(())
+    /// ```
     pub fn new() -> Tables {
         Tables::default()
     }

@@ -26,6 +26,17 @@ extern "C" {
 
 /// Writes the masked wire of each source wire to `out_wires` and its code to `out_codes`: how many source
 /// wires there are. Question 1 asks [`Sizes::source_wires`] entries of each table.
+///
+/// ```
+/// # use fidrovelj::{twins_lent, Refusal, Sizes};
+/// # let sizes = Sizes::Standard;
+/// let (mut operands, mut results) = (vec![0; sizes.source_wires()], vec![0; sizes.source_wires()]);
+/// let (mut marks, mut wires, mut codes) = (vec![0; sizes.source_wires()], [0; 2], [0; 2]);
+/// let inverter = b"1 2\n1 1\n1 1\n1 1 0 1 INV\n";
+/// twins_lent(inverter, &[3], &mut wires, &mut codes, &mut operands, &mut results, &mut marks, sizes)?;
+/// assert_eq!((wires, codes), ([0, 6], [3, 3]));
+/// # Ok::<(), Refusal>(())
+/// ```
 #[allow(clippy::too_many_arguments)]
 pub fn twins_lent(
     text: &[u8],
@@ -61,6 +72,12 @@ pub fn twins_lent(
 
 /// Where a source wire stands in the masked netlist: for all inputs and all four mask settings `wire` is
 /// the source wire's bit XOR the mask of `code`.
+///
+/// ```
+/// use fidrovelj::Twin;
+///
+/// assert_eq!(format!("{:?}", Twin { wire: 7, code: 1 }), "Twin { wire: 7, code: 1 }");
+/// ```
 #[derive(Clone, Copy, Debug, PartialEq, Eq, Hash)]
 pub struct Twin {
     /// The masked netlist's wire.

@@ -30,6 +30,17 @@ extern "C" {
 
 /// Tables of names, which [`from_verilog_lent`] is lent: one entry of each has eight numbers, so each needs eight times
 /// [`Sizes::source_wires`].
+///
+/// ```
+/// # use fidrovelj::{NameTables, Sizes};
+/// let entries = 8 * Sizes::Standard.source_wires();
+/// let (mut heads, mut words, mut links) = (vec![0; entries], vec![0; entries], vec![0; entries]);
+/// let (mut states, mut wires) = (vec![0; entries], vec![0; entries]);
+/// let names = NameTables {
+///     heads: &mut heads, words: &mut words, links: &mut links, states: &mut states, wires: &mut wires,
+/// };
+/// assert_eq!(names.heads.len(), 16_384);
+/// ```
 pub struct NameTables<'a> {
     /// The newest name of each chain.
     pub heads: &'a mut [u64],
@@ -44,6 +55,23 @@ pub struct NameTables<'a> {
 }
 
 /// Writes the netlist made of equations to `out`, in the written form: its length.
+///
+/// ```
+/// # use fidrovelj::{from_verilog_lent, NameTables, Refusal, Sizes};
+/// # let sizes = Sizes::Standard;
+/// # let entries = 8 * sizes.source_wires();
+/// # let (mut heads, mut words, mut links) = (vec![0; entries], vec![0; entries], vec![0; entries]);
+/// # let (mut states, mut wires) = (vec![0; entries], vec![0; entries]);
+/// # let names = NameTables {
+/// #     heads: &mut heads, words: &mut words, links: &mut links, states: &mut states, wires: &mut wires,
+/// # };
+/// let (mut operands, mut results) = (vec![0; sizes.source_wires()], vec![0; sizes.source_wires()]);
+/// let mut out = [0; 100];
+/// let module = b"module m(y, a); input a; output y; assign y = a; endmodule";
+/// let length = from_verilog_lent(module, &mut out, &mut operands, &mut results, names, sizes)?;
+/// assert_eq!(&out[..length], b"1 2\n1 1\n1 1\n\n1 1 0 1 EQW\n");
+/// # Ok::<(), Refusal>(())
+/// ```
 pub fn from_verilog_lent(
     text: &[u8],
     out: &mut [u8],

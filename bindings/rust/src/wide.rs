@@ -51,6 +51,22 @@ extern "C" {
 /// `leak`, those input bits to `ones`, at most twelve; how many pairs stand before the first bad one goes to
 /// `bad`. A list too short for what it is to be told is refused by 14. Question 1 asks [`Sizes::masked_wires`] entries of
 /// each table.
+///
+/// ```
+/// # use fidrovelj::{check_wide_lent, Refusal, Sizes};
+/// # let sizes = Sizes::Standard;
+/// let table = || vec![0u64; sizes.masked_wires()];
+/// let (mut operands, mut results, mut words, mut base, mut bases) = (table(), table(), table(), table(), table());
+/// let (mut set0, mut set1, mut set2, mut set3) = (table(), table(), table(), table());
+/// let (mut marks, mut paints) = (vec![0; sizes.masked_wires()], vec![0; sizes.masked_wires()]);
+/// let (mut leak, mut ones, mut bad) = ([0; 4], [0; 12], [0; 1]);
+/// let answer = check_wide_lent(
+///     b"0 3\n2 1 2\n1 1\n", &[1], &[], &mut leak, &mut ones, &mut bad, &mut operands, &mut results, &mut marks,
+///     &mut words, &mut base, &mut bases, &mut set0, &mut set1, &mut set2, &mut set3, &mut paints, sizes,
+/// )?;
+/// assert_eq!(answer, 0);
+/// # Ok::<(), Refusal>(())
+/// ```
 pub fn check_wide_lent(
     text: &[u8],
     codes: &[u8],
@@ -115,6 +131,14 @@ pub fn check_wide_lent(
 
 /// A leak in a netlist of any number of input bits: what [`Leak`](crate::Leak) says, with the setting told by the
 /// input bits that are one in it.
+///
+/// ```
+/// # use fidrovelj::{check_wide, Refusal, Tables};
+/// let open = b"1 23\n2 20 2\n1 1\n2 1 17 20 22 XOR\n";
+/// let leak = check_wide(open, &[1; 20], &[], &mut Tables::new())?.leak.expect("it takes a mask off");
+/// assert_eq!((leak.wire, leak.ones), (22, vec![17]));
+/// # Ok::<(), Refusal>(())
+/// ```
 #[derive(Clone, Debug, PartialEq, Eq)]
 pub struct WideLeak {
     /// The lowest wire whose counts differ.
@@ -129,6 +153,13 @@ pub struct WideLeak {
 }
 
 /// Both answers of [`check_wide`].
+///
+/// ```
+/// # use fidrovelj::{check_wide, Refusal, Tables, Wide};
+/// let found = check_wide(b"0 22\n2 20 2\n1 1\n", &[1; 20], &[3, 21], &mut Tables::new())?;
+/// assert_eq!(found, Wide { leak: None, bad: None });
+/// # Ok::<(), Refusal>(())
+/// ```
 #[derive(Clone, Debug, PartialEq, Eq)]
 pub struct Wide {
     /// The leak on one wire, if there is one.
