@@ -1,5 +1,5 @@
 -- From a netlist that was read, and judged, to the certifier's promise.
-use Prim.Native.Nat.{ℕ, ◌/◌}
+use Prim.Native.Nat.{ℕ, ◌/◌, ◌≤◌}
 use Rattle.std.specs.Prelude.{Result, Err}
 use mathlib.Core.Path.{◌≡◌, refl, sym, ap, ◌∙◌, subst}
 use mathlib.Core.Bool.{true}
@@ -21,6 +21,9 @@ use Rattle.reader.specs.Tables.{HoldsNetlist}
 use Rattle.reader.specs.Taken.{TakenOf}
 use Rattle.questions.specs.Asked.{codes_asked}
 use Rattle.certify.specs.declared.judge.Verdict.{Verdict}
+use Rattle.netlist.specs.declared.Sizes.TheVariants.{Standard, Whole}
+use native.Mathlib.Omega.{arith}
+use Rattle.certify.specs.Pass.{Masking, most_wires}
 use Rattle.certify.specs.Judge.{Judged, JudgedAs}
 use Rattle.certify.specs.Promise.{codes_for, certify_call, call, Answers}
 
@@ -40,6 +43,11 @@ codes-passed : (o : Outcome Unit) (N M : Netlist) → and_then o (λ u. done N) 
 codes-passed (refused p) N M e = no-netlist e
 codes-passed (done u) N M e = (refl, done-same N M e)
 
+-- the large limits are below the most wires that have atoms
+few-wires : (s : Sizes) (N : Netlist) → N.wires ≤ (masked_limits s).wires → N.wires ≤ most_wires
+few-wires Standard N h = omega arith
+few-wires Whole N h = omega arith
+
 module _ (s : Sizes) (text codes o r g w b t : List ℕ) where
   abbrev lengths : List ℕ
   lengths = length o ∷ length r ∷ length g ∷ length w ∷ length b ∷ length t / 15 ∷ []
@@ -54,8 +62,8 @@ module _ (s : Sizes) (text codes o r g w b t : List ℕ) where
       call-refused (tables_long (masked_limits s) lengths) (read_netlist (masked_limits s) text) (codes_for codes) p in
       record {
         refused = λ k f. (ap {B = Outcome Verdict} refused (same-question (sym e ∙ f)), refl, refl);
-        judged
-            = λ N f. no-netlist (sym e ∙ f);
+        judged = λ N f. no-netlist (sym e ∙ f);
+        masking = λ N out_codes f M. no-netlist (sym e ∙ f);
       }
 
   -- or the netlist is judged
@@ -75,4 +83,8 @@ module _ (s : Sizes) (text codes o r g w b t : List ℕ) where
         judged = λ N g.
             let p = codes-passed (codes_asked M.inputs codes) M N (sym e ∙ g) in
             subst (λ (X : Netlist). Judged X codes leak leak' ones ones' a) p.1 (J.judged p.0);
+        masking = λ N out_codes g G.
+            let p = codes-passed (codes_asked M.inputs codes) M N (sym e ∙ g) in
+            let G' : Masking M codes out_codes = subst (λ (X : Netlist). Masking X codes out_codes) (sym p.1) G in
+            J.masking out_codes p.0 G' (few-wires s M (accepted (masked_limits s) text M k.1.read).within.wires);
       }

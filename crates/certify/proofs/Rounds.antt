@@ -33,6 +33,7 @@ use Rattle.certify_records.proofs.Tables.{and_no}
 use Rattle.certify.specs.Pass.{Masked}
 use Rattle.certify.proofs.InputWires.{MaskIs, mask-place, no-mask, differs_none, input-bit}
 use Rattle.certify.specs.Round.{InputWord, Loaded, setting_in, Ran}
+use Rattle.certify.specs.Search.{Looked}
 use Rattle.certify.specs.Witness.{Witnessed}
 use Rattle.std.specs.Prelude.{Option, Some, None}
 
@@ -256,3 +257,18 @@ module _ {N : Netlist} {codes ws : List ℕ} (R : Ran N codes ws) where
         differ = λ e. D.other (sym D.base ∙ e ∙ D.own);
       }
   witness base None first S = tt
+
+-- what is looked for with the counts of setting 0 as bases
+pub looked : (ws base : List ℕ) (found : Option (Leak ℕ)) → ((w s : ℕ) → s < 16 → nibbles_of base w s ≡ ones_of ws w 0)
+    → LowestDifference (nibbles_of base) (ones_of ws) (length ws) 16 found → Looked ws found
+looked ws base found first S = record {
+  lower = λ w h s q. sym (first w s q) ∙ S.lower w h s q;
+  inside = S.inside;
+  differs = λ p e. let D = S.differs p e in record {
+    inside = D.inside;
+    smaller = λ s h. let i = D.inside in sym (first p.wire s (omega arith)) ∙ D.smaller s h;
+    other = λ z. D.other (first p.wire p.setting D.inside ∙ z);
+    base = D.base ∙ first p.wire p.setting D.inside;
+    own = D.own;
+  };
+}

@@ -5,6 +5,7 @@ pub mod Ones
 pub mod Pass
 pub mod Promise
 pub mod Round
+pub mod Search
 pub mod Step
 pub mod Store
 pub mod Witness

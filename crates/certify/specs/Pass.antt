@@ -1,7 +1,9 @@
 -- What a pass over the gates keeps.
-use Rattle.std.specs.Prelude.{ℕ, ◌+◌, ◌<◌, true, false, List, ◌≡◌, length, get_or, Option, Some, None, IfSome}
+use Rattle.std.specs.Prelude.{T, ℕ, ◌+◌, ◌<◌, true, false, List, ◌≡◌, length, get_or, Option, Some, None, IfSome}
 use Rattle.evaluate.specs.Lane.{lane}
-use Rattle.netlist.specs.Netlist.{Netlist, input_bits}
+use Rattle.netlist.specs.Netlist.{Netlist, input_bits, output_bits}
+use Rattle.masking.specs.Mask.{is_input_code, is_wanted, mask_netlist}
+use Rattle.netlist.specs.Services.{list_good}
 use Rattle.netlist.specs.Read.{WellFormed}
 use Rattle.masking.specs.Leak.{EqualCounts}
 use Rattle.gates.specs.declared.Parts.{Parts}
@@ -35,6 +37,17 @@ sure wires None = wires
 pub record LowestUnmarked (marks : List ℕ) (W : ℕ) (found : Option ℕ) : Type 0 where
   pub lower : (w : ℕ) → w < sure W found → lane 0 (get_or marks w 0) ≡ true
   pub unmarked : IfSome found (λ w. (w < W) × (lane 0 (get_or marks w 0) ≡ false))
+
+-- a netlist under input codes, and the codes of its outputs, that came about by the masking steps
+pub data Masking : Netlist → List ℕ → List ℕ → Type 0 where
+  steps : (source : Netlist) (codes wanted : List ℕ) → WellFormed source
+      → T (list_good is_input_code (input_bits source) codes)
+      → T (list_good is_wanted (output_bits source) wanted)
+      → Masking (mask_netlist source codes wanted).netlist codes (mask_netlist source codes wanted).codes
+
+-- more wires have no atoms of their own
+abbrev pub most_wires : ℕ
+most_wires = 268435456
 
 -- a gate's result is what it makes of its operands
 abbrev pub GateMakes : Netlist → List ℕ → Parts → Type 0

@@ -1,5 +1,5 @@
 -- What the certifier promises of a call.
-use Rattle.std.specs.Prelude.{ℕ, Result, ◌/◌, ◌≡◌, List, [], ◌∷◌, length}
+use Rattle.std.specs.Prelude.{ℕ, Result, Ok, ◌/◌, ◌≡◌, List, [], ◌∷◌, length}
 use Rattle.netlist.specs.declared.Refusal.{Refusal}
 use Rattle.netlist.specs.declared.Limits.{Limits}
 use Rattle.netlist.specs.declared.Sizes.{Sizes}
@@ -9,6 +9,8 @@ use Rattle.netlist.specs.Read.{read_netlist}
 use Rattle.netlist.specs.Services.{tables_long, Cleared}
 use Rattle.questions.specs.Asked.{codes_asked}
 use Rattle.certify.specs.declared.judge.Verdict.{Verdict}
+use Rattle.certify.specs.declared.judge.Verdict.TheVariants.{Clean}
+use Rattle.certify.specs.Pass.{Masking}
 use Rattle.certify.specs.Judge.{answered, Judged}
 
 -- questions 10 and 11 of a netlist
@@ -32,6 +34,8 @@ pub record Answers (asked : Outcome Netlist) (codes leak leak' ones ones' : List
   pub refused : (q : ℕ) → asked ≡ refused q → (answered a ≡ refused q) × (leak' ≡ leak) × (ones' ≡ ones)
   -- or what the answer says of the netlist that was read
   pub judged : (N : Netlist) → asked ≡ done N → Judged N codes leak leak' ones ones' a
+  -- every netlist that came about by masking, at all sizes, is clean under its input codes
+  pub masking : (N : Netlist) (out_codes : List ℕ) → asked ≡ done N → Masking N codes out_codes → a ≡ Ok Clean
 
 -- the sizes, the text and the input codes, then each list and each table before and after the call
 pub record Promise (s : Sizes) (text codes leak leak' ones ones' o o' r r' g g' w w' b b' t t' : List ℕ)

@@ -1,5 +1,5 @@
 //! Questions 10, 11 and 14 of a netlist that was read, and what the certifier says of it.
-ghost use Rattle.std.specs.Prelude.{◌≡◌, List, ℕ, ◌+◌, ◌*◌, ◌<◌, ◌≤◌, length, take};
+ghost use Rattle.std.specs.Prelude.{◌≡◌, Some, None, List, ℕ, ◌+◌, ◌*◌, ◌<◌, ◌≤◌, length, take};
 ghost use Rattle.netlist.specs.Netlist.{Netlist};
 ghost use Rattle.gates.specs.Gates.{WiredGates, HoldsGates};
 ghost use Rattle.reader.specs.Tables.{HoldsNetlist};
@@ -7,7 +7,7 @@ ghost use Rattle.certify.specs.Pass.{Masked};
 ghost use Rattle.certify.specs.Witness.{Witness};
 ghost use Rattle.masking.specs.Leak.{EqualCounts};
 ghost use Rattle.netlist.specs.Read.{WellFormed};
-ghost use Rattle.certify.specs.Judge.{Judged, JudgedAs};
+ghost use Rattle.certify.specs.Judge.{JudgedBy, JudgedLeft, Judged, JudgedAs};
 
 use gates::Gates;
 use leak_search::difference::Leak;
@@ -32,7 +32,7 @@ fn tell_leak(inputs: &[u64], found: Leak, leak: &mut [u64], ones: &mut [u64]) ->
     ensures { (N : Netlist) (codes words : List ℕ) → inputs.now ≡ take (length codes) words
         → length codes ≤ length words
         → found.wire < N.wires → Witness N codes words found
-        → Judged N codes leak.old leak.new ones.old ones.new result }
+        → (w : ℕ) → JudgedBy N codes leak.old leak.new ones.old ones.new (Some w) (Some found) words result }
 {
     let place = 4 * found.setting;
     let many = crate::ones::count(inputs, place);
@@ -49,8 +49,8 @@ fn tell_leak(inputs: &[u64], found: Leak, leak: &mut [u64], ones: &mut [u64]) ->
 
 // The lowest wire not known to be clean is told where the list has room.
 fn tell_unknown(wire: usize, leak: &mut [u64]) -> Certified
-    ensures { (N : Netlist) (codes ones : List ℕ) → wire < N.wires → ((w : ℕ) → w < wire → EqualCounts N codes w)
-        → Judged N codes leak.old leak.new ones ones result }
+    ensures { (N : Netlist) (codes ones words : List ℕ) → wire < N.wires → ((w : ℕ) → w < wire → EqualCounts N codes w)
+        → JudgedBy N codes leak.old leak.new ones ones (Some wire) None words result }
 {
     if leak.len() < 1 {
         return Err(Refusal::Room);
@@ -73,7 +73,7 @@ fn witness(
         × (length base.old ≡ length words.old) × (sure < length words.old) }
     ensures { (n o : ℕ) (N : Netlist) → HoldsGates gates.entry (length words.old) n o N
         → Masked N codes.now → ((w : ℕ) → w < sure → EqualCounts N codes.now w)
-        → Judged N codes.now leak.old leak.new ones.old ones.new result }
+        → JudgedLeft N codes.now sure leak.old leak.new ones.old ones.new result }
 {
     match crate::search::search(gates, codes, words, base) {
         Some(found) => tell_leak(&words[..codes.len()], found, leak, ones),

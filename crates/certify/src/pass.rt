@@ -1,10 +1,10 @@
 //! The pass over all gates, and the lowest wire that it does not show to be clean.
-ghost use Rattle.std.specs.Prelude.{◌≡◌, true, false, List, ℕ, ◌+◌, ◌*◌, ◌<◌, ◌≤◌, length, get_or, IfSome};
+ghost use Rattle.std.specs.Prelude.{◌≡◌, true, false, List, ℕ, ◌+◌, ◌*◌, ◌<◌, ◌≤◌, length, get_or, IfSome, None};
 ghost use Rattle.netlist.specs.Netlist.{Netlist};
 ghost use Rattle.gates.specs.Gates.{WiredGates, HoldsGates, gates_in};
 ghost use Rattle.masking.specs.Leak.{EqualCounts};
 ghost use Rattle.evaluate.specs.Lane.{lane};
-ghost use Rattle.certify.specs.Pass.{Holding, Masked, sure, LowestUnmarked};
+ghost use Rattle.certify.specs.Pass.{Holding, Masked, sure, LowestUnmarked, Masking, most_wires};
 ghost use Rattle.certify.specs.Step.{state, run_of, passed};
 
 use crate::{gate, inputs};
@@ -47,8 +47,10 @@ pub fn certified(
     ensures bound { IfSome result (λ w. w < length marks.old) }
     ensures lower { (n o : ℕ) (N : Netlist) → HoldsGates gates.entry (length marks.old) n o N → Masked N codes.now
         → (w : ℕ) → w < sure (length marks.old) result → EqualCounts N codes.now w }
-    ensures is { LowestUnmarked (passed (length marks.old) (length hints.old) codes.now (gates_in gates.entry)).marks
-        (length marks.old) result }
+    ensures is { (n o : ℕ) (N : Netlist) → HoldsGates gates.entry (length marks.old) n o N
+        → LowestUnmarked (passed N.wires (length hints.old) codes.now N.gates).marks N.wires result }
+    ensures masking { (n o : ℕ) (N : Netlist) (out_codes : List ℕ) → HoldsGates gates.entry (length marks.old) n o N
+        → Masking N codes.now out_codes → N.wires ≤ most_wires → result ≡ None }
 {
     records.fill(0);
     marks.fill(0);

@@ -5,6 +5,7 @@ ghost use Rattle.gates.specs.Gates.{WiredGates, HoldsGates};
 ghost use Rattle.certify.specs.Pass.{Masked};
 ghost use Rattle.leak_search.specs.declared.difference.Leak.{Leak};
 ghost use Rattle.certify.specs.Round.{Ran};
+ghost use Rattle.certify.specs.Search.{drawn, round_words, Looked, Searches};
 ghost use Rattle.certify.specs.Witness.{Witnessed};
 
 use crate::load;
@@ -15,8 +16,9 @@ use leak_search::{block, difference};
 // The words of all wires in one round. Returns the generator's last number.
 fn run(gates: Gates, codes: &[u8], seed: u64, words: &mut [u64]) -> u64
     requires { WiredGates gates (length words.old) × (length codes.now + 2 ≤ length words.old) }
-    ensures { (n o : ℕ) (N : Netlist) → HoldsGates gates.entry (length words.old) n o N
-        → Masked N codes.now → Ran N codes.now words.new }
+    ensures says { (n o : ℕ) (N : Netlist) → HoldsGates gates.entry (length words.old) n o N
+        → Masked N codes.now → Ran N codes.now words.new × (words.new ≡ round_words N codes.now seed) }
+    ensures noise { result ≡ drawn (length codes.now) seed }
 {
     let noise = load::inputs(codes, seed, words);
     evaluate::wires(gates, codes.len() + 2, words);
@@ -28,6 +30,7 @@ fn look(words: &[u64], base: &mut [u64]) -> Option<Leak>
     requires { length base.old ≡ length words.now }
     ensures inside { (p : Leak ℕ) → result ≡ Some p → p.setting < 16 }
     ensures witness { (N : Netlist) (codes : List ℕ) → Ran N codes words.now → Witnessed N codes words.now result }
+    ensures is { Looked words.now result }
 {
     block::first(words, base);
     difference::scan(words, base, words.len())
@@ -48,6 +51,8 @@ pub fn search(gates: Gates, codes: &[u8], words: &mut [u64], base: &mut [u64]) -
     ensures inside { (p : Leak ℕ) → result ≡ Some p → p.setting < 16 }
     ensures witness { (n o : ℕ) (N : Netlist) → HoldsGates gates.entry (length words.old) n o N
         → Masked N codes.now → Witnessed N codes.now words.new result }
+    ensures is { (n o : ℕ) (N : Netlist) → HoldsGates gates.entry (length words.old) n o N
+        → Masked N codes.now → Searches N codes.now result words.new }
 {
     let mut seed = SEED;
     for _ in 0..ROUNDS {

@@ -1,6 +1,10 @@
+pub mod Drawn
 pub mod Evens
 pub mod Leaves
 pub mod Places
+pub mod Placing
+pub mod Products
 pub mod Records
 pub mod Selectors
 pub mod Tables
+pub mod Tested
