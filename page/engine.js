@@ -30,6 +30,9 @@ const SERVICES = {
   mask: { row: 'source', tables: [NUMBERS, NUMBERS, WORDS, BYTES] },
   check: { row: 'masked', tables: [NUMBERS, NUMBERS, BYTES, NUMBERS, NUMBERS] },
   certify: { row: 'masked', tables: [NUMBERS, NUMBERS, BYTES, NUMBERS, NUMBERS, RECORDS] },
+  explain_wires: { row: 'masked', tables: [NUMBERS, NUMBERS, BYTES, NUMBERS, NUMBERS] },
+  polynomial: { row: 'masked', tables: [NUMBERS, NUMBERS, BYTES, NUMBERS] },
+  counts: { row: 'masked', tables: [NUMBERS, NUMBERS, BYTES, NUMBERS, BYTES] },
   check_wide: {
     row: 'masked',
     tables: [NUMBERS, NUMBERS, BYTES, NUMBERS, NUMBERS, NUMBERS, NUMBERS, NUMBERS, NUMBERS, NUMBERS, BYTES],
@@ -38,6 +41,9 @@ const SERVICES = {
 
 /** The questions that a larger size can answer otherwise: Length and Limits. */
 const OF_SIZE = [2, 5];
+
+/** The input bits that are one in a setting. */
+const onesOf = (setting, bits) => Array.from({ length: bits }, (_, bit) => bit).filter((bit) => setting >> bit & 1);
 
 /** A result buffer: how many entries, and the bytes of an entry. */
 const room = (entries, bytes) => ({ entries, bytes });
@@ -79,6 +85,19 @@ export class Engine {
     this.#grow(this.#base + BigInt(most));
     const length = Number(this.#exports.fidrovelj_refusal(refused, this.#base, BigInt(most)));
     return new TextDecoder().decode(this.#bytes(Number(this.#base), length));
+  }
+
+  /**
+   * The first refused place of a text in Bristol Fashion, by the limits of a row and a size, where this build tells it:
+   * the question, line and column from 1, and for the questions of numbers the one there is and the one that may be.
+   */
+  place(text, row, size) {
+    if (!this.has('place')) return undefined;
+    const { words, buffers } = this.#lay([text], [room(8, 8)], [BYTES], LIMITS[size][row]);
+    const [at, length, answer, , marks, entries] = words;
+    this.#exports.fidrovelj_place(answer, at, length, marks, entries, row === 'masked' ? 1 : 0, size);
+    const [, line, column, , , have, most] = [...this.#numbers(buffers[0], 7)].map(Number);
+    return { refused: this.#bytes(buffers[0] + 56, 1)[0], line, column, have, most };
   }
 
   /** The written form of a text in one of the notations that are read, or a refusal. */
@@ -126,8 +145,7 @@ export class Engine {
     return this.#sized('check', [text, codes], () => [room(4, 8)], (answer, [leak]) => {
       if (answer === 0) return { verdict: 'clean', how: 'exact' };
       const [wire, setting, base, own] = [...this.#numbers(leak, 4)].map(Number);
-      const ones = codes.reduce((list, _, bit) => (setting >> bit & 1 ? [...list, bit] : list), []);
-      return { verdict: 'leak', how: 'exact', lowest: true, wire, ones, base, own };
+      return { verdict: 'leak', how: 'exact', lowest: true, wire, ones: onesOf(setting, codes.length), base, own };
     });
   }
 
@@ -151,6 +169,34 @@ export class Engine {
     return { verdict: 'leak', how, lowest, wire, ones: [...this.#numbers(ones, many)].map(Number), base, own };
   }
 
+  /** A verdict on each wire, 0 where it does not leak, 1 where it does, 2 where it is a cause; or a refusal. */
+  explainWires(text, codes) {
+    const rooms = (size) => [room(LIMITS[size].masked, 1)];
+    return this.#sized('explain_wires', [text, codes], rooms, (length, [out]) => ({
+      wires: this.#bytes(out, length).slice(),
+    }));
+  }
+
+  /**
+   * The products whose sum a wire is, as numbers: bit 0 of a product's number is m0, bit 1 is m1 and bit i + 2 is input
+   * bit i. Or a refusal.
+   */
+  polynomial(text, codes, wire) {
+    const rooms = () => [room(2 ** (codes.length + 2), 1)];
+    return this.#sized('polynomial', [text, codes, BigInt(wire)], rooms, (length, [out]) => ({
+      products: [...this.#bytes(out, length)].flatMap((stands, product) => (stands ? [product] : [])),
+    }));
+  }
+
+  /** How many settings have each count on a wire, and where it leaks a witness with as few ones as there is. */
+  counts(text, codes, wire) {
+    return this.#sized('counts', [text, codes, BigInt(wire)], () => [room(8, 8)], (length, [out]) => {
+      const [none, one, two, three, four, setting, base, own] = [...this.#numbers(out, length)].map(Number);
+      const witness = length === 8 ? { ones: onesOf(setting, codes.length), base, own } : undefined;
+      return { settings: [none, one, two, three, four], witness };
+    });
+  }
+
   /** One call, with the standard size and, where that is too small, with the whole one. */
   #sized(service, inputs, rooms, tell) {
     for (const size of [0, 1]) {
@@ -160,10 +206,17 @@ export class Engine {
     }
   }
 
-  /** Lays inputs, result buffers and working tables one after another from the heap's base, and calls. */
   #call(service, inputs, rooms, size) {
     const { row, tables } = SERVICES[service];
-    const entries = LIMITS[size][row];
+    const { words, buffers } = this.#lay(inputs, rooms, tables, LIMITS[size][row]);
+    return { answer: Number(this.#exports[`fidrovelj_${service}`](...words, size)), buffers };
+  }
+
+  /**
+   * Lays inputs, result buffers and working tables one after another from the heap's base: the words of the call, and
+   * where the buffers are. An input may be a number.
+   */
+  #lay(inputs, rooms, tables, entries) {
     let end = this.#base;
     const words = [];
     const lay = (count, bytes) => {
@@ -172,15 +225,19 @@ export class Engine {
       words.push(pointer, BigInt(count));
       return Number(pointer);
     };
-    const places = inputs.map((list) => lay(list.length, list.BYTES_PER_ELEMENT));
+    const places = inputs.map((list) => {
+      if (typeof list !== 'bigint') return lay(list.length, list.BYTES_PER_ELEMENT);
+      words.push(list);
+    });
     const buffers = rooms.map(({ entries: count, bytes }) => lay(count, bytes));
     tables.forEach(([each, bytes]) => lay(each * entries, bytes));
     this.#grow(end);
     inputs.forEach((list, index) => {
+      if (typeof list === 'bigint') return;
       const bytes = new Uint8Array(list.buffer, list.byteOffset, list.byteLength);
       new Uint8Array(this.#exports.memory.buffer).set(bytes, places[index]);
     });
-    return { answer: Number(this.#exports[`fidrovelj_${service}`](...words, size)), buffers };
+    return { words, buffers };
   }
 
   #grow(end) {

@@ -23,11 +23,18 @@ export function shapeWords({ notation, shape: { gates, wires, inputs, outputs } 
     `in ${widths(inputs)}, out ${widths(outputs)} ${outputs.at(-1) === 1 ? 'bit' : 'bits'}.`;
 }
 
+/** The numbers of a refusal by Length, Limits or Count. */
+function numberWords({ refused, have, most }) {
+  const [there, may] = [have, most].map((number) => number.toLocaleString('en'));
+  if (refused === 6) return ` (${there} gates, where ${may} would fit)`;
+  return refused === 2 || refused === 5 ? ` (${there}, where ${may} may be)` : '';
+}
+
 /** A refusal: its words, and the line that it is about with a caret under the place, where the library tells them. */
 export function refusalWords({ refused, words, place, source }) {
   const named = words ?? `question ${QUESTIONS[refused]} is answered no`;
-  const head = `Refused by ${refused}: ${named}.`;
-  if (!place) return head;
+  if (!place) return `Refused by ${refused}: ${named}.`;
+  const head = `Refused by ${refused}: ${named}${numberWords(place)}.`;
   const line = source.split('\n')[place.line - 1] ?? '';
   const from = Math.max(0, place.column - 60);
   const shown = line.slice(from, from + 100).replaceAll('\r', ' ');
@@ -49,6 +56,13 @@ export function inputName(bit, inputs) {
   return `bit ${bit}`;
 }
 
+/** A list as a person says it; of a long one the first so many. */
+export function listWords(list, most = 12) {
+  if (list.length < 2) return list.join('');
+  const shown = list.length > most ? [...list.slice(0, most), `${list.length - most} more`] : list;
+  return `${shown.slice(0, -1).join(', ')} and ${shown.at(-1)}`;
+}
+
 const HOW = {
   exact: 'tried under all settings of the input bits',
   certified: 'certified for all settings',
@@ -63,10 +77,33 @@ export function verdictWords(verdict, { wires, inputs }) {
   if (verdict.verdict === 'undecided') {
     return `Not decided: every wire below wire ${verdict.wire} is clean, and of that one neither was shown.`;
   }
-  const names = verdict.ones.map((bit) => inputName(bit, inputs));
-  const last = names.length > 12 ? `${names.length - 12} more` : names.pop();
-  const shown = [names.slice(0, 12).join(', '), last].filter(Boolean).join(' and ');
-  const { wire, own, base, ones, how } = verdict;
-  return `Leak: wire ${wire} is one for ${own} of the four mask settings where of the input bits ${shown} alone ` +
-    `${ones.length === 1 ? 'is' : 'are'} one, and for ${base} of them where the secret bits are zero (${HOW[how]}).`;
+  return `Leak: wire ${verdict.wire} ${witnessWords(verdict, inputs)} (${HOW[verdict.how]}).`;
+}
+
+/** What a wire is in a leak's setting and in its base. */
+export function witnessWords({ own, base, ones }, inputs) {
+  const names = listWords(ones.map((bit) => inputName(bit, inputs)));
+  return `is one for ${own} of the four mask settings where of the input bits ${names} alone ` +
+    `${ones.length === 1 ? 'is' : 'are'} one, and for ${base} of them where the secret bits are zero`;
+}
+
+/** Which wires leak, and which of them are causes. */
+export function leakingWords({ leaking, causes }) {
+  const are = leaking.length === 1 ? '1 wire leaks' : `${leaking.length.toLocaleString('en')} wires leak`;
+  const these = causes.length === 1 ? 'the cause is' : 'the causes are';
+  return `${are}; ${these} ${listWords(causes)}, whose operands are clean.`;
+}
+
+const MOST_PRODUCTS = 24;
+
+/** A wire's polynomial, x for the input bits, and how many settings have each count. */
+export function factWords(wire, { products, settings }) {
+  const variables = (product) => [...product.toString(2)].reverse().flatMap((stands, bit) =>
+    stands === '1' ? [bit < 2 ? `m${bit}` : `x${bit - 2}`] : []);
+  const terms = products.map(variables).sort((left, right) => left.length - right.length);
+  const shown = terms.slice(0, MOST_PRODUCTS).map((names) => names.join('·') || '1');
+  const more = terms.length > MOST_PRODUCTS ? ` ⊕ ${terms.length - MOST_PRODUCTS} products more` : '';
+  const counts = settings.flatMap((many, count) => (many ? [`${many.toLocaleString('en')} with count ${count}`] : []));
+  return `Wire ${wire} = ${shown.join(' ⊕ ') || '0'}${more}, where x is an input bit, counted over all values. ` +
+    `Settings of the input bits: ${listWords(counts)}.`;
 }

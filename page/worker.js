@@ -75,7 +75,33 @@ function cone(engine, text, codes, wire, ones) {
   return { nodes, cut };
 }
 
-const ANSWERS = { read, mask, check, run, seen: wiresIn, cone };
+/** The wires that leak, and the causes among them; nothing where the library does not say. */
+function leaking(engine, text, codes) {
+  if (!engine.has('explain_wires')) return {};
+  const { wires, refused } = engine.explainWires(encode(text), Uint8Array.from(codes));
+  if (refused) return {};
+  const where = (least) => [...wires.keys()].filter((wire) => wires[wire] >= least);
+  return { leaking: where(1), causes: where(2) };
+}
+
+/** A wire's polynomial, how many settings have each count, and a witness; nothing where the library does not say. */
+function facts(engine, text, codes, wire) {
+  if (!engine.has('polynomial')) return {};
+  const list = [encode(text), Uint8Array.from(codes), wire];
+  const [{ products, refused }, { settings, witness }] = [engine.polynomial(...list), engine.counts(...list)];
+  return refused ? {} : { products, settings, witness };
+}
+
+/** What can be said of a refusal: its words, and the place of it in a text in Bristol Fashion. */
+function explainRefusal(engine, answer, service, text) {
+  const { refused, size, notation = 'fashion' } = answer;
+  answer.words = engine.words(refused);
+  if (notation !== 'fashion' || refused > 9) return;
+  const place = engine.place(encode(text), service === 'mask' ? 'source' : 'masked', size);
+  if (place?.refused === refused) Object.assign(answer, { place, source: text });
+}
+
+const ANSWERS = { read, mask, check, run, seen: wiresIn, cone, leaking, facts };
 
 let opening;
 self.onmessage = async ({ data: { id, service, list } }) => {
@@ -87,7 +113,7 @@ self.onmessage = async ({ data: { id, service, list } }) => {
     const engine = await opening;
     const start = performance.now();
     const answer = ANSWERS[service](engine, ...list);
-    if (answer.refused) Object.assign(answer, { source: list[0], words: engine.words(answer.refused) });
+    if (answer.refused) explainRefusal(engine, answer, service, list[0]);
     self.postMessage({ id, answer, milliseconds: performance.now() - start, memory: engine.memory });
   } catch (error) {
     self.postMessage({ id, error: String(error) });
