@@ -1,6 +1,6 @@
-//! Links the proved static library: `target/staticlib/libcapi.a` of the repository, which `./build library` writes, or the
-//! archive that the environment variable `FIDROVELJ_LIB` names. With `FIDROVELJ_LIB=none` nothing is linked, which is
-//! enough for documentation and for programs that call nothing.
+//! Links the proved static library: `target/staticlib/libcapi.a` of the repository, which `./build library` writes, or
+//! the archive that the environment variable `FIDROVELJ_LIB` names. With `FIDROVELJ_LIB=none` nothing is linked, which
+//! is enough for documentation and for programs that call nothing.
 
 use std::env;
 use std::path::{Path, PathBuf};
@@ -16,8 +16,8 @@ fn main() {
     println!("cargo:rerun-if-changed={}", archive.display());
     if !archive.is_file() {
         println!(
-            "cargo::error=the proved library {} is missing: run `./build library` at the top of the repository (it needs \
-             the Rattle kit, and minutes the first time), or name an archive in FIDROVELJ_LIB",
+            "cargo::error=the proved library {} is missing: run `./build library` at the top of the repository (it \
+             needs the Rattle kit, and minutes the first time), or name an archive in FIDROVELJ_LIB",
             archive.display()
         );
         return;

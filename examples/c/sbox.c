@@ -1,4 +1,4 @@
-/* Masks an S-box of four bits, certifies the result, and checks which of its values may follow each other in a register.
+/* Masks an S-box of four bits, certifies the result, and checks which values may follow each other in a register.
  *
  *     sbox FILE        a netlist in Bristol Fashion with four input bits
  */
@@ -36,12 +36,13 @@ int main(int count, char **names)
                                   operands, TABLE, results, TABLE, wires, TABLE, marks, TABLE, FIDROVELJ_OLD);
     if (size < 0)
         return refused("mask", size);
-    printf("masked: %d bytes, the output bits under codes %d%d%d%d\n", (int)size, out_codes[0], out_codes[1], out_codes[2],
-           out_codes[3]);
+    printf("masked: %d bytes, the output bits under codes %d%d%d%d\n", (int)size, out_codes[0], out_codes[1],
+           out_codes[2], out_codes[3]);
 
     uint64_t leak[4], ones[BITS], bad[1];
-    int64_t verdict = fidrovelj_certify(masked, (size_t)size, codes, BITS, leak, 4, ones, BITS, operands, TABLE, results,
-                                        TABLE, marks, TABLE, words, TABLE, base, TABLE, records, 15 * TABLE, FIDROVELJ_OLD);
+    int64_t verdict = fidrovelj_certify(masked, (size_t)size, codes, BITS, leak, 4, ones, BITS, operands, TABLE,
+                                        results, TABLE, marks, TABLE, words, TABLE, base, TABLE, records, 15 * TABLE,
+                                        FIDROVELJ_OLD);
     if (verdict < 0)
         return refused("certify", verdict);
     printf("certified: %s\n", verdict == 0 ? "clean" : verdict == 1 ? "a leak" : "not decided");
@@ -49,9 +50,9 @@ int main(int count, char **names)
     /* One register holds bit 0 and then another value: bit 1, which is under another mask, or bit 3, which is not. */
     for (uint32_t next = 1; next < BITS; next++) {
         const uint32_t pair[] = {0, next};
-        int64_t answer = fidrovelj_check_pairs(masked, (size_t)size, codes, BITS, pair, 2, leak, 4, bad, 1, operands, TABLE,
-                                               results, TABLE, marks, TABLE, words, TABLE, base, TABLE, bases, TABLE,
-                                               FIDROVELJ_OLD);
+        int64_t answer = fidrovelj_check_pairs(masked, (size_t)size, codes, BITS, pair, 2, leak, 4, bad, 1, operands,
+                                               TABLE, results, TABLE, marks, TABLE, words, TABLE, base, TABLE, bases,
+                                               TABLE, FIDROVELJ_OLD);
         if (answer < 0)
             return refused("check of pairs", answer);
         printf("bit 0 and then bit %d in one register: %s\n", (int)next, answer & 2 ? "shows their sum" : "clean");

@@ -188,7 +188,7 @@ _loaded: List[Library] = []
 
 
 def library() -> Library:
-    """The shared library: the one that FIDROVELJ_SHARED names, that of the package, the repository's or the system's."""
+    """The shared library: the one that FIDROVELJ_SHARED names, the package's, the repository's or the system's."""
     if not _loaded:
         places = _places()
         if not places:

@@ -90,7 +90,9 @@ class Certified:
     def __str__(self) -> str:
         if self.leak is not None:
             return str(self.leak)
-        return "clean" if self.unknown is None else f"not decided: wire {self.unknown} is the first not known to be clean"
+        if self.unknown is None:
+            return "clean"
+        return f"not decided: wire {self.unknown} is the first not known to be clean"
 
 
 @dataclass(frozen=True)
@@ -355,9 +357,9 @@ class Netlist:
 
     def mask(self, codes: Codes, wanted: Codes = 0) -> "Masked":
         """The masked netlist, for a mask code for each input bit: 1 travels XOR m0, 2 XOR m1, 3 XOR both, 0 is public.
-        `wanted` has for each output bit the code that it is to travel with, or 0 where any will do. Codes are one number
-        for all, a string of digits or a list. Raises `Refusal` 11 or 13 for other codes, and 2 or 5 where it is too large.
-        """
+        `wanted` has for each output bit the code that it is to travel with, or 0 where any will do. Codes are one
+        number for all, a string of digits or a list. Raises `Refusal` 11 or 13 for other codes, and 2 or 5 where it is
+        too large."""
         lib, sizes = library(), self._source_sizes()
         input_codes, asked = code_list(codes, self.input_bits), code_list(wanted, self.output_bits)
         out, entries = lib.table("text", U8, sizes.masked_text), sizes.source_wires
@@ -412,11 +414,11 @@ class Netlist:
         ]
 
     def check(self, codes: Codes) -> Optional[Leak]:
-        """The leak with the lowest wire and the smallest setting, or None where every wire is clean, over all settings of
-        at most twelve bits. Raises `Refusal` 10 without a mask pair, 11 for other codes, 12 for more bits.
+        """The leak with the lowest wire and the smallest setting, or None where every wire is clean, over all settings
+        of at most twelve bits. Raises `Refusal` 10 without a mask pair, 11 for other codes, 12 for more bits.
 
-        >>> print(Netlist("1 4\\n2 1 2\\n1 1\\n2 1 0 1 3 XOR\\n").check("1"))
-        leak: wire 3 is one for 4 of the four mask settings where of the input bits 0 alone are one, and for 0 where the secret ones are zero
+        >>> Netlist("1 4\\n2 1 2\\n1 1\\n2 1 0 1 3 XOR\\n").check("1")
+        Leak(wire=3, ones=(0,), base=0, own=4)
         """
         sizes, leak = self._masked_sizes(), (U64 * 4)()
         tables = self._tables_of_a_check(sizes, "words base")
@@ -427,8 +429,8 @@ class Netlist:
         return Leak(wire, tuple(bit for bit in range(12) if setting >> bit & 1), base, own)
 
     def check_pairs(self, codes: Codes, pairs: Iterable[Tuple[int, int]]) -> PairsVerdict:
-        """What `check` says, and besides whether listed pairs of wires leak together, as a register shows them that holds
-        one after the other. Raises `Refusal` 21 for a pair that names no wire."""
+        """What `check` says, and besides whether listed pairs of wires leak together, as a register shows them that
+        holds one after the other. Raises `Refusal` 21 for a pair that names no wire."""
         sizes, leak, bad = self._masked_sizes(), (U64 * 4)(), (U64 * 1)()
         tables = self._tables_of_a_check(sizes, "words base bases")
         wires = array(U32, pair_list(pairs))
@@ -439,8 +441,8 @@ class Netlist:
         return PairsVerdict(Leak(wire, ones, base, own) if answer & 1 else None, bad[0] if answer & 2 else None)
 
     def check_wide(self, codes: Codes, pairs: Iterable[Tuple[int, int]] = ()) -> PairsVerdict:
-        """What `check_pairs` says, of any number of input bits, as long as at most twelve reach each wire and each listed
-        pair. Raises `Refusal` 12 otherwise."""
+        """What `check_pairs` says, of any number of input bits, as long as at most twelve reach each wire and each
+        listed pair. Raises `Refusal` 12 otherwise."""
         sizes, leak, ones, bad = self._masked_sizes(), (U64 * 4)(), (U64 * 12)(), (U64 * 1)()
         tables = self._tables_of_a_check(sizes, "words base bases set0 set1 set2 set3")
         paints = library().table("paints", U8, sizes.masked_wires)
@@ -564,7 +566,8 @@ def _written(name: str, text: bytes) -> bytes:
 
 
 def _made(name: str, text: bytes) -> bytes:
-    """A netlist of another notation, under the standard limits, and under those for whole ciphers where these are passed."""
+    """A netlist of another notation, under the standard limits, or under those for whole ciphers where these are
+    passed."""
     lib = library()
 
     def under(sizes: Sizes) -> bytes:
@@ -580,7 +583,8 @@ def _made(name: str, text: bytes) -> bytes:
 
 
 def _in_sizes(under: Callable[[Sizes], bytes], limits: Tuple[int, ...]) -> bytes:
-    """What a call gives under the standard limits; where one of these questions refuses it, under those for whole ciphers."""
+    """What a call gives under the standard limits; where one of these questions refuses it, under those for whole
+    ciphers."""
     try:
         return under(Sizes.STANDARD)
     except Refusal as refusal:

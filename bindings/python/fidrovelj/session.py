@@ -80,8 +80,8 @@ class Session:
         return Twin(record.wire, record.code)
 
     def add(self, name: str, *operands: int) -> int:
-        """Adds a gate XOR, AND, INV, EQW or EQ at the end: the number of its wire, which is the next. Raises `Refusal` 8
-        for an operand that is no wire yet, 7 for another form, 24 where there is no wire left."""
+        """Adds a gate XOR, AND, INV, EQW or EQ at the end: the number of its wire, which is the next. Raises `Refusal`
+        8 for an operand that is no wire yet, 7 for another form, 24 where there is no wire left."""
         if name not in NUMBERS:
             raise ValueError(f"{name} is none of {', '.join(NUMBERS)}")
         if len(operands) != (2 if name in ("XOR", "AND") else 1):

@@ -30,6 +30,7 @@ from fidrovelj import Leak, Masked, Netlist, Refusal, Session, Sizes, join, mask
 found = importlib.import_module("fidrovelj.library")
 DATA = ROOT / "crates" / "vectors_circuits" / "data"
 KINDS = ("XOR", "AND", "INV", "EQW", "EQ")
+MADE = {"XOR": lambda a, b: a ^ b, "AND": lambda a, b: a & b, "INV": lambda a: 1 - a, "EQW": lambda a: a}
 
 
 def second_library():
@@ -79,8 +80,7 @@ def evaluate(gates, bits):
             values.append(operands[0])
         else:
             read = [values[it] for it in operands]
-            made = {"XOR": lambda a, b=0: a ^ b, "AND": lambda a, b=0: a & b, "INV": lambda a: 1 - a, "EQW": lambda a: a}
-            values.append(made[name](*read))
+            values.append(MADE[name](*read))
     return values
 
 
@@ -344,7 +344,8 @@ class Formats(unittest.TestCase):
         masked = netlist.mask("1231")
         session = Session([2], "12")
         session.add("AND", 0, 1)
-        for it in (netlist, masked, masked.check(), masked.certify(), netlist.twins(1), Refusal(4), next(iter(netlist))):
+        results = (masked.check(), masked.certify(), netlist.twins(1), next(iter(netlist)))
+        for it in (netlist, masked, *results, Refusal(4)):
             self.assertEqual(pickle.loads(pickle.dumps(it)), it)
         copy = pickle.loads(pickle.dumps(session))
         self.assertEqual((copy.gates, copy.masked_gates), (session.gates, session.masked_gates))

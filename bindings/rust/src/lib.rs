@@ -5,9 +5,9 @@
 //!
 //! | function | what it gives |
 //! |---|---|
-//! | [`mask`], [`mask_fewest`] | the masked netlist, in which every bit travels under a mask; with the fewest mask changes |
+//! | [`mask`], [`mask_fewest`] | the masked netlist, in which every bit travels under a mask; with the fewest changes |
 //! | [`twins`] | where each source wire stands in the masked netlist |
-//! | [`check`], [`check_pairs`], [`check_wide`] | clean, or a leak; besides that listed pairs; the same of many inputs |
+//! | [`check`], [`check_pairs`], [`check_wide`] | clean, or a leak; that and listed pairs; the same of many inputs |
 //! | [`certify`] | clean, a leak or not decided, for any number of inputs |
 //! | [`run`], [`run64`] | the output bits; those of sixty-four settings at once |
 //! | [`rewrite`], [`from_old`], [`to_old`] | the written form; from the older Bristol dialect and to it |
@@ -15,10 +15,10 @@
 //! | [`Session`] | a source that grows gate by gate, and shrinks again, masked at every moment |
 //! | [`join`] | one netlist of two masked blocks |
 //!
-//! Each call puts a list of questions in order, and the first no refuses it ([`Refusal`]). The services lend the library
-//! its working tables and result buffers from a [`Tables`], made once and used for any number of calls; the functions of
-//! [`lent`], and those whose names end in `_lent`, take each table and buffer from the caller instead, and allocate
-//! nothing.
+//! Each call puts a list of questions in order, and the first no refuses it ([`Refusal`]). The services lend the
+//! library its working tables and result buffers from a [`Tables`], made once and used for any number of calls; the
+//! functions of [`lent`], and those whose names end in `_lent`, take each table and buffer from the caller instead, and
+//! allocate nothing.
 //!
 //! ```
 //! use fidrovelj::{Netlist, Tables};
@@ -138,7 +138,8 @@ impl fmt::Debug for Masked {
 /// # use fidrovelj::{check, Tables};
 /// let open = b"1 4\n2 1 2\n1 1\n\n2 1 0 1 3 XOR\n";
 /// let leak = check(open, &[1], &mut Tables::new())?.expect("it takes a mask off");
-/// assert_eq!(leak.to_string(), "leak: wire 3 is one for 4 of the four mask settings in setting 1, and for 0 in its base");
+/// let words = "leak: wire 3 is one for 4 of the four mask settings in setting 1, and for 0 in its base";
+/// assert_eq!(leak.to_string(), words);
 /// # Ok::<(), fidrovelj::Refusal>(())
 /// ```
 #[derive(Clone, Copy, Debug, PartialEq, Eq, Hash)]

@@ -236,7 +236,8 @@ pub fn session_add_lent(
 /// Takes the last gate off. The lists are not written.
 ///
 /// ```
-/// # use fidrovelj::{session_take_off_lent, session_open_lent, session_add_lent, GateRecord, Refusal, Sizes, SourceGate};
+/// # use fidrovelj::{session_add_lent, session_open_lent, session_take_off_lent};
+/// # use fidrovelj::{GateRecord, Refusal, Sizes, SourceGate};
 /// # let sizes = Sizes::Standard;
 /// let (mut source, mut masked) = ([SourceGate::default(); 4], [GateRecord::default(); 40]);
 /// let session = session_open_lent(&[2], &[1, 2], &mut masked, sizes).map_err(|(refusal, _)| refusal)?;
@@ -322,8 +323,8 @@ pub fn session_text_lent(
     })
 }
 
-/// Writes what [`mask`](crate::mask) gives for that text to `out`, and the code of each output bit to `out_codes`: the masked
-/// text's length.
+/// Writes what [`mask`](crate::mask) gives for that text to `out`, and the code of each output bit to `out_codes`: the
+/// masked text's length.
 ///
 /// ```
 /// # use fidrovelj::{session_masked_lent, session_open_lent, session_add_lent, GateRecord, Refusal, Sizes, SourceGate};
@@ -435,8 +436,8 @@ impl Gate {
 }
 
 /// A source netlist in the making, masked gate by gate: a gate is added at the end, or the last one taken off. At every
-/// moment the masked gates are those that [`mask`](crate::mask) gives for the gates that are there. A step takes as long
-/// however many there are.
+/// moment the masked gates are those that [`mask`](crate::mask) gives for the gates that are there. A step takes as
+/// long however many there are.
 ///
 /// ```
 /// # use fidrovelj::{check, mask, Gate, Refusal, Session, Sizes, Tables};
@@ -489,8 +490,8 @@ impl Session {
         Ok(Session { state, widths, codes, source: Vec::new(), masked, sizes })
     }
 
-    /// Adds a gate at the end: the number of its wire, which is the next. An operand that is no wire yet is refused by 8,
-    /// a gate beyond the most wires by 24.
+    /// Adds a gate at the end: the number of its wire, which is the next. An operand that is no wire yet is refused by
+    /// 8, a gate beyond the most wires by 24.
     ///
     /// ```
     /// # use fidrovelj::{Gate, Refusal, Session, Sizes};
@@ -584,9 +585,9 @@ impl Session {
         session_gate_lent(self.state, gate, &self.source)
     }
 
-    /// The netlist, in the written form, with output values of these widths: their bits are the last wires. Widths that are
-    /// none or 0 are refused by 4, too many values or bits by 5. Tables that are kept to smaller sizes than the session's
-    /// are refused by 1.
+    /// The netlist, in the written form, with output values of these widths: their bits are the last wires. Widths that
+    /// are none or 0 are refused by 4, too many values or bits by 5. Tables that are kept to smaller sizes than the
+    /// session's are refused by 1.
     ///
     /// ```
     /// # use fidrovelj::{Gate, Refusal, Session, Sizes, Tables};
@@ -612,8 +613,8 @@ impl Session {
         Ok(t.text[..length].to_vec())
     }
 
-    /// What [`mask`](crate::mask) gives for that netlist, with a wanted code, 0 to 3, for each output bit: other lists are
-    /// refused by 13.
+    /// What [`mask`](crate::mask) gives for that netlist, with a wanted code, 0 to 3, for each output bit: other lists
+    /// are refused by 13.
     ///
     /// ```
     /// # use fidrovelj::{mask, Gate, Refusal, Session, Sizes, Tables};

@@ -143,8 +143,8 @@ impl Tables {
         Tables { fixed: Some(Sizes::Whole), ..Tables::default() }
     }
 
-    /// What a call gives under the limits that the tables are for; of those that grow under the standard ones, and where
-    /// these are passed under those for whole ciphers.
+    /// What a call gives under the limits that the tables are for; of those that grow under the standard ones, and
+    /// where these are passed under those for whole ciphers.
     pub(crate) fn lend<T>(
         &mut self,
         mut call: impl FnMut(&mut Tables, Sizes) -> Result<T, Refusal>,

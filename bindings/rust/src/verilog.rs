@@ -106,8 +106,8 @@ pub fn from_verilog_lent(
     })
 }
 
-/// The netlist made of a module of equations, in its written form: one input value and one output value in port order, a
-/// gate for each operator, and last an EQW for each output. Mask's limits hold.
+/// The netlist made of a module of equations, in its written form: one input value and one output value in port order,
+/// a gate for each operator, and last an EQW for each output. Mask's limits hold.
 ///
 /// A text outside the subset is refused by 16, names not declared, assigned and read as they must be by 17, parentheses
 /// deeper than 32 by 18.
@@ -118,8 +118,10 @@ pub fn from_verilog_lent(
 /// let text = from_verilog(b"module m(y, a, b); input a, b; output y; assign y = a ^ ~b; endmodule", tables)?;
 /// assert_eq!(text, b"3 5\n1 2\n1 1\n\n1 1 1 2 INV\n2 1 0 2 3 XOR\n1 1 3 4 EQW\n");
 ///
-/// assert_eq!(from_verilog(b"module m(y, a); input a; output y; assign y = ~~a; endmodule", tables), Err(Refusal::Grammar));
-/// assert_eq!(from_verilog(b"module m(y, a); input a; output y; assign y = y; endmodule", tables), Err(Refusal::Names));
+/// let twice = b"module m(y, a); input a; output y; assign y = ~~a; endmodule";
+/// assert_eq!(from_verilog(twice, tables), Err(Refusal::Grammar));
+/// let itself = b"module m(y, a); input a; output y; assign y = y; endmodule";
+/// assert_eq!(from_verilog(itself, tables), Err(Refusal::Names));
 /// # Ok::<(), Refusal>(())
 /// ```
 pub fn from_verilog(text: &[u8], tables: &mut Tables) -> Result<Vec<u8>, Refusal> {

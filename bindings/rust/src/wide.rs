@@ -49,8 +49,8 @@ extern "C" {
 /// Whether a netlist of any number of input bits leaks, and whether a listed pair of its wires does: 1 for a leak
 /// and 2 more for a bad pair. A leak's wire, how many input bits are one in its setting, and both counts go to
 /// `leak`, those input bits to `ones`, at most twelve; how many pairs stand before the first bad one goes to
-/// `bad`. A list too short for what it is to be told is refused by 14. Question 1 asks [`Sizes::masked_wires`] entries of
-/// each table.
+/// `bad`. A list too short for what it is to be told is refused by 14. Question 1 asks [`Sizes::masked_wires`] entries
+/// of each table.
 ///
 /// ```
 /// # use fidrovelj::{check_wide_lent, Refusal, Sizes};

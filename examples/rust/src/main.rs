@@ -1,5 +1,5 @@
-//! Builds an adder of four bits in a session, gate by gate; at every moment the masked gates are those of the gates that
-//! are there. Then the masked netlist is checked, and adds under all four settings of the mask bits.
+//! Builds an adder of four bits in a session, gate by gate; at every moment the masked gates are those of the gates
+//! that are there. Then the masked netlist is checked, and adds under all four settings of the mask bits.
 
 use std::error::Error;
 
