@@ -1,6 +1,7 @@
 // One of the two boxes: a text from a file, the clipboard or the keyboard, what the library reads in it, and the codes
 // of its values.
 import { ask } from './ask.js';
+import { tell } from './dom.js';
 import { byValue, codesFrom, codesTo } from './values.js';
 import { refusalWords, shapeWords } from './words.js';
 
@@ -120,8 +121,7 @@ export class Box extends EventTarget {
   }
 
   say(kind, words) {
-    this.part('state').className = `state status ${kind}`;
-    this.part('state').textContent = words;
+    tell(this.part('state'), kind, words);
   }
 
   /** The netlist that the text was read as, or undefined where it was refused, which the box says itself. */

@@ -1,7 +1,7 @@
 // The verdict of a check, and where it is a leak its picture, its list, and the wires that meet in it.
 import { ask } from './ask.js';
 import { save } from './box.js';
-import { at } from './dom.js';
+import { at, tell } from './dom.js';
 import { FOLLOWS, follows, nodeName, nodeWords, picture } from './picture.js';
 import { factWords, leakingWords, refusalWords, verdictWords, witnessWords } from './words.js';
 
@@ -13,8 +13,7 @@ let turn = 0;
 /** Says something in place of a verdict. */
 export function sayVerdict(kind, words) {
   turn++;
-  at('verdict').className = `status ${kind}`;
-  at('verdict').textContent = words;
+  tell(at('verdict'), kind, words);
   at('leak').hidden = true;
 }
 

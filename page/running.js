@@ -1,14 +1,11 @@
 // A run of one of the two netlists on values that a person writes.
 import { ask } from './ask.js';
 import { fieldValues, fields } from './box.js';
-import { at } from './dom.js';
+import { at, tell } from './dom.js';
 import { bitsFrom, bitsTo, byValue, maskOf } from './values.js';
 import { refusalWords } from './words.js';
 
-function say(kind, words) {
-  at('outputs').className = `status ${kind}`;
-  at('outputs').textContent = words;
-}
+const say = (kind, words) => tell(at('outputs'), kind, words);
 
 /** Bits with the masks of their codes put on or taken off. */
 const withMasks = (bits, codes, pair) => bits.map((bit, index) => bit ^ maskOf(codes[index], ...pair));
