@@ -9,9 +9,9 @@ number of the first question that was answered no, and its words.
 <Netlist: 11 gates, 15 wires, inputs 1 1 2, outputs 1>
 >>> print(masked.certify())
 clean
->>> Netlist("1 3\\n")
+>>> Netlist("1 3\\n")  # doctest: +ELLIPSIS
 Traceback (most recent call last):
-fidrovelj.refusals.Refusal: refused 4: the header lines have not the stated form
+fidrovelj.refusals.Refusal: refused 4...: the header lines have not the stated form
 """
 
 from .library import Sizes
@@ -19,7 +19,7 @@ from .netlist import Certified, Fewest, Gate, Leak, Masked, Netlist, PairsVerdic
 from .refusals import WORDS, Refusal
 from .session import Session
 
-__version__ = "0.1.0"
+__version__ = "1.0.0"
 __all__ = [
     "Certified",
     "Fewest",

@@ -71,6 +71,17 @@ class Step(ctypes.Structure):
     _fields_ = [("session", State), ("refused", ctypes.c_uint8)]
 
 
+class PlaceAnswer(ctypes.Structure):
+    """The first refused place of a text: the question that refuses it, or 0, and where."""
+
+    _fields_ = [
+        *((name, ctypes.c_size_t) for name in ("offset", "line", "column", "entry", "word")),
+        ("have", ctypes.c_uint64),
+        ("most", ctypes.c_uint64),
+        ("refused", ctypes.c_uint8),
+    ]
+
+
 # The parameters of each function, in order: slices, but for the budget, a session and a gate. All but the last end with
 # the choice of sizes; the last three give a step's answer, the others a number.
 SERVICES: Dict[str, str] = {
@@ -139,6 +150,20 @@ class Library:
             is_step = name in ("session_open", "session_add", "session_take_off")
             function.restype = Step if is_step else ctypes.c_int64
             self._functions[name] = function
+        self._place = getattr(library, "fidrovelj_place", None)
+        if self._place is not None:
+            slices = [ctypes.c_void_p, ctypes.c_size_t] * 2
+            self._place.argtypes, self._place.restype = [*slices, ctypes.c_uint8, ctypes.c_uint8], PlaceAnswer
+
+    def placed(self, refusal: Refusal, text: bytes, sizes: Sizes) -> Refusal:
+        """The refusal of a text in Bristol Fashion, with its place."""
+        if self._place is None:
+            return refusal
+        marks = self.table("marks", ctypes.c_uint8, sizes.masked_wires)
+        place = self._place(text, len(text), marks, len(marks), 1, sizes)
+        if place.refused != refusal.number or not place.line:
+            return refusal
+        return Refusal(refusal.number, place.line, place.column)
 
     def table(self, name: str, kind: Any, entries: int) -> Any:
         """A table of so many entries, the same one for each call that asks for it by this name."""

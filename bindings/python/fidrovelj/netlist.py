@@ -560,7 +560,10 @@ def _written(name: str, text: bytes) -> bytes:
     def under(sizes: Sizes) -> bytes:
         out, entries = lib.table("text", U8, sizes.masked_text), sizes.masked_wires
         tables = [*lib.tables("operands results", U64, entries), lib.table("marks", U8, entries)]
-        return front(out, lib.call(name, text, out, *tables, sizes))
+        try:
+            return front(out, lib.call(name, text, out, *tables, sizes))
+        except Refusal as refusal:
+            raise (lib.placed(refusal, text, sizes) if name == "rewrite" else refusal) from None
 
     return _in_sizes(under, (2, 5))
 

@@ -2,7 +2,7 @@
 
 from __future__ import annotations
 
-from typing import Dict
+from typing import Dict, Optional, Tuple
 
 WORDS: Dict[int, str] = {
     1: "a working table is too short",
@@ -35,18 +35,21 @@ WORDS: Dict[int, str] = {
 
 
 class Refusal(ValueError):
-    """A call was refused, by the number of the first question that was answered no.
+    """A call was refused, by the number of the first question that was answered no. Of a text in Bristol Fashion it has
+    the line and the column of the first refused place, from 1, where the library tells it.
 
     >>> refusal = Refusal(4)
     >>> refusal.number
     4
     >>> print(refusal)
     refused 4: the header lines have not the stated form
+    >>> print(Refusal(8, 4, 7))
+    refused 8 in line 4, column 7: an operand is neither an input nor the result of an earlier line
     """
 
-    def __init__(self, number: int) -> None:
-        super().__init__(number)
-        self.number = number
+    def __init__(self, number: int, line: Optional[int] = None, column: Optional[int] = None) -> None:
+        super().__init__(number, line, column)
+        self.number, self.line, self.column = number, line, column
 
     @property
     def words(self) -> str:
@@ -54,7 +57,11 @@ class Refusal(ValueError):
         return WORDS.get(self.number, "a question without a name")
 
     def __str__(self) -> str:
-        return f"refused {self.number}: {self.words}"
+        place = "" if self.line is None else f" in line {self.line}, column {self.column}"
+        return f"refused {self.number}{place}: {self.words}"
+
+    def __reduce__(self) -> Tuple[type, Tuple[int, Optional[int], Optional[int]]]:
+        return (Refusal, (self.number, self.line, self.column))
 
     def __eq__(self, other: object) -> bool:
         return isinstance(other, Refusal) and self.number == other.number

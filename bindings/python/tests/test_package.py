@@ -339,6 +339,15 @@ class Formats(unittest.TestCase):
         with self.assertRaises(ValueError):
             and_gate.run(2, 0)
 
+    def test_places(self):
+        refusal = said(lambda: Netlist("1 3\n\n2 1 1\n1 1\n2 1 0 2 2 AND\n"))
+        self.assertEqual((refusal, refusal.number), (Refusal(8), 8))
+        if refusal.line is not None:
+            self.assertEqual((refusal.line, refusal.column), (5, 7))
+            self.assertTrue(str(refusal).startswith("refused 8 in line 5, column 7: "))
+        copy = pickle.loads(pickle.dumps(Refusal(8, 5, 7)))
+        self.assertEqual((copy, copy.line, copy.column), (Refusal(8), 5, 7))
+
     def test_pickles(self):
         netlist = Netlist.from_file(DATA / "present_sbox.txt")
         masked = netlist.mask("1231")
