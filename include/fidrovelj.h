@@ -456,6 +456,49 @@ int64_t fidrovelj_session_masked(fidrovelj_session session,
                                  uint8_t *marks, size_t marks_len,
                                  uint8_t sizes);
 
+/* What a leak is made of: questions 1 to 12 as Check puts them, for codes and tables as Check takes them.
+ *
+ * A verdict on each wire, in the order of their numbers, at the front of out: 0 it has equal counts; 1 it leaks; 2 it
+ * leaks and is a cause, since no operand of its gate leaks. Returns how many wires there are. Question 14 of out. */
+int64_t fidrovelj_explain_wires(const uint8_t *text, size_t text_len,
+                                const uint8_t *codes, size_t codes_len,
+                                uint8_t *out, size_t out_len,
+                                uint64_t *operands, size_t operands_len,
+                                uint64_t *results, size_t results_len,
+                                uint8_t *marks, size_t marks_len,
+                                uint64_t *words, size_t words_len,
+                                uint64_t *base, size_t base_len,
+                                uint8_t sizes);
+
+/* The polynomial of a wire, as coefficients at the front of out: entry m is 1 where the product of the variables whose
+ * bits are one in m is in the sum, and otherwise 0. Bits 0 and 1 of m are m0 and m1, and bit i + 2 is input bit i,
+ * which comes in XOR its mask; entry 0 is the constant. Returns how many there are: 4 times 2 to the number of codes,
+ * so at most 16,384. After 12, question 21 asks whether wire is below W; then 14 of out. */
+int64_t fidrovelj_polynomial(const uint8_t *text, size_t text_len,
+                             const uint8_t *codes, size_t codes_len,
+                             size_t wire,
+                             uint8_t *out, size_t out_len,
+                             uint64_t *operands, size_t operands_len,
+                             uint64_t *results, size_t results_len,
+                             uint8_t *marks, size_t marks_len,
+                             uint64_t *words, size_t words_len,
+                             uint8_t sizes);
+
+/* How many settings have the counts 0, 1, 2, 3 and 4 on a wire, at the front of out: returns 5 where the wire has equal
+ * counts. Where it leaks three more numbers follow, and it returns 8: a setting whose count is not its base's, of those
+ * with the fewest ones the smallest; its base's count; its own. After 12, question 21 asks whether wire is below W;
+ * then 14 of out. */
+int64_t fidrovelj_counts(const uint8_t *text, size_t text_len,
+                         const uint8_t *codes, size_t codes_len,
+                         size_t wire,
+                         uint64_t *out, size_t out_len,
+                         uint64_t *operands, size_t operands_len,
+                         uint64_t *results, size_t results_len,
+                         uint8_t *bits, size_t bits_len,
+                         uint64_t *words, size_t words_len,
+                         uint8_t *bases, size_t bases_len,
+                         uint8_t sizes);
+
 #ifdef __cplusplus
 }
 #endif

@@ -5,6 +5,7 @@
 pub mod answers;
 mod certified;
 pub mod certified_answer;
+mod explain_calls;
 mod fewest_calls;
 pub mod pair_answers;
 mod pair_calls;
