@@ -1,10 +1,10 @@
 -- What a call of the check of netlists with many inputs from C gets for its answers.
-use Rattle.std.specs.Prelude.{Option, Some, None, Result, Ok, Err, ℕ, min, cond, ◌≡◌, List, [], leb, ℤ, length, take}
+use Rattle.std.specs.Prelude.{Option, Some, None, Result, Ok, Err, ℕ, cond, ◌≡◌, List, [], leb, ℤ, length}
 use Rattle.std.proofs.lemmas.List.Edits.{sets}
 use Rattle.netlist.specs.declared.Refusal.{Refusal}
 use Rattle.netlist.specs.declared.Refusal.TheVariants as Q
 use Rattle.check_pairs.specs.declared.search.PairsFound.{PairsFound}
-use Rattle.check_wide.specs.Told.{WideLeak, WideFound}
+use Rattle.check_wide.specs.Told.{WideLeak, WideFound, told}
 use Rattle.capi.specs.Pairs.{room_for, both_number, to_leak, to_bad}
 
 -- question 14: the list for the ones can hold them; their number stands in place of a leak's setting
@@ -26,7 +26,7 @@ room_ones room (Err q) = Err q
 -- the input bits that are one in a leak's setting, if there is one
 abbrev pub told_ones : Option WideLeak → List ℕ
 told_ones None = []
-told_ones (Some l) = take (min l.setting.count 12) l.setting.items
+told_ones (Some l) = (told l).ones
 
 -- what an answer writes to the list for the ones: nothing where it is told as a refusal
 abbrev pub to_ones : Result (PairsFound ℕ) Refusal → Result WideFound Refusal → List ℕ

@@ -1,6 +1,6 @@
 //! Both answers of the check of netlists with many inputs: as those of Check with pairs, with how many input bits are
 //! one in place of the setting, and those bits in a list of their own.
-ghost use Rattle.std.specs.Prelude.{◌≡◌, min, take};
+ghost use Rattle.std.specs.Prelude.{◌≡◌, take};
 ghost use Rattle.std.proofs.lemmas.List.Edits.{sets};
 ghost use Rattle.capi.specs.Wide.{room_ones, to_ones, ShowsWide};
 
@@ -8,7 +8,7 @@ use crate::pair_answers;
 use check_pairs::judge::CheckedPairs;
 use check_pairs::search::PairsFound;
 use check_wide::judge::CheckedWide;
-use check_wide::members::Members;
+use check_wide::members::Ones;
 use gates::entries::put;
 use leak_search::difference::Leak;
 use netlist::Refusal;
@@ -39,11 +39,11 @@ fn ones_room(room: usize, answer: CheckedWide) -> CheckedPairs
     })
 }
 
-// So many input bits, at most twelve, at the front of a list.
-fn lay(list: &mut [u64], ones: Members)
-    ensures { list.new ≡ sets list.old 0 (take (min ones.count 12) ones.items) }
+// The input bits that are one, at the front of a list.
+fn lay(list: &mut [u64], ones: Ones)
+    ensures { list.new ≡ sets list.old 0 (take ones.count ones.items) }
 {
-    let told = &ones.items[..ones.count.min(12)];
+    let told = &ones.items[..ones.count];
     for (i, item) in told.iter().enumerate() {
         put(list, i, *item as u64);
     }
