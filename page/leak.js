@@ -2,7 +2,7 @@
 import { ask } from './ask.js';
 import { save } from './box.js';
 import { at, tell } from './dom.js';
-import { FOLLOWS, follows, nodeName, nodeWords, picture } from './picture.js';
+import { FOLLOWS, nodeName, nodeWords, picture } from './picture.js';
 import { factWords, leakingWords, refusalWords, verdictWords, witnessWords } from './words.js';
 
 /** The most wires of a list that the page offers to show. */
@@ -75,7 +75,7 @@ function meetingWords(nodes, told, witness) {
   const operands = [...new Set(root.operands)].map((wire) => nodes.find((node) => node.wire === wire));
   const own = root.wire === told.verdict.wire ? '' : `Wire ${root.wire} ${witnessWords(witness, told.inputs)}. `;
   if (operands.length === 0) return `${own}${nodeName(root, told)}.`;
-  const named = operands.map((node) => `${nodeName(node, told)} (under ${FOLLOWS[follows(node)]})`).join(' and ');
+  const named = operands.map((node) => nodeName(node, told)).join(' and ');
   const alone = operands.every((node) => isClean(node, root, told));
   return `${own}Wire ${root.wire} is the ${root.kind} of ${named}.` +
     (alone ? ` ${operands.length === 1 ? 'It is' : 'Each of them is'} clean alone; here they tell the secret.` : '');

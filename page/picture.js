@@ -36,20 +36,18 @@ export function follows(node) {
   return base === own ? base : 'mixed';
 }
 
-/** What a node is, in words. */
-export function nodeName(node, told) {
-  const { inputs, codes } = told;
-  if (node.kind !== 'input') return `wire ${node.wire}, ${node.kind}`;
+/** What a node is, in words: the wire, and then its gate or what input it is, and the mask that it is under. */
+export function nodeName(node, { inputs, codes }) {
   const mask = node.wire - codes.length;
-  if (mask >= 0) return `wire ${node.wire}, mask bit m${mask}`;
-  return `wire ${node.wire}, input ${inputName(node.wire, inputs)}, code ${codes[node.wire]}`;
+  const input = mask >= 0 ? `mask bit m${mask}` : `input ${inputName(node.wire, inputs)}, code ${codes[node.wire]}`;
+  return `wire ${node.wire} (${node.kind === 'input' ? input : node.kind}, under ${FOLLOWS[follows(node)]})`;
 }
 
 /** What a node shows, in words. */
 export function nodeWords(node, told) {
   const [base, own] = [count(node.seen & 15), count(node.seen >> 4)];
   return `${nodeName(node, told)}: one for ${base} of the four mask settings where the secret bits are zero, ` +
-    `for ${own} in the leak's setting; under ${FOLLOWS[follows(node)]}`;
+    `for ${own} in the leak's setting`;
 }
 
 function cells(four, left, top) {

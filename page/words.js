@@ -34,13 +34,12 @@ function numberWords({ refused, have, most }) {
 export function refusalWords({ refused, words, place, source }) {
   const named = words ?? `question ${QUESTIONS[refused]} is answered no`;
   if (!place) return `Refused by ${refused}: ${named}.`;
-  const head = `Refused by ${refused}: ${named}${numberWords(place)}.`;
   const line = source.split('\n')[place.line - 1] ?? '';
   const from = Math.max(0, place.column - 60);
   const shown = line.slice(from, from + 100).replaceAll('\r', ' ');
-  const number = `${place.line} | `;
-  const caret = `${' '.repeat(number.length + place.column - 1 - from)}^`;
-  return `${head}\nLine ${place.line}, column ${place.column}:\n${number}${shown}\n${caret}`;
+  const caret = `${' '.repeat(place.column - 1 - from)}^`;
+  const where = `line ${place.line.toLocaleString('en')}, column ${place.column}`;
+  return `Refused by ${refused} in ${where}: ${named}${numberWords(place)}.\n  ${shown}\n  ${caret}`;
 }
 
 /** An input bit by its value, where there are several. */
