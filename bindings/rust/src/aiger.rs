@@ -41,7 +41,7 @@ pub fn from_aiger_lent(
     variables: &mut [u32],
     sizes: Sizes,
 ) -> Result<usize, Refusal> {
-    // SAFETY: each pointer and length is that of a slice, and slices behind `&mut` overlap no other.
+    // SAFETY: each pointer and length is that of a slice, and slices that are `&mut` overlap no other.
     answer(unsafe {
         fidrovelj_from_aiger(
             text.as_ptr(),

@@ -81,7 +81,7 @@ pub fn mask_fewest_lent(
     spans: &mut [u64],
     sizes: Sizes,
 ) -> Result<usize, Refusal> {
-    // SAFETY: each pointer and length is that of a slice, and slices behind `&mut` overlap no other.
+    // SAFETY: each pointer and length is that of a slice, and slices that are `&mut` overlap no other.
     answer(unsafe {
         fidrovelj_mask_fewest(
             text.as_ptr(),

@@ -64,7 +64,7 @@ pub fn join_lent(
     base: &mut [u64],
     sizes: Sizes,
 ) -> Result<usize, Refusal> {
-    // SAFETY: each pointer and length is that of a slice, and slices behind `&mut` overlap no other.
+    // SAFETY: each pointer and length is that of a slice, and slices that are `&mut` overlap no other.
     answer(unsafe {
         fidrovelj_join(
             first.as_ptr(),

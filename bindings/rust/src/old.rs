@@ -55,7 +55,7 @@ pub fn from_old_lent(
     marks: &mut [u8],
     sizes: Sizes,
 ) -> Result<usize, Refusal> {
-    // SAFETY: each pointer and length is that of a slice, and slices behind `&mut` overlap no other.
+    // SAFETY: each pointer and length is that of a slice, and slices that are `&mut` overlap no other.
     answer(unsafe {
         fidrovelj_from_old(
             text.as_ptr(),

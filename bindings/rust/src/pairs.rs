@@ -66,7 +66,7 @@ pub fn check_pairs_lent(
     bases: &mut [u64],
     sizes: Sizes,
 ) -> Result<usize, Refusal> {
-    // SAFETY: each pointer and length is that of a slice, and slices behind `&mut` overlap no other.
+    // SAFETY: each pointer and length is that of a slice, and slices that are `&mut` overlap no other.
     answer(unsafe {
         fidrovelj_check_pairs(
             text.as_ptr(),

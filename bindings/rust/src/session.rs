@@ -2,7 +2,7 @@
 
 use crate::lent::answer;
 use crate::tables::front;
-use crate::{Masked, Refusal, Sizes, Tables};
+use crate::{Masked, NetlistGate, Refusal, Sizes, Tables};
 
 /// A gate of a session, as the library's lists hold it: a kind, the operands and the result wire.
 ///
@@ -54,6 +54,37 @@ pub struct SourceGate {
     pub code: u8,
 }
 
+impl GateRecord {
+    /// The gate by name, where the kind is one.
+    ///
+    /// ```
+    /// use fidrovelj::{Gate, GateRecord, NetlistGate};
+    ///
+    /// let record = GateRecord { kind: 2, first: 0, second: 1, result: 2 };
+    /// assert_eq!(record.gate(), Some(NetlistGate { gate: Gate::And(0, 1), result: 2 }));
+    /// assert_eq!(GateRecord::default().gate(), None);
+    /// ```
+    pub fn gate(&self) -> Option<NetlistGate> {
+        let gate = Gate::of(self.kind, self.first, self.second)?;
+        Some(NetlistGate { gate, result: self.result })
+    }
+}
+
+impl SourceGate {
+    /// The gate by name, where the kind is one.
+    ///
+    /// ```
+    /// use fidrovelj::{Gate, NetlistGate, SourceGate};
+    ///
+    /// let record = SourceGate { kind: 3, first: 0, result: 1, ..SourceGate::default() };
+    /// assert_eq!(record.gate(), Some(NetlistGate { gate: Gate::Inv(0), result: 1 }));
+    /// ```
+    pub fn gate(&self) -> Option<NetlistGate> {
+        let gate = Gate::of(self.kind, self.first, self.second)?;
+        Some(NetlistGate { gate, result: self.result })
+    }
+}
+
 /// How many source gates and how many masked gates stand at the front of a session's lists.
 ///
 /// ```
@@ -69,7 +100,7 @@ pub struct SessionState {
     pub masked: u32,
 }
 
-/// A step's answer: the session behind it, and 0 or the refusing question's number.
+/// A step's answer: the session after it, and 0 or the refusing question's number.
 #[repr(C)]
 struct Step {
     session: SessionState,
@@ -157,7 +188,7 @@ extern "C" {
     ) -> i64;
 }
 
-/// A step's answer: the session behind it, or the question and the session that the call gave with it.
+/// A step's answer: the session after it, or the question and the session that the call gave with it.
 fn step(step: Step) -> Result<SessionState, (Refusal, SessionState)> {
     match step.refused {
         0 => Ok(step.session),
@@ -182,7 +213,7 @@ pub fn session_open_lent(
     masked: &mut [GateRecord],
     sizes: Sizes,
 ) -> Result<SessionState, (Refusal, SessionState)> {
-    // SAFETY: each pointer and length is that of a slice, and slices behind `&mut` overlap no other.
+    // SAFETY: each pointer and length is that of a slice, and slices that are `&mut` overlap no other.
     step(unsafe {
         fidrovelj_session_open(
             widths.as_ptr(),
@@ -196,7 +227,7 @@ pub fn session_open_lent(
     })
 }
 
-/// Adds a gate at the end: its record to `source` and its masked gates to `masked`, behind those that are there. A
+/// Adds a gate at the end: its record to `source` and its masked gates to `masked`, after those that are there. A
 /// refusal (24, 7, 8, 9, 14) writes nothing.
 ///
 /// ```
@@ -423,14 +454,15 @@ impl Gate {
         GateRecord { kind, first, second, result }
     }
 
-    /// The gate of a record that a step has written.
-    fn of(gate: &SourceGate) -> Gate {
-        match gate.kind {
-            1 => Gate::Xor(gate.first, gate.second),
-            2 => Gate::And(gate.first, gate.second),
-            3 => Gate::Inv(gate.first),
-            4 => Gate::Eqw(gate.first),
-            _ => Gate::Eq(gate.first == 1),
+    /// The gate of a kind's number and its operands; no kind has another number than 1 to 5.
+    fn of(kind: u32, first: u32, second: u32) -> Option<Gate> {
+        match kind {
+            1 => Some(Gate::Xor(first, second)),
+            2 => Some(Gate::And(first, second)),
+            3 => Some(Gate::Inv(first)),
+            4 => Some(Gate::Eqw(first)),
+            5 => Some(Gate::Eq(first == 1)),
+            _ => None,
         }
     }
 }
@@ -527,9 +559,9 @@ impl Session {
     /// # Ok::<(), Refusal>(())
     /// ```
     pub fn undo(&mut self) -> Result<Gate, Refusal> {
-        let last = self.gates().last().map(Gate::of);
+        let last = self.gates().last().and_then(SourceGate::gate);
         self.state = session_take_off_lent(self.state, &self.source).map_err(|(refused, _)| refused)?;
-        Ok(last.expect("a gate was taken off"))
+        Ok(last.expect("a gate was taken off").gate)
     }
 
     /// The number of wires: the input bits and the gates.

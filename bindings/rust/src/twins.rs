@@ -48,7 +48,7 @@ pub fn twins_lent(
     marks: &mut [u8],
     sizes: Sizes,
 ) -> Result<usize, Refusal> {
-    // SAFETY: each pointer and length is that of a slice, and slices behind `&mut` overlap no other.
+    // SAFETY: each pointer and length is that of a slice, and slices that are `&mut` overlap no other.
     answer(unsafe {
         fidrovelj_twins(
             text.as_ptr(),

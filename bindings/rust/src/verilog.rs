@@ -80,7 +80,7 @@ pub fn from_verilog_lent(
     names: NameTables,
     sizes: Sizes,
 ) -> Result<usize, Refusal> {
-    // SAFETY: each pointer and length is that of a slice, and slices behind `&mut` overlap no other.
+    // SAFETY: each pointer and length is that of a slice, and slices that are `&mut` overlap no other.
     answer(unsafe {
         fidrovelj_from_verilog(
             text.as_ptr(),

@@ -87,7 +87,7 @@ pub fn check_wide_lent(
     paints: &mut [u8],
     sizes: Sizes,
 ) -> Result<usize, Refusal> {
-    // SAFETY: each pointer and length is that of a slice, and slices behind `&mut` overlap no other.
+    // SAFETY: each pointer and length is that of a slice, and slices that are `&mut` overlap no other.
     answer(unsafe {
         fidrovelj_check_wide(
             text.as_ptr(),
