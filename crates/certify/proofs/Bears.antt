@@ -15,8 +15,7 @@ use Rattle.certify_records.proofs.Drawn.{leaf', none_chosen, stays, chosen_leaf,
 use Rattle.certify_records.proofs.Placing.{at, nowhere-at, real}
 use Rattle.certify.specs.Store.{atoms_of}
 use Rattle.certify.proofs.Slots.{Sized}
-use Rattle.certify.specs.Step.{State}
-use Rattle.certify.proofs.Frames.{slot}
+use Rattle.certify.proofs.Frames.{View}
 use Rattle.certify.proofs.Leads.{Seated}
 
 -- the record of a masked bit under code e: whether it is turned, and its atom or none
@@ -27,10 +26,10 @@ pub record Leaf (e : ℕ) (r : Record) : Type 0 where
   pub is : r ≡ over (leaf_table e turned (not (eqb atom no_atom))) atom
 
 -- a wire's first record is one
-pub record Bears (s : State) (e w : ℕ) : Type 0 where
+pub record Bears (s : View) (e w : ℕ) : Type 0 where
   pub record_there : Record
   pub leaf : Leaf e record_there
-  pub stands : slot s w ≡ Some record_there
+  pub stands : s.slot_of w ≡ Some record_there
 
 -- two atoms or none by two places
 pub record Spots (a b : ℕ) : Type 0 where
@@ -211,8 +210,8 @@ module _ (lo hi : ℕ) (less : lo < hi) (most : hi < no_atom) where
   nowhere-is nowhere t = refl
 
   -- what a wire's first record is, where that of its gate is drawn
-  module _ (s : State) (w : ℕ) (z : Drawn) (S : Seated s w (R z)) where
-    pub stays-real : T (stays z) → slot s w ≡ Some (R z)
+  module _ (s : View) (w : ℕ) (z : Drawn) (S : Seated s w (R z)) where
+    pub stays-real : T (stays z) → s.slot_of w ≡ Some (R z)
     stays-real t =
         either (few' z) (none_chosen (chosen_of z.table)) (λ f. S.few (atoms-few z ∙ is_true (few' z) f))
         (λ f. S.whole (none-is (chosen_of z.table) f)) t

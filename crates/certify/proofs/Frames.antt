@@ -28,6 +28,17 @@ slot s w = record_if s.records (5 * w)
 abbrev pub Lit : List ℕ → ℕ → Type 0
 Lit m w = lane 0 (get_or m w 0) ≡ true
 
+-- the first record of each wire, and whether it is marked clean
+pub record View : Type 0 where
+  pub slot_of : ℕ → Option Record
+  pub marked : ℕ → Bool
+
+abbrev pub view : State → View
+view s = record { slot_of = slot s; marked = λ w. lane 0 (get_or s.marks w 0) }
+
+abbrev pub LitOf : View → ℕ → Type 0
+LitOf v w = v.marked w ≡ true
+
 -- where P holds of a wire its first record stays
 pub record Framed (P : ℕ → Type 0) (s u : State) : Type 0 where
   pub records : length u.records ≡ length s.records

@@ -23,7 +23,7 @@ use Rattle.certify_records.proofs.Drawn.{leaf_table}
 use Rattle.certify.proofs.Slots.{put-here}
 use Rattle.certify.specs.Step.{State, state, shown_clean, mask_word, input_record, mask_record, given, given_if, opened}
 use Rattle.certify.specs.Step.{input_of, inputs_to, inputs_of}
-use Rattle.certify.proofs.Frames.{slot, Lit, Framed, framed-same, framed-more, framed-where, framed-put, lit-set}
+use Rattle.certify.proofs.Frames.{slot, Lit, View, Framed, framed-same, framed-more, framed-where, framed-put, lit-set}
 use Rattle.certify.proofs.Frames.{grown-clean}
 use Rattle.certify.proofs.Leads.{lit-clean, over-sized}
 use Rattle.certify.proofs.Seats.{Fitting}
@@ -52,7 +52,8 @@ arrived-leaf e c = on_code (λ e. bit_xor (mask_word e) 0xf0f0_f0f0_f0f0_f0f0 �
 pub mask-leaf : (e : ℕ) → T (is_code e) → mask_record e ≡ over (leaf_table e false false) no_atom
 mask-leaf e c = on_code (λ e. mask_record e ≡ over (leaf_table e false false) no_atom) refl refl refl e c
 
-pub arrived-bears : {s : State} (e i : ℕ) → T (is_code e) → i < 268435456 → slot s i ≡ Some (arrived i e) → Bears s e i
+pub arrived-bears : {v : View} (e i : ℕ) → T (is_code e) → i < 268435456 → v.slot_of i ≡ Some (arrived i e)
+    → Bears v e i
 arrived-bears e i c h p =
     let n : not (eqb (8 * i) no_atom) ≡ true = ap not (ne_eqb (8 * i) no_atom (λ q. omega arith)) in
     record {

@@ -26,21 +26,21 @@ use Rattle.certify.specs.Kept.{put_record, record_if, over_atom, tried_on, tried
 use Rattle.certify.proofs.Slots.{Sized, put-here, kept-first}
 use Rattle.certify.specs.Step.{State, shown_clean, all_pairs, leafed_on, led_on, led, led_if, first_with, first_on}
 use Rattle.certify.specs.Step.{first_of, leaves_of, step_of}
-use Rattle.certify.proofs.Frames.{slot, Lit, Framed, grown-public, framed-all, framed-leaves_of}
+use Rattle.certify.proofs.Frames.{slot, Lit, View, view, LitOf, Framed, grown-public, framed-all, framed-leaves_of}
 
 -- what record r of wire w leaves there: itself, or a leaf where it shows two nibbles; and a mark, where its counts are
 -- equal
-pub record Seated (s : State) (w : ℕ) (r : Record) : Type 0 where
-  pub few : leb (atoms_of r) 1 ≡ true → slot s w ≡ Some r
-  pub whole : chosen_of r.table ≡ None → slot s w ≡ Some r
-  pub leaf : leb (atoms_of r) 1 ≡ false → (m u : ℕ) → chosen_of r.table ≡ Some (m, u) → (a : ℕ)
-      × ((a < no_atom) × (slot s w ≡ Some (over u a)))
-  pub there : slot s w ≡ None → ⊥
-  pub even : even_of r false false false false ≡ true → Lit s.marks w
+pub record Seated (v : View) (w : ℕ) (r : Record) : Type 0 where
+  pub few : leb (atoms_of r) 1 ≡ true → v.slot_of w ≡ Some r
+  pub whole : chosen_of r.table ≡ None → v.slot_of w ≡ Some r
+  pub leaf : leb (atoms_of r) 1 ≡ false → (m u : ℕ) → chosen_of r.table ≡ Some (m, u)
+      → (a : ℕ) × ((a < no_atom) × (v.slot_of w ≡ Some (over u a)))
+  pub there : v.slot_of w ≡ None → ⊥
+  pub even : even_of r false false false false ≡ true → LitOf v w
 
--- it stays where the first record and the mark do
-pub seated-kept : {s u : State} {w : ℕ} {r : Record} → slot u w ≡ slot s w → (Lit s.marks w → Lit u.marks w)
-    → Seated s w r → Seated u w r
+-- it stays where the first record and the mark do, and is seen the same from another numbering
+pub seated-kept : {v u : View} {w x : ℕ} {r : Record} → u.slot_of x ≡ v.slot_of w → (LitOf v w → LitOf u x)
+    → Seated v w r → Seated u x r
 seated-kept e f S = record {
   few = λ h. e ∙ S.few h;
   whole = λ h. e ∙ S.whole h;
@@ -207,7 +207,7 @@ module _ (s : State) (w : ℕ) (r : Record) (S : Sized r) (few : w < 268435456) 
   there-led p L e = none-some (sym e ∙ slot-led p L)
 
   with-leaf : (m u a : ℕ) → a < no_atom → leb (atoms_of r) 1 ≡ false → chosen_of r.table ≡ Some (m, u)
-      → Seated (led_on s w r (what false (Some (over u a)))) w r
+      → Seated (view (led_on s w r (what false (Some (over u a))))) w r
   with-leaf m u a h e f =
       let x = hinted s.records s.hints w 1 r (over u a) in
       let o = over-hinted u a h s.records s.hints w 1 r in
@@ -230,7 +230,7 @@ module _ (s : State) (w : ℕ) (r : Record) (S : Sized r) (few : w < 268435456) 
 
   by-cases : (b : Bool) (o : Option Record) (c : Option (ℕ × ℕ)) → leb (atoms_of r) 1 ≡ b → leaf_of r w ≡ o
       → leaf_of r w ≡ leaf_from r w c → chosen_of r.table ≡ c
-      → Seated (led_on s w r (what b o)) w r
+      → Seated (view (led_on s w r (what b o))) w r
   by-cases true o c e g h f = record {
     few = λ k. slot-led (Some r, s.hints) S;
     whole = λ k. slot-led (Some r, s.hints) S;
@@ -252,27 +252,29 @@ module _ (s : State) (w : ℕ) (r : Record) (S : Sized r) (few : w < 268435456) 
       let b = bit-most (lane m r.table) in
       let a = own_of r.table w m in
       let q : over u a ≡ l = some-record (sym g ∙ h) in
-      subst (λ (l : Record). Seated (led_on s w r (what false (Some l))) w r) q (with-leaf m u a (omega arith) e f)
+      subst (λ (l : Record). Seated (view (led_on s w r (what false (Some l)))) w r) q
+      (with-leaf m u a (omega arith) e f)
 
   leaf-few : leaf_of r w ≡ leaf_from r w (chosen_of r.table)
   unfolding leaf_of
   leaf-few = ap (λ (b : Bool). cond b None (leaf_from r w (chosen_of r.table))) (lt-leb 268435456 w few)
 
-  pub seated-led : Seated (led s w r) w r
+  pub seated-led : Seated (view (led s w r)) w r
   seated-led = by-cases (leb (atoms_of r) 1) (leaf_of r w) (chosen_of r.table) refl refl leaf-few refl
 
 -- the result of a gate whose operands have first records
 pub seated-step : (s : State) (g : Parts) {x y r : Record} → slot s g.left ≡ Some x → slot s g.right ≡ Some y
     → combined g.kind x y ≡ Some r → Sized r
     → g.result < 268435456 → g.result < length s.marks → 15 * g.result + 15 ≤ length s.records
-    → Seated (step_of s g) g.result r
+    → Seated (view (step_of s g)) g.result r
 unfolding step_of
 seated-step s g {x} {y} {r} ex ey er S few marks room =
     let w = g.result in
     let e : first_of s g ≡ led s w r = ap (first_on s g) ex ∙ ap (first_with s g x) ey ∙ ap (led_if s w) er in
     let s1 = first_of s g in
     let s2 = all_pairs s1 g in
-    let a : Seated s1 w r = subst (λ (t : State). Seated t w r) (sym e) (seated-led s w r S few marks room) in
+    let a : Seated (view s1) w r = subst (λ (t : State). Seated (view t) w r) (sym e)
+    (seated-led s w r S few marks room) in
     let f : Framed (λ v. Unit) s1 s2 = framed-all s1 g in
     let h : Framed (λ v. Unit) s2 (leaves_of s2 w) = framed-leaves_of (λ v. Unit) w s2
     (λ z. absurd (a.there (sym (f.slots w tt) ∙ z))) in

@@ -14,6 +14,7 @@ pub mod Passing
 pub mod Rounds
 pub mod Seats
 pub mod Slots
+pub mod Sound
 pub mod Steps
 pub mod Stores
 pub mod Telling

@@ -13,44 +13,36 @@ use Rattle.netlist.proofs.Order.{AllWires}
 use Rattle.evaluate.specs.Lane.{lane, word}
 use Rattle.certify_records.specs.declared.Record.{Record}
 use Rattle.certify_records.specs.Record.{no_atom, over}
-use Rattle.certify_records.specs.Made.{combined}
 use Rattle.certify_records.proofs.Drawn.{Drawn, leaf_table, leaf', mask', or', made', fine, stays, ends, s1, s2, s3, s4}
 use Rattle.certify_records.proofs.Drawn.{s5, s6}
 use Rattle.certify_records.proofs.Placing.{real, fine-is}
 use Rattle.certify_records.proofs.Tested.{sum-at, copy-at, product-at}
-use Rattle.certify.proofs.Slots.{Sized}
-use Rattle.certify.specs.Step.{State}
-use Rattle.certify.proofs.Frames.{slot, Lit}
+use Rattle.certify.proofs.Frames.{View, LitOf}
 use Rattle.certify.proofs.Leads.{Seated}
-use Rattle.certify.proofs.Seats.{Model}
+use Rattle.certify.proofs.Seats.{Model, Owed}
 use Rattle.certify.proofs.Bears.{Bears, Spots, spots, leaf-real, real-sized, stays-real, ends-bears}
 
 -- a wire bears a masked bit, and is marked clean
-pub record Borne (s : State) (e w : ℕ) : Type 0 where
+pub record Borne (s : View) (e w : ℕ) : Type 0 where
   pub bears : Bears s e w
-  pub lit : Lit s.marks w
+  pub lit : LitOf s w
 
 -- the mask wires, and wire n + 4
-pub record MaskSlots (s : State) (n : ℕ) : Type 0 where
-  pub wire : (e : ℕ) → T (is_code e) → slot s (mask_wire n e) ≡ Some (over (leaf_table e false false) no_atom)
-  pub or : slot s (n + 4) ≡ Some (over (word 64 (λ l. lane 0 l || lane 1 l)) no_atom)
+pub record MaskSlots (s : View) (n : ℕ) : Type 0 where
+  pub wire : (e : ℕ) → T (is_code e) → s.slot_of (mask_wire n e) ≡ Some (over (leaf_table e false false) no_atom)
+  pub or : s.slot_of (n + 4) ≡ Some (over (word 64 (λ l. lane 0 l || lane 1 l)) no_atom)
 
-module _ (s : State) where
-  -- what a gate of a kind owes of its wires
-  abbrev pub Owed : ℕ → ℕ → ℕ → ℕ → Type 0
-  Owed k a b c = (x y r : Record) → slot s a ≡ Some x → slot s b ≡ Some y → combined k x y ≡ Some r → Sized r
-      → Seated s c r
-
+module _ (s : View) where
   module _ (lo hi : ℕ) (less : lo < hi) (most : hi < no_atom) where
     abbrev pub R : Drawn → Record
     R = real lo hi less most
 
     pub record Drawing (c : ℕ) (z : Drawn) : Type 0 where
       pub seated : Seated s c (R z)
-      pub lit : Lit s.marks c
+      pub lit : LitOf s c
 
-    pub paid : (k a b c : ℕ) (x y : Drawn) → T (fine k x y) → slot s a ≡ Some (R x) → slot s b ≡ Some (R y)
-        → Owed k a b c → Drawing c (made' k x y)
+    pub paid : (k a b c : ℕ) (x y : Drawn) → T (fine k x y) → s.slot_of a ≡ Some (R x) → s.slot_of b ≡ Some (R y)
+        → Owed s k a b c → Drawing c (made' k x y)
     paid k a b c x y t ea eb m =
         let f = fine-is lo hi less most k x y t in
         let z = m (R x) (R y) (R (made' k x y)) ea eb f.made (real-sized lo hi less most (made' k x y) f.above) in
@@ -58,19 +50,19 @@ module _ (s : State) where
 
     -- a step inside, whose record stays, and a last one
     record Inner (c : ℕ) (z : Drawn) : Type 0 where
-      stands : slot s c ≡ Some (R z)
-      lit : Lit s.marks c
+      stands : s.slot_of c ≡ Some (R z)
+      lit : LitOf s c
 
-    inner : (k a b c : ℕ) (x y : Drawn) → T (fine k x y && stays (made' k x y)) → slot s a ≡ Some (R x) → slot s b
-        ≡ Some (R y) → Owed k a b c
+    inner : (k a b c : ℕ) (x y : Drawn) → T (fine k x y && stays (made' k x y)) → s.slot_of a ≡ Some (R x) → s.slot_of b
+        ≡ Some (R y) → Owed s k a b c
         → Inner c (made' k x y)
     inner k a b c x y t ea eb m =
         let p = both (fine k x y) (stays (made' k x y)) t in
         let d = paid k a b c x y p.0 ea eb m in
         record { stands = stays-real lo hi less most s c (made' k x y) d.seated p.1; lit = d.lit }
 
-    pub last : (k a b c e : ℕ) (x y : Drawn) → T (fine k x y && ends e (made' k x y)) → slot s a ≡ Some (R x) → slot s b
-        ≡ Some (R y) → Owed k a b c
+    pub last : (k a b c e : ℕ) (x y : Drawn) → T (fine k x y && ends e (made' k x y)) → s.slot_of a ≡ Some (R x)
+        → s.slot_of b ≡ Some (R y) → Owed s k a b c
         → Borne s e c
     last k a b c e x y t ea eb m =
         let p = both (fine k x y) (ends e (made' k x y)) t in
@@ -88,10 +80,10 @@ module _ (s : State) where
     abbrev right : Drawn
     right = leaf' f D.leaf.turned P.right
 
-    left-is : slot s a ≡ Some (real P.low P.high P.less P.most left)
+    left-is : s.slot_of a ≡ Some (real P.low P.high P.less P.most left)
     left-is = B.stands ∙ ap Some (leaf-real P.low P.high P.less P.most B.leaf P.left P.is_left)
 
-    right-is : slot s b ≡ Some (real P.low P.high P.less P.most right)
+    right-is : s.slot_of b ≡ Some (real P.low P.high P.less P.most right)
     right-is = D.stands ∙ ap Some (leaf-real P.low P.high P.less P.most D.leaf P.right P.is_right)
 
     pub sum-borne : (w : ℕ) → Model s (Xor a b w) → Borne s (third e f) w
@@ -102,8 +94,8 @@ module _ (s : State) where
     -- the seven steps from wire w on
     pub product-borne : (k w : ℕ) → MaskSlots s k → All (Model s)
         (row_gates rows (a ∷ b ∷ mask_wire k e ∷ mask_wire k f ∷ (k + 4) ∷ []) w)
-        → Bears s e (w + 6) × AllWires (Lit s.marks) (row_gates rows
-        (a ∷ b ∷ mask_wire k e ∷ mask_wire k f ∷ (k + 4) ∷ []) w)
+        → Bears s e (w + 6) × AllWires (LitOf s) (row_gates rows (a ∷ b ∷ mask_wire k e ∷ mask_wire k f ∷ (k + 4) ∷ [])
+        w)
     product-borne k w K m1 =
         let lo = P.low in
         let hi = P.high in
@@ -152,7 +144,7 @@ module _ (s : State) where
     abbrev whole : Drawn
     whole = leaf' e B.leaf.turned Q.left
 
-    whole-is : slot s a ≡ Some (real Q.low Q.high Q.less Q.most whole)
+    whole-is : s.slot_of a ≡ Some (real Q.low Q.high Q.less Q.most whole)
     whole-is = B.stands ∙ ap Some (leaf-real Q.low Q.high Q.less Q.most B.leaf Q.left Q.is_left)
 
     pub inverse-borne : Model s (Inv a w) → Borne s e w
@@ -168,7 +160,7 @@ module _ (s : State) where
         whole-is m
 
 -- a mask wire bears the bit 0
-pub mask-bears : {s : State} {n : ℕ} → MaskSlots s n → (e : ℕ) → T (is_code e) → Bears s e (mask_wire n e)
+pub mask-bears : {s : View} {n : ℕ} → MaskSlots s n → (e : ℕ) → T (is_code e) → Bears s e (mask_wire n e)
 mask-bears K e c = record {
   record_there = over (leaf_table e false false) no_atom;
   leaf = record { turned = false; atom = no_atom; most = omega arith; is = refl };

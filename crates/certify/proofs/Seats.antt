@@ -16,7 +16,7 @@ use Rattle.certify_records.specs.declared.Record.{Record}
 use Rattle.certify_records.specs.Made.{combined}
 use Rattle.certify.proofs.Slots.{Sized}
 use Rattle.certify.specs.Step.{State, step_of, parts_for, run_of}
-use Rattle.certify.proofs.Frames.{slot, Framed, framed-same, framed-more, framed-where, framed-step}
+use Rattle.certify.proofs.Frames.{slot, View, view, Framed, framed-same, framed-more, framed-where, framed-step}
 use Rattle.certify.proofs.Leads.{Seated, seated-kept, seated-step}
 
 -- tables for so many wires
@@ -24,12 +24,26 @@ pub record Fitting (W : ℕ) (s : State) : Type 0 where
   pub marks : length s.marks ≡ W
   pub records : length s.records ≡ 15 * W
 
--- what a gate owes of its tables
-abbrev pub Model : State → Gate → Type 0
-Model s g =
-    (x y r : Record) → slot s (parts_for g).left ≡ Some x → slot s (parts_for g).right ≡ Some y
-    → combined (parts_for g).kind x y ≡ Some r → Sized r
-    → Seated s (parts_for g).result r
+-- what a gate of a kind owes of its wires
+abbrev pub Owed : View → ℕ → ℕ → ℕ → ℕ → Type 0
+Owed v k a b c =
+    (x y r : Record) → v.slot_of a ≡ Some x → v.slot_of b ≡ Some y → combined k x y ≡ Some r → Sized r → Seated v c r
+
+-- what each gate owes; of a constant nothing is asked
+abbrev pub Model : View → Gate → Type 0
+Model v (Xor a b c) = Owed v 1 a b c
+Model v (And a b c) = Owed v 2 a b c
+Model v (Inv a c) = Owed v 3 a a c
+Model v (Eqw a c) = Owed v 4 a a c
+Model v (Eq x c) = Unit
+
+model-of : (v : View) (g : Gate) → Owed v (parts_for g).kind (parts_for g).left (parts_for g).right (parts_for g).result
+    → Model v g
+model-of v (Xor a b c) m = m
+model-of v (And a b c) m = m
+model-of v (Inv a c) m = m
+model-of v (Eqw a c) m = m
+model-of v (Eq x c) m = tt
 
 parts-result : (g : Gate) → (parts_for g).result ≡ result g
 parts-result (Xor a b c) = refl
@@ -61,7 +75,7 @@ fitting-step {W} {s} g F =
 
 pub models : {c d : ℕ} (W : ℕ) {gs : List Gate} (s : State) → Ordered c gs d → 0 < c → d ≤ W → W ≤ 268435456
     → Fitting W s
-    → All (Model (run_of s gs)) gs
+    → All (Model (view (run_of s gs))) gs
 models W s end z l few F = empty
 models {c} {d} W s (step {g = g} {gs = gs} r o p) z l few F =
     let h = parts_for g in
@@ -76,8 +90,9 @@ models {c} {d} W s (step {g = g} {gs = gs} r o p) z l few F =
     let low : (v : ℕ) → v < c → slot (run_of u gs) v ≡ slot s v = λ v q. k.slots v (omega arith)
     ∙ f.slots v (λ y. omega arith) in
     each
+    (model-of (view (run_of u gs)) g
     (λ x y q ex ey eq S.
     seated-kept (k.slots h.result (omega arith)) (k.lit h.result)
     (seated-step s h (sym (low h.left below.0) ∙ ex) (sym (low h.right below.1) ∙ ey) eq S (omega arith) (omega arith)
-    (omega arith)))
+    (omega arith))))
     (models W u p (omega arith) l few (fitting-step g F))

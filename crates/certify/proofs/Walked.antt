@@ -1,10 +1,11 @@
 -- The gates that the masking steps emit: every twin bears its masked bit, and every wire is marked clean.
 use Prim.Native.Nat.{ℕ, zero, suc, ◌+◌, ◌≤◌, ◌<◌}
-use mathlib.Core.Path.{◌≡◌, refl, subst}
+use mathlib.Core.Path.{◌≡◌, refl, sym, subst}
 use mathlib.Core.Bool.{Bool, true, false, cond}
 use mathlib.Core.List.{List, [], ◌∷◌}
 use native.Mathlib.Omega.{arith}
 use lib.Dec.{T, eqb}
+use borrow.Author.Tests.{eqb-true}
 use lib.ListN.{length, get_or}
 use Rattle.netlist.specs.declared.Gate.{Gate}
 use Rattle.netlist.specs.declared.Gate.TheVariants.{Xor, And, Inv, Eqw, Eq}
@@ -15,26 +16,29 @@ use Rattle.netlist.specs.Read.{operands_given, is_given, gates_good}
 use Rattle.masking.specs.Mask.{is_code, is_wanted, is_public, third, after, mask_wire, changes, change_gates, changed}
 use Rattle.masking.specs.Mask.{past, xor_gates, xor_twin, and_gates, and_twin, State as MaskState, twin, no_twin, emit}
 use Rattle.masking.specs.Mask.{result_twin, advance, emit_all, advance_all, public_gate, public_gates, past_public}
-use Rattle.masking.specs.Mask.{input_twins, out_gate, out_gates}
+use Rattle.masking.specs.Mask.{input_twins, out_gate, out_gates, out_code, out_codes}
 use Rattle.netlist.proofs.Tests.{both, on_bool, All, empty, each, all_head, all_tail, all_split, all_append}
-use Rattle.masking.proofs.CodeLaws.{third-code, third-other, after-code, after-other, wanted-code}
+use Rattle.masking.proofs.CodeLaws.{third-code, third-other, third_back, after-code, after-other, wanted-code}
 use Rattle.netlist.proofs.GoodGates.{GoodGate, good_gate, results, given-cases}
 use Rattle.netlist.proofs.Order.{AllWires}
 use Rattle.masking.proofs.OutputGates.{wanted-other}
 use Rattle.masking.proofs.Placed.{Placed, prepare, AllPlaced, place-gate, twin-new, twin-old}
-use Rattle.certify.specs.Step.{State}
-use Rattle.certify.proofs.Frames.{Lit}
+use Rattle.certify.proofs.Frames.{View, LitOf}
 use Rattle.certify.proofs.Seats.{Model}
 use Rattle.certify.proofs.Bears.{Bears}
 use Rattle.certify.proofs.MaskedGates.{Borne, MaskSlots, mask-bears, sum-borne, product-borne, inverse-borne}
 use Rattle.certify.proofs.MaskedGates.{copy-borne}
 
-module _ {s : State} {n : ℕ} (K : MaskSlots s n) where
+out-result : (n c : ℕ) (t : Twin) (want : ℕ) → c ≡ result (out_gate n c t want)
+out-result n c t want = on_bool (eqb want 0) (λ z. rw z refl)
+    (λ z. on_bool (eqb want t.code) (λ y. rw (z, y) refl) (λ y. rw (z, y) refl))
+
+module _ {s : View} {n : ℕ} (K : MaskSlots s n) where
   abbrev pub Owes : List Gate → Type 0
   Owes gs = All (Model s) gs
 
   abbrev pub Clean : List Gate → Type 0
-  Clean gs = AllWires (Lit s.marks) gs
+  Clean gs = AllWires (LitOf s) gs
 
   -- a twin bears a masked bit under its code
   abbrev pub Carries : Twin → Type 0
@@ -45,7 +49,7 @@ module _ {s : State} {n : ℕ} (K : MaskSlots s n) where
     clean : Clean gs
 
   single : (t : Twin) (g : Gate) → t.wire ≡ result g → Borne s t.code t.wire → Twinned t (g ∷ [])
-  single t g e b = record { carries = b.bears; clean = each (subst (Lit s.marks) e b.lit) empty }
+  single t g e b = record { carries = b.bears; clean = each (subst (LitOf s) e b.lit) empty }
 
   change : (c : ℕ) (A B : Twin) → T (is_code B.code) → Owes (change_gates n c A B) → Carries B → Carries (changed c A B)
       × Clean (change_gates n c A B)
@@ -171,28 +175,46 @@ module _ {s : State} {n : ℕ} (K : MaskSlots s n) where
       later a r (suc w) b = r w (omega arith)
 
   -- the outputs
-  out-lit : {k : ℕ} (c : ℕ) (t : Twin) (want : ℕ) → Placed k t → T (is_wanted want) → Carries t
+  out-borne : {k : ℕ} (c : ℕ) (t : Twin) (want : ℕ) → Placed k t → T (is_wanted want) → Carries t
       → Model s (out_gate n c t want)
-      → Lit s.marks (result (out_gate n c t want))
-  out-lit c t want P q h m =
+      → Borne s (out_code t.code want) (result (out_gate n c t want))
+  out-borne c t want P q h m =
       on_bool (eqb want 0)
-      (λ z. let g : Model s (Eqw t.wire c) = rw z at m in rw z (copy-borne s P.code h c g).lit)
+      (λ z. let g : Model s (Eqw t.wire c) = rw z at m in rw z (copy-borne s P.code h c g))
       (λ z. on_bool (eqb want t.code)
-      (λ y. let g : Model s (Eqw t.wire c) = rw (z, y) at m in rw (z, y) (copy-borne s P.code h c g).lit)
+      (λ y. let g : Model s (Eqw t.wire c) = rw (z, y) at m in
+      let e : t.code ≡ want = sym (eqb-true want t.code y) in
+      rw (z, y) (subst (λ (e : ℕ). Borne s e c) e (copy-borne s P.code h c g)))
       (λ y. let d = wanted-code want q z in
       let o = wanted-other t.code want y in
       let f = third t.code want in
       let g : Model s (Xor t.wire (mask_wire n f) c) = rw (z, y) at m in
       let i = third-code t.code want P.code d o in
-      rw (z, y) (sum-borne s P.code i (third-other t.code want P.code d o) h (mask-bears K f i) c g).lit))
+      let e : third t.code f ≡ want = third_back t.code want P.code d o in
+      rw (z, y) (subst (λ (e : ℕ). Borne s e c) e (sum-borne s P.code i (third-other t.code want P.code d o) h
+      (mask-bears K f i) c g))))
+
+  -- what they bear, and that all are clean
+  pub record Outs (c : ℕ) (ts : List Twin) (ws : List ℕ) : Type 0 where
+    pub bears : (i : ℕ) → i < length ts → Bears s (get_or (out_codes ts ws) i 0) (c + i)
+    pub clean : Clean (out_gates n c ts ws)
 
   pub walk-outs : {k : ℕ} (c : ℕ) (ts : List Twin) (ws : List ℕ) → length ws ≡ length ts → T (every is_wanted ws)
       → All (Placed k) ts
-      → ((i : ℕ) → i < length ts → Carries (get_or ts i no_twin)) → Owes (out_gates n c ts ws)
-      → Clean (out_gates n c ts ws)
-  walk-outs c [] ws l t P h m = empty
+      → ((i : ℕ) → i < length ts → Carries (get_or ts i no_twin)) → Owes (out_gates n c ts ws) → Outs c ts ws
+  walk-outs c [] ws l t P h m = record { bears = λ i b. absurd (omega arith); clean = empty }
   walk-outs c (a ∷ ts) [] l t P h m = absurd (omega arith)
   walk-outs c (a ∷ ts) (w ∷ ws) l t P h m =
       let q = both (is_wanted w) (every is_wanted ws) t in
-      each (out-lit c a w (all_head P) q.0 (h 0 (omega arith)) (all_head m))
-      (walk-outs (c + 1) ts ws (omega arith) q.1 (all_tail P) (λ i b. h (suc i) (omega arith)) (all_tail m))
+      let b = out-borne c a w (all_head P) q.0 (h 0 (omega arith)) (all_head m) in
+      let R = walk-outs (c + 1) ts ws (omega arith) q.1 (all_tail P) (λ i b. h (suc i) (omega arith)) (all_tail m) in
+      record {
+        bears = later (subst (Bears s (out_code a.code w)) (sym (out-result n c a w)) b.bears) R.bears;
+        clean = each b.lit R.clean;
+      }
+    where
+      later : Bears s (out_code a.code w) c → ((i : ℕ) → i < length ts → Bears s (get_or (out_codes ts ws) i 0)
+          (c + 1 + i))
+          → (i : ℕ) → i < suc (length ts) → Bears s (get_or (out_codes (a ∷ ts) (w ∷ ws)) i 0) (c + i)
+      later g r zero b = let z : c + 0 ≡ c = omega arith in rw z g
+      later g r (suc i) b = let z : c + suc i ≡ c + 1 + i = omega arith in rw z (r i (omega arith))

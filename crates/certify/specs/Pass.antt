@@ -4,6 +4,7 @@ use Rattle.evaluate.specs.Lane.{lane}
 use Rattle.netlist.specs.Netlist.{Netlist, input_bits, output_bits}
 use Rattle.masking.specs.Mask.{is_input_code, is_wanted, mask_netlist}
 use Rattle.netlist.specs.Services.{list_good}
+use Rattle.join.specs.Join.{join}
 use Rattle.netlist.specs.Read.{WellFormed}
 use Rattle.masking.specs.Leak.{EqualCounts}
 use Rattle.gates.specs.declared.Parts.{Parts}
@@ -38,12 +39,15 @@ pub record LowestUnmarked (marks : List ℕ) (W : ℕ) (found : Option ℕ) : Ty
   pub lower : (w : ℕ) → w < sure W found → lane 0 (get_or marks w 0) ≡ true
   pub unmarked : IfSome found (λ w. (w < W) × (lane 0 (get_or marks w 0) ≡ false))
 
--- a netlist under input codes, and the codes of its outputs, that came about by the masking steps
+-- a netlist under input codes, and the codes of its outputs, that came about by the masking steps, or by joining two
+-- such
 pub data Masking : Netlist → List ℕ → List ℕ → Type 0 where
   steps : (source : Netlist) (codes wanted : List ℕ) → WellFormed source
       → T (list_good is_input_code (input_bits source) codes)
       → T (list_good is_wanted (output_bits source) wanted)
       → Masking (mask_netlist source codes wanted).netlist codes (mask_netlist source codes wanted).codes
+  joined : (A B : Netlist) (codes middle out_codes : List ℕ) → Masking A codes middle → Masking B middle out_codes
+      → Masking (join A B) codes out_codes
 
 -- more wires have no atoms of their own
 abbrev pub most_wires : ℕ
