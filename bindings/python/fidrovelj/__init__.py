@@ -15,19 +15,34 @@ fidrovelj.refusals.Refusal: refused 4...: the header lines have not the stated f
 """
 
 from .library import Sizes
-from .netlist import Certified, Fewest, Gate, Leak, Masked, Netlist, PairsVerdict, Twin, join, mask_of
+from .netlist import (
+    Certified,
+    Counts,
+    Fewest,
+    Gate,
+    Leak,
+    Masked,
+    Netlist,
+    PairsVerdict,
+    Polynomial,
+    Twin,
+    join,
+    mask_of,
+)
 from .refusals import WORDS, Refusal
 from .session import Session
 
 __version__ = "1.0.0"
 __all__ = [
     "Certified",
+    "Counts",
     "Fewest",
     "Gate",
     "Leak",
     "Masked",
     "Netlist",
     "PairsVerdict",
+    "Polynomial",
     "Refusal",
     "Session",
     "Sizes",

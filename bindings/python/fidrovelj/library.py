@@ -82,8 +82,8 @@ class PlaceAnswer(ctypes.Structure):
     ]
 
 
-# The parameters of each function, in order: slices, but for the budget, a session and a gate. All but the last end with
-# the choice of sizes; the last three give a step's answer, the others a number.
+# The parameters of each function, in order: slices, but for the budget, a wire, a session and a gate. All but the last end
+# with the choice of sizes; the last three give a step's answer, the others a number.
 SERVICES: Dict[str, str] = {
     "rewrite": "text out operands results marks",
     "from_old": "text out operands results marks",
@@ -97,6 +97,9 @@ SERVICES: Dict[str, str] = {
     "check_pairs": "text codes pairs leak bad operands results marks words base bases",
     "check_wide": "text codes pairs leak ones bad operands results marks words base bases set0 set1 set2 set3 paints",
     "certify": "text codes leak ones operands results marks words base records",
+    "explain_wires": "text codes out operands results marks words base",
+    "polynomial": "text codes wire out operands results marks words",
+    "counts": "text codes wire out operands results bits words bases",
     "from_aiger": "text out operands results variables",
     "join": "first second first_codes first_out_codes second_codes out operands results marks words base",
     "from_verilog": "text out operands results heads words links states wires",
@@ -117,6 +120,8 @@ def _parameters(name: str) -> List[Any]:
             kinds.append(GateRecord)
         elif word == "budget":
             kinds.append(ctypes.c_uint64)
+        elif word == "wire":
+            kinds.append(ctypes.c_size_t)
         else:
             kinds += [ctypes.c_void_p, ctypes.c_size_t]
     return kinds if name == "session_take_off" else kinds + [ctypes.c_uint8]
@@ -145,7 +150,9 @@ class Library:
         self._kept = threading.local()
         library = ctypes.CDLL(path)
         for name in SERVICES:
-            function = getattr(library, f"fidrovelj_{name}")
+            function = getattr(library, f"fidrovelj_{name}", None)
+            if function is None:
+                continue
             function.argtypes = _parameters(name)
             is_step = name in ("session_open", "session_add", "session_take_off")
             function.restype = Step if is_step else ctypes.c_int64
@@ -179,6 +186,8 @@ class Library:
 
     def call(self, name: str, *arguments: Any) -> int:
         """Calls a service: each slice as bytes or an array, numbers and structs by value. Raises what refuses it."""
+        if name not in self._functions:
+            raise NotImplementedError(f"{self.path} has no fidrovelj_{name}: it is of another version")
         answer = self._functions[name](*_flat(arguments))
         if answer < 0:
             raise Refusal(-answer)

@@ -6,7 +6,7 @@ import secrets
 from dataclasses import dataclass
 from os import PathLike
 from pathlib import Path
-from typing import Callable, Iterable, Iterator, List, Optional, Sequence, Tuple, Union, overload
+from typing import Callable, FrozenSet, Iterable, Iterator, List, Optional, Sequence, Tuple, Union, overload
 
 from .library import U8, U32, U64, Sizes, array, front, library
 from .refusals import Refusal
@@ -93,6 +93,41 @@ class Certified:
         if self.unknown is None:
             return "clean"
         return f"not decided: wire {self.unknown} is the first not known to be clean"
+
+
+@dataclass(frozen=True)
+class Counts:
+    """How many settings make a wire one under 0, 1, 2, 3 and 4 of the four mask settings; and where the wire leaks, a
+    setting with the fewest ones that shows it."""
+
+    settings: Tuple[int, ...]
+    witness: Optional[Leak]
+
+
+@dataclass(frozen=True)
+class Polynomial:
+    """A wire as a sum of products: each product is a set of names, m0 and m1 for the mask bits and x0, x1, .. for the
+    input bits before they are masked. The empty product is the constant 1.
+
+    >>> print(Polynomial(frozenset({frozenset({"m0"}), frozenset({"x0", "x1"})})))
+    m0 + x0 x1
+    """
+
+    products: FrozenSet[FrozenSet[str]]
+
+    def __str__(self) -> str:
+        listed = [sorted(it, key=_name_order) for it in self.products]
+        listed.sort(key=lambda it: (len(it), [_name_order(name) for name in it]))
+        return " + ".join(" ".join(it) or "1" for it in listed) or "0"
+
+    def value(self, m0: int, m1: int, bits: Sequence[int]) -> int:
+        """Its value for the mask bits and the input bits."""
+        named = {"m0": m0, "m1": m1, **{f"x{place}": bit for place, bit in enumerate(bits)}}
+        return sum(all(named[it] for it in product) for product in self.products) % 2
+
+
+def _name_order(name: str) -> Tuple[str, int]:
+    return (name[0], int(name[1:]))
 
 
 @dataclass(frozen=True)
@@ -452,6 +487,58 @@ class Netlist:
         wire, count, base, own = leak
         found = Leak(wire, tuple(ones[:count]), base, own) if answer & 1 else None
         return PairsVerdict(found, bad[0] if answer & 2 else None)
+
+    # What a leak is made of
+
+    def causes(self, codes: Codes) -> Tuple[Tuple[int, ...], Tuple[int, ...]]:
+        """The wires that leak, and those of them that are causes: no operand of their gate leaks. Questions as `check`.
+
+        >>> Netlist("2 5\\n2 1 2\\n1 1\\n2 1 0 1 3 XOR\\n1 1 3 4 INV\\n").causes("1")
+        ((3, 4), (3,))
+        """
+        sizes = self._masked_sizes()
+        out = library().table("out_bits", U8, sizes.masked_wires)
+        tables = self._tables_of_a_check(sizes, "words base")
+        given = code_list(codes, self._secret_bits)
+        verdicts = front(out, library().call("explain_wires", self._text, given, out, *tables, sizes))
+        leaking = tuple(wire for wire, verdict in enumerate(verdicts) if verdict)
+        return leaking, tuple(wire for wire in leaking if verdicts[wire] == 2)
+
+    def polynomial(self, codes: Codes, wire: int) -> Polynomial:
+        """A wire as a sum of products of mask bits and input bits, where each input bit comes in XOR its mask.
+        Questions as `check`; raises `Refusal` 21 for a wire that is not there.
+
+        >>> print(Netlist("1 4\\n2 1 2\\n1 1\\n2 1 0 1 3 AND\\n").polynomial("1", 3))
+        m0 + m0 x0
+        """
+        sizes, given = self._masked_sizes(), code_list(codes, self._secret_bits)
+        out = library().table("coefficients", U8, 4 << 12)
+        tables = self._tables_of_a_check(sizes, "words")
+        length = library().call("polynomial", self._text, given, wire, out, *tables, sizes)
+        names = ["m0", "m1", *(f"x{place}" for place in range(len(given)))]
+        products = (
+            frozenset(name for place, name in enumerate(names) if entry >> place & 1)
+            for entry, is_there in enumerate(front(out, length))
+            if is_there
+        )
+        return Polynomial(frozenset(products))
+
+    def counts(self, codes: Codes, wire: int) -> Counts:
+        """How many settings have each count on a wire, and where it leaks a setting with the fewest ones that shows it.
+        Questions as `check`; raises `Refusal` 21 for a wire that is not there.
+
+        >>> Netlist("1 4\\n2 1 2\\n1 1\\n2 1 0 1 3 XOR\\n").counts("1", 3)
+        Counts(settings=(1, 0, 0, 0, 1), witness=Leak(wire=3, ones=(0,), base=0, own=4))
+        """
+        sizes, given, out = self._masked_sizes(), code_list(codes, self._secret_bits), (U64 * 8)()
+        tables = self._tables_of_a_check(sizes, "words")
+        bases = library().table("count_bases", U8, sizes.masked_wires)
+        length = library().call("counts", self._text, given, wire, out, *tables, bases, sizes)
+        if length == 5:
+            return Counts(tuple(out[:5]), None)
+        setting, base, own = out[5:8]
+        ones = tuple(bit for bit in range(12) if setting >> bit & 1)
+        return Counts(tuple(out[:5]), Leak(wire, ones, base, own))
 
     def certify(self, codes: Codes) -> Certified:
         """Whether every wire is clean, for any number of input bits: clean, a leak, or not decided."""

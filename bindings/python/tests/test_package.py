@@ -126,7 +126,7 @@ class Stated(unittest.TestCase):
             slices = [it.lstrip("*") for kind, it in zip(kinds, names) if not it.endswith("_len") and it != "sizes"]
             self.assertEqual(len(slices), len(listed.split()), name)
             for kind, it in zip(kinds, names):
-                if it.lstrip("*") in ("words", "operands", "results", "base", "bases", "records", "tally"):
+                if it.lstrip("*") in ("words", "operands", "results", "base", "records", "tally"):
                     self.assertEqual(kind.replace("const ", ""), "uint64_t", name)
             self.assertEqual(len(words), len(found._parameters(name)), name)
 
@@ -261,6 +261,41 @@ class Values(unittest.TestCase):
         swapped = Netlist("2 5\n1 3\n1 1\n2 1 1 0 3 AND\n2 1 3 2 4 XOR\n")
         self.assertEqual(few.netlist, swapped.mask("121").netlist)
         self.assertEqual(said(lambda: source.mask_fewest(budget=0)), Refusal(22))
+
+    def test_what_a_leak_is_made_of(self):
+        chance = random.Random(5)
+        leaks = 0
+        for case in range(60):
+            bits = chance.randint(1, 4)
+            gates = random_gates(chance, bits + 2, chance.randint(1, 10))
+            codes = [chance.randrange(4) for _ in range(bits)]
+            netlist = Netlist(text_of(gates, [bits, 2], [1]))
+            table = [counts(gates, codes, setting) for setting in range(1 << bits)]
+            public = sum(1 << i for i, code in enumerate(codes) if code == 0)
+            wires = range(netlist.wires)
+            leaking = [w for w in wires if any(own[w] != table[s & public][w] for s, own in enumerate(table))]
+            reads = {wire: ops if name != "EQ" else [] for name, ops, wire in gates}
+            causes = [w for w in leaking if not set(reads.get(w, [])) & set(leaking)]
+            self.assertEqual(netlist.causes(codes), (tuple(leaking), tuple(causes)), case)
+            wire = chance.choice(leaking or list(wires))
+            found = netlist.counts(codes, wire)
+            self.assertEqual(list(found.settings), [sum(own[wire] == n for own in table) for n in range(5)])
+            self.assertEqual(found.witness is not None, wire in leaking)
+            if found.witness is not None:
+                leaks += 1
+                bad = [s for s, own in enumerate(table) if own[wire] != table[s & public][wire]]
+                least = min(bad, key=lambda it: (bin(it).count("1"), it))
+                base, own = table[least & public][wire], table[least][wire]
+                self.assertEqual((found.witness.setting, found.witness.base, found.witness.own), (least, base, own))
+            polynomial = netlist.polynomial(codes, wire)
+            for setting in range(1 << bits):
+                given = [setting >> i & 1 for i in range(bits)]
+                for m0, m1 in ((0, 0), (1, 0), (0, 1), (1, 1)):
+                    hidden = [bit ^ mask_of(code, m0, m1) for bit, code in zip(given, codes)] + [m0, m1]
+                    self.assertEqual(polynomial.value(m0, m1, given), evaluate(gates, hidden)[wire])
+            self.assertEqual(said(lambda: netlist.counts(codes, netlist.wires)), Refusal(21))
+            self.assertEqual(said(lambda: netlist.polynomial(codes, netlist.wires)), Refusal(21))
+        self.assertGreater(leaks, 20)
 
     def test_join(self):
         and_gate = Netlist("1 3\n2 1 1\n1 1\n2 1 0 1 2 AND\n").mask("12")

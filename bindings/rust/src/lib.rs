@@ -9,6 +9,7 @@
 //! | [`twins`] | where each source wire stands in the masked netlist |
 //! | [`check`], [`check_pairs`], [`check_wide`] | clean, or a leak; that and listed pairs; the same of many inputs |
 //! | [`certify`] | clean, a leak or not decided, for any number of inputs |
+//! | [`explain_wires`], [`polynomial`], [`counts`] | which wires leak, and the causes; a wire as a sum; its counts |
 //! | [`run`], [`run64`] | the output bits; those of sixty-four settings at once |
 //! | [`rewrite`], [`from_old`], [`to_old`] | the written form; from the older Bristol dialect and to it |
 //! | [`from_aiger`], [`from_verilog`] | the netlist of an ASCII AIGER file; of equations |
@@ -42,6 +43,7 @@ use std::fmt;
 
 mod aiger;
 mod certify;
+mod explain;
 mod fewest;
 mod join;
 pub mod lent;
@@ -58,6 +60,7 @@ mod words;
 
 pub use aiger::{from_aiger, from_aiger_lent};
 pub use certify::{certify, certify_lent, Certified};
+pub use explain::{counts, explain_wires, polynomial, Counts, Verdict};
 pub use fewest::{mask_fewest, mask_fewest_lent, Fewest};
 pub use join::{join, join_lent};
 pub use netlist::{Gates, Netlist, NetlistGate};
