@@ -2,6 +2,7 @@
 //! least 0 for a result and minus the number of the refusing question otherwise. include/fidrovelj.h declares them.
 #![tactic(auto)]
 
+mod about;
 pub mod answers;
 mod certified;
 pub mod certified_answer;
@@ -9,9 +10,14 @@ mod explain_calls;
 mod fewest_calls;
 pub mod pair_answers;
 mod pair_calls;
+mod reading;
+mod refused_places;
 mod sessions;
+mod shapes;
+pub mod table_kinds;
 pub mod wide_answers;
 mod wide_calls;
+mod workspace;
 
 ghost use Rattle.convert.specs.RewritePromise.{Promise as RewritePromise};
 ghost use Rattle.convert.specs.FromOldPromise.{Promise as FromOldPromise};
