@@ -39,6 +39,9 @@ const SERVICES = {
   },
 };
 
+/** The products of twelve input bits and the mask pair, which is as many bits as a polynomial is told of. */
+const MOST_PRODUCTS = 2 ** 14;
+
 /** The questions that a larger size can answer otherwise: Length and Limits. */
 const OF_SIZE = [2, 5];
 
@@ -182,7 +185,7 @@ export class Engine {
    * bit i. Or a refusal.
    */
   polynomial(text, codes, wire) {
-    const rooms = () => [room(2 ** (codes.length + 2), 1)];
+    const rooms = () => [room(MOST_PRODUCTS, 1)];
     return this.#sized('polynomial', [text, codes, BigInt(wire)], rooms, (length, [out]) => ({
       products: [...this.#bytes(out, length)].flatMap((stands, product) => (stands ? [product] : [])),
     }));

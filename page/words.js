@@ -93,15 +93,15 @@ export function leakingWords({ leaking, causes }) {
   return `${are}; ${these} ${listWords(causes)}, whose operands are clean.`;
 }
 
-const MOST_PRODUCTS = 24;
+const SHOWN_PRODUCTS = 24;
 
 /** A wire's polynomial, x for the input bits, and how many settings have each count. */
 export function factWords(wire, { products, settings }) {
   const variables = (product) => [...product.toString(2)].reverse().flatMap((stands, bit) =>
     stands === '1' ? [bit < 2 ? `m${bit}` : `x${bit - 2}`] : []);
   const terms = products.map(variables).sort((left, right) => left.length - right.length);
-  const shown = terms.slice(0, MOST_PRODUCTS).map((names) => names.join('·') || '1');
-  const more = terms.length > MOST_PRODUCTS ? ` ⊕ ${terms.length - MOST_PRODUCTS} products more` : '';
+  const shown = terms.slice(0, SHOWN_PRODUCTS).map((names) => names.join('·') || '1');
+  const more = terms.length > SHOWN_PRODUCTS ? ` ⊕ ${terms.length - SHOWN_PRODUCTS} products more` : '';
   const counts = settings.flatMap((many, count) => (many ? [`${many.toLocaleString('en')} with count ${count}`] : []));
   return `Wire ${wire} = ${shown.join(' ⊕ ') || '0'}${more}, where x is an input bit, counted over all values. ` +
     `Settings of the input bits: ${listWords(counts)}.`;
