@@ -196,7 +196,7 @@ static const char masked_and[] =
 static void services(void)
 {
     static const char old[] = "1 3\n1 1 1\n\n2 1 0 1 2 AND\n";
-    uint64_t leak[4], ones[12], bad[1], tally[2], words[2] = {3, 5}, word[1];
+    uint64_t leak[4], ones[12], bad[1], tally[2], words[2] = {3, 5}, word[1], counts[8];
     uint32_t twins[3];
     static const uint32_t pair[2] = {0, 3};
     IN_BLOCK(FIDROVELJ_SERVICE_REWRITE, fidrovelj_rewrite_in(TEXT(and_gate), out, sizeof out, BLOCK), 29, "Rewrite");
@@ -214,16 +214,25 @@ static void services(void)
              fidrovelj_mask_fewest_in(TEXT(and_gate), CODES("\1\2"), CODES("\0"), 1, out, sizeof out, in_codes, 2,
                                       codes_out, 1, tally, 2, BLOCK),
              (int64_t)strlen(masked_and), "Mask with fewest changes");
-    IN_BLOCK(FIDROVELJ_SERVICE_TWINS, fidrovelj_twins_in(TEXT(and_gate), CODES("\1\2"), twins, 3, codes_out, 3, BLOCK), 3,
-             "Twins");
+    IN_BLOCK(FIDROVELJ_SERVICE_TWINS,
+             fidrovelj_twins_in(TEXT(and_gate), CODES("\1\2"), twins, 3, codes_out, 3, BLOCK), 3, "Twins");
     IN_BLOCK(FIDROVELJ_SERVICE_CHECK, fidrovelj_check_in(TEXT(wide_and), CODES("\1"), leak, 4, BLOCK), 1, "Check");
     expect(leak[0] == 3 && leak[1] == 1 && leak[2] == 2 && leak[3] == 0, "the leak that Check tells");
     IN_BLOCK(FIDROVELJ_SERVICE_CHECK_PAIRS,
              fidrovelj_check_pairs_in(TEXT(wide_and), CODES("\1"), pair, 2, leak, 4, bad, 1, BLOCK), 3, "pairs");
     IN_BLOCK(FIDROVELJ_SERVICE_CHECK_WIDE,
-             fidrovelj_check_wide_in(TEXT(wide_and), CODES("\1"), pair, 2, leak, 4, ones, 12, bad, 1, BLOCK), 3, "wide");
+             fidrovelj_check_wide_in(TEXT(wide_and), CODES("\1"), pair, 2, leak, 4, ones, 12, bad, 1, BLOCK), 3,
+             "Check of many inputs");
     IN_BLOCK(FIDROVELJ_SERVICE_CERTIFY, fidrovelj_certify_in(TEXT(wide_and), CODES("\1"), leak, 4, ones, 12, BLOCK), 1,
              "Certify");
+    IN_BLOCK(FIDROVELJ_SERVICE_EXPLAIN_WIRES,
+             fidrovelj_explain_wires_in(TEXT(wide_and), CODES("\1"), codes_out, 4, BLOCK), 4, "verdicts on wires");
+    expect(codes_out[3] == 2 && codes_out[0] == 0, "the AND alone is a cause");
+    IN_BLOCK(FIDROVELJ_SERVICE_POLYNOMIAL,
+             fidrovelj_polynomial_in(TEXT(wide_and), CODES("\1"), 3, codes_out, 8, BLOCK), 8,
+             "the polynomial of a wire");
+    IN_BLOCK(FIDROVELJ_SERVICE_COUNTS, fidrovelj_counts_in(TEXT(wide_and), CODES("\1"), 3, counts, 8, BLOCK), 8,
+             "the counts of a wire");
     IN_BLOCK(FIDROVELJ_SERVICE_FROM_AIGER,
              fidrovelj_from_aiger_in(TEXT("aag 3 2 0 1 1\n2\n4\n6\n6 2 4\n"), out, sizeof out, BLOCK),
              (int64_t)strlen("2 4\n1 2\n1 1\n\n2 1 0 1 2 AND\n1 1 2 3 EQW\n"), "AIGER files");
@@ -233,7 +242,8 @@ static void services(void)
              (int64_t)strlen("2 5\n2 1 2\n1 1\n\n2 1 0 1 3 AND\n2 1 3 1 4 AND\n"), "Join");
     IN_BLOCK(FIDROVELJ_SERVICE_FROM_VERILOG,
              fidrovelj_from_verilog_in(
-                 TEXT("module m(a, b, c); input a, b; output c; assign c = a & b; endmodule\n"), out, sizeof out, BLOCK),
+                 TEXT("module m(a, b, c); input a, b; output c; assign c = a & b; endmodule\n"), out, sizeof out,
+                 BLOCK),
              (int64_t)strlen("2 4\n1 2\n1 1\n\n2 1 0 1 2 AND\n1 1 2 3 EQW\n"), "equations");
 }
 
@@ -250,8 +260,8 @@ static void sessions(void)
              fidrovelj_session_text_in(step.session, widths, 2, outputs, 1, source, 4, out, sizeof out, BLOCK), 29,
              "a session's text");
     IN_BLOCK(FIDROVELJ_SERVICE_SESSION_MASKED,
-             fidrovelj_session_masked_in(step.session, widths, 2, outputs, 1, source, 4, CODES("\1\2"), CODES("\0"), out,
-                                         sizeof out, codes_out, 1, BLOCK),
+             fidrovelj_session_masked_in(step.session, widths, 2, outputs, 1, source, 4, CODES("\1\2"), CODES("\0"),
+                                         out, sizeof out, codes_out, 1, BLOCK),
              (int64_t)strlen(masked_and), "a session's masked text");
 }
 
@@ -272,7 +282,7 @@ static void answers_by_value(void)
     expect(fidrovelj_place_in(TEXT("1 3\n"), block, block_words, 1, FIDROVELJ_OLD).refused == 1,
            "a place in a short block");
     expect_cleared("a place's short block");
-    expect(fidrovelj_workspace_words(0, FIDROVELJ_OLD) == 0 && fidrovelj_workspace_words(20, FIDROVELJ_OLD) == 0,
+    expect(fidrovelj_workspace_words(0, FIDROVELJ_OLD) == 0 && fidrovelj_workspace_words(23, FIDROVELJ_OLD) == 0,
            "no words where no service has the number");
     expect(fidrovelj_workspace_words(FIDROVELJ_SERVICE_CHECK, FIDROVELJ_WHOLE) == 4 * 899999 + 112500,
            "the words of Check for whole ciphers");

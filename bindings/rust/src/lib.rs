@@ -16,7 +16,8 @@
 //! | [`Session`] | a source that grows gate by gate, and shrinks again, masked at every moment |
 //! | [`join`] | one netlist of two masked blocks |
 //!
-//! Each call puts a list of questions in order, and the first no refuses it ([`Refusal`]). The services lend the
+//! Each call puts a list of questions in order, and the first no refuses it ([`Refusal`]); [`place`] tells where in a
+//! text. The services lend the
 //! library its working tables and result buffers from a [`Tables`], made once and used for any number of calls; the
 //! functions of [`lent`], and those whose names end in `_lent`, take each table and buffer from the caller instead, and
 //! allocate nothing.
@@ -50,6 +51,7 @@ pub mod lent;
 mod netlist;
 mod old;
 mod pairs;
+mod place;
 mod refusal;
 mod session;
 mod tables;
@@ -66,6 +68,7 @@ pub use join::{join, join_lent};
 pub use netlist::{Gates, Netlist, NetlistGate};
 pub use old::{from_old, from_old_lent, to_old, to_old_lent};
 pub use pairs::{check_pairs, check_pairs_lent, Pairs};
+pub use place::{place, Place};
 pub use refusal::Refusal;
 pub use session::{
     session_add_lent, session_gate_lent, session_masked_lent, session_open_lent, session_take_off_lent,
