@@ -532,8 +532,8 @@ fidrovelj_shape_answer fidrovelj_shape(const uint8_t *text, size_t text_len,
                                        uint8_t sizes);
 
 /* The first refused place of a text. refused is the question of 2 to 9 that refuses the text, 1 where marks is too
- * short, or 0 where none does; where it is 0 or 1 all else is 0. offset is the byte, counted from 0; line and column are
- * counted from 1, blank lines too. entry is the line counted from 0 without blank lines, and word the word of it,
+ * short, or 0 where none does; where it is 0 or 1 all else is 0. offset is the byte, counted from 0; line and column
+ * are counted from 1, blank lines too. entry is the line counted from 0 without blank lines, and word the word of it,
  * counted from 0; both are 0 for 2 and 3.
  *
  *  2  offset is the limit on texts: the first byte past it. have is the text's length, most the limit.
@@ -575,8 +575,9 @@ fidrovelj_open_answer fidrovelj_gate_open(const uint8_t *text, size_t text_len,
                                           uint32_t *outputs, size_t outputs_len,
                                           uint8_t sizes);
 
-/* A gate, and the place before the next one. At the end the gate has kind 0, and refused is 0. Where the line is no gate
- * the gate has kind 0, and refused is 7. Then the place is the one that was given, so the same answer comes again. */
+/* A gate, and the place before the next one. At the end the gate has kind 0, and refused is 0. Where the line is no
+ * gate, the gate has kind 0, and refused is 7. Then the place is the one that was given, so the same answer comes
+ * again. */
 typedef struct {
     fidrovelj_gate gate;
     size_t at;
@@ -591,7 +592,8 @@ fidrovelj_next_answer fidrovelj_gate_next(const uint8_t *text, size_t text_len, 
  * The functions whose names end in _in make the call of the same name on tables that lie one after another in one block
  * of 64-bit words. fidrovelj_workspace_words says how many words a service needs. Of a block of more words those are
  * used alone, and no other is touched; they are zero on return. A block of fewer words is refused by 1, and is zero on
- * return. The block's alignment is that of uint64_t. */
+ * return. (fidrovelj_place_in with the limits of a source takes fewer words too, as many as those limits ask for.)
+ * The block's alignment is that of uint64_t. */
 #define FIDROVELJ_SERVICE_REWRITE 1
 #define FIDROVELJ_SERVICE_FROM_OLD 2
 #define FIDROVELJ_SERVICE_TO_OLD 3
@@ -611,6 +613,9 @@ fidrovelj_next_answer fidrovelj_gate_next(const uint8_t *text, size_t text_len, 
 #define FIDROVELJ_SERVICE_SESSION_MASKED 17
 #define FIDROVELJ_SERVICE_SHAPE 18
 #define FIDROVELJ_SERVICE_PLACE 19
+#define FIDROVELJ_SERVICE_EXPLAIN_WIRES 20
+#define FIDROVELJ_SERVICE_POLYNOMIAL 21
+#define FIDROVELJ_SERVICE_COUNTS 22
 
 /* How many words a service's tables have together; 0 where no service has the number. */
 size_t fidrovelj_workspace_words(uint8_t service, uint8_t sizes);
@@ -972,7 +977,74 @@ static inline fidrovelj_place_answer fidrovelj_place_in(const uint8_t *text, siz
                            masked, sizes);
 }
 
+static inline int64_t fidrovelj_explain_wires_in(const uint8_t *text, size_t text_len,
+                                                 const uint8_t *codes, size_t codes_len,
+                                                 uint8_t *out, size_t out_len,
+                                                 uint64_t *workspace, size_t workspace_words,
+                                                 uint8_t sizes)
+{
+    return fidrovelj_explain_wires(text, text_len,
+                                   codes, codes_len,
+                                   out, out_len,
+                                   FIDROVELJ_TABLE(uint64_t, FIDROVELJ_SERVICE_EXPLAIN_WIRES, 0),
+                                   FIDROVELJ_TABLE(uint64_t, FIDROVELJ_SERVICE_EXPLAIN_WIRES, 1),
+                                   FIDROVELJ_TABLE(uint8_t, FIDROVELJ_SERVICE_EXPLAIN_WIRES, 2),
+                                   FIDROVELJ_TABLE(uint64_t, FIDROVELJ_SERVICE_EXPLAIN_WIRES, 3),
+                                   FIDROVELJ_TABLE(uint64_t, FIDROVELJ_SERVICE_EXPLAIN_WIRES, 4),
+                                   sizes);
+}
+
+static inline int64_t fidrovelj_polynomial_in(const uint8_t *text, size_t text_len,
+                                              const uint8_t *codes, size_t codes_len,
+                                              size_t wire,
+                                              uint8_t *out, size_t out_len,
+                                              uint64_t *workspace, size_t workspace_words,
+                                              uint8_t sizes)
+{
+    return fidrovelj_polynomial(text, text_len,
+                                codes, codes_len,
+                                wire,
+                                out, out_len,
+                                FIDROVELJ_TABLE(uint64_t, FIDROVELJ_SERVICE_POLYNOMIAL, 0),
+                                FIDROVELJ_TABLE(uint64_t, FIDROVELJ_SERVICE_POLYNOMIAL, 1),
+                                FIDROVELJ_TABLE(uint8_t, FIDROVELJ_SERVICE_POLYNOMIAL, 2),
+                                FIDROVELJ_TABLE(uint64_t, FIDROVELJ_SERVICE_POLYNOMIAL, 3),
+                                sizes);
+}
+
+static inline int64_t fidrovelj_counts_in(const uint8_t *text, size_t text_len,
+                                          const uint8_t *codes, size_t codes_len,
+                                          size_t wire,
+                                          uint64_t *out, size_t out_len,
+                                          uint64_t *workspace, size_t workspace_words,
+                                          uint8_t sizes)
+{
+    return fidrovelj_counts(text, text_len,
+                            codes, codes_len,
+                            wire,
+                            out, out_len,
+                            FIDROVELJ_TABLE(uint64_t, FIDROVELJ_SERVICE_COUNTS, 0),
+                            FIDROVELJ_TABLE(uint64_t, FIDROVELJ_SERVICE_COUNTS, 1),
+                            FIDROVELJ_TABLE(uint8_t, FIDROVELJ_SERVICE_COUNTS, 2),
+                            FIDROVELJ_TABLE(uint64_t, FIDROVELJ_SERVICE_COUNTS, 3),
+                            FIDROVELJ_TABLE(uint8_t, FIDROVELJ_SERVICE_COUNTS, 4),
+                            sizes);
+}
+
 #undef FIDROVELJ_TABLE
+
+/* The cone of a wire, an entry for each wire, in the order of their numbers, at the front of out: one more than its
+ * distance, which is how many gates stand between, so 1 for the wire itself; 0 where it does not reach the wire within
+ * depth gates. Returns how many wires there are. Questions 1 to 9 with the large limits, 21 (is wire below W?), and 14
+ * of out. */
+int64_t fidrovelj_cone(const uint8_t *text, size_t text_len,
+                       size_t wire,
+                       uint16_t depth,
+                       uint32_t *out, size_t out_len,
+                       uint64_t *operands, size_t operands_len,
+                       uint64_t *results, size_t results_len,
+                       uint8_t *marks, size_t marks_len,
+                       uint8_t sizes);
 
 #ifdef __cplusplus
 }

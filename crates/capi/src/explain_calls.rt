@@ -1,7 +1,8 @@
 //! What a leak is made of, for programs in C and Rust: which wires leak and which are causes, the polynomial of a wire,
-//! its counts and a witness.
+//! its counts and a witness, and its cone.
 ghost use Rattle.capi.specs.Number.{sizes_of, Told};
 ghost use Rattle.causes.specs.Promise.{Promise as WiresPromise};
+ghost use Rattle.cones.specs.Promise.{Promise as ConePromise};
 ghost use Rattle.explain.specs.CountsPromise.{Promise as CountsPromise};
 ghost use Rattle.explain.specs.PolynomialPromise.{Promise as PolynomialPromise};
 
@@ -97,6 +98,34 @@ pub extern "C" fn fidrovelj_counts(
         bits,
         words,
         bases,
+        sizes(whole),
+    ))
+}
+
+/// The cone of a wire at the front of `out`, an entry for each wire: one more than its distance, which is how many gates
+/// stand between, or 0 where it does not reach the wire within so many gates: how many wires there are.
+#[unsafe(no_mangle)]
+pub extern "C" fn fidrovelj_cone(
+    text: &[u8],
+    wire: usize,
+    depth: u16,
+    out: &mut [u32],
+    operands: &mut [u64],
+    results: &mut [u64],
+    marks: &mut [u8],
+    whole: u8,
+) -> i64
+    ensures { Told (ConePromise (sizes_of whole) text.now wire depth out.old out.new
+        operands.old operands.new results.old results.new marks.old marks.new) result }
+{
+    number(cones::cone(
+        text,
+        wire,
+        depth,
+        out,
+        operands,
+        results,
+        marks,
         sizes(whole),
     ))
 }
