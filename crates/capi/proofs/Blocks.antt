@@ -1,17 +1,16 @@
 -- Tables one after another in a block.
-use Prim.Native.Nat.{ℕ, zero, suc, ◌+◌, ◌*◌, ◌/◌, ◌<◌, ◌≤◌}
-use Rattle.std.specs.Prelude.{Option, Some, None}
+use Prim.Native.Nat.{ℕ, zero, suc, ◌+◌, ◌<◌, ◌≤◌}
+use Rattle.std.specs.Prelude.{Some}
 use mathlib.Core.Path.{◌≡◌, refl, ap, ◌∙◌, subst}
 use mathlib.Core.List.{List, [], ◌∷◌}
 use native.Mathlib.Omega.{arith}
-use lib.Dec.{leb}
 use borrow.Author.Tests.{le-leb}
 use Rattle.netlist.proofs.Tests.{clash}
 use Rattle.capi.specs.declared.table_kinds.Kind.{Kind}
 use Rattle.capi.specs.declared.table_kinds.Kind.TheVariants.{Words, Halves, Bytes, Records, Names, NameHalves}
 use Rattle.capi.specs.declared.workspace.Span.{Span}
 use Rattle.capi.specs.TableKinds.{words_of, entries_in}
-use Rattle.capi.specs.Workspace.{needed, place_of, short_of, span_of, kind_at, least, Fits}
+use Rattle.capi.specs.Workspace.{needed, place_of, span_of, kind_at, least, Fits}
 
 holds-least : (k : Kind) (W : ℕ) → least k W ≤ entries_in k (words_of k W)
 holds-least Words W = omega arith

@@ -11,14 +11,14 @@ use Rattle.capi.specs.TableKinds.{words_of, entries_in}
 -- the tables of a service, in the order of its parameters: 1 to 3 Rewrite and the conversions of the older dialect,
 -- 4 and 5 Run and Run64, 6 Mask, 7 Mask with fewest changes, 8 Twins, 9 Check, 10 with pairs, 11 of many inputs,
 -- 12 Certify, 13 AIGER files, 14 Join, 15 equations, 16 and 17 a session's text and masked text, 18 the shape,
--- 19 the refused place
+-- 19 the refused place, 20 the verdicts on wires, 21 the polynomial and 22 the counts of a wire
 abbrev pub kinds_of : ℕ → List Kind
 kinds_of n =
     cond (member n (1 ∷ 2 ∷ 3 ∷ 8 ∷ 18 ∷ [])) (Words ∷ Words ∷ Bytes ∷ [])
-    (cond (member n (4 ∷ 5 ∷ [])) (Words ∷ Words ∷ Bytes ∷ Words ∷ [])
+    (cond (member n (4 ∷ 5 ∷ 21 ∷ [])) (Words ∷ Words ∷ Bytes ∷ Words ∷ [])
     (cond (member n (6 ∷ 17 ∷ [])) (Words ∷ Words ∷ Halves ∷ Bytes ∷ [])
     (cond (eqb n 7) (Words ∷ Words ∷ Halves ∷ Bytes ∷ Bytes ∷ Bytes ∷ Words ∷ [])
-    (cond (member n (9 ∷ 14 ∷ [])) (Words ∷ Words ∷ Bytes ∷ Words ∷ Words ∷ [])
+    (cond (member n (9 ∷ 14 ∷ 20 ∷ [])) (Words ∷ Words ∷ Bytes ∷ Words ∷ Words ∷ [])
     (cond (eqb n 10) (Words ∷ Words ∷ Bytes ∷ Words ∷ Words ∷ Words ∷ [])
     (cond (eqb n 11)
     (Words ∷ Words ∷ Bytes ∷ Words ∷ Words ∷ Words ∷ Words ∷ Words ∷ Words ∷ Words ∷ Bytes ∷ [])
@@ -26,7 +26,8 @@ kinds_of n =
     (cond (eqb n 13) (Words ∷ Words ∷ Halves ∷ [])
     (cond (eqb n 15) (Words ∷ Words ∷ Names ∷ Names ∷ Names ∷ NameHalves ∷ NameHalves ∷ [])
     (cond (eqb n 16) (Words ∷ Words ∷ [])
-    (cond (eqb n 19) (Bytes ∷ []) [])))))))))))
+    (cond (eqb n 22) (Words ∷ Words ∷ Bytes ∷ Words ∷ Bytes ∷ [])
+    (cond (eqb n 19) (Bytes ∷ []) []))))))))))))
 
 -- the most wires of a service's netlists: those of a source, or of a masked netlist
 abbrev pub wires_of : ℕ → Sizes → ℕ

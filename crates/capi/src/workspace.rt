@@ -24,11 +24,11 @@ fn kinds(service: u8) -> &'static [Kind]
 {
     match service {
         1 | 2 | 3 | 18 => &[Words, Words, Bytes],
-        4 | 5 => &[Words, Words, Bytes, Words],
+        4 | 5 | 21 => &[Words, Words, Bytes, Words],
         6 | 17 => &[Words, Words, Halves, Bytes],
         7 => &[Words, Words, Halves, Bytes, Bytes, Bytes, Words],
         8 => &[Words, Words, Bytes],
-        9 | 14 => &[Words, Words, Bytes, Words, Words],
+        9 | 14 | 20 => &[Words, Words, Bytes, Words, Words],
         10 => &[Words, Words, Bytes, Words, Words, Words],
         11 => &[
             Words, Words, Bytes, Words, Words, Words, Words, Words, Words, Words, Bytes,
@@ -38,6 +38,7 @@ fn kinds(service: u8) -> &'static [Kind]
         15 => &[Words, Words, Names, Names, Names, NameHalves, NameHalves],
         16 => &[Words, Words],
         19 => &[Bytes],
+        22 => &[Words, Words, Bytes, Words, Bytes],
         _ => &[],
     }
 }

@@ -1,5 +1,5 @@
 -- `place`: where the tables that are left stand.
-use Rattle.std.proofs.Common.{◌≡◌, ◌+◌, ◌-◌, ◌*◌, ◌≤◌}
+use Rattle.std.proofs.Common.{◌≡◌, ◌-◌, ◌*◌, ◌≤◌}
 use lib.ListN.{drop}
 use Rattle.capi.specs.Workspace.{place_of}
 use Rattle.capi.proofs.workspace.place.Given as goal
