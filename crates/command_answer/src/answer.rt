@@ -54,7 +54,7 @@ pub struct Answer {
 }
 
 impl Answer {
-    ghost use Rattle.command_answer.specs.Delivered.{Delivers};
+    ghost use Rattle.command_answer.specs.Delivered.{Delivers, Stands};
 
     /// Nothing to say, and done.
     pub fn new(alloc: Global) -> Self
@@ -94,6 +94,7 @@ impl Answer {
     /// Bytes for a file, or for standard output where there is no name.
     pub fn deliver(&mut self, name: Option<String>, bytes: Vec<u8>) -> Result<(), AllocError>
         ensures bytes { OnOk result (Delivers name bytes.items self.old self.new) }
+        ensures stands { OnOk result (Stands self.new bytes.items) }
         ensures status { self.new.status ≡ self.old.status }
     {
         match name {

@@ -74,13 +74,7 @@ pub fn fashion_of(
 
 /// The failure of a text in another notation, in which no place is looked for.
 fn refused_elsewhere(alloc: Global, file: &str, text: &[u8], question: Refusal) -> Failure {
-    match refused_because(
-        alloc,
-        file,
-        text,
-        question,
-        command_refusals::words::said(question),
-    ) {
+    match refused_because(alloc, file, text, question, question.words()) {
         Ok(failure) => failure,
         Err(_) => Failure::Memory,
     }

@@ -1,5 +1,9 @@
 //! What is checked, under which codes and by which check.
 
+ghost use Rattle.std.specs.Prelude.{◌≡◌, IfOk};
+ghost use Rattle.command_checking.specs.Says.{Says};
+ghost use Rattle.command_check.specs.Judged.{Judges};
+
 use crate::telling::tell;
 use crate::words::Subject;
 use command_answer::answer::Answer;
@@ -54,7 +58,9 @@ fn pairs(alloc: Global, files: Files) -> Result<Vec<u32>, Failure> {
     }
 }
 
-fn judged(alloc: Global, method: Method, job: Job) -> Result<Judged, AllocError> {
+fn judged(alloc: Global, method: Method, job: Job) -> Result<Judged, AllocError>
+    ensures { IfOk result (λ judged. IfOk judged (λ j. Says job.entry.text.now job.entry.codes.now j.verdict)) }
+{
     match method {
         Method::Chosen => chosen(alloc, job),
         Method::Exact => exact(alloc, job),
@@ -104,13 +110,39 @@ fn remark_codes(
     task: &CheckTask,
     files: Files,
     is_quiet: bool,
-) -> Result<(), AllocError> {
+) -> Result<(), AllocError>
+    ensures { answer.new.status ≡ answer.old.status }
+{
     match (&task.codes, files.get(Role::Beside)) {
         (None, Some(file)) => {
             let line = format!(in alloc; "codes from {}", file.name)?;
             answer.remark(line.as_str(), is_quiet)
         }
         _ => Ok(()),
+    }
+}
+
+/// What the check that is asked for says of a netlist, as an answer.
+pub fn checked(
+    alloc: Global,
+    file: &str,
+    method: Method,
+    job: Job,
+    is_json: bool,
+) -> Result<Answer, Failure>
+    ensures { IfOk result (Judges job.entry.text.now job.entry.codes.now) }
+{
+    let subject = Subject {
+        wires: job.wires,
+        bits: job.codes.len(),
+        secrets: secrets(job.codes),
+        pairs: job.pairs,
+        budget: job.budget,
+        is_within_budget: job.is_within_budget(),
+    };
+    match judged(alloc, method, job)? {
+        Ok(judgement) => Ok(tell(alloc, file, &judgement, subject, is_json)?),
+        Err(question) => Err(refused_check(alloc, file, job, question)?),
     }
 }
 
@@ -142,19 +174,7 @@ pub fn answer(
         wires: shape.wires,
         budget: task.budget,
     };
-    let judgement = match judged(alloc, task.method, job)? {
-        Ok(judgement) => judgement,
-        Err(question) => return Err(refused_check(alloc, file, job, question)?),
-    };
-    let subject = Subject {
-        wires: shape.wires,
-        bits: codes.len(),
-        secrets: secrets(codes.as_slice()),
-        pairs: pairs.as_slice(),
-        budget: task.budget,
-        is_within_budget: job.is_within_budget(),
-    };
-    let mut answer = tell(alloc, file, &judgement, subject, is_json)?;
+    let mut answer = checked(alloc, file, task.method, job, is_json)?;
     remark_codes(alloc, &mut answer, &task, files, is_quiet)?;
     Ok(answer)
 }

@@ -1,5 +1,8 @@
 //! A judgement as an answer: words or JSON, and the status.
 
+ghost use Rattle.std.specs.Prelude.{◌≡◌, IfOk};
+ghost use Rattle.command_check.specs.Judged.{IsFound, Tells};
+
 use crate::words::{Subject, name, pairs, verdict};
 use command_answer::answer::{Answer, Status};
 use command_checking::verdict::{Judgement, Leak, PairVerdict, Verdict};
@@ -8,7 +11,11 @@ use serde_json::{Value, json};
 use std::alloc::{AllocError, Global};
 
 /// The status that a judgement ends with: 1 at a leak or a bad pair, else 3 where something is not decided.
-pub fn status(judgement: &Judgement) -> Status {
+pub fn status(judgement: &Judgement) -> Status
+    ensures done { result ≡ Status.Done → (judgement.now.verdict ≡ Verdict.Clean)
+        × (judgement.now.pairs ≡ PairVerdict.Clean) }
+    ensures found { result ≡ Status.Found → IsFound judgement.now }
+{
     match (&judgement.verdict, judgement.pairs) {
         (Verdict::Leak(_), _) | (_, PairVerdict::Bad(_)) => Status::Found,
         (Verdict::Unknown(_), _) | (_, PairVerdict::Unknown) => Status::Undecided,
@@ -105,7 +112,9 @@ pub fn tell(
     judgement: &Judgement,
     subject: Subject,
     is_json: bool,
-) -> Result<Answer, AllocError> {
+) -> Result<Answer, AllocError>
+    ensures { IfOk result (Tells judgement.now) }
+{
     let mut answer = Answer::new(alloc);
     if is_json {
         answer.say(object(alloc, file, judgement, subject)?.as_str())?;

@@ -55,15 +55,19 @@ fn leak(alloc: Global, leak: &Leak, by: &str) -> Result<String, AllocError> {
     let base = leak.base;
     let own = leak.own;
     let bits = Bits(leak.ones.as_slice());
-    let are = if leak.ones.len() == 1 { "bit" } else { "bits" };
+    let (noun, are) = if leak.ones.len() == 1 {
+        ("bit", "is")
+    } else {
+        ("bits", "are")
+    };
     let lowest = if leak.is_lowest {
         ""
     } else {
         "; a lower wire may leak too"
     };
     format!(in alloc;
-        "leak: wire {wire} is one for {own} of the four mask settings where of the input bits {are} {bits} alone \
-        are one, and for {base} where the secret ones are zero ({by}){lowest}"
+        "leak: wire {wire} is one for {own} of the four mask settings where input {noun} {bits} alone {are} one, \
+        and for {base} where no secret bit is one ({by}){lowest}"
     )
 }
 

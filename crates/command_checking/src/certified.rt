@@ -1,5 +1,8 @@
 //! The certifier.
 
+ghost use Rattle.std.specs.Prelude.{IfOk};
+ghost use Rattle.command_checking.specs.Says.{Says};
+
 use crate::verdict::{Leak, Verdict};
 use netlist::{Refusal, Sizes};
 use std::alloc::{AllocError, Global};
@@ -47,7 +50,9 @@ fn certify_within(
     text: &[u8],
     codes: &[u8],
     sizes: Sizes,
-) -> Result<Certified, AllocError> {
+) -> Result<Certified, AllocError>
+    ensures { IfOk result (λ answer. IfOk answer (Says text.now codes.now)) }
+{
     let mut tables = Tables::new(alloc, sizes.masked_limits().table)?;
     let mut told = [0u64; 4];
     let mut ones = vec![in alloc; 0u64; codes.len()]?;
@@ -80,7 +85,9 @@ fn certify_within(
 }
 
 /// What the certifier says of a netlist under input codes. Refused as Certify is (docs/RULES.md, Questions; Certify).
-pub fn certify(alloc: Global, text: &[u8], codes: &[u8]) -> Result<Certified, AllocError> {
+pub fn certify(alloc: Global, text: &[u8], codes: &[u8]) -> Result<Certified, AllocError>
+    ensures { IfOk result (λ answer. IfOk answer (Says text.now codes.now)) }
+{
     match certify_within(alloc, text, codes, Sizes::Standard)? {
         Err(Refusal::Length | Refusal::Limits) => certify_within(alloc, text, codes, Sizes::Whole),
         answer => Ok(answer),

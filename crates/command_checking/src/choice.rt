@@ -1,6 +1,11 @@
 //! Which check answers: exact for at most twelve input bits; else the certifier, and where it does not call the
 //! netlist clean the check of many inputs, if it may try as many settings as it needs.
 
+ghost use Rattle.std.specs.Prelude.{ℕ, List, IfOk};
+ghost use Rattle.netlist.specs.Netlist.{Netlist};
+ghost use Rattle.check_wide.specs.Promise.{WiresJudged};
+ghost use Rattle.command_checking.specs.Says.{Follows, Says};
+
 use crate::certified::certify;
 use crate::exact::{check, check_pairs};
 use crate::verdict::{By, Judgement, Leak, PairVerdict, Verdict};
@@ -43,7 +48,9 @@ impl Job<'_> {
 }
 
 /// The exact check.
-pub fn exact(alloc: Global, job: Job) -> Result<Judged, AllocError> {
+pub fn exact(alloc: Global, job: Job) -> Result<Judged, AllocError>
+    ensures { IfOk result (λ judged. IfOk judged (λ j. Says job.entry.text.now job.entry.codes.now j.verdict)) }
+{
     if job.pairs.is_empty() {
         return match check(alloc, job.text, job.codes)? {
             Ok(found) => Ok(Ok(Judgement {
@@ -74,7 +81,10 @@ fn members(alloc: Global, members: Members) -> Result<Vec<u32>, AllocError> {
     Ok(list)
 }
 
-fn verdict_of_wide(alloc: Global, found: Option<WideLeak>) -> Result<Verdict, AllocError> {
+fn verdict_of_wide(alloc: Global, found: Option<WideLeak>) -> Result<Verdict, AllocError>
+    ensures { (N : Netlist) (codes : List ℕ) → WiresJudged N codes found
+        → IfOk result (λ verdict. Follows codes verdict N) }
+{
     match found {
         None => Ok(Verdict::Clean),
         Some(leak) => Ok(Verdict::Leak(Leak {
@@ -88,7 +98,9 @@ fn verdict_of_wide(alloc: Global, found: Option<WideLeak>) -> Result<Verdict, Al
 }
 
 /// The check of many inputs.
-pub fn wide(alloc: Global, job: Job) -> Result<Judged, AllocError> {
+pub fn wide(alloc: Global, job: Job) -> Result<Judged, AllocError>
+    ensures { IfOk result (λ judged. IfOk judged (λ j. Says job.entry.text.now job.entry.codes.now j.verdict)) }
+{
     match check_wide(alloc, job.text, job.codes, job.pairs)? {
         Ok(found) => Ok(Ok(Judgement {
             verdict: verdict_of_wide(alloc, found.leak)?,
@@ -100,7 +112,9 @@ pub fn wide(alloc: Global, job: Job) -> Result<Judged, AllocError> {
 }
 
 /// The certifier, which says nothing of pairs.
-pub fn certified(alloc: Global, job: Job) -> Result<Judged, AllocError> {
+pub fn certified(alloc: Global, job: Job) -> Result<Judged, AllocError>
+    ensures { IfOk result (λ judged. IfOk judged (λ j. Says job.entry.text.now job.entry.codes.now j.verdict)) }
+{
     let pairs = if job.pairs.is_empty() {
         PairVerdict::Clean
     } else {
@@ -118,7 +132,10 @@ pub fn certified(alloc: Global, job: Job) -> Result<Judged, AllocError> {
 
 /// What the check of many inputs adds to what the certifier found: its own answer, where it is within its budget and
 /// decides.
-fn decided(alloc: Global, job: Job, found: Judgement) -> Result<Judged, AllocError> {
+fn decided(alloc: Global, job: Job, found: Judgement) -> Result<Judged, AllocError>
+    requires { Says job.text.now job.codes.now found.verdict }
+    ensures { IfOk result (λ judged. IfOk judged (λ j. Says job.entry.text.now job.entry.codes.now j.verdict)) }
+{
     if !job.is_within_budget() {
         return Ok(Ok(found));
     }
@@ -128,7 +145,9 @@ fn decided(alloc: Global, job: Job, found: Judgement) -> Result<Judged, AllocErr
     }
 }
 
-fn many(alloc: Global, job: Job) -> Result<Judged, AllocError> {
+fn many(alloc: Global, job: Job) -> Result<Judged, AllocError>
+    ensures { IfOk result (λ judged. IfOk judged (λ j. Says job.entry.text.now job.entry.codes.now j.verdict)) }
+{
     match certified(alloc, job)? {
         Ok(found) if matches!(found.verdict, Verdict::Clean) && job.pairs.is_empty() => Ok(Ok(
             found,
@@ -139,7 +158,9 @@ fn many(alloc: Global, job: Job) -> Result<Judged, AllocError> {
 }
 
 /// The check that fits the netlist.
-pub fn chosen(alloc: Global, job: Job) -> Result<Judged, AllocError> {
+pub fn chosen(alloc: Global, job: Job) -> Result<Judged, AllocError>
+    ensures { IfOk result (λ judged. IfOk judged (λ j. Says job.entry.text.now job.entry.codes.now j.verdict)) }
+{
     if job.codes.len() <= MOST_BITS {
         exact(alloc, job)
     } else {

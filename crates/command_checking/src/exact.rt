@@ -1,5 +1,8 @@
 //! Check and Check with pairs: all settings of at most twelve input bits.
 
+ghost use Rattle.std.specs.Prelude.{IfOk};
+ghost use Rattle.command_checking.specs.Says.{CheckSays, PairsSay};
+
 use check_pairs::search::PairsFound;
 use checker::judge::Checked;
 use netlist::{Refusal, Sizes};
@@ -10,7 +13,9 @@ fn check_within(
     text: &[u8],
     codes: &[u8],
     sizes: Sizes,
-) -> Result<Checked, AllocError> {
+) -> Result<Checked, AllocError>
+    ensures { IfOk result (λ answer. IfOk answer (CheckSays text.now codes.now)) }
+{
     let table = sizes.masked_limits().table;
     let mut operands = vec![in alloc; 0u64; table]?;
     let mut results = vec![in alloc; 0u64; table]?;
@@ -31,7 +36,9 @@ fn check_within(
 }
 
 /// What Check says of a netlist under input codes. Refused as Check is (docs/RULES.md, Questions; Leaks).
-pub fn check(alloc: Global, text: &[u8], codes: &[u8]) -> Result<Checked, AllocError> {
+pub fn check(alloc: Global, text: &[u8], codes: &[u8]) -> Result<Checked, AllocError>
+    ensures { IfOk result (λ answer. IfOk answer (CheckSays text.now codes.now)) }
+{
     match check_within(alloc, text, codes, Sizes::Standard)? {
         Err(Refusal::Length | Refusal::Limits) => check_within(alloc, text, codes, Sizes::Whole),
         answer => Ok(answer),
@@ -47,7 +54,9 @@ fn check_pairs_within(
     codes: &[u8],
     pairs: &[u32],
     sizes: Sizes,
-) -> Result<CheckedPairs, AllocError> {
+) -> Result<CheckedPairs, AllocError>
+    ensures { IfOk result (λ answer. IfOk answer (PairsSay text.now codes.now pairs.now)) }
+{
     let table = sizes.masked_limits().table;
     let mut operands = vec![in alloc; 0u64; table]?;
     let mut results = vec![in alloc; 0u64; table]?;
@@ -77,7 +86,9 @@ pub fn check_pairs(
     text: &[u8],
     codes: &[u8],
     pairs: &[u32],
-) -> Result<CheckedPairs, AllocError> {
+) -> Result<CheckedPairs, AllocError>
+    ensures { IfOk result (λ answer. IfOk answer (PairsSay text.now codes.now pairs.now)) }
+{
     match check_pairs_within(alloc, text, codes, pairs, Sizes::Standard)? {
         Err(Refusal::Length | Refusal::Limits) => check_pairs_within(
             alloc,

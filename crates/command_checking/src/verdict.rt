@@ -1,5 +1,9 @@
 //! What a check found.
 
+ghost use Rattle.std.specs.Prelude.{ℕ, List, Ok, IfOk};
+ghost use Rattle.netlist.specs.Netlist.{Netlist};
+ghost use Rattle.checker.specs.Verdict.{Judged};
+
 use leak_search::difference::Leak as Difference;
 use std::alloc::{AllocError, Global};
 
@@ -74,8 +78,13 @@ fn ones_of(alloc: Global, setting: u64) -> Result<Vec<u32>, AllocError> {
 }
 
 impl Verdict {
+    ghost use Rattle.command_checking.specs.Says.{Follows};
+
     /// The verdict of the exact check.
-    pub fn of_exact(alloc: Global, found: Option<Difference>) -> Result<Verdict, AllocError> {
+    pub fn of_exact(alloc: Global, found: Option<Difference>) -> Result<Verdict, AllocError>
+        ensures { (N : Netlist) (codes : List ℕ) → Judged N codes (Ok found)
+            → IfOk result (λ verdict. Follows codes verdict N) }
+    {
         match found {
             None => Ok(Verdict::Clean),
             Some(leak) => Ok(Verdict::Leak(Leak {

@@ -1,5 +1,8 @@
 //! The check of netlists with many inputs.
 
+ghost use Rattle.std.specs.Prelude.{IfOk};
+ghost use Rattle.command_checking.specs.Says.{WideSays};
+
 use check_wide::judge::CheckedWide;
 use netlist::{Refusal, Sizes};
 use std::alloc::{AllocError, Global};
@@ -44,7 +47,9 @@ fn check_wide_within(
     codes: &[u8],
     pairs: &[u32],
     sizes: Sizes,
-) -> Result<CheckedWide, AllocError> {
+) -> Result<CheckedWide, AllocError>
+    ensures { IfOk result (λ answer. IfOk answer (WideSays text.now codes.now pairs.now)) }
+{
     let mut tables = Tables::new(alloc, sizes.masked_limits().table)?;
     let answer = check_wide::check_wide(
         text,
@@ -73,7 +78,9 @@ pub fn check_wide(
     text: &[u8],
     codes: &[u8],
     pairs: &[u32],
-) -> Result<CheckedWide, AllocError> {
+) -> Result<CheckedWide, AllocError>
+    ensures { IfOk result (λ answer. IfOk answer (WideSays text.now codes.now pairs.now)) }
+{
     match check_wide_within(alloc, text, codes, pairs, Sizes::Standard)? {
         Err(Refusal::Length | Refusal::Limits) => check_wide_within(
             alloc,

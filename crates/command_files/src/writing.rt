@@ -94,7 +94,7 @@ fn all_written<R: Files + AllocGlobal>(
     files: &[NewFile],
     done: &mut Vec<Waiting>,
 ) -> Result<(), Failure> {
-    for file in files {
+    for file in files.iter().rev() {
         match written(rt, file) {
             Ok(Some(file)) => done.push(file)?,
             Ok(None) => {}

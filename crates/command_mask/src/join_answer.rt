@@ -87,7 +87,7 @@ fn refused_join(
             second.name.as_str(),
             second.bytes.as_slice(),
             question,
-            command_refusals::words::said(question),
+            question.words(),
         );
     }
     let asked = command_netlists::conversions::rewrite(

@@ -1,5 +1,10 @@
 //! `fidrovelj mask`.
 
+ghost use Rattle.std.specs.Prelude.{◌≡◌, false, None, IfOk};
+ghost use Rattle.command_answer.specs.Delivered.{Stands};
+ghost use Rattle.command_masking.specs.Answers.{IsMasked};
+ghost use Rattle.command_mask.specs.Written.{WritesMasked};
+
 use crate::telling::{by_value, refused_source, text_of};
 use command_answer::answer::Answer;
 use command_answer::codes::{codes_file, codes_given};
@@ -62,7 +67,9 @@ fn lists_of(alloc: Global, task: &MaskTask, files: Files, shape: &Shape) -> Resu
     Ok(Lists { codes, wanted })
 }
 
-fn masked(alloc: Global, file: &str, text: &[u8], lists: Lists) -> Result<Made, Failure> {
+fn masked(alloc: Global, file: &str, text: &[u8], lists: Lists) -> Result<Made, Failure>
+    ensures { IfOk result (λ made. IsMasked text.now lists.codes.items lists.wanted.items made.text.items made.output_codes.items) }
+{
     let Lists { codes, wanted } = lists;
     match mask(alloc, text, codes.as_slice(), wanted.as_slice())? {
         Ok(masked) => Ok(Made {
@@ -136,9 +143,9 @@ fn object(
         source.outputs.as_slice(),
     )?;
     let text = if is_inline {
-        text_of(made.text.as_slice())
+        Some(text_of(made.text.as_slice()))
     } else {
-        ""
+        None
     };
     let changes = made.tally.map(|tally| tally.changes);
     let floor = made.tally.map(|tally| tally.floor);
@@ -165,7 +172,9 @@ fn made_of(
     file: &str,
     text: &[u8],
     lists: Lists,
-) -> Result<Made, Failure> {
+) -> Result<Made, Failure>
+    ensures { task.now.fewest ≡ None → IfOk result (λ made. IsMasked text.now lists.codes.items lists.wanted.items made.text.items made.output_codes.items) }
+{
     match task.fewest {
         Some(budget) => masked_fewest(alloc, file, text, &lists, budget),
         None => masked(alloc, file, text, lists),
@@ -181,7 +190,9 @@ fn delivered(
     source: &Shape,
     is_json: bool,
     is_quiet: bool,
-) -> Result<Answer, Failure> {
+) -> Result<Answer, Failure>
+    ensures { is_json ≡ false → IfOk result (λ a. Stands a made.text.items) }
+{
     let MaskTask {
         codes: _,
         wanted: _,
@@ -217,6 +228,38 @@ fn delivered(
     Ok(answer)
 }
 
+/// What Mask writes for a source under these lists, as an answer: the netlist in its file or printed, and the file of codes.
+fn told(
+    alloc: Global,
+    task: MaskTask,
+    source: Source,
+    lists: Lists,
+    is_json: bool,
+    is_quiet: bool,
+) -> Result<Answer, Failure>
+    ensures { task.fewest ≡ None → is_json ≡ false
+        → IfOk result (WritesMasked source.entry.text.now lists.codes.items lists.wanted.items) }
+{
+    let made = made_of(alloc, &task, source.file, source.text, lists)?;
+    delivered(
+        alloc,
+        task,
+        source.file,
+        made,
+        source.shape,
+        is_json,
+        is_quiet,
+    )
+}
+
+/// A source: its file's name, its text in Bristol Fashion, and its header.
+#[derive(Clone, Copy)]
+struct Source<'a> {
+    file: &'a str,
+    text: &'a [u8],
+    shape: &'a Shape,
+}
+
 /// The masked netlist in its file, or on standard output, and the file of codes.
 pub fn answer(
     alloc: Global,
@@ -232,8 +275,12 @@ pub fn answer(
         Some(text) => text.as_slice(),
         None => netlist.bytes.as_slice(),
     };
-    let source = shape_of(alloc, file, text)?;
-    let lists = lists_of(alloc, &task, files, &source)?;
-    let made = made_of(alloc, &task, file, text, lists)?;
-    delivered(alloc, task, file, made, &source, is_json, is_quiet)
+    let shape = shape_of(alloc, file, text)?;
+    let lists = lists_of(alloc, &task, files, &shape)?;
+    let source = Source {
+        file,
+        text,
+        shape: &shape,
+    };
+    told(alloc, task, source, lists, is_json, is_quiet)
 }

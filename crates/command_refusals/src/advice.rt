@@ -55,12 +55,26 @@ pub fn word_at(text: &[u8], at: usize) -> &[u8] {
     }
 }
 
+/// What to do about a byte that no netlist has.
+fn of_byte(text: &[u8], at: usize) -> &'static str {
+    match text.get(at) {
+        Some(b'\t') => "write spaces in place of tabs",
+        Some(b'\r') => "let lines end in LF or CR LF",
+        Some(b'a'..=b'z') => "the names of gates are capital letters",
+        _ =>
+            "only Bristol Fashion is read here; fidrovelj convert --help names the other notations",
+    }
+}
+
+/// Whether a place is in the text's first line.
+fn is_first_line(text: &[u8], at: usize) -> bool {
+    !text[..at.min(text.len())].contains(&b'\n')
+}
+
 /// What to do about a question that got a no at a place of a text, where there is something to say.
 pub fn advice(text: &[u8], question: Refusal, at: Option<usize>) -> Option<&'static str> {
     match (question, at) {
-        (Refusal::Bytes, _) => notation(text).or(Some(
-            "only Bristol Fashion is read here; fidrovelj convert --help names the other notations",
-        )),
+        (Refusal::Bytes, at) => notation(text).or(at.map(|at| of_byte(text, at))),
         (Refusal::Header, _) if is_older(text) => Some(
             "this looks like the older Bristol header: fidrovelj convert --from older",
         ),
@@ -72,7 +86,9 @@ pub fn advice(text: &[u8], question: Refusal, at: Option<usize>) -> Option<&'sta
         (Refusal::Settings, _) => Some("leave --exact and --wide out, and the certifier decides"),
         (Refusal::Depth, _) => Some("name a part by a wire and an assign of its own"),
         (Refusal::Latches, _) => Some("give the latches as inputs and outputs"),
-        (Refusal::Limits, _) => Some("mask the blocks one by one, and join them by fidrovelj join"),
+        (Refusal::Limits, Some(at)) if is_first_line(text, at) => {
+            Some("mask the blocks one by one, and join them by fidrovelj join")
+        }
         _ => None,
     }
 }

@@ -8,4 +8,4 @@ mod header;
 mod lines;
 pub mod place;
 pub mod refused_text;
-pub mod words;
+mod words;

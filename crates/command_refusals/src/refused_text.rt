@@ -2,7 +2,6 @@
 
 use crate::advice::{advice, word_at};
 use crate::place::{Fault, Found, find};
-use crate::words::said;
 use netlist::{Limits, Refusal};
 use std::alloc::{AllocError, Global};
 use std::fmt;
@@ -154,7 +153,7 @@ pub fn refused_text(
             Some(Place::of(alloc, text, found.at)?),
             words_of(alloc, text, found)?,
         ),
-        None => (None, String::from_str(alloc, said(question))?),
+        None => (None, String::from_str(alloc, question.words())?),
     };
     Ok(RefusedText {
         file: String::from_str(alloc, file)?,

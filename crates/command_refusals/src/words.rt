@@ -1,7 +1,6 @@
-//! What a refusal says.
+//! What is wrong at a place, in words.
 
 use crate::place::{Fault, Line, Shape};
-use netlist::Refusal;
 use std::fmt;
 
 impl fmt::Display for Line {
@@ -81,6 +80,13 @@ fn gate_words<W: fmt::Write>(fault: Fault, f: &mut fmt::Formatter<W>) -> fmt::Re
 impl fmt::Display for Fault {
     fn fmt<W: fmt::Write>(&self, f: &mut fmt::Formatter<W>) -> fmt::Result {
         match self {
+            Fault::Byte(byte) if matches!(*byte, b'!'..=b'~') => {
+                let letter = char::from(*byte);
+                write!(
+                    f,
+                    "no netlist has the byte {letter:?}: digits, capital letters, spaces and line ends alone"
+                )
+            }
             Fault::Byte(byte) => write!(
                 f,
                 "no netlist has the byte {byte}: digits, capital letters, spaces and line ends alone"
@@ -96,48 +102,5 @@ impl fmt::Display for Fault {
             | Fault::NoWire { .. } => gate_words(*self, f),
             _ => header_words(*self, f),
         }
-    }
-}
-
-/// What a question that gets a no says, where no place of the text shows it.
-pub fn said(question: Refusal) -> &'static str {
-    match question {
-        Refusal::Tables => "a working table is too short",
-        Refusal::Length =>
-            "the text is longer than the 27,000,000 bytes of the largest netlist (of a source: 3,000,000)",
-        Refusal::Bytes => "a byte stands here that no netlist has",
-        Refusal::Header => "the first three lines are no header",
-        Refusal::Limits => "the netlist is larger than any that is admitted",
-        Refusal::Count =>
-            "the gate count is not the wires less the input bits, or not the number of gate lines",
-        Refusal::Line => "a line is no gate",
-        Refusal::Operands => "an operand is no input and no result of an earlier line",
-        Refusal::Wire => "a result wire is an input, is given already or is past the last wire",
-        Refusal::Masks => "the last input value is not the two mask bits",
-        Refusal::Inputs => "the input list has not an entry in range for each input bit",
-        Refusal::Settings => "more than 12 input bits reach a wire",
-        Refusal::Wanted => "the wanted codes are not one of 0 to 3 for each output bit",
-        Refusal::Room => "the result is longer than the largest netlist",
-        _ => said_of_others(question),
-    }
-}
-
-fn said_of_others(question: Refusal) -> &'static str {
-    match question {
-        Refusal::OldForm =>
-            "the older dialect has XOR, AND and INV alone, one or two input values and one output value",
-        Refusal::Grammar => "these are no equations of the subset that is read",
-        Refusal::Names =>
-            "a name is not declared and assigned once, or is read before it is assigned",
-        Refusal::Depth => "parentheses are deeper than 32",
-        Refusal::Aiger => "this is no ASCII AIGER file of the form that is read",
-        Refusal::Latches => "the AIGER file has latches",
-        Refusal::Pairs => "a pair names a wire that the netlist does not have",
-        Refusal::Budget => "the budget is 0",
-        Refusal::Gate => "there is no gate to take off",
-        Refusal::Place => "there is no place for one gate more",
-        Refusal::Seam =>
-            "the blocks do not fit: the first's output codes must be the second's input codes, all of them 1 to 3",
-        _ => "refused",
     }
 }

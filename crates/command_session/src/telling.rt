@@ -1,6 +1,7 @@
 //! What a session says of its steps.
 
 use gates::records::{GateRecord, SourceRecord};
+use netlist::Refusal;
 use std::alloc::AllocError;
 
 /// A masked gate as a gate line.
@@ -31,19 +32,19 @@ pub fn write_twin(text: &mut String, gate: SourceRecord) -> Result<(), AllocErro
     )
 }
 
-/// What a question that refuses a step says.
+/// What a question that refuses a step says, by its number.
 pub fn said(number: u8) -> &'static str {
-    match number {
-        4 => "a width is 0, or there is none",
-        5 => "more values or bits than a source may have",
-        6 | 7 => "this is no gate",
-        8 => "an operand is no input and no result of an earlier gate, or the constant is no bit",
-        9 => "the result is not the next wire",
-        11 => "the codes are not one of 0 to 3 for each input bit",
-        13 => "the wanted codes are not one of 0 to 3 for each output bit",
-        14 => "the masked gates have no room",
-        23 => "there is no gate to take off",
-        24 => "there is no place for one gate more",
-        _ => "refused",
-    }
+    let question = match number {
+        4 => Refusal::Header,
+        5 => Refusal::Limits,
+        7 => Refusal::Line,
+        8 => Refusal::Operands,
+        9 => Refusal::Wire,
+        11 => Refusal::Inputs,
+        13 => Refusal::Wanted,
+        14 => Refusal::Room,
+        23 => Refusal::Gate,
+        _ => Refusal::Place,
+    };
+    question.words()
 }

@@ -77,11 +77,10 @@ fn from(matches: &ArgMatches) -> Option<Format> {
 
 /// The name without its suffix, and with `.codes` in its place.
 pub fn beside(alloc: Global, name: &str) -> Result<String, AllocError> {
-    let (stem, is_cut) = match name.rsplit_once('.') {
-        Some((stem, suffix)) if !suffix.contains('/') => (stem, true),
-        _ => (name, false),
+    let kept = match name.rsplit_once('.') {
+        Some((stem, suffix)) if !suffix.contains('/') => stem,
+        _ => name,
     };
-    let kept = if is_cut { stem } else { name };
     format!(in alloc; "{kept}.codes")
 }
 
