@@ -33,7 +33,9 @@ pub fn answer_of(alloc: Global, plan: Plan, files: Files) -> Result<Answer, Fail
         Task::Mask(task) => command_mask::mask_answer::answer(
             alloc, task, files, netlist, is_json, is_quiet,
         ),
-        Task::Check(task) => command_check::answer(alloc, task, files, netlist, is_json, is_quiet),
+        Task::Check(task) => command_check::asking::answer(
+            alloc, task, files, netlist, is_json, is_quiet,
+        ),
         Task::Run(task) => command_tell::run_answer::answer(alloc, task, files, netlist),
         Task::Convert(task) => command_tell::convert_answer::answer(alloc, task, netlist),
         Task::Join(task) => {

@@ -1,8 +1,6 @@
 //! The answer of `fidrovelj check`.
 #![tactic(auto)]
 
-mod asking;
+pub mod asking;
 mod telling;
 mod words;
-
-pub use asking::answer;

@@ -18,7 +18,7 @@ use command_masking::masked::mask;
 use command_netlists::shape::Shape;
 use command_words::VERSION;
 use command_words::plan::{List, MaskTask, Role};
-use serde_json::json;
+use serde_json::{Value, json};
 use std::alloc::{AllocError, Global};
 
 /// The changes and the floor of Mask with fewer changes.
@@ -39,9 +39,11 @@ struct Made {
 
 /// The lists of a call.
 #[derive(Drop)]
-struct Lists {
-    codes: Vec<u8>,
-    wanted: Vec<u8>,
+pub struct Lists {
+    /// a code for each input bit
+    pub codes: Vec<u8>,
+    /// a wanted code for each output bit
+    pub wanted: Vec<u8>,
 }
 
 fn lists_of(alloc: Global, task: &MaskTask, files: Files, shape: &Shape) -> Result<Lists, Failure> {
@@ -127,6 +129,15 @@ fn summary(alloc: Global, name: &str, made: &Made, shape: &Shape) -> Result<Stri
     }
 }
 
+/// The netlist as a string, where it goes to no file.
+fn inline(alloc: Global, made: &Made, is_inline: bool) -> Result<Value, AllocError> {
+    if is_inline {
+        json!(in alloc; text_of(made.text.as_slice()))
+    } else {
+        Ok(Value::Null)
+    }
+}
+
 /// The answer as JSON.
 fn object(
     alloc: Global,
@@ -142,11 +153,7 @@ fn object(
         made.output_codes.as_slice(),
         source.outputs.as_slice(),
     )?;
-    let text = if is_inline {
-        Some(text_of(made.text.as_slice()))
-    } else {
-        None
-    };
+    let text = inline(alloc, made, is_inline)?;
     let changes = made.tally.map(|tally| tally.changes);
     let floor = made.tally.map(|tally| tally.floor);
     let wires = shape.wires as u64;
@@ -229,7 +236,7 @@ fn delivered(
 }
 
 /// What Mask writes for a source under these lists, as an answer: the netlist in its file or printed, and the file of codes.
-fn told(
+pub fn told(
     alloc: Global,
     task: MaskTask,
     source: Source,
@@ -254,10 +261,13 @@ fn told(
 
 /// A source: its file's name, its text in Bristol Fashion, and its header.
 #[derive(Clone, Copy)]
-struct Source<'a> {
-    file: &'a str,
-    text: &'a [u8],
-    shape: &'a Shape,
+pub struct Source<'a> {
+    /// the file's name
+    pub file: &'a str,
+    /// the text
+    pub text: &'a [u8],
+    /// its header
+    pub shape: &'a Shape,
 }
 
 /// The masked netlist in its file, or on standard output, and the file of codes.

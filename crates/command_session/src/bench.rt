@@ -42,6 +42,23 @@ fn unknown(alloc: Global, line: &str) -> Result<Told, AllocError> {
     )?))
 }
 
+/// The masked gates from one place up to another, as gate lines.
+fn gates_between(
+    alloc: Global,
+    masked: &[GateRecord],
+    from: u32,
+    to: u32,
+) -> Result<String, AllocError> {
+    let mut text = String::new(alloc);
+    for (place, gate) in masked.iter().enumerate().skip(from as usize) {
+        if (to as usize) <= place {
+            break;
+        }
+        write_gate(&mut text, *gate)?;
+    }
+    Ok(text)
+}
+
 fn bits_of(widths: &[u32]) -> u32 {
     let mut bits = 0u32;
     for width in widths {
@@ -78,23 +95,9 @@ impl Bench {
         }))
     }
 
-    /// The masked gates from one place up to another.
-    fn gates(&self, alloc: Global, from: u32, to: u32) -> Result<String, AllocError> {
-        let mut text = String::new(alloc);
-        for (place, gate) in self.masked.iter().enumerate() {
-            if (to as usize) <= place {
-                break;
-            }
-            if (from as usize) <= place {
-                write_gate(&mut text, *gate)?;
-            }
-        }
-        Ok(text)
-    }
-
     /// The masked gates of the opening: those of the masks and of the public bits.
     pub fn opening(&self, alloc: Global) -> Result<String, AllocError> {
-        self.gates(alloc, 0, self.session.masked)
+        gates_between(alloc, self.masked.as_slice(), 0, self.session.masked)
     }
 
     fn add(
@@ -104,31 +107,37 @@ impl Bench {
         first: u32,
         second: u32,
     ) -> Result<Told, AllocError> {
-        let before = self.session;
-        let result = bits_of(self.widths.as_slice()).saturating_add(before.gates);
+        let Bench {
+            widths,
+            codes,
+            session,
+            source,
+            masked,
+        } = self;
+        let before = *session;
         let gate = GateRecord {
             kind,
             first,
             second,
-            result,
+            result: bits_of(widths.as_slice()).saturating_add(before.gates),
         };
         let step = add(
             before,
             gate,
-            self.codes.as_slice(),
-            self.source.as_mut_slice(),
-            self.masked.as_mut_slice(),
+            codes.as_slice(),
+            source.as_mut_slice(),
+            masked.as_mut_slice(),
             Sizes::Whole,
         );
         if step.refused != 0 {
             return refused(alloc, step.refused);
         }
-        self.session = step.session;
+        *session = step.session;
         let mut told = String::new(alloc);
-        if let Some(record) = self.source.get(before.gates as usize) {
+        if let Some(record) = source.get(before.gates as usize) {
             write_twin(&mut told, *record)?;
         }
-        let gates = self.gates(alloc, before.masked, step.session.masked)?;
+        let gates = gates_between(alloc, masked.as_slice(), before.masked, step.session.masked)?;
         told.push_str(gates.as_str())?;
         Ok(Ok(told))
     }

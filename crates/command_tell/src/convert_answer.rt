@@ -10,18 +10,19 @@ use std::alloc::Global;
 
 /// The netlist in the notation that is asked for.
 pub fn answer(alloc: Global, task: ConvertTask, netlist: &Text) -> Result<Answer, Failure> {
-    let other = fashion_of(alloc, netlist, task.from)?;
+    let ConvertTask { from, to, out } = task;
+    let other = fashion_of(alloc, netlist, from)?;
     let text = match &other {
         Some(text) => text.as_slice(),
         None => netlist.bytes.as_slice(),
     };
-    let which = match task.to {
+    let which = match to {
         Format::Older => Rewriting::ToOlder,
         _ => Rewriting::Written,
     };
     let mut answer = Answer::new(alloc);
     match rewrite(alloc, which, text)? {
-        Ok(written) => answer.deliver(task.out, written)?,
+        Ok(written) => answer.deliver(out, written)?,
         Err(question) => return Err(refused(
             alloc,
             netlist.name.as_str(),
