@@ -229,9 +229,10 @@ fn delivered(
         )?;
         answer.deliver(Some(name), codes)?;
     }
-    if out.is_some() || !is_json {
-        answer.deliver(out, made.text)?;
+    if is_json && out.is_none() {
+        return Ok(answer);
     }
+    answer.deliver(out, made.text)?;
     Ok(answer)
 }
 

@@ -25,7 +25,7 @@ fn wire(word: Option<&str>) -> Option<u32> {
 }
 
 /// A gate of two operands.
-fn two(kind: u32, first: Option<&str>, second: Option<&str>) -> Step<'static> {
+fn two<'a>(kind: u32, first: Option<&'a str>, second: Option<&'a str>) -> Step<'a> {
     match (wire(first), wire(second)) {
         (Some(first), Some(second)) => Step::Gate {
             kind,
@@ -37,7 +37,7 @@ fn two(kind: u32, first: Option<&str>, second: Option<&str>) -> Step<'static> {
 }
 
 /// A gate of one operand, where no other word follows.
-fn one(kind: u32, first: Option<&str>, second: Option<&str>) -> Step<'static> {
+fn one<'a>(kind: u32, first: Option<&'a str>, second: Option<&'a str>) -> Step<'a> {
     match (wire(first), second) {
         (Some(first), None) => Step::Gate {
             kind,
@@ -48,31 +48,53 @@ fn one(kind: u32, first: Option<&str>, second: Option<&str>) -> Step<'static> {
     }
 }
 
+/// A netlist that is asked for, with one word for the widths of its output values.
+fn shown<'a>(first: Option<&'a str>, second: Option<&'a str>, is_masked: bool) -> Step<'a> {
+    match (first, second) {
+        (Some(widths), None) if is_masked => Step::Masked(widths),
+        (Some(widths), None) => Step::Text(widths),
+        _ => Step::Unknown,
+    }
+}
+
+/// The step of a name and at most two words.
+fn named<'a>(name: &str, first: Option<&'a str>, second: Option<&'a str>) -> Step<'a> {
+    match name {
+        "XOR" => two(1, first, second),
+        "AND" => two(2, first, second),
+        "INV" => one(3, first, second),
+        "EQW" => one(4, first, second),
+        "EQ" => one(5, first, second),
+        "undo" if first.is_none() => Step::Undo,
+        "text" => shown(first, second, false),
+        "masked" => shown(first, second, true),
+        _ => Step::Unknown,
+    }
+}
+
+/// The step of the first four words of a line.
+fn of_words<'a>(
+    name: Option<&'a str>,
+    first: Option<&'a str>,
+    second: Option<&'a str>,
+    third: Option<&'a str>,
+) -> Step<'a> {
+    match name {
+        None => Step::Nothing,
+        Some(name) if name.starts_with('#') => Step::Nothing,
+        Some(name) if third.is_none() => named(name, first, second),
+        Some(_) => Step::Unknown,
+    }
+}
+
 /// The step of a line.
 pub fn step_of(line: &str) -> Step<'_> {
     let mut words = line.split_whitespace();
-    let Some(name) = words.next() else {
-        return Step::Nothing;
-    };
-    if name.starts_with('#') {
-        return Step::Nothing;
-    }
+    let name = words.next();
     let first = words.next();
     let second = words.next();
-    if words.next().is_some() {
-        return Step::Unknown;
-    }
-    match (name, first) {
-        ("XOR", _) => two(1, first, second),
-        ("AND", _) => two(2, first, second),
-        ("INV", _) => one(3, first, second),
-        ("EQW", _) => one(4, first, second),
-        ("EQ", _) => one(5, first, second),
-        ("undo", None) => Step::Undo,
-        ("text", Some(widths)) if second.is_none() => Step::Text(widths),
-        ("masked", Some(widths)) if second.is_none() => Step::Masked(widths),
-        _ => Step::Unknown,
-    }
+    let third = words.next();
+    of_words(name, first, second, third)
 }
 
 /// Widths parted by commas, or none where a word is no number.
