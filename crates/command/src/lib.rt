@@ -5,7 +5,10 @@
 use command_answer::answer::Answer;
 use command_answer::failure::Failure;
 use command_answer::files::{Files, Text};
-use command_words::plan::{Plan, Role, Task};
+use command_words::plan::{
+    CheckTask, ConvertTask, InfoTask, JoinTask, MaskTask, Plan, Role, RunTask, SessionTask, Task,
+    TwinsTask,
+};
 use std::alloc::Global;
 
 /// The file with a role that a plan always wants.
@@ -16,36 +19,85 @@ fn wanted<'a>(alloc: Global, files: Files<'a>, role: Role) -> Result<&'a Text, F
     }
 }
 
-/// What a plan comes to, where the files that it wants have these bytes. A session has no answer of its own: its
-/// steps have.
+/// The netlist of a plan.
+fn netlist<'a>(alloc: Global, files: Files<'a>) -> Result<&'a Text, Failure> {
+    wanted(alloc, files, Role::Netlist)
+}
+
+/// Whether the result is told as JSON, and whether remarks are left out.
+#[derive(Clone, Copy)]
+struct Manner {
+    is_json: bool,
+    is_quiet: bool,
+}
+
+fn mask(alloc: Global, task: MaskTask, files: Files, manner: Manner) -> Result<Answer, Failure> {
+    let netlist = netlist(alloc, files)?;
+    command_mask::mask_answer::answer(alloc, task, files, netlist, manner.is_json, manner.is_quiet)
+}
+
+fn check(alloc: Global, task: CheckTask, files: Files, manner: Manner) -> Result<Answer, Failure> {
+    let netlist = netlist(alloc, files)?;
+    command_check::asking::answer(alloc, task, files, netlist, manner.is_json, manner.is_quiet)
+}
+
+fn run(alloc: Global, task: RunTask, files: Files) -> Result<Answer, Failure> {
+    let netlist = netlist(alloc, files)?;
+    command_tell::run_answer::answer(alloc, task, files, netlist)
+}
+
+fn convert(alloc: Global, task: ConvertTask, files: Files) -> Result<Answer, Failure> {
+    let netlist = netlist(alloc, files)?;
+    command_tell::convert_answer::answer(alloc, task, netlist)
+}
+
+fn join(alloc: Global, task: JoinTask, files: Files, manner: Manner) -> Result<Answer, Failure> {
+    let first = netlist(alloc, files)?;
+    let second = wanted(alloc, files, Role::Second)?;
+    command_mask::join_answer::answer(alloc, task, files, first, second, manner.is_quiet)
+}
+
+fn info(alloc: Global, task: InfoTask, files: Files, manner: Manner) -> Result<Answer, Failure> {
+    let netlist = netlist(alloc, files)?;
+    command_tell::info_answer::answer(alloc, task, netlist, manner.is_json)
+}
+
+fn twins(alloc: Global, task: TwinsTask, files: Files, manner: Manner) -> Result<Answer, Failure> {
+    let netlist = netlist(alloc, files)?;
+    command_mask::twins_answer::answer(alloc, task, files, netlist, manner.is_json)
+}
+
+/// A session has no answer of its own: its steps have.
+fn session(alloc: Global, _task: SessionTask) -> Result<Answer, Failure> {
+    Ok(Answer::new(alloc))
+}
+
+/// What a task comes to, where the files that it wants have these bytes.
+fn answer_of_task(
+    alloc: Global,
+    task: Task,
+    files: Files,
+    manner: Manner,
+) -> Result<Answer, Failure> {
+    match task {
+        Task::Mask(task) => mask(alloc, task, files, manner),
+        Task::Check(task) => check(alloc, task, files, manner),
+        Task::Run(task) => run(alloc, task, files),
+        Task::Convert(task) => convert(alloc, task, files),
+        Task::Join(task) => join(alloc, task, files, manner),
+        Task::Info(task) => info(alloc, task, files, manner),
+        Task::Twins(task) => twins(alloc, task, files, manner),
+        Task::Session(task) => session(alloc, task),
+    }
+}
+
+/// What a plan comes to, where the files that it wants have these bytes.
 pub fn answer_of(alloc: Global, plan: Plan, files: Files) -> Result<Answer, Failure> {
     let Plan {
         task,
-        sources: _,
+        sources: _sources,
         is_json,
         is_quiet,
     } = plan;
-    if let Task::Session(_) = &task {
-        return Ok(Answer::new(alloc));
-    }
-    let netlist = wanted(alloc, files, Role::Netlist)?;
-    match task {
-        Task::Mask(task) => command_mask::mask_answer::answer(
-            alloc, task, files, netlist, is_json, is_quiet,
-        ),
-        Task::Check(task) => command_check::asking::answer(
-            alloc, task, files, netlist, is_json, is_quiet,
-        ),
-        Task::Run(task) => command_tell::run_answer::answer(alloc, task, files, netlist),
-        Task::Convert(task) => command_tell::convert_answer::answer(alloc, task, netlist),
-        Task::Join(task) => {
-            let second = wanted(alloc, files, Role::Second)?;
-            command_mask::join_answer::answer(alloc, task, files, netlist, second, is_quiet)
-        }
-        Task::Info(task) => command_tell::info_answer::answer(alloc, task, netlist, is_json),
-        Task::Twins(task) => command_mask::twins_answer::answer(
-            alloc, task, files, netlist, is_json,
-        ),
-        Task::Session(_) => Ok(Answer::new(alloc)),
-    }
+    answer_of_task(alloc, task, files, Manner { is_json, is_quiet })
 }

@@ -12,9 +12,9 @@ use command_answer::files::{Files as Texts, Text};
 use command_words::plan::{Plan, Source, Task};
 use command_words::reading::destinations;
 use command_words::{Stop, plan_of};
+use std::io;
 use std::io::{ErrorKind, Write};
 use std::rt::Files;
-use std::{io, mem};
 
 /// Whether a result would overwrite a file that is read.
 fn overwrites<R: Files + AllocGlobal>(rt: &R, sources: &[Source], out: Option<&str>) -> bool {
@@ -86,21 +86,32 @@ fn put_stop<O: Write, E: Write>(stop: &Stop, out: &mut O, err: &mut E) -> u8
 
 fn carried_out<R: Files + Input + AllocGlobal, O: Write, E: Write>(
     rt: &R,
-    mut plan: Plan,
+    plan: Plan,
     out: &mut O,
     err: &mut E,
 ) -> Result<u8, Failure>
     ensures { IfOk result (λ status. status ≤ 3) }
 {
     ask_files(rt, &plan)?;
-    let sources = mem::replace(&mut plan.sources, Vec::new(rt.alloc()));
+    let Plan {
+        task,
+        sources,
+        is_json,
+        is_quiet,
+    } = plan;
     let texts = texts_of(rt, sources)?;
-    if let Task::Session(task) = &plan.task {
+    if let Task::Session(session) = &task {
         let files = Texts {
             texts: texts.as_slice(),
         };
-        return Ok(hold(rt, task, files, out, err)?.code());
+        return Ok(hold(rt, session, files, out, err)?.code());
     }
+    let plan = Plan {
+        task,
+        sources: Vec::new(rt.alloc()),
+        is_json,
+        is_quiet,
+    };
     let answer = answered(rt, plan, texts.as_slice())?;
     Ok(put_answer(&answer, out, err))
 }
