@@ -2,9 +2,9 @@
 //! streams.
 #![tactic(auto)]
 
+mod carrying;
 mod holding;
-mod perform;
 mod reading;
 mod writing;
 
-pub use perform::perform;
+pub use carrying::perform;
