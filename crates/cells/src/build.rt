@@ -1,0 +1,141 @@
+//! The gates of a list of cells in any order.
+
+use std::alloc::{AllocError, AllocFailed, Global};
+
+use netlist::Gate;
+use thiserror::Error;
+
+use crate::emit::{EmitError, Emitter};
+use crate::order::order;
+use crate::table::MOST_INPUTS;
+
+/// A cell: the net that it gives, the nets that it reads, and its truth table over these.
+#[derive(Debug, Drop)]
+pub struct Cell {
+    pub output: u32,
+    pub inputs: Vec<u32>,
+    pub table: u64,
+}
+
+/// Why cells have no gates. Nets and cells are told by number.
+#[derive(Clone, Copy, Debug, PartialEq, Eq, Error)]
+pub enum BuildError {
+    #[error("out of memory")]
+    Memory,
+    #[error("there are more than 4294967295 wires")]
+    Wires,
+    #[error("cell {cell} has more than six inputs")]
+    Inputs { cell: usize },
+    #[error("cell {cell} depends on more than its inputs")]
+    Table { cell: usize },
+    #[error("cell {cell} reads, by way of others, what it gives")]
+    Cycle { cell: usize },
+    #[error("cell {cell} reads net {net}, which nothing gives")]
+    Unset { cell: usize, net: u32 },
+    #[error("net {net} is given twice")]
+    Twice { net: u32 },
+}
+
+impl From<AllocError> for BuildError {
+    fn from(_error: AllocError) -> Self {
+        BuildError::Memory
+    }
+}
+
+impl<T: Drop> From<AllocFailed<T>> for BuildError {
+    fn from(_error: AllocFailed<T>) -> Self {
+        BuildError::Memory
+    }
+}
+
+/// The gates of cells, how many wires there are, and the wire of each net, or `NO_WIRE`.
+#[derive(Drop)]
+pub struct Built {
+    pub gates: Vec<Gate>,
+    pub wires: u32,
+    pub wire_of: Vec<u32>,
+}
+
+/// What stands in place of a wire for a net that nothing gives.
+pub const NO_WIRE: u32 = 0xffff_ffff;
+
+/// The gates of some of the cells.
+#[derive(Drop)]
+struct Builder {
+    emitter: Emitter,
+    wire_of: Vec<u32>,
+    inputs: Vec<u32>,
+}
+
+impl Builder {
+    /// Gives a net its wire.
+    fn give(&mut self, net: u32, wire: u32) -> Result<(), BuildError> {
+        let Some(place) = self.wire_of.get_mut(net as usize) else {
+            return Err(BuildError::Twice { net });
+        };
+        if *place != NO_WIRE {
+            return Err(BuildError::Twice { net });
+        }
+        *place = wire;
+        Ok(())
+    }
+
+    /// The wires of the nets that a cell reads, in `inputs`.
+    fn read_inputs(&mut self, number: usize, cell: &Cell) -> Result<(), BuildError> {
+        self.inputs.clear();
+        for net in &cell.inputs {
+            let wire = self.wire_of.get(*net as usize).copied().unwrap_or(NO_WIRE);
+            if wire == NO_WIRE {
+                return Err(BuildError::Unset {
+                    cell: number,
+                    net: *net,
+                });
+            }
+            self.inputs.push(wire)?;
+        }
+        Ok(())
+    }
+
+    /// The gates of a cell whose inputs are given.
+    fn cell(&mut self, number: usize, cell: &Cell) -> Result<(), BuildError> {
+        self.read_inputs(number, cell)?;
+        if self.inputs.len() > MOST_INPUTS {
+            return Err(BuildError::Inputs { cell: number });
+        }
+        let wire = match self.emitter.cell(&self.inputs, cell.table) {
+            Ok(wire) => wire,
+            Err(EmitError::Memory) => return Err(BuildError::Memory),
+            Err(EmitError::Wires) => return Err(BuildError::Wires),
+            Err(EmitError::Table) => return Err(BuildError::Table { cell: number }),
+        };
+        self.give(cell.output, wire)
+    }
+}
+
+/// The gates of the cells, over `nets` nets of which `given` are the input bits, in the order of their wires.
+pub fn build(alloc: Global, nets: usize, given: &[u32], cells: &[Cell]) -> Result<Built, BuildError> {
+    let bits = u32::try_from(given.len()).map_err(|_| BuildError::Wires)?;
+    let mut builder = Builder {
+        emitter: Emitter::new(alloc, bits),
+        wire_of: vec![in alloc; NO_WIRE; nets]?,
+        inputs: Vec::new(alloc),
+    };
+    for (wire, net) in (0u32..).zip(given.iter()) {
+        builder.give(*net, wire)?;
+    }
+    let order = order(alloc, nets, cells)?;
+    for number in &order {
+        if let Some(cell) = cells.get(*number) {
+            builder.cell(*number, cell)?;
+        }
+    }
+    let Builder {
+        emitter, wire_of, ..
+    } = builder;
+    let Emitter { gates, wires, .. } = emitter;
+    Ok(Built {
+        gates,
+        wires,
+        wire_of,
+    })
+}

@@ -1,0 +1,8 @@
+//! Cells of up to six inputs, as synthesis tools write them, and the gates that compute them.
+#![tactic(auto)]
+
+pub mod build;
+pub mod cover;
+mod emit;
+mod order;
+pub mod table;

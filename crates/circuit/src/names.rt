@@ -1,0 +1,1 @@
+//! The file of names beside a netlist.
