@@ -2,5 +2,8 @@
 #![tactic(auto)]
 
 pub mod error;
+mod instances;
+mod models;
 mod parse;
+mod ports;
 mod statements;

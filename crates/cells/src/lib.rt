@@ -4,5 +4,5 @@
 pub mod build;
 pub mod cover;
 mod emit;
-mod order;
+pub mod order;
 pub mod table;
