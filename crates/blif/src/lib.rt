@@ -1,9 +1,11 @@
 //! BLIF, as yosys and abc write it, read to circuits and written from them.
 #![tactic(auto)]
 
+mod assemble;
 pub mod error;
 mod instances;
 mod models;
 mod parse;
 mod ports;
+pub mod read;
 mod statements;
