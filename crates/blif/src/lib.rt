@@ -9,3 +9,4 @@ mod parse;
 mod ports;
 pub mod read;
 mod statements;
+pub mod write;
