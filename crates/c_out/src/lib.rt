@@ -1,0 +1,2 @@
+//! A circuit as bit-sliced C.
+#![tactic(auto)]
