@@ -3,9 +3,9 @@
 use std::alloc::{AllocError, Global};
 use std::collections::HashMap;
 
-use cells::build::{Built, build, NO_WIRE};
+use cells::build::{Built, NO_WIRE, build};
 use circuit::{Circuit, Label, Port};
-use netlist::{Gate, Sizes};
+use netlist::Sizes;
 
 use crate::assemble::{Cells, Refused, ask_defined, assemble};
 use crate::error::{BlifError, Fault, Refusal, Source, Spot, at};
@@ -53,25 +53,6 @@ fn masks_last<'a>(values: &mut Vec<Value<'a>>, masks: Option<&str>) -> Result<()
     }
 }
 
-/// Puts the outputs on the last wires: where they are not there already, each gets a wire of its own.
-fn put_outputs(built: &mut Built, outputs: &[u32]) -> Result<(), BlifError> {
-    let first = (built.wires as usize).saturating_sub(outputs.len());
-    let last = outputs.iter().enumerate().all(|(place, net)| {
-        let wire = built.wire_of.get(*net as usize).copied().unwrap_or(NO_WIRE);
-        first.checked_add(place) == Some(wire as usize)
-    });
-    if last {
-        return Ok(());
-    }
-    for net in outputs {
-        let wire = built.wire_of.get(*net as usize).copied().unwrap_or(NO_WIRE);
-        let next = built.wires.checked_add(1).ok_or(BlifError::Memory)?;
-        built.gates.push(Gate::Eqw(wire, built.wires))?;
-        built.wires = next;
-    }
-    Ok(())
-}
-
 /// The labels of nets, in the order of their wires.
 fn labels(alloc: Global, model: &Model<'_>, wire_of: &[u32]) -> Result<Vec<Label>, AllocError> {
     let mut labels = Vec::new(alloc);
@@ -114,12 +95,11 @@ fn circuit_of(
     let given = nets(alloc, inputs)?;
     let outputs = values(alloc, model, &model.outputs)?;
     let output_nets = nets(alloc, &outputs)?;
-    let mut built = match build(alloc, model.nets.len(), &given, &cells.cells) {
+    let made = build(alloc, model.nets.len(), &given, &cells.cells, &output_nets);
+    let Built { gates, wires, wire_of } = match made {
         Ok(built) => built,
         Err(error) => return Err(texts.at_netlist(refusal(error, &cells.spots, model))),
     };
-    put_outputs(&mut built, &output_nets)?;
-    let Built { gates, wires, wire_of } = built;
     let most = Sizes::Whole.large().wires;
     if wires > most {
         return Err(BlifError::Wires { wires, most });

@@ -7,6 +7,7 @@ use thiserror::Error;
 
 use crate::emit::{EmitError, Emitter};
 use crate::order::order;
+use crate::outputs::put_outputs;
 use crate::table::MOST_INPUTS;
 
 /// A cell: the net that it gives, the nets that it reads, and its truth table over these.
@@ -112,8 +113,8 @@ impl Builder {
     }
 }
 
-/// The gates of the cells, over `nets` nets of which `given` are the input bits, in the order of their wires.
-pub fn build(alloc: Global, nets: usize, given: &[u32], cells: &[Cell]) -> Result<Built, BuildError> {
+/// The gates of cells, over `nets` nets of which `given` are the input bits, in the order of their wires.
+fn build_cells(alloc: Global, nets: usize, given: &[u32], cells: &[Cell]) -> Result<Built, BuildError> {
     let bits = u32::try_from(given.len()).map_err(|_| BuildError::Wires)?;
     let mut builder = Builder {
         emitter: Emitter::new(alloc, bits),
@@ -129,13 +130,25 @@ pub fn build(alloc: Global, nets: usize, given: &[u32], cells: &[Cell]) -> Resul
             builder.cell(*number, cell)?;
         }
     }
-    let Builder {
-        emitter, wire_of, ..
-    } = builder;
+    let Builder { emitter, wire_of, .. } = builder;
     let Emitter { gates, wires, .. } = emitter;
     Ok(Built {
         gates,
         wires,
         wire_of,
     })
+}
+
+/// The gates of cells in any order, over `nets` nets. The nets `given` are the input bits, which are the first wires, and the nets `outputs`
+/// the output bits, which are the last.
+pub fn build(
+    alloc: Global,
+    nets: usize,
+    given: &[u32],
+    cells: &[Cell],
+    outputs: &[u32],
+) -> Result<Built, BuildError> {
+    let inputs = u32::try_from(given.len()).map_err(|_| BuildError::Wires)?;
+    let built = build_cells(alloc, nets, given, cells)?;
+    put_outputs(alloc, &built, inputs, outputs)
 }

@@ -5,4 +5,5 @@ pub mod build;
 pub mod cover;
 mod emit;
 pub mod order;
+mod outputs;
 pub mod table;
