@@ -4,7 +4,7 @@ use std::alloc::{AllocError, Global};
 use std::fmt::Write;
 
 use circuit::wires::wire_names;
-use circuit::{Circuit, Port};
+use circuit::{Circuit, Port, bit_name};
 use netlist::Gate;
 
 /// The name of a wire. A wire past the last has none.
@@ -15,23 +15,38 @@ fn name(names: &[String], wire: u32) -> &str {
     }
 }
 
-/// Writes a line for each value: a command, and the names of its bits, which are the wires from `first` on.
-fn write_ports(
+/// Writes a line for each value: a command, and the names of its bits.
+fn write_ports(alloc: Global, out: &mut String, command: &str, ports: &[Port]) -> Result<(), AllocError> {
+    for port in ports {
+        out.push_str(command)?;
+        for bit in 0..port.width {
+            let name = bit_name(alloc, port, bit)?;
+            out.push(' ')?;
+            out.push_str(name.as_str())?;
+        }
+        out.push('\n')?;
+    }
+    Ok(())
+}
+
+/// Writes a copy for each output bit whose wire, of those from `first` on, has another name: that of an input.
+fn write_copies(
+    alloc: Global,
     out: &mut String,
-    command: &str,
     ports: &[Port],
     names: &[String],
     first: u32,
 ) -> Result<(), AllocError> {
     let mut wire = first;
     for port in ports {
-        out.push_str(command)?;
-        for _ in 0..port.width {
-            out.push(' ')?;
-            out.push_str(name(names, wire))?;
+        for bit in 0..port.width {
+            let target = bit_name(alloc, port, bit)?;
+            let source = name(names, wire);
+            if target.as_str() != source {
+                write!(out, ".names {source} {target}\n1 1\n")?;
+            }
             wire = wire.saturating_add(1);
         }
-        out.push('\n')?;
     }
     Ok(())
 }
@@ -82,11 +97,12 @@ pub fn write(alloc: Global, circuit: &Circuit) -> Result<String, AllocError> {
     };
     let mut out = format!(in alloc; ".model {model}\n")?;
     let first = circuit.wires.saturating_sub(circuit::bits(&circuit.outputs));
-    write_ports(&mut out, ".inputs", &circuit.inputs, &names, 0)?;
-    write_ports(&mut out, ".outputs", &circuit.outputs, &names, first)?;
+    write_ports(alloc, &mut out, ".inputs", &circuit.inputs)?;
+    write_ports(alloc, &mut out, ".outputs", &circuit.outputs)?;
     for gate in &circuit.gates {
         write_gate(&mut out, *gate, &names)?;
     }
+    write_copies(alloc, &mut out, &circuit.outputs, &names, first)?;
     out.push_str(".end\n")?;
     Ok(out)
 }

@@ -196,7 +196,7 @@ impl Emitter {
         };
         let sum = self.function(zero ^ one, input)?;
         let choice = self.function(choice, 0)?;
-        let product = self.and(choice, sum)?;
+        let product = self.and(sum, choice)?;
         if base == NEVER {
             return Ok(product);
         }
