@@ -7,6 +7,7 @@ use std::alloc::{AllocError, AllocFailed, Global};
 use netlist::Gate;
 
 use crate::table::{ALWAYS, INPUTS, NEVER, at_one, at_zero};
+use crate::verify::Known;
 
 /// Why no gates were made.
 #[derive(Clone, Copy, Debug, PartialEq, Eq)]
@@ -29,13 +30,6 @@ impl<T: Drop> From<AllocFailed<T>> for EmitError {
     fn from(_error: AllocFailed<T>) -> Self {
         EmitError::Memory
     }
-}
-
-/// A wire whose table over the inputs of the cell at hand is known.
-#[derive(Clone, Copy, Debug)]
-pub struct Known {
-    pub table: u64,
-    pub wire: u32,
 }
 
 /// The gates so far, the number of wires so far, and the known wires of the cell at hand.

@@ -7,3 +7,4 @@ mod emit;
 pub mod order;
 mod outputs;
 pub mod table;
+pub mod verify;

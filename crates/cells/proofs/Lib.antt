@@ -1,0 +1,2 @@
+-- Lemmas on tables and covers.
+pub mod TableBits
