@@ -1,2 +1,3 @@
 -- Lemmas on tables and covers.
 pub mod TableBits
+pub mod CoverBits

@@ -1,6 +1,10 @@
 //! Covers: a function as the cubes on which it is one, or those on which it is zero.
 
-use crate::table::{ALWAYS, NEVER};
+ghost use Rattle.std.specs.Prelude.{◌≡◌, ◌<◌, ℕ, map};
+ghost use Rattle.cells.specs.Tables.{table_bit};
+ghost use Rattle.cells.specs.Covers.{literal_admits, literals_admit};
+
+use crate::table::{ALWAYS, NEVER, inverse, product, union};
 
 /// What a cube asks of one input.
 #[derive(Clone, Copy, Debug, PartialEq, Eq)]
@@ -24,30 +28,45 @@ pub struct Cover {
 }
 
 /// The table of a literal of an input with this table.
-fn literal_table(literal: Literal, input: u64) -> u64 {
+#[tactic(auto, using(crate::proofs::TableBits::table_bit_always))]
+fn literal_table(literal: Literal, input: u64) -> u64
+    ensures { (j : ℕ) → j < 64 → table_bit result j ≡ literal_admits literal (table_bit input j) }
+{
     match literal {
-        Literal::Zero => !input,
+        Literal::Zero => inverse(input),
         Literal::One => input,
         Literal::Any => ALWAYS,
     }
 }
 
-/// The table of a cube over inputs with these tables.
-fn cube_table(cube: Cube, inputs: &[u64]) -> u64 {
-    let mut table = ALWAYS;
-    for (input, literal) in inputs.iter().zip(cube.literals.iter()) {
-        table &= literal_table(*literal, *input);
-    }
-    table
+/// The table of literals over inputs with these tables.
+#[tactic(auto, using(crate::proofs::TableBits::table_bit_always))]
+fn literals_table(literals: &[Literal], inputs: &[u64]) -> u64
+    ensures { (j : ℕ) → j < 64 → table_bit result j ≡ literals_admit literals.now (map (λ t. table_bit t j) inputs.now) }
+{
+    let [literal, more_literals @ ..] = literals else {
+        return ALWAYS;
+    };
+    let [input, more_inputs @ ..] = inputs else {
+        return ALWAYS;
+    };
+    product(
+        literal_table(*literal, *input),
+        literals_table(more_literals, more_inputs),
+    )
 }
 
 impl Cover {
+    ghost use Rattle.cells.specs.Covers.{cover_bit};
+
     /// The table of the cover over inputs with these tables.
-    pub fn table(&self, inputs: &[u64]) -> u64 {
+    pub fn table(&self, inputs: &[u64]) -> u64
+        ensures { (j : ℕ) → j < 64 → table_bit result j ≡ cover_bit self.now (map (λ t. table_bit t j) inputs.now) }
+    {
         let mut table = NEVER;
         for cube in &self.cubes {
-            table |= cube_table(*cube, inputs);
+            table = union(table, literals_table(&cube.literals, inputs));
         }
-        if self.value { table } else { !table }
+        if self.value { table } else { inverse(table) }
     }
 }

@@ -1,8 +1,8 @@
 //! Whether gates compute a table: each gate's table is made from those of its operands.
 
-ghost use Rattle.std.specs.Prelude.{◌≡◌, ◌<◌, ◌&&◌, not, nat_eq, ℕ, Bool, IfSome, IfOk, OnOk, IsTrue, length};
+ghost use Rattle.std.specs.Prelude.{◌≡◌, ◌<◌, ℕ, Bool, IfSome, IfOk, OnOk, IsTrue, length};
 ghost use Rattle.netlist.specs.Netlist.{result as result_of};
-ghost use Rattle.netlist.specs.Eval.{made, differs};
+ghost use Rattle.netlist.specs.Eval.{made};
 ghost use Rattle.cells.specs.Tables.{table_bit};
 ghost use Rattle.cells.specs.Computes.{Satisfies, Holds, AreSet, Computes, input_tables};
 ghost use Rattle.cells.specs.Verify.{Right, AllRight};
@@ -11,7 +11,7 @@ use std::alloc::AllocError;
 
 use netlist::Gate;
 
-use crate::table::{ALWAYS, INPUTS, NEVER};
+use crate::table::{INPUTS, constant, inverse, product, sum};
 
 /// A wire whose table over the inputs of the cell at hand is known.
 #[derive(Clone, Copy, Debug)]
@@ -30,38 +30,6 @@ fn table_of(known: &[Known], wire: u32) -> Option<u64>
         }
     }
     None
-}
-
-/// The table that is one where just one of two is.
-#[tactic(auto, using(crate::proofs::TableBits::table_bit_xor))]
-fn sum(left: u64, right: u64) -> u64
-    ensures { (j : ℕ) → table_bit result j ≡ differs (table_bit left j) (table_bit right j) }
-{
-    left ^ right
-}
-
-/// The table that is one where both are.
-#[tactic(auto, using(crate::proofs::TableBits::table_bit_and))]
-fn product(left: u64, right: u64) -> u64
-    ensures { (j : ℕ) → table_bit result j ≡ table_bit left j && table_bit right j }
-{
-    left & right
-}
-
-/// The table that is one where another is zero.
-#[tactic(auto, using(crate::proofs::TableBits::table_bit_not))]
-fn inverse(table: u64) -> u64
-    ensures { (j : ℕ) → j < 64 → table_bit result j ≡ not (table_bit table j) }
-{
-    !table
-}
-
-/// The table that is the same in each setting.
-#[tactic(auto, using(crate::proofs::TableBits::table_bit_always, crate::proofs::TableBits::table_bit_never))]
-fn constant(value: u32) -> u64
-    ensures { (j : ℕ) → j < 64 → table_bit result j ≡ nat_eq value 1 }
-{
-    if value == 1 { ALWAYS } else { NEVER }
 }
 
 /// The wire that a gate gives.
