@@ -96,7 +96,12 @@ fn circuit_of(
     let outputs = values(alloc, model, &model.outputs)?;
     let output_nets = nets(alloc, &outputs)?;
     let made = build(alloc, model.nets.len(), &given, &cells.cells, &output_nets);
-    let Built { gates, wires, wire_of } = match made {
+    let Built {
+        gates,
+        wires,
+        wire_of,
+        ..
+    } = match made {
         Ok(built) => built,
         Err(error) => return Err(texts.at_netlist(refusal(error, &cells.spots, model))),
     };

@@ -1,5 +1,5 @@
 -- Literals and cubes at the ends of lists.
-use Rattle.std.proofs.Common.{◌≡◌, ℕ, ◌<◌, Bool, true, false, ◌||◌, List, [], ◌∷◌, length, refl, arith}
+use Rattle.std.proofs.Common.{◌≡◌, ◌<◌, Bool, true, List, [], ◌∷◌, length, refl, arith}
 use Rattle.cells.specs.declared.cover.Literal.{Literal}
 use Rattle.cells.specs.Covers.{literals_admit}
 

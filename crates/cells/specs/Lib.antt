@@ -3,3 +3,4 @@ pub mod Tables
 pub mod Covers
 pub mod Computes
 pub mod Verify
+pub mod Netlists

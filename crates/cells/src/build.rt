@@ -1,10 +1,15 @@
 //! The gates of a list of cells in any order.
 
+ghost use Rattle.std.specs.Prelude.{ℕ, Bool, IfOk, All};
+ghost use Rattle.cells.specs.Computes.{Holds};
+ghost use Rattle.cells.specs.Netlists.{CellHolds};
+
 use std::alloc::{AllocError, AllocFailed, Global};
 
 use netlist::Gate;
 use thiserror::Error;
 
+use crate::check::check_cells;
 use crate::emit::{EmitError, Emitter};
 use crate::order::order;
 use crate::outputs::put_outputs;
@@ -49,12 +54,20 @@ impl<T: Drop> From<AllocFailed<T>> for BuildError {
     }
 }
 
-/// The gates of cells, how many wires there are, and the wire of each net, or `NO_WIRE`.
+/// The gates of a cell, by the places of the first and after the last.
+#[derive(Clone, Copy, Debug)]
+pub struct Span {
+    pub start: usize,
+    pub end: usize,
+}
+
+/// The gates of cells, how many wires there are, the wire of each net, or `NO_WIRE`, and which gates are each cell's.
 #[derive(Drop)]
 pub struct Built {
     pub gates: Vec<Gate>,
     pub wires: u32,
     pub wire_of: Vec<u32>,
+    pub spans: Vec<Span>,
 }
 
 /// What stands in place of a wire for a net that nothing gives.
@@ -65,6 +78,7 @@ pub const NO_WIRE: u32 = 0xffff_ffff;
 struct Builder {
     emitter: Emitter,
     wire_of: Vec<u32>,
+    spans: Vec<Span>,
     inputs: Vec<u32>,
 }
 
@@ -103,12 +117,17 @@ impl Builder {
         if self.inputs.len() > MOST_INPUTS {
             return Err(BuildError::Inputs { cell: number });
         }
+        let start = self.emitter.gates.len();
         let wire = match self.emitter.cell(&self.inputs, cell.table) {
             Ok(wire) => wire,
             Err(EmitError::Memory) => return Err(BuildError::Memory),
             Err(EmitError::Wires) => return Err(BuildError::Wires),
             Err(EmitError::Table) => return Err(BuildError::Table { cell: number }),
         };
+        if let Some(span) = self.spans.get_mut(number) {
+            let end = self.emitter.gates.len();
+            *span = Span { start, end };
+        }
         self.give(cell.output, wire)
     }
 }
@@ -119,6 +138,7 @@ fn build_cells(alloc: Global, nets: usize, given: &[u32], cells: &[Cell]) -> Res
     let mut builder = Builder {
         emitter: Emitter::new(alloc, bits),
         wire_of: vec![in alloc; NO_WIRE; nets]?,
+        spans: vec![in alloc; Span { start: 0, end: 0 }; cells.len()]?,
         inputs: Vec::new(alloc),
     };
     for (wire, net) in (0u32..).zip(given.iter()) {
@@ -130,12 +150,18 @@ fn build_cells(alloc: Global, nets: usize, given: &[u32], cells: &[Cell]) -> Res
             builder.cell(*number, cell)?;
         }
     }
-    let Builder { emitter, wire_of, .. } = builder;
+    let Builder {
+        emitter,
+        wire_of,
+        spans,
+        ..
+    } = builder;
     let Emitter { gates, wires, .. } = emitter;
     Ok(Built {
         gates,
         wires,
         wire_of,
+        spans,
     })
 }
 
@@ -147,8 +173,14 @@ pub fn build(
     given: &[u32],
     cells: &[Cell],
     outputs: &[u32],
-) -> Result<Built, BuildError> {
+) -> Result<Built, BuildError>
+    // With any bits of wires that the gates allow, the wires of each cell's nets carry what its table says.
+    ensures cells { IfOk result (λ built. (u : ℕ → Bool) → Holds u built.gates.items
+        → All (CellHolds u built.wire_of.items) cells.now) }
+{
     let inputs = u32::try_from(given.len()).map_err(|_| BuildError::Wires)?;
-    let built = build_cells(alloc, nets, given, cells)?;
-    put_outputs(alloc, &built, inputs, outputs)
+    let made = build_cells(alloc, nets, given, cells)?;
+    let built = put_outputs(alloc, made, inputs, outputs)?;
+    check_cells(alloc, &built, cells)?;
+    Ok(built)
 }

@@ -32,7 +32,7 @@ impl<T: Drop> From<AllocFailed<T>> for EmitError {
     }
 }
 
-/// The gates so far, the number of wires so far, and the known wires of the cell at hand.
+/// The gates of all cells so far, the number of wires so far, and the known wires of the cell at hand.
 #[derive(Drop)]
 pub struct Emitter {
     pub gates: Vec<Gate>,

@@ -2,6 +2,7 @@
 #![tactic(auto)]
 
 pub mod build;
+mod check;
 pub mod cover;
 mod emit;
 pub mod order;

@@ -102,18 +102,20 @@ fn add_copies(gates: &mut Vec<Gate>, wire_of: &[u32], base: u32, outputs: &[u32]
 
 /// The same gates with the outputs on the last wires: the wires of the outputs' nets become these, in order, and all others keep theirs. An
 /// output whose net is one of the first `inputs` wires, or an earlier output, gets a copy.
-pub fn put_outputs(alloc: Global, built: &Built, inputs: u32, outputs: &[u32]) -> Result<Built, BuildError> {
+pub fn put_outputs(alloc: Global, built: Built, inputs: u32, outputs: &[u32]) -> Result<Built, BuildError> {
     let count = u32::try_from(outputs.len()).map_err(|_| BuildError::Wires)?;
-    let places = take_places(alloc, built, inputs, outputs)?;
+    let places = take_places(alloc, &built, inputs, outputs)?;
     let wires = built.wires.checked_add(places.copies).ok_or(BuildError::Wires)?;
     let base = wires.checked_sub(count).ok_or(BuildError::Wires)?;
     let wire_to = moves(alloc, &places.place_of, base)?;
     let mut gates = moved_gates(alloc, &wire_to, &built.gates)?;
     let wire_of = moved_wires(alloc, &wire_to, &built.wire_of)?;
     add_copies(&mut gates, &wire_of, base, outputs)?;
+    let Built { spans, .. } = built;
     Ok(Built {
         gates,
         wires,
         wire_of,
+        spans,
     })
 }

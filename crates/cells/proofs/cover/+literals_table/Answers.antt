@@ -1,5 +1,5 @@
 -- `literals_table` meets its contract where literals or inputs end.
-use Rattle.std.proofs.Common.{◌≡◌, ◌<◌, ℕ, Bool, map, length, sym, ◌∙◌, arith}
+use Rattle.std.proofs.Common.{◌<◌, map, length, sym, ◌∙◌}
 use Rattle.std.proofs.lemmas.List.{length-map}
 use Rattle.cells.specs.Tables.{table_bit}
 use Rattle.cells.proofs.TableBits.{table_bit_always}

@@ -1,5 +1,5 @@
 -- `Cover::table` begins with no cube.
-use Rattle.std.proofs.Common.{◌≡◌, ℕ, Bool, ◌||◌, map, ap}
+use Rattle.std.proofs.Common.{◌||◌, map, ap}
 use Rattle.cells.specs.Tables.{table_bit}
 use Rattle.cells.specs.Covers.{some_admits}
 use Rattle.cells.proofs.TableBits.{table_bit_never}
