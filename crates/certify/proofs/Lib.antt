@@ -1,2 +1,11 @@
--- Laws that several proofs cite.
 pub mod Calling
+pub mod Counting
+pub mod Hinting
+pub mod InputWires
+pub mod Marking
+pub mod Passing
+pub mod Rounds
+pub mod Steps
+pub mod Stores
+pub mod Telling
+pub mod Turns

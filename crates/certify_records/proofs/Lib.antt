@@ -1,7 +1,6 @@
--- Laws that several proofs cite.
-pub mod Tables
-pub mod Records
-pub mod Places
 pub mod Evens
 pub mod Leaves
+pub mod Places
+pub mod Records
 pub mod Selectors
+pub mod Tables

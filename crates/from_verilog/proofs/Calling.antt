@@ -8,10 +8,10 @@ use native.Mathlib.Omega.{arith}
 use lib.ListN.{length, take}
 use Rattle.netlist.specs.declared.Limits.{Limits}
 use Rattle.netlist.specs.declared.Sizes.{Sizes}
-use Rattle.netlist.specs.declared.Sizes.TheVariants.{Old, Whole}
-use Rattle.netlist.specs.declared.Question.{Question}
-use Rattle.netlist.specs.declared.Question.TheVariants as Q
-use Rattle.netlist.specs.Netlist.{small}
+use Rattle.netlist.specs.declared.Sizes.TheVariants.{Standard, Whole}
+use Rattle.netlist.specs.declared.Refusal.{Refusal}
+use Rattle.netlist.specs.declared.Refusal.TheVariants as Q
+use Rattle.netlist.specs.Netlist.{source_limits}
 use Rattle.netlist.specs.Outcome.{and_then}
 use Rattle.netlist.specs.Services.{tables_long, rewrite_outcome, outcome_of, Answers}
 use Rattle.netlist.specs.Table.{half}
@@ -28,32 +28,33 @@ pub record Fits (L : Limits) : Type 0 where
   pub places : L.wires + L.text + 1 < half
   pub gates : L.wires ≤ L.table
 
-pub small-fits : (s : Sizes) → Fits (small s)
-small-fits Old = record { names = omega arith; tables = omega arith; places = omega arith; gates = omega arith }
+pub small-fits : (s : Sizes) → Fits (source_limits s)
+small-fits Standard = record { names = omega arith; tables = omega arith; places = omega arith; gates = omega arith }
 small-fits Whole = record { names = omega arith; tables = omega arith; places = omega arith; gates = omega arith }
 
 -- so many numbers are in so many entries
 pub entries-long : (n least : ℕ) → least ≤ entries_of n → 8 * least ≤ n
 entries-long n least h = omega (arith, h)
 
-pub some-table : (s : Sizes) → 0 < (small s).table
-some-table Old = omega arith
+pub some-table : (s : Sizes) → 0 < (source_limits s).table
+some-table Standard = omega arith
 some-table Whole = omega arith
 
 -- the lengths that question 1 admits
 pub record Long (s : Sizes) (a b c d e f g : ℕ) : Type 0 where
-  pub first : (small s).table ≤ a
-  pub second : (small s).table ≤ b
+  pub first : (source_limits s).table ≤ a
+  pub second : (source_limits s).table ≤ b
   pub heads : 0 < c
-  pub words : 8 * (small s).table ≤ d
-  pub links : 8 * (small s).table ≤ e
-  pub states : 8 * (small s).table ≤ f
-  pub wires : 8 * (small s).table ≤ g
+  pub words : 8 * (source_limits s).table ≤ d
+  pub links : 8 * (source_limits s).table ≤ e
+  pub states : 8 * (source_limits s).table ≤ f
+  pub wires : 8 * (source_limits s).table ≤ g
 
-pub long : (s : Sizes) (a b c d e f g : ℕ) → tables_long (small s) (a ∷ b ∷ entries_of c ∷ entries_of d ∷ entries_of e ∷ entries_of f ∷ entries_of g ∷ []) ≡ true →
+pub long : (s : Sizes) (a b c d e f g : ℕ) → tables_long (source_limits s)
+    (a ∷ b ∷ entries_of c ∷ entries_of d ∷ entries_of e ∷ entries_of f ∷ entries_of g ∷ []) ≡ true →
     Long s a b c d e f g
 long s a b c d e f g h =
-    let L = small s in
+    let L = source_limits s in
     let p = tables-long L a (b ∷ entries_of c ∷ entries_of d ∷ entries_of e ∷ entries_of f ∷ entries_of g ∷ []) h in
     let q = tables-long L b (entries_of c ∷ entries_of d ∷ entries_of e ∷ entries_of f ∷ entries_of g ∷ []) p.1 in
     let u = tables-long L (entries_of c) (entries_of d ∷ entries_of e ∷ entries_of f ∷ entries_of g ∷ []) q.1 in
@@ -75,23 +76,30 @@ long s a b c d e f g h =
 
 -- question 1
 module _ (s : Sizes) (text out o r h w l st ws : List ℕ) where
-  pub call-one : tables_long (small s) (length o ∷ length r ∷ entries_of (length h) ∷ entries_of (length w) ∷ entries_of (length l) ∷ entries_of (length st) ∷
+  pub call-one : tables_long (source_limits s) (length o ∷ length r ∷ entries_of (length h) ∷ entries_of (length w) ∷
+      entries_of (length l) ∷ entries_of (length st) ∷
       entries_of (length ws) ∷ []) ≡ false
       → Answers (call s text out o r h w l st ws) out out (Err Q.Tables)
   unfolding equations_call
-  call-one p = answers_one (tables_long (small s) (length o ∷ length r ∷ entries_of (length h) ∷ entries_of (length w) ∷ entries_of (length l) ∷ entries_of
+  call-one p = answers_one (tables_long (source_limits s) (length o ∷ length r ∷ entries_of (length h) ∷ entries_of
+      (length w) ∷ entries_of (length l) ∷ entries_of
       (length st) ∷ entries_of (length ws) ∷ [])) _ out p
 
-  pub call-rest : {x : List ℕ} {a : Result ℕ Question}
-      → tables_long (small s) (length o ∷ length r ∷ entries_of (length h) ∷ entries_of (length w) ∷ entries_of (length l) ∷ entries_of (length st) ∷ entries_of
+  pub call-rest : {x : List ℕ} {a : Result ℕ Refusal}
+      → tables_long (source_limits s) (length o ∷ length r ∷ entries_of (length h) ∷ entries_of (length w) ∷ entries_of
+      (length l) ∷ entries_of (length st) ∷ entries_of
       (length ws) ∷ []) ≡ true
-      → Answers (and_then (read_equations (small s) text) (rewrite_outcome (length out))) out x a → Answers (call s text out o r h w l st ws) out x a
+      → Answers (and_then (read_equations (source_limits s) text) (rewrite_outcome (length out))) out x a
+      → Answers (call s text out o r h w l st ws) out x a
   unfolding equations_call
-  call-rest p k = answers-rest (tables_long (small s) (length o ∷ length r ∷ entries_of (length h) ∷ entries_of (length w) ∷ entries_of (length l) ∷ entries_of
+  call-rest p k = answers-rest (tables_long (source_limits s)
+      (length o ∷ length r ∷ entries_of (length h) ∷ entries_of (length w) ∷ entries_of (length l) ∷ entries_of
       (length st) ∷ entries_of (length ws) ∷ [])) p k
 
   -- the result
-  pub call-delivered : {x : List ℕ} {a : Result ℕ Question} → Answers (call s text out o r h w l st ws) out x a → (n : ℕ) → a ≡ Ok n → Delivered s text (take n x)
+  pub call-delivered : {x : List ℕ} {a : Result ℕ Refusal} → Answers (call s text out o r h w l st ws) out x a → (n : ℕ)
+      → a ≡ Ok n → Delivered s text (take n x)
   call-delivered {x} {a} k n p =
-      equations-delivered s (length o ∷ length r ∷ entries_of (length h) ∷ entries_of (length w) ∷ entries_of (length l) ∷ entries_of (length st) ∷ entries_of
+      equations-delivered s (length o ∷ length r ∷ entries_of (length h) ∷ entries_of (length w) ∷ entries_of (length l)
+      ∷ entries_of (length st) ∷ entries_of
       (length ws) ∷ []) text (length out) (take n x) (sym k.outcome ∙ ap (outcome_of x) p)

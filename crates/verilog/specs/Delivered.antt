@@ -1,8 +1,9 @@
--- What an accepted text of equations and its result are (request No. 6: "computes what the equations say").
+-- What an accepted text of equations and its result are (docs/RULES.md, Equations: the netlist computes what the
+-- equations say).
 use Rattle.std.specs.Prelude.{ℕ, ◌≡◌, Bool, List, T, length}
 use Rattle.netlist.specs.declared.Limits.{Limits}
 use Rattle.netlist.specs.declared.Sizes.{Sizes}
-use Rattle.netlist.specs.Netlist.{Netlist, small}
+use Rattle.netlist.specs.Netlist.{Netlist, source_limits}
 use Rattle.netlist.specs.Outcome.{done}
 use Rattle.netlist.specs.Read.{read_netlist, WellFormed, Within}
 use Rattle.netlist.specs.Write.{write_netlist}
@@ -22,11 +23,12 @@ pub record Reads (L : Limits) (t : List ℕ) (N : Netlist) : Type 0 where
   pub made : N ≡ netlist_made tree
   pub formed : WellFormed N
   pub within : Within L N
-  pub computes : (ins : List Bool) → length ins ≡ length (input_ports tree) → outputs_of N ins ≡ equation_outputs tree ins
+  pub computes : (ins : List Bool) → length ins ≡ length (input_ports tree) → outputs_of N ins
+      ≡ equation_outputs tree ins
 
 -- a result is the written form of the netlist of its text, and reads back as it
 pub record Delivered (s : Sizes) (t result : List ℕ) : Type 0 where
   pub netlist : Netlist
-  pub reads : Reads (small s) t netlist
+  pub reads : Reads (source_limits s) t netlist
   pub written : result ≡ write_netlist netlist
-  pub back : read_netlist (small s) result ≡ done netlist
+  pub back : read_netlist (source_limits s) result ≡ done netlist

@@ -9,7 +9,8 @@ returns c =
     let a = c.answer-r in
     record {
       outcome = a.ensures;
-      judged = call-judged s.sizes s.text.now s.codes.now s.pairs.now s.operands.now s.results.now s.marks.now s.words.now s.base.now
+      judged = call-judged s.sizes s.text.now s.codes.now s.pairs.now s.operands.now s.results.now s.marks.now
+          s.words.now s.base.now
           s.bases.now s.set0.now s.set1.now s.set2.now s.set3.now s.paints.now a.result a.ensures;
       operands = search rules;
       results = search rules;

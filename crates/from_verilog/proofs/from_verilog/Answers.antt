@@ -10,7 +10,8 @@ returns c =
     record {
       answers = a.ensures;
       delivered =
-          call-delivered s.sizes s.text.now s.out.now s.operands.now s.results.now s.heads.now s.words.now s.links.now s.states.now
+          call-delivered s.sizes s.text.now s.out.now s.operands.now s.results.now s.heads.now s.words.now s.links.now
+          s.states.now
           s.wires.now a.ensures;
       operands = search rules;
       results = search rules;

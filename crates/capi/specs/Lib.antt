@@ -1,0 +1,4 @@
+pub mod Certified
+pub mod Number
+pub mod Pairs
+pub mod Wide

@@ -1,0 +1,2 @@
+//! The front page of what is proved.
+#![tactic(auto)]
