@@ -105,7 +105,7 @@ fn circuit_of(
         Ok(built) => built,
         Err(error) => return Err(texts.at_netlist(refusal(error, &cells.spots, model))),
     };
-    let most = Sizes::Whole.large().wires;
+    let most = Sizes::Whole.masked_limits().wires;
     if wires > most {
         return Err(BlifError::Wires { wires, most });
     }
