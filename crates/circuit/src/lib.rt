@@ -2,6 +2,7 @@
 //! from, and the wires that are judged.
 #![tactic(auto)]
 
+pub mod fashion;
 pub mod names;
 pub mod wires;
 
