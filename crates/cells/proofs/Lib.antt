@@ -1,3 +1,5 @@
 -- Lemmas on tables and covers.
 pub mod TableBits
 pub mod CoverBits
+pub mod Settings
+pub mod CoverLaw
