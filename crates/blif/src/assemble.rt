@@ -8,6 +8,7 @@ use cells::table::INPUTS;
 use crate::error::{BlifError, Fault, Refusal, Source, Spot, at};
 use crate::instances::add_instance;
 use crate::models::Models;
+use crate::reads::reads;
 use crate::statements::{Instance, Model, Names, Statement};
 
 /// Cells, and the statement that each comes from.
@@ -15,11 +16,6 @@ use crate::statements::{Instance, Model, Names, Statement};
 pub struct Cells {
     pub cells: Vec<Cell>,
     pub spots: Vec<Spot>,
-}
-
-/// The nets whose constants yosys writes into each file, whether they are read or not.
-fn is_constant(name: &str) -> bool {
-    matches!(name, "$false" | "$true" | "$undef")
 }
 
 impl Cells {
@@ -74,32 +70,6 @@ impl From<Refusal> for Refused {
     }
 }
 
-/// Which nets are read: by a cell, or as an output.
-fn reads(alloc: Global, model: &Model<'_>) -> Result<Vec<bool>, Refusal> {
-    let mut read = vec![in alloc; false; model.nets.len()]?;
-    for statement in &model.statements {
-        match statement {
-            Statement::Names(names) => mark(&mut read, &names.inputs),
-            Statement::Instance(instance) => {
-                for connection in &instance.connections {
-                    mark(&mut read, &[connection.net]);
-                }
-            }
-        }
-    }
-    mark(&mut read, &model.outputs);
-    Ok(read)
-}
-
-/// Marks nets.
-fn mark(marks: &mut [bool], nets: &[u32]) {
-    for net in nets {
-        if let Some(place) = marks.get_mut(*net as usize) {
-            *place = true;
-        }
-    }
-}
-
 /// Asks that each net is given once: by an input or by a cell.
 fn ask_once(model: &Model<'_>, given: &mut [bool], net: u32, spot: Spot) -> Result<(), Refusal> {
     match given.get_mut(net as usize) {
@@ -129,42 +99,31 @@ fn ask_given(alloc: Global, model: &Model<'_>, cells: &Cells, read: &[bool]) -> 
     Ok(())
 }
 
-/// The cells of a model: a cell for each cover and each output pin of an instance. The constants that yosys writes into each file are left
-/// out where nothing reads them.
+/// The cells of a model: a cell for each cover and each output pin of an instance.
 pub fn assemble(alloc: Global, model: &Model<'_>, models: &Models<'_>) -> Result<Cells, Refused> {
-    if let Some(spot) = model.latch {
-        return Err(at(spot, Fault::Latch).into());
-    }
-    let read = reads(alloc, model)?;
     let mut cells = Cells {
         cells: Vec::new(alloc),
         spots: Vec::new(alloc),
     };
     for statement in &model.statements {
         match statement {
-            Statement::Names(names) => {
-                let place = names.output as usize;
-                let constant = model.nets.get(place).is_some_and(|word| is_constant(word.text));
-                let wanted = read.get(place).copied().unwrap_or(false);
-                if constant && !wanted {
-                    continue;
-                }
-                cells.add_names(names)?;
-            }
-            Statement::Instance(instance) => cells.add_model(alloc, models, instance)?,
+            Statement::OfNames(names) => cells.add_names(names)?,
+            Statement::OfModel(instance) => cells.add_model(alloc, models, instance)?,
         }
     }
-    ask_given(alloc, model, &cells, &read)?;
     Ok(cells)
 }
 
-/// Asks that nothing reads the net `$undef`.
-pub fn ask_defined(alloc: Global, model: &Model<'_>) -> Result<(), Refusal> {
+/// Asks that a model has no latch, and that each of its nets is given by an input or a cell, and once.
+pub fn ask_nets(alloc: Global, model: &Model<'_>, cells: &Cells) -> Result<(), Refusal> {
+    if let Some(spot) = model.latch {
+        return Err(at(spot, Fault::Latch));
+    }
     let read = reads(alloc, model)?;
     for (word, read) in model.nets.iter().zip(read.iter()) {
         if *read && word.text == "$undef" {
             return Err(at(word.spot, Fault::Undefined));
         }
     }
-    Ok(())
+    ask_given(alloc, model, cells, &read)
 }

@@ -72,12 +72,12 @@ fn covers(alloc: Global, model: &Model<'_>) -> Result<Vec<Cell>, Refusal> {
     let mut cells = Vec::new(alloc);
     for statement in &model.statements {
         match statement {
-            Statement::Names(names) => cells.push(Cell {
+            Statement::OfNames(names) => cells.push(Cell {
                 output: names.output,
                 inputs: names.inputs.clone()?,
                 table: 0,
             })?,
-            Statement::Instance(instance) => return Err(at(instance.model.spot, Fault::Nested)),
+            Statement::OfModel(instance) => return Err(at(instance.model.spot, Fault::Nested)),
         }
     }
     Ok(cells)
@@ -98,7 +98,7 @@ fn tables_of(alloc: Global, model: &Model<'_>) -> Result<Tables, Refusal> {
         tables.give(*net, *table, model.name.spot)?;
     }
     for number in &order {
-        if let Some(Statement::Names(names)) = model.statements.get(*number) {
+        if let Some(Statement::OfNames(names)) = model.statements.get(*number) {
             tables.cover(names)?;
         }
     }

@@ -8,5 +8,6 @@ mod models;
 mod parse;
 mod ports;
 pub mod read;
+mod reads;
 mod statements;
 pub mod write;

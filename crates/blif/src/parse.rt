@@ -6,6 +6,7 @@ use cells::cover::{Cover, Cube, Literal};
 use cells::table::MOST_INPUTS;
 
 use crate::error::{Fault, Refusal, Spot, at};
+use crate::reads::leave_out_constants;
 use crate::statements::{Connection, Instance, Model, Names, Statement, Word};
 
 /// The models so far, and the words of the statement at hand.
@@ -124,7 +125,7 @@ fn add_names<'a>(alloc: Global, model: &mut Model<'a>, words: &[Word<'a>], spot:
         cover,
         spot,
     };
-    model.statements.push(Statement::Names(names))?;
+    model.statements.push(Statement::OfNames(names))?;
     Ok(())
 }
 
@@ -157,7 +158,7 @@ fn add_instance<'a>(alloc: Global, model: &mut Model<'a>, words: &[Word<'a>], sp
         model: name,
         connections,
     };
-    model.statements.push(Statement::Instance(instance))?;
+    model.statements.push(Statement::OfModel(instance))?;
     Ok(())
 }
 
@@ -179,7 +180,7 @@ fn add_statement<'a>(alloc: Global, model: &mut Model<'a>, words: &[Word<'a>], f
 /// Adds a line of the cover of the last statement.
 fn add_to_last(model: &mut Model<'_>, words: &[Word<'_>], spot: Spot) -> Result<(), Refusal> {
     match model.statements.last_mut() {
-        Some(Statement::Names(names)) => add_line(names, words),
+        Some(Statement::OfNames(names)) => add_line(names, words),
         _ => Err(at(spot, Fault::NoCover)),
     }
 }
@@ -250,7 +251,7 @@ impl<'a> Parser<'a> {
     }
 }
 
-/// The models of a text, in their order.
+/// The models of a text, in their order. The constants that yosys writes into each file are left out where nothing reads them.
 pub fn parse<'a>(alloc: Global, text: &'a str) -> Result<Vec<Model<'a>>, Refusal> {
     let mut parser = Parser {
         alloc,
@@ -263,5 +264,9 @@ pub fn parse<'a>(alloc: Global, text: &'a str) -> Result<Vec<Model<'a>>, Refusal
         parser.line(place.saturating_add(1), line)?;
     }
     parser.statement()?;
-    Ok(parser.models)
+    let mut models = parser.models;
+    for model in models.iter_mut() {
+        leave_out_constants(alloc, model)?;
+    }
+    Ok(models)
 }

@@ -7,7 +7,7 @@ use cells::build::{Built, NO_WIRE, build};
 use circuit::{Circuit, Label, Port};
 use netlist::Sizes;
 
-use crate::assemble::{Cells, Refused, ask_defined, assemble};
+use crate::assemble::{Cells, Refused, ask_nets, assemble};
 use crate::error::{BlifError, Fault, Refusal, Source, Spot, at};
 use crate::instances::refusal;
 use crate::models::Models;
@@ -53,7 +53,7 @@ fn masks_last<'a>(values: &mut Vec<Value<'a>>, masks: Option<&str>) -> Result<()
     }
 }
 
-/// The labels of nets, in the order of their wires.
+/// The labels of the nets that have wires.
 fn labels(alloc: Global, model: &Model<'_>, wire_of: &[u32]) -> Result<Vec<Label>, AllocError> {
     let mut labels = Vec::new(alloc);
     for (word, wire) in model.nets.iter().zip(wire_of.iter()) {
@@ -65,21 +65,23 @@ fn labels(alloc: Global, model: &Model<'_>, wire_of: &[u32]) -> Result<Vec<Label
             })?;
         }
     }
-    labels.sort_by_key(|label| label.wire)?;
     Ok(labels)
 }
 
-/// The judged wires: each net's and each output's, in order.
+/// The judged wires, in order: those of labels, and those of the outputs, which are the last.
 fn judged(alloc: Global, labels: &[Label], wires: u32, outputs: u32) -> Result<Vec<u32>, AllocError> {
     let first = wires.saturating_sub(outputs);
-    let mut judged = Vec::new(alloc);
+    let mut marks = vec![in alloc; false; wires as usize]?;
     for label in labels {
-        if label.wire < first {
-            judged.push(label.wire)?;
+        if let Some(mark) = marks.get_mut(label.wire as usize) {
+            *mark = true;
         }
     }
-    for wire in first..wires {
-        judged.push(wire)?;
+    let mut judged = Vec::new(alloc);
+    for (wire, mark) in (0u32..).zip(marks.iter()) {
+        if *mark || first <= wire {
+            judged.push(wire)?;
+        }
     }
     Ok(judged)
 }
@@ -138,7 +140,6 @@ pub fn read(alloc: Global, text: &str, cells: Option<&str>, masks: Option<&str>)
     if model.inputs.is_empty() || model.outputs.is_empty() {
         return Err(texts.at_netlist(at(model.name.spot, Fault::NoPorts)));
     }
-    ask_defined(alloc, model).map_err(|refusal| refusal.placed(text, Source::Netlist))?;
     let mut models = Models {
         entries: HashMap::new(alloc),
     };
@@ -152,6 +153,7 @@ pub fn read(alloc: Global, text: &str, cells: Option<&str>, masks: Option<&str>)
         Ok(cells) => cells,
         Err(refused) => return Err(texts.placed(refused)),
     };
+    ask_nets(alloc, model, &assembled).map_err(|refusal| refusal.placed(text, Source::Netlist))?;
     let mut inputs = values(alloc, model, &model.inputs)?;
     masks_last(&mut inputs, masks)?;
     circuit_of(alloc, model, &assembled, &inputs, texts)

@@ -41,8 +41,8 @@ pub struct Instance<'a> {
 /// A statement that gives nets.
 #[derive(Debug, Drop)]
 pub enum Statement<'a> {
-    Names(Names),
-    Instance(Instance<'a>),
+    OfNames(Names),
+    OfModel(Instance<'a>),
 }
 
 /// A model: its nets by number, each with its name where it stands first, the nets of its ports, and its statements.

@@ -26,7 +26,7 @@ pub struct Label {
 }
 
 /// A netlist: the bits of the inputs are the first wires, those of the outputs the last, and each gate stands after those that give
-/// its operands. `labels` and `judged` are in the order of their wires.
+/// its operands. `judged` is in the order of the wires, and `labels` is in no order.
 #[derive(Drop)]
 pub struct Circuit {
     pub name: String,
