@@ -1,0 +1,2 @@
+-- What statements of BLIF mean.
+pub mod Meaning

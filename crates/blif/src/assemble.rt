@@ -1,5 +1,8 @@
 //! The cells of the netlist's own model, and what is asked of its nets.
 
+ghost use Rattle.std.specs.Prelude.{OnOk, IfOk, All};
+ghost use Rattle.blif.specs.Meaning.{HasStatement};
+
 use std::alloc::Global;
 
 use cells::build::Cell;
@@ -19,23 +22,31 @@ pub struct Cells {
 }
 
 impl Cells {
+    ghost use Rattle.blif.specs.Meaning.{AddsCover, Adds};
+
     /// Adds the cell of a cover.
-    fn add_names(&mut self, names: &Names) -> Result<(), Refusal> {
+    fn add_names(&mut self, alloc: Global, names: &Names) -> Result<(), Refusal>
+        ensures { OnOk result (AddsCover names.now self.old.cells.items self.new.cells.items) }
+    {
         let count = names.inputs.len();
-        let Some(inputs) = INPUTS.get(..count) else {
+        if count > INPUTS.len() {
             return Err(at(names.spot, Fault::Inputs));
-        };
+        }
+        let table = names.cover.table(&INPUTS[..count]);
+        let inputs = Vec::from_slice(alloc, &names.inputs)?;
+        self.spots.push(names.spot)?;
         self.cells.push(Cell {
             output: names.output,
-            inputs: names.inputs.clone()?,
-            table: names.cover.table(inputs),
+            inputs,
+            table,
         })?;
-        self.spots.push(names.spot)?;
         Ok(())
     }
 
     /// Adds the cells of an instance of a model.
-    fn add_model(&mut self, alloc: Global, models: &Models<'_>, instance: &Instance<'_>) -> Result<(), Refused> {
+    fn add_model(&mut self, alloc: Global, models: &Models<'_>, instance: &Instance<'_>) -> Result<(), Refused>
+        ensures { OnOk result (Adds self.old.cells.items self.new.cells.items) }
+    {
         let name = instance.model;
         let Some(entry) = models.entries.get(&name.text) else {
             return Err(at(name.spot, Fault::MissingModel).into());
@@ -51,6 +62,27 @@ impl Cells {
         };
         add_instance(alloc, shape, instance, &mut self.cells, &mut self.spots)?;
         Ok(())
+    }
+}
+
+impl Cells {
+    ghost use Rattle.blif.specs.Meaning.{HasStatement, Adds};
+
+    /// Adds the cells of a statement.
+    fn add_statement(&mut self, alloc: Global, models: &Models<'_>, statement: &Statement<'_>) -> Result<(), Refused>
+        ensures had { OnOk result (HasStatement self.new.cells.items statement.now) }
+        ensures adds { OnOk result (Adds self.old.cells.items self.new.cells.items) }
+    {
+        match statement {
+            Statement::OfNames(names) => {
+                self.add_names(alloc, names)?;
+                Ok(())
+            }
+            Statement::OfModel(instance) => {
+                self.add_model(alloc, models, instance)?;
+                Ok(())
+            }
+        }
     }
 }
 
@@ -100,16 +132,15 @@ fn ask_given(alloc: Global, model: &Model<'_>, cells: &Cells, read: &[bool]) -> 
 }
 
 /// The cells of a model: a cell for each cover and each output pin of an instance.
-pub fn assemble(alloc: Global, model: &Model<'_>, models: &Models<'_>) -> Result<Cells, Refused> {
+pub fn assemble(alloc: Global, model: &Model<'_>, models: &Models<'_>) -> Result<Cells, Refused>
+    ensures { IfOk result (λ made. All (HasStatement made.cells.items) model.now.statements.items) }
+{
     let mut cells = Cells {
         cells: Vec::new(alloc),
         spots: Vec::new(alloc),
     };
     for statement in &model.statements {
-        match statement {
-            Statement::OfNames(names) => cells.add_names(names)?,
-            Statement::OfModel(instance) => cells.add_model(alloc, models, instance)?,
-        }
+        cells.add_statement(alloc, models, statement)?;
     }
     Ok(cells)
 }

@@ -1,5 +1,8 @@
 //! Models as cells: the truth table of each output pin, and the cells of an instance.
 
+ghost use Rattle.std.specs.Prelude.{OnOk};
+ghost use Rattle.blif.specs.Meaning.{Adds};
+
 use std::alloc::Global;
 use std::collections::HashMap;
 
@@ -150,6 +153,43 @@ fn connected(alloc: Global, shape: &Shape<'_>, instance: &Instance<'_>) -> Resul
     Ok(nets)
 }
 
+/// Adds the cell of an output pin, where it is connected to a net.
+fn add_pin(
+    alloc: Global,
+    cells: &mut Vec<Cell>,
+    spots: &mut Vec<Spot>,
+    net: Option<u32>,
+    inputs: &[u32],
+    table: u64,
+    spot: Spot,
+) -> Result<(), Refusal>
+    ensures { OnOk result (Adds cells.old.items cells.new.items) }
+{
+    let Some(output) = net else {
+        return Ok(());
+    };
+    let inputs = Vec::from_slice(alloc, inputs)?;
+    spots.push(spot)?;
+    cells.push(Cell {
+        output,
+        inputs,
+        table,
+    })?;
+    Ok(())
+}
+
+/// The nets that the input pins are connected to.
+fn input_nets(alloc: Global, nets: &[Option<u32>], inputs: usize, spot: Spot) -> Result<Vec<u32>, Refusal> {
+    let mut list = Vec::new(alloc);
+    for net in nets.iter().take(inputs) {
+        match net {
+            Some(net) => list.push(*net)?,
+            None => return Err(at(spot, Fault::Unconnected)),
+        }
+    }
+    Ok(list)
+}
+
 /// Adds the cells of an instance of a shape, one for each output pin that is connected.
 pub fn add_instance(
     alloc: Global,
@@ -157,24 +197,16 @@ pub fn add_instance(
     instance: &Instance<'_>,
     cells: &mut Vec<Cell>,
     spots: &mut Vec<Spot>,
-) -> Result<(), Refusal> {
+) -> Result<(), Refusal>
+    ensures { OnOk result (Adds cells.old.items cells.new.items) }
+{
+    let spot = instance.model.spot;
     let nets = connected(alloc, shape, instance)?;
-    let mut inputs = Vec::new(alloc);
-    for net in nets.iter().take(shape.inputs) {
-        match net {
-            Some(net) => inputs.push(*net)?,
-            None => return Err(at(instance.model.spot, Fault::Unconnected)),
-        }
-    }
-    for (net, table) in nets.iter().skip(shape.inputs).zip(shape.tables.iter()) {
-        if let Some(net) = net {
-            cells.push(Cell {
-                output: *net,
-                inputs: inputs.clone()?,
-                table: *table,
-            })?;
-            spots.push(instance.model.spot)?;
-        }
+    let inputs = input_nets(alloc, &nets, shape.inputs, spot)?;
+    for (place, table) in shape.tables.iter().enumerate() {
+        let pin = shape.inputs.saturating_add(place);
+        let net = nets.get(pin).copied().unwrap_or(None);
+        add_pin(alloc, cells, spots, net, &inputs, *table, spot)?;
     }
     Ok(())
 }

@@ -1,13 +1,20 @@
 //! A text of BLIF as a circuit.
 
+ghost use Rattle.std.specs.Prelude.{◌≡◌, ℕ, Bool, List, IfOk, All};
+ghost use Rattle.netlist.specs.Netlist.{Netlist};
+ghost use Rattle.netlist.specs.Eval.{bits_at, wire_bits};
+ghost use Rattle.netlist.specs.Read.{WellFormed};
+ghost use Rattle.cells.specs.Computes.{Holds};
+ghost use Rattle.blif.specs.Meaning.{HasStatement, StatementHolds};
+
 use std::alloc::{AllocError, Global};
 use std::collections::HashMap;
 
-use cells::build::{Built, NO_WIRE, build};
-use circuit::{Circuit, Label, Port};
+use cells::build::{BuildError, Built, Cell, NO_WIRE, build};
+use circuit::{Circuit, Label, bits};
 use netlist::Sizes;
 
-use crate::assemble::{Cells, Refused, ask_nets, assemble};
+use crate::assemble::{Refused, ask_nets, assemble};
 use crate::error::{BlifError, Fault, Refusal, Source, Spot, at};
 use crate::instances::refusal;
 use crate::models::Models;
@@ -17,9 +24,9 @@ use crate::statements::Model;
 
 /// The text of the netlist and that of the cells, where there is one.
 #[derive(Clone, Copy)]
-struct Texts<'a> {
-    netlist: &'a str,
-    cells: &'a str,
+pub struct Texts<'a> {
+    pub netlist: &'a str,
+    pub cells: &'a str,
 }
 
 impl Texts<'_> {
@@ -86,42 +93,100 @@ fn judged(alloc: Global, labels: &[Label], wires: u32, outputs: u32) -> Result<V
     Ok(judged)
 }
 
-/// The circuit of a model's cells.
-fn circuit_of(
+/// A circuit, and the wire of each net of its model.
+#[derive(Drop)]
+pub struct Wired {
+    pub circuit: Circuit,
+    pub wire_of: Vec<u32>,
+}
+
+/// The gates of a model's cells, over the nets of its inputs and outputs.
+fn build_model(
     alloc: Global,
     model: &Model<'_>,
-    cells: &Cells,
+    cells: &[Cell],
+    given: &[u32],
+    outputs: &[u32],
+) -> Result<Built, BuildError>
+    requires { All (HasStatement cells.now) model.now.statements.items }
+    ensures { IfOk result (λ built. (u : ℕ → Bool) → Holds u built.gates.items
+        → All (StatementHolds u built.wire_of.items) model.now.statements.items) }
+{
+    let built = build(alloc, model.nets.len(), given, cells, outputs)?;
+    Ok(built)
+}
+
+/// The circuit of gates that were built for a model.
+fn name_wires(
+    alloc: Global,
+    model: &Model<'_>,
     inputs: &[Value<'_>],
-    texts: Texts<'_>,
-) -> Result<Circuit, BlifError> {
-    let given = nets(alloc, inputs)?;
-    let outputs = values(alloc, model, &model.outputs)?;
-    let output_nets = nets(alloc, &outputs)?;
-    let made = build(alloc, model.nets.len(), &given, &cells.cells, &output_nets);
+    outputs: &[Value<'_>],
+    built: Built,
+) -> Result<Wired, AllocError>
+    ensures { IfOk result (λ wired. (wired.circuit.gates.items ≡ built.gates.items) × (wired.wire_of.items ≡ built.wire_of.items)) }
+{
     let Built {
         gates,
         wires,
         wire_of,
         ..
-    } = match made {
-        Ok(built) => built,
-        Err(error) => return Err(texts.at_netlist(refusal(error, &cells.spots, model))),
-    };
-    let most = Sizes::Whole.masked_limits().wires;
-    if wires > most {
-        return Err(BlifError::Wires { wires, most });
-    }
+    } = built;
     let labels = labels(alloc, model, &wire_of)?;
-    let output_bits = u32::try_from(output_nets.len()).map_err(|_| BlifError::Memory)?;
-    Ok(Circuit {
+    let outputs = ports(alloc, model, outputs)?;
+    let judged = judged(alloc, &labels, wires, bits(&outputs))?;
+    let circuit = Circuit {
         name: String::from_str(alloc, model.name.text)?,
         inputs: ports(alloc, model, inputs)?,
-        outputs: ports(alloc, model, &outputs)?,
+        outputs,
         wires,
         gates,
-        judged: judged(alloc, &labels, wires, output_bits)?,
         labels,
-    })
+        judged,
+    };
+    Ok(Wired { circuit, wire_of })
+}
+
+/// The circuit of a model with these models as its cells. With any bits of its wires that its gates allow, the wire of the net that each cover
+/// gives has the bit that the cover says, of the bits of the wires of the nets that it reads, whatever the order of the statements.
+pub fn circuit_of(
+    alloc: Global,
+    model: &Model<'_>,
+    models: &Models<'_>,
+    masks: Option<&str>,
+    texts: Texts<'_>,
+) -> Result<Wired, BlifError>
+    ensures covers { IfOk result (λ wired. (u : ℕ → Bool) → Holds u wired.circuit.gates.items
+        → All (StatementHolds u wired.wire_of.items) model.now.statements.items) }
+    // So it is with the bits that a netlist of these gates computes, from any input bits.
+    ensures runs { IfOk result (λ wired. (N : Netlist) → WellFormed N → N.gates ≡ wired.circuit.gates.items → (ins : List Bool)
+        → All (StatementHolds (bits_at (wire_bits N ins)) wired.wire_of.items) model.now.statements.items) }
+{
+    let assembled = match assemble(alloc, model, models) {
+        Ok(cells) => cells,
+        Err(refused) => return Err(texts.placed(refused)),
+    };
+    if let Err(refusal) = ask_nets(alloc, model, &assembled) {
+        return Err(texts.at_netlist(refusal));
+    }
+    let mut inputs = values(alloc, model, &model.inputs)?;
+    masks_last(&mut inputs, masks)?;
+    let outputs = values(alloc, model, &model.outputs)?;
+    let given = nets(alloc, &inputs)?;
+    let output_nets = nets(alloc, &outputs)?;
+    let built = match build_model(alloc, model, &assembled.cells, &given, &output_nets) {
+        Ok(built) => built,
+        Err(error) => return Err(texts.at_netlist(refusal(error, &assembled.spots, model))),
+    };
+    let most = Sizes::Whole.masked_limits().wires;
+    if built.wires > most {
+        return Err(BlifError::Wires {
+            wires: built.wires,
+            most,
+        });
+    }
+    let wired = name_wires(alloc, model, &inputs, &outputs, built)?;
+    Ok(wired)
 }
 
 /// The circuit of a text of BLIF: of its first model, with the others and those of `cells` as cells. The input value of the name `masks`,
@@ -149,12 +214,6 @@ pub fn read(alloc: Global, text: &str, cells: Option<&str>, masks: Option<&str>)
     models
         .add(alloc, &library, Source::Cells)
         .map_err(|refusal| refusal.placed(texts.cells, Source::Cells))?;
-    let assembled = match assemble(alloc, model, &models) {
-        Ok(cells) => cells,
-        Err(refused) => return Err(texts.placed(refused)),
-    };
-    ask_nets(alloc, model, &assembled).map_err(|refusal| refusal.placed(text, Source::Netlist))?;
-    let mut inputs = values(alloc, model, &model.inputs)?;
-    masks_last(&mut inputs, masks)?;
-    circuit_of(alloc, model, &assembled, &inputs, texts)
+    let wired = circuit_of(alloc, model, &models, masks, texts)?;
+    Ok(wired.circuit)
 }

@@ -3,3 +3,4 @@ pub mod TableBits
 pub mod CoverBits
 pub mod Settings
 pub mod CoverLaw
+pub mod Runs

@@ -1,6 +1,9 @@
 //! The gates of a list of cells in any order.
 
-ghost use Rattle.std.specs.Prelude.{ℕ, Bool, IfOk, All};
+ghost use Rattle.std.specs.Prelude.{ℕ, Bool, List, IfOk, All};
+ghost use Rattle.netlist.specs.Netlist.{Netlist};
+ghost use Rattle.netlist.specs.Eval.{bits_at, wire_bits};
+ghost use Rattle.netlist.specs.Read.{WellFormed};
 ghost use Rattle.cells.specs.Computes.{Holds};
 ghost use Rattle.cells.specs.Netlists.{CellHolds};
 
@@ -183,4 +186,10 @@ pub fn build(
     let built = put_outputs(alloc, made, inputs, outputs)?;
     check_cells(alloc, &built, cells)?;
     Ok(built)
+}
+
+/// In a well-formed netlist, the bits of all wires, from any input bits, are such bits: each gate's wire has what the gate makes.
+pub fn runs_hold()
+    ensures { (N : Netlist) (ins : List Bool) → WellFormed N → Holds (bits_at (wire_bits N ins)) N.gates }
+{
 }
