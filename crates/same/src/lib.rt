@@ -72,30 +72,30 @@ const FIRST_SIX: [u64; 6] = [
 
 /// A circuit on sixty-four settings: the words of its wires.
 #[derive(Drop)]
-struct Runner<'a> {
+pub struct Runner<'a> {
     circuit: &'a Circuit,
     words: Vec<u64>,
 }
 
 impl<'a> Runner<'a> {
     /// A circuit before its first run.
-    fn new(alloc: Global, circuit: &'a Circuit) -> Result<Self, AllocError> {
+    pub fn new(alloc: Global, circuit: &'a Circuit) -> Result<Self, AllocError> {
         Ok(Runner {
             circuit,
             words: vec![in alloc; 0; circuit.wires as usize]?,
         })
     }
 
-    /// Runs the circuit on the words of its inputs.
-    fn run(&mut self, inputs: &[u64]) {
+    /// Runs the circuit on the words of its inputs: bit j of each belongs to setting j.
+    pub fn run(&mut self, inputs: &[u64]) {
         for (place, word) in self.words.iter_mut().zip(inputs.iter()) {
             *place = *word;
         }
         run(&self.circuit.gates, &mut self.words);
     }
 
-    /// The word of an output bit.
-    fn output(&self, bit: u32) -> u64 {
+    /// The word of an output bit after a run.
+    pub fn output(&self, bit: u32) -> u64 {
         let first = self.circuit.wires.saturating_sub(bits(&self.circuit.outputs));
         word(&self.words, first.saturating_add(bit))
     }

@@ -1,5 +1,6 @@
 //! A circuit as structural Verilog that synthesis tools keep: one wire and one assignment a line, each wire under `(* keep *)`.
 #![tactic(auto)]
 
+pub mod bench;
 pub mod spelling;
 pub mod write;

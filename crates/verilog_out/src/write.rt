@@ -1,5 +1,9 @@
 //! The text of a module.
 
+ghost use Rattle.std.specs.Prelude.{◌≡◌, ◌++◌, map, OnOk, IfOk, string_bytes};
+ghost use Rattle.verilog_out.specs.Assigns.{sum, product, inverse, copy, constant, assign_text, assign_of};
+ghost use Rattle.verilog_out.specs.Assigns.{gate_lines, output_lines, spelling_at, IsModule};
+
 use std::alloc::{AllocError, Global};
 use std::fmt::Write;
 
@@ -9,13 +13,11 @@ use netlist::Gate;
 
 use crate::spelling::spelled;
 
-/// What is written: the name of the module, or the circuit's own; whether each wire is kept; and whether each gate is a module of its own,
-/// which keeps more tools from taking gates apart.
+/// What is written: the name of the module, or the circuit's own, and whether each wire is kept.
 #[derive(Clone, Copy, Debug)]
 pub struct Options<'a> {
     pub module: Option<&'a str>,
     pub keep: bool,
-    pub cells: bool,
 }
 
 /// How each wire is spelled: an input wire as the bit of its port.
@@ -26,10 +28,14 @@ struct Spelled {
 
 impl Spelled {
     /// The spelling of a wire.
-    fn wire(&self, wire: u32) -> &str {
-        match self.wires.get(wire as usize) {
-            Some(text) => text.as_str(),
-            None => "",
+    fn wire(&self, wire: u32) -> &str
+        ensures { result.now ≡ spelling_at self.now.wires.items wire }
+    {
+        let place = wire as usize;
+        if place < self.wires.len() {
+            self.wires[place].as_str()
+        } else {
+            ""
         }
     }
 }
@@ -84,31 +90,92 @@ fn write_head(alloc: Global, out: &mut String, module: &str, circuit: &Circuit) 
     out.push_str(");\n")
 }
 
-/// Writes the assignment of a gate's wire.
-fn write_gate(out: &mut String, gate: Gate, spelled: &Spelled) -> Result<(), AllocError> {
-    let result = spelled.wire(circuit::result(gate));
-    match gate {
-        Gate::Xor(left, right, _) => {
-            let left = spelled.wire(left);
-            let right = spelled.wire(right);
-            writeln!(out, "  assign {result} = {left} ^ {right};")
-        }
-        Gate::And(left, right, _) => {
-            let left = spelled.wire(left);
-            let right = spelled.wire(right);
-            writeln!(out, "  assign {result} = {left} & {right};")
-        }
-        Gate::Inv(source, _) => {
-            let source = spelled.wire(source);
-            writeln!(out, "  assign {result} = ~{source};")
-        }
-        Gate::Eqw(source, _) => {
-            let source = spelled.wire(source);
-            writeln!(out, "  assign {result} = {source};")
-        }
-        Gate::Eq(0, _) => writeln!(out, "  assign {result} = 1'b0;"),
-        Gate::Eq(_, _) => writeln!(out, "  assign {result} = 1'b1;"),
+/// Writes the assignment of the bit that is one where just one of two is.
+fn write_sum(out: &mut String, target: &str, left: &str, right: &str) -> Result<(), AllocError>
+    ensures { OnOk result (string_bytes out.new ≡ string_bytes out.old
+        ++ assign_text (record { target = target.now; value = sum left.now right.now })) }
+{
+    writeln!(out, "  assign {target} = {left} ^ {right};")
+}
+
+/// Writes the assignment of the bit that is one where both are.
+fn write_product(out: &mut String, target: &str, left: &str, right: &str) -> Result<(), AllocError>
+    ensures { OnOk result (string_bytes out.new ≡ string_bytes out.old
+        ++ assign_text (record { target = target.now; value = product left.now right.now })) }
+{
+    writeln!(out, "  assign {target} = {left} & {right};")
+}
+
+/// Writes the assignment of the bit that another is not.
+fn write_inverse(out: &mut String, target: &str, source: &str) -> Result<(), AllocError>
+    ensures { OnOk result (string_bytes out.new ≡ string_bytes out.old
+        ++ assign_text (record { target = target.now; value = inverse source.now })) }
+{
+    writeln!(out, "  assign {target} = ~{source};")
+}
+
+/// Writes the assignment of the bit that another is.
+fn write_copy(out: &mut String, target: &str, source: &str) -> Result<(), AllocError>
+    ensures { OnOk result (string_bytes out.new ≡ string_bytes out.old
+        ++ assign_text (record { target = target.now; value = copy source.now })) }
+{
+    writeln!(out, "  assign {target} = {source};")
+}
+
+/// Writes the assignment of a constant.
+fn write_constant(out: &mut String, target: &str, value: u32) -> Result<(), AllocError>
+    ensures { OnOk result (string_bytes out.new ≡ string_bytes out.old
+        ++ assign_text (record { target = target.now; value = constant value })) }
+{
+    if value == 0 {
+        writeln!(out, "  assign {target} = 1'b0;")
+    } else {
+        writeln!(out, "  assign {target} = 1'b1;")
     }
+}
+
+/// Writes the assignment of a gate's wire.
+fn write_gate(out: &mut String, gate: Gate, spelled: &Spelled) -> Result<(), AllocError>
+    ensures { OnOk result (string_bytes out.new ≡ string_bytes out.old
+        ++ assign_text (assign_of (spelling_at spelled.now.wires.items) gate)) }
+{
+    match gate {
+        Gate::Xor(left, right, result) => {
+            write_sum(out, spelled.wire(result), spelled.wire(left), spelled.wire(right))
+        }
+        Gate::And(left, right, result) => {
+            write_product(out, spelled.wire(result), spelled.wire(left), spelled.wire(right))
+        }
+        Gate::Inv(source, result) => write_inverse(out, spelled.wire(result), spelled.wire(source)),
+        Gate::Eqw(source, result) => write_copy(out, spelled.wire(result), spelled.wire(source)),
+        Gate::Eq(value, result) => write_constant(out, spelled.wire(result), value),
+    }
+}
+
+/// Writes the assignments of the gates, in their order.
+fn write_gates(out: &mut String, gates: &[Gate], spelled: &Spelled) -> Result<(), AllocError>
+    ensures { OnOk result (string_bytes out.new ≡ string_bytes out.old
+        ++ gate_lines (spelling_at spelled.now.wires.items) gates.now) }
+{
+    for gate in gates {
+        write_gate(out, *gate, spelled)?;
+    }
+    Ok(())
+}
+
+/// Writes the assignments of the output bits of these names, which are the wires from `first` on.
+fn write_outputs(out: &mut String, targets: &[String], first: u32, spelled: &Spelled) -> Result<(), AllocError>
+    ensures { OnOk result (string_bytes out.new ≡ string_bytes out.old
+        ++ output_lines (spelling_at spelled.now.wires.items) first (map string_bytes targets.now)) }
+{
+    let [target, more @ ..] = targets else {
+        return Ok(());
+    };
+    write_copy(out, target.as_str(), spelled.wire(first))?;
+    let Some(next) = first.checked_add(1) else {
+        return Err(AllocError);
+    };
+    write_outputs(out, more, next, spelled)
 }
 
 /// Writes a gate as an instance of the module of its kind.
@@ -135,59 +202,81 @@ fn write_instance(out: &mut String, module: &str, gate: Gate, spelled: &Spelled)
 }
 
 /// Writes the modules of the three kinds of gates.
-fn write_cells(out: &mut String, module: &str) -> Result<(), AllocError> {
+fn write_kinds(out: &mut String, module: &str) -> Result<(), AllocError> {
     let keep = "(* keep_hierarchy *)";
     writeln!(out, "{keep} module {module}_xor(input a, input b, output y); assign y = a ^ b; endmodule")?;
     writeln!(out, "{keep} module {module}_and(input a, input b, output y); assign y = a & b; endmodule")?;
     writeln!(out, "{keep} module {module}_inv(input a, output y); assign y = ~a; endmodule")
 }
 
-/// Writes an assignment for each bit of the outputs, which are the wires from `first` on.
-fn write_outputs(
-    alloc: Global,
-    out: &mut String,
-    ports: &[Port],
-    first: u32,
-    spelled: &Spelled,
-) -> Result<(), AllocError> {
-    let mut wire = first;
+/// The spellings of the bits of the outputs.
+fn spelled_outputs(alloc: Global, ports: &[Port]) -> Result<Vec<String>, AllocError> {
+    let mut all = Vec::new(alloc);
     for port in ports {
         for bit in 0..port.width {
-            let target = spelled_bit(alloc, port, bit)?;
-            let source = spelled.wire(wire);
-            writeln!(out, "  assign {target} = {source};")?;
-            wire = wire.saturating_add(1);
+            all.push(spelled_bit(alloc, port, bit)?)?;
         }
     }
-    Ok(())
+    Ok(all)
 }
 
-/// The circuit as a module.
-pub fn write(alloc: Global, circuit: &Circuit, options: Options<'_>) -> Result<String, AllocError> {
-    let spelled = spelled_wires(alloc, circuit)?;
+/// The name of the module.
+fn module_name<'a>(circuit: &'a Circuit, options: Options<'a>) -> &'a str {
     let own = circuit.name.as_str();
-    let module = options.module.unwrap_or(if own.is_empty() { "netlist" } else { own });
-    let keep = if options.keep { "(* keep *) " } else { "" };
-    let mut out = String::new(alloc);
-    if options.cells {
-        write_cells(&mut out, module)?;
+    match options.module {
+        Some(name) => name,
+        None if own.is_empty() => "netlist",
+        None => own,
     }
-    write_head(alloc, &mut out, module, circuit)?;
-    write_ports(alloc, &mut out, "input", &circuit.inputs)?;
-    write_ports(alloc, &mut out, "output", &circuit.outputs)?;
+}
+
+/// Writes the first line, and the declarations of ports and wires.
+fn write_declarations(
+    alloc: Global,
+    out: &mut String,
+    circuit: &Circuit,
+    options: Options<'_>,
+    spelled: &Spelled,
+) -> Result<(), AllocError> {
+    write_head(alloc, out, module_name(circuit, options), circuit)?;
+    write_ports(alloc, out, "input", &circuit.inputs)?;
+    write_ports(alloc, out, "output", &circuit.outputs)?;
+    let keep = if options.keep { "(* keep *) " } else { "" };
     for wire in bits(&circuit.inputs)..circuit.wires {
         let name = spelled.wire(wire);
         writeln!(out, "  {keep}wire {name};")?;
     }
-    for gate in &circuit.gates {
-        if options.cells {
-            write_instance(&mut out, module, *gate, &spelled)?;
-        } else {
-            write_gate(&mut out, *gate, &spelled)?;
-        }
-    }
+    Ok(())
+}
+
+/// The circuit as a module: declarations, and then an assignment for each gate and each output bit.
+pub fn write(alloc: Global, circuit: &Circuit, options: Options<'_>) -> Result<String, AllocError>
+    ensures { IfOk result (λ text. IsModule circuit.now.gates.items (string_bytes text)) }
+{
+    let spelled = spelled_wires(alloc, circuit)?;
+    let outputs = spelled_outputs(alloc, &circuit.outputs)?;
     let first = circuit.wires.saturating_sub(bits(&circuit.outputs));
-    write_outputs(alloc, &mut out, &circuit.outputs, first, &spelled)?;
+    let mut out = String::new(alloc);
+    write_declarations(alloc, &mut out, circuit, options, &spelled)?;
+    write_gates(&mut out, &circuit.gates, &spelled)?;
+    write_outputs(&mut out, &outputs, first, &spelled)?;
+    out.push_str("endmodule\n")?;
+    Ok(out)
+}
+
+/// The circuit with a module for each gate under `(* keep_hierarchy *)`, which keeps more tools from taking gates apart.
+pub fn write_cells(alloc: Global, circuit: &Circuit, options: Options<'_>) -> Result<String, AllocError> {
+    let spelled = spelled_wires(alloc, circuit)?;
+    let outputs = spelled_outputs(alloc, &circuit.outputs)?;
+    let first = circuit.wires.saturating_sub(bits(&circuit.outputs));
+    let module = module_name(circuit, options);
+    let mut out = String::new(alloc);
+    write_kinds(&mut out, module)?;
+    write_declarations(alloc, &mut out, circuit, options, &spelled)?;
+    for gate in &circuit.gates {
+        write_instance(&mut out, module, *gate, &spelled)?;
+    }
+    write_outputs(&mut out, &outputs, first, &spelled)?;
     out.push_str("endmodule\n")?;
     Ok(out)
 }

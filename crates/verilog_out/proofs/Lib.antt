@@ -1,0 +1,2 @@
+-- Lemmas on lines.
+pub mod Lines
