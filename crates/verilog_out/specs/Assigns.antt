@@ -1,10 +1,11 @@
 -- Assignments of a module, how each is spelled, and what they say of the bits of names.
-use Rattle.std.specs.Prelude.{ℕ, zero, suc, ◌+◌, ◌≡◌, Bool, true, false, not, ◌&&◌, List, [], ◌∷◌, ◌++◌, codes, flat_map, slice_get, string_bytes, String, map}
+use Rattle.std.specs.Prelude.{ℕ, ◌+◌, cond, eqb, ◌≡◌, Bool, true, false, not, ◌&&◌, List, [], ◌∷◌, ◌++◌, codes, flat_map, slice_get, string_bytes, String, map, All, length, get_or, ◌<◌}
 use Rattle.std.specs.Option.{option_map_or}
 use Rattle.std.specs.declared.alloc.Global.{Global}
 use Rattle.netlist.specs.declared.Gate.{Gate}
 use Rattle.netlist.specs.declared.Gate.TheVariants.{Xor, And, Inv, Eqw, Eq}
-use Rattle.netlist.specs.Eval.{differs}
+use Rattle.netlist.specs.Netlist.{Netlist, input_bits, result}
+use Rattle.netlist.specs.Eval.{differs, bits_at, wire_bits}
 
 -- what is assigned: names stand as they are spelled
 pub data Value : Type 0 where
@@ -49,10 +50,9 @@ value_bit bit high = true
 abbrev pub Allows : (List ℕ → Bool) → Assign → Type 0
 Allows bit a = bit a.target ≡ value_bit bit a.value
 
--- a constant: 0, or any other number for 1
+-- a constant: 1, or any other number for 0
 abbrev pub constant : ℕ → Value
-constant zero = low
-constant (suc v) = high
+constant v = cond (eqb v 1) high low
 
 -- the assignment of a gate's wire, where wires are spelled so
 abbrev pub assign_of : (ℕ → List ℕ) → Gate → Assign
@@ -79,3 +79,16 @@ spelling_at names w = option_map_or string_bytes (slice_get names w) []
 abbrev pub IsModule : List Gate → List ℕ → Type 0
 IsModule gs text = (head : List ℕ) × (names : List (String Global)) × (first : ℕ) × (targets : List (List ℕ))
     × (text ≡ head ++ (gate_lines (spelling_at names) gs ++ (output_lines (spelling_at names) first targets ++ codes "endmodule\n")))
+
+-- bits of names that the assignments of gates allow
+abbrev pub AllowsGates : (List ℕ → Bool) → (ℕ → List ℕ) → List Gate → Type 0
+AllowsGates bit spell gs = All (λ g. Allows bit (assign_of spell g)) gs
+
+-- each gate's wire, by its name, has the bit that the netlist computes from these input bits
+abbrev pub Computes : (List ℕ → Bool) → (ℕ → List ℕ) → Netlist → List Bool → Type 0
+Computes bit spell N ins = All (λ g. bit (spell (result g)) ≡ bits_at (wire_bits N ins) (result g)) N.gates
+
+-- the names of the input wires have these bits
+abbrev pub HasInputs : (List ℕ → Bool) → (ℕ → List ℕ) → Netlist → List Bool → Type 0
+HasInputs bit spell N ins =
+    (length ins ≡ input_bits N) × ((w : ℕ) → w < input_bits N → bit (spell w) ≡ get_or ins w false)

@@ -2,5 +2,6 @@
 #![tactic(auto)]
 
 pub mod bench;
+pub mod meaning;
 pub mod spelling;
 pub mod write;

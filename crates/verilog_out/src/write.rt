@@ -127,10 +127,10 @@ fn write_constant(out: &mut String, target: &str, value: u32) -> Result<(), Allo
     ensures { OnOk result (string_bytes out.new ≡ string_bytes out.old
         ++ assign_text (record { target = target.now; value = constant value })) }
 {
-    if value == 0 {
-        writeln!(out, "  assign {target} = 1'b0;")
-    } else {
+    if value == 1 {
         writeln!(out, "  assign {target} = 1'b1;")
+    } else {
+        writeln!(out, "  assign {target} = 1'b0;")
     }
 }
 
