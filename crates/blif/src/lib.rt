@@ -4,6 +4,7 @@
 pub mod assemble;
 pub mod error;
 pub mod instances;
+mod judged;
 pub mod models;
 pub mod parse;
 pub mod ports;

@@ -6,6 +6,7 @@ ghost use Rattle.netlist.specs.Eval.{bits_at, wire_bits};
 ghost use Rattle.netlist.specs.Read.{WellFormed};
 ghost use Rattle.cells.specs.Computes.{Holds};
 ghost use Rattle.blif.specs.Meaning.{HasStatement, StatementHolds};
+ghost use Rattle.blif.specs.Judged.{AreJudged};
 
 use std::alloc::{AllocError, Global};
 use std::collections::HashMap;
@@ -17,6 +18,7 @@ use netlist::Sizes;
 use crate::assemble::{Refused, ask_nets, assemble};
 use crate::error::{BlifError, Fault, Refusal, Source, Spot, at};
 use crate::instances::refusal;
+use crate::judged::judged;
 use crate::models::Models;
 use crate::parse::parse;
 use crate::ports::{Value, nets, ports, values};
@@ -75,24 +77,6 @@ fn labels(alloc: Global, model: &Model<'_>, wire_of: &[u32]) -> Result<Vec<Label
     Ok(labels)
 }
 
-/// The judged wires, in order: those of labels, and those of the outputs, which are the last.
-fn judged(alloc: Global, labels: &[Label], wires: u32, outputs: u32) -> Result<Vec<u32>, AllocError> {
-    let first = wires.saturating_sub(outputs);
-    let mut marks = vec![in alloc; false; wires as usize]?;
-    for label in labels {
-        if let Some(mark) = marks.get_mut(label.wire as usize) {
-            *mark = true;
-        }
-    }
-    let mut judged = Vec::new(alloc);
-    for (wire, mark) in (0u32..).zip(marks.iter()) {
-        if *mark || first <= wire {
-            judged.push(wire)?;
-        }
-    }
-    Ok(judged)
-}
-
 /// A circuit, and the wire of each net of its model.
 #[derive(Drop)]
 pub struct Wired {
@@ -124,7 +108,8 @@ fn name_wires(
     outputs: &[Value<'_>],
     built: Built,
 ) -> Result<Wired, AllocError>
-    ensures { IfOk result (λ wired. (wired.circuit.gates.items ≡ built.gates.items) × (wired.wire_of.items ≡ built.wire_of.items)) }
+    ensures gates { IfOk result (λ wired. (wired.circuit.gates.items ≡ built.gates.items) × (wired.wire_of.items ≡ built.wire_of.items)) }
+    ensures judged { IfOk result (λ wired. AreJudged wired.circuit.judged.items wired.circuit.wires wired.wire_of.items) }
 {
     let Built {
         gates,
@@ -134,7 +119,8 @@ fn name_wires(
     } = built;
     let labels = labels(alloc, model, &wire_of)?;
     let outputs = ports(alloc, model, outputs)?;
-    let judged = judged(alloc, &labels, wires, bits(&outputs))?;
+    let first = wires.saturating_sub(bits(&outputs));
+    let judged = judged(alloc, &wire_of, wires, first)?;
     let circuit = Circuit {
         name: String::from_str(alloc, model.name.text)?,
         inputs: ports(alloc, model, inputs)?,
@@ -161,6 +147,8 @@ pub fn circuit_of(
     // So it is with the bits that a netlist of these gates computes, from any input bits.
     ensures runs { IfOk result (λ wired. (N : Netlist) → WellFormed N → N.gates ≡ wired.circuit.gates.items → (ins : List Bool)
         → All (StatementHolds (bits_at (wire_bits N ins)) wired.wire_of.items) model.now.statements.items) }
+    // Each net's wire is judged.
+    ensures judged { IfOk result (λ wired. AreJudged wired.circuit.judged.items wired.circuit.wires wired.wire_of.items) }
 {
     let assembled = match assemble(alloc, model, models) {
         Ok(cells) => cells,

@@ -10,7 +10,7 @@ use Rattle.blif.proofs.read.circuit_of.Goals as goal
 
 covers : goal.returns-clause-covers
 covers c u holds =
-    let same = c.in_ok-wired.ensures in
+    let same = c.in_ok-wired.ensures.gates in
     let gates = subst (λ (gs : List Gate). Holds u gs) same.0 holds in
     let over = λ (wires : List ℕ). All (StatementHolds u wires) c.args.model.now.statements.items in
     subst over (sym same.1) (c.in-Ok-build_model.ensures u gates)
