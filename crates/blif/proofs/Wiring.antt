@@ -1,19 +1,17 @@
 -- Where the cells hold, so do the covers that they were made of.
-use Rattle.std.proofs.Common.{◌≡◌, ℕ, ◌<◌, ◌≤◌, Bool, List, [], ◌∷◌, ◌++◌, map, take, length, refl, ap, sym, subst, ◌∙◌, append_assoc}
+use Rattle.std.proofs.Common.{◌≡◌, ℕ, ◌≤◌, Bool, List, [], ◌∷◌, ◌++◌, map, length, ap, sym, subst, ◌∙◌, append_assoc}
 use Rattle.std.proofs.lemmas.List.{append-nil}
 use Rattle.std.specs.List.{All, Contains}
 use Rattle.std.proofs.lemmas.List.{length-map}
-use Rattle.std.proofs.lemmas.List.Elements.{All-contains, All-weaker, All-same, Contains-append_left, Contains-push}
+use Rattle.std.proofs.lemmas.List.Elements.{All-contains, All-weaker, Contains-append_left, Contains-push}
 use Rattle.cells.specs.declared.build.Cell.{Cell}
-use Rattle.cells.specs.Tables.{table_bit}
-use Rattle.cells.specs.Covers.{cover_bit}
-use Rattle.cells.specs.Computes.{input_tables, Computes}
+use Rattle.cells.specs.Computes.{Computes}
 use Rattle.cells.specs.Netlists.{wire_at, CellHolds}
 use Rattle.cells.proofs.CoverLaw.{TableOf, cover_law}
 use Rattle.blif.specs.declared.statements.Names.{Names}
 use Rattle.blif.specs.declared.statements.Statement.{Statement}
 use Rattle.blif.specs.declared.statements.Statement.TheVariants.{OfNames, OfModel}
-use Rattle.blif.specs.Meaning.{SaysCover, HasCover, HasStatement, CoverHolds, StatementHolds, Adds, AddsCover}
+use Rattle.blif.specs.Meaning.{SaysCover, HasStatement, CoverHolds, StatementHolds, Adds, AddsCover}
 
 cover_holds : (u : ℕ → Bool) (wires : List ℕ) (n : Names) (c : Cell) → SaysCover n c → CellHolds u wires c → CoverHolds u wires n
 cover_holds u wires n c says holds =

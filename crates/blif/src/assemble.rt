@@ -3,16 +3,14 @@
 ghost use Rattle.std.specs.Prelude.{OnOk, IfOk, All};
 ghost use Rattle.blif.specs.Meaning.{HasStatement};
 
-use std::alloc::Global;
-
-use cells::build::Cell;
-use cells::table::INPUTS;
-
 use crate::error::{BlifError, Fault, Refusal, Source, Spot, at};
 use crate::instances::add_instance;
 use crate::models::Models;
 use crate::reads::reads;
 use crate::statements::{Instance, Model, Names, Statement};
+use cells::build::Cell;
+use cells::table::INPUTS;
+use std::alloc::Global;
 
 /// Cells, and the statement that each comes from.
 #[derive(Debug, Drop)]
@@ -44,7 +42,12 @@ impl Cells {
     }
 
     /// Adds the cells of an instance of a model.
-    fn add_model(&mut self, alloc: Global, models: &Models<'_>, instance: &Instance<'_>) -> Result<(), Refused>
+    fn add_model(
+        &mut self,
+        alloc: Global,
+        models: &Models<'_>,
+        instance: &Instance<'_>,
+    ) -> Result<(), Refused>
         ensures { OnOk result (Adds self.old.cells.items self.new.cells.items) }
     {
         let name = instance.model;
@@ -69,7 +72,12 @@ impl Cells {
     ghost use Rattle.blif.specs.Meaning.{HasStatement, Adds};
 
     /// Adds the cells of a statement.
-    fn add_statement(&mut self, alloc: Global, models: &Models<'_>, statement: &Statement<'_>) -> Result<(), Refused>
+    fn add_statement(
+        &mut self,
+        alloc: Global,
+        models: &Models<'_>,
+        statement: &Statement<'_>,
+    ) -> Result<(), Refused>
         ensures had { OnOk result (HasStatement self.new.cells.items statement.now) }
         ensures adds { OnOk result (Adds self.old.cells.items self.new.cells.items) }
     {
@@ -114,10 +122,18 @@ fn ask_once(model: &Model<'_>, given: &mut [bool], net: u32, spot: Spot) -> Resu
 }
 
 /// Asks that each net is given by an input or a cell, and once.
-fn ask_given(alloc: Global, model: &Model<'_>, cells: &Cells, read: &[bool]) -> Result<(), Refusal> {
+fn ask_given(
+    alloc: Global,
+    model: &Model<'_>,
+    cells: &Cells,
+    read: &[bool],
+) -> Result<(), Refusal> {
     let mut given = vec![in alloc; false; model.nets.len()]?;
     for net in &model.inputs {
-        let spot = model.nets.get(*net as usize).map_or(model.name.spot, |word| word.spot);
+        let spot = model
+            .nets
+            .get(*net as usize)
+            .map_or(model.name.spot, |word| word.spot);
         ask_once(model, &mut given, *net, spot)?;
     }
     for (cell, spot) in cells.cells.iter().zip(cells.spots.iter()) {

@@ -2,7 +2,6 @@
 
 use std::alloc::{AllocError, AllocFailed, Global};
 use std::fmt;
-
 use thiserror::Error;
 
 /// The file that a place is of.
@@ -101,7 +100,10 @@ impl fmt::Display for BlifError {
             BlifError::Memory => write!(f, "out of memory"),
             BlifError::Fault { fault, place } => write!(f, "{place}: {fault}"),
             BlifError::NoMasks => write!(f, "no input has the name of the masks"),
-            BlifError::Wires { wires, most } => write!(f, "the gates take {wires} wires, and a netlist has at most {most}"),
+            BlifError::Wires { wires, most } => write!(
+                f,
+                "the gates take {wires} wires, and a netlist has at most {most}"
+            ),
         }
     }
 }

@@ -3,15 +3,13 @@
 ghost use Rattle.std.specs.Prelude.{OnOk};
 ghost use Rattle.blif.specs.Meaning.{Adds};
 
-use std::alloc::Global;
-use std::collections::HashMap;
-
+use crate::error::{Fault, Refusal, Spot, at};
+use crate::statements::{Instance, Model, Names, Statement};
 use cells::build::{BuildError, Cell};
 use cells::order::order;
 use cells::table::{INPUTS, MOST_INPUTS};
-
-use crate::error::{Fault, Refusal, Spot, at};
-use crate::statements::{Instance, Model, Names, Statement};
+use std::alloc::Global;
+use std::collections::HashMap;
 
 /// A model as a cell: its pins by number, the inputs first, and the table of each output pin over the inputs.
 #[derive(Debug, Drop)]
@@ -138,7 +136,11 @@ pub fn shape_of<'a>(alloc: Global, model: &Model<'a>) -> Result<Shape<'a>, Refus
 }
 
 /// The nets that an instance connects to the pins of its model, by number.
-fn connected(alloc: Global, shape: &Shape<'_>, instance: &Instance<'_>) -> Result<Vec<Option<u32>>, Refusal> {
+fn connected(
+    alloc: Global,
+    shape: &Shape<'_>,
+    instance: &Instance<'_>,
+) -> Result<Vec<Option<u32>>, Refusal> {
     let pins = shape.inputs.saturating_add(shape.tables.len());
     let mut nets = vec![in alloc; None; pins]?;
     for connection in &instance.connections {
@@ -179,7 +181,12 @@ fn add_pin(
 }
 
 /// The nets that the input pins are connected to.
-fn input_nets(alloc: Global, nets: &[Option<u32>], inputs: usize, spot: Spot) -> Result<Vec<u32>, Refusal> {
+fn input_nets(
+    alloc: Global,
+    nets: &[Option<u32>],
+    inputs: usize,
+    spot: Spot,
+) -> Result<Vec<u32>, Refusal> {
     let mut list = Vec::new(alloc);
     for net in nets.iter().take(inputs) {
         match net {

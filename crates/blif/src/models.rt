@@ -1,11 +1,10 @@
 //! The models that a netlist may use as cells.
 
-use std::alloc::Global;
-use std::collections::HashMap;
-
 use crate::error::{BlifError, Fault, Refusal, Source, at};
 use crate::instances::{Shape, shape_of};
 use crate::statements::Model;
+use std::alloc::Global;
+use std::collections::HashMap;
 
 /// A model as a cell, or why it is none, and the file that it stands in.
 #[derive(Debug, Drop)]
@@ -22,11 +21,19 @@ pub struct Models<'a> {
 
 impl<'a> Models<'a> {
     /// Adds models of a file. A name of an earlier file stays with that file's model.
-    pub fn add(&mut self, alloc: Global, models: &[Model<'a>], source: Source) -> Result<(), Refusal> {
+    pub fn add(
+        &mut self,
+        alloc: Global,
+        models: &[Model<'a>],
+        source: Source,
+    ) -> Result<(), Refusal> {
         for model in models {
             let name = model.name.text;
             match self.entries.get(&name) {
-                Some(entry) if entry.source == source => return Err(at(model.name.spot, Fault::ModelTwice)),
+                Some(entry) if entry.source == source => return Err(at(
+                    model.name.spot,
+                    Fault::ModelTwice,
+                )),
                 Some(_) => continue,
                 None => (),
             }

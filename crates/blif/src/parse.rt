@@ -1,13 +1,11 @@
 //! A text of BLIF as its models.
 
-use std::alloc::Global;
-
-use cells::cover::{Cover, Cube, Literal};
-use cells::table::MOST_INPUTS;
-
 use crate::error::{Fault, Refusal, Spot, at};
 use crate::reads::leave_out_constants;
 use crate::statements::{Connection, Instance, Model, Names, Statement, Word};
+use cells::cover::{Cover, Cube, Literal};
+use cells::table::MOST_INPUTS;
+use std::alloc::Global;
 
 /// The models so far, and the words of the statement at hand.
 #[derive(Drop)]
@@ -100,7 +98,12 @@ fn add_ports<'a>(model: &mut Model<'a>, words: &[Word<'a>], outputs: bool) -> Re
 }
 
 /// Adds a `.names` statement, whose last word is the net that it gives.
-fn add_names<'a>(alloc: Global, model: &mut Model<'a>, words: &[Word<'a>], spot: Spot) -> Result<(), Refusal> {
+fn add_names<'a>(
+    alloc: Global,
+    model: &mut Model<'a>,
+    words: &[Word<'a>],
+    spot: Spot,
+) -> Result<(), Refusal> {
     let mut inputs = Vec::new(alloc);
     let mut last = None;
     for word in words.iter().skip(1) {
@@ -146,7 +149,12 @@ fn connection<'a>(model: &mut Model<'a>, word: Word<'a>) -> Result<Connection<'a
 }
 
 /// Adds a `.subckt` or `.gate` statement.
-fn add_instance<'a>(alloc: Global, model: &mut Model<'a>, words: &[Word<'a>], spot: Spot) -> Result<(), Refusal> {
+fn add_instance<'a>(
+    alloc: Global,
+    model: &mut Model<'a>,
+    words: &[Word<'a>],
+    spot: Spot,
+) -> Result<(), Refusal> {
     let Some(name) = words.get(1).copied() else {
         return Err(at(spot, Fault::Short));
     };
@@ -163,7 +171,12 @@ fn add_instance<'a>(alloc: Global, model: &mut Model<'a>, words: &[Word<'a>], sp
 }
 
 /// Adds the statement that begins with a word, in a model.
-fn add_statement<'a>(alloc: Global, model: &mut Model<'a>, words: &[Word<'a>], first: Word<'a>) -> Result<(), Refusal> {
+fn add_statement<'a>(
+    alloc: Global,
+    model: &mut Model<'a>,
+    words: &[Word<'a>],
+    first: Word<'a>,
+) -> Result<(), Refusal> {
     match first.text {
         ".inputs" => add_ports(model, words, false),
         ".outputs" => add_ports(model, words, true),
@@ -251,7 +264,8 @@ impl<'a> Parser<'a> {
     }
 }
 
-/// The models of a text, in their order. The constants that yosys writes into each file are left out where nothing reads them.
+/// The models of a text, in their order. The constants that yosys writes into each file are left out where nothing
+/// reads them.
 pub fn parse<'a>(alloc: Global, text: &'a str) -> Result<Vec<Model<'a>>, Refusal> {
     let mut parser = Parser {
         alloc,

@@ -1,11 +1,9 @@
 //! Ports as values: bits named `key[0]`, `key[1]`, .. are one value `key`.
 
+use crate::statements::Model;
+use circuit::Port;
 use std::alloc::{AllocError, Global};
 use std::collections::HashMap;
-
-use circuit::Port;
-
-use crate::statements::Model;
 
 /// A bit of a value: its place there as its name tells it, and its net.
 #[derive(Clone, Copy, Debug)]
@@ -32,7 +30,11 @@ fn split(name: &str) -> Option<(&str, u32)> {
 }
 
 /// The values of the nets of ports, in the order of their first bits.
-pub fn values<'a>(alloc: Global, model: &Model<'a>, nets: &[u32]) -> Result<Vec<Value<'a>>, AllocError> {
+pub fn values<'a>(
+    alloc: Global,
+    model: &Model<'a>,
+    nets: &[u32],
+) -> Result<Vec<Value<'a>>, AllocError> {
     let mut values: Vec<Value<'a>> = Vec::new(alloc);
     let mut places: HashMap<&'a str, usize> = HashMap::new(alloc);
     for net in nets {
@@ -62,7 +64,11 @@ pub fn values<'a>(alloc: Global, model: &Model<'a>, nets: &[u32]) -> Result<Vec<
 }
 
 /// The ports of values. A value of one bit has the whole name of its net.
-pub fn ports(alloc: Global, model: &Model<'_>, values: &[Value<'_>]) -> Result<Vec<Port>, AllocError> {
+pub fn ports(
+    alloc: Global,
+    model: &Model<'_>,
+    values: &[Value<'_>],
+) -> Result<Vec<Port>, AllocError> {
     let mut ports = Vec::new(alloc);
     for value in values {
         let name = match value.bits.as_slice() {

@@ -8,13 +8,6 @@ ghost use Rattle.cells.specs.Computes.{Holds};
 ghost use Rattle.blif.specs.Meaning.{HasStatement, StatementHolds};
 ghost use Rattle.blif.specs.Judged.{AreJudged};
 
-use std::alloc::{AllocError, Global};
-use std::collections::HashMap;
-
-use cells::build::{BuildError, Built, Cell, NO_WIRE, build};
-use circuit::{Circuit, Label, bits};
-use netlist::Sizes;
-
 use crate::assemble::{Refused, ask_nets, assemble};
 use crate::error::{BlifError, Fault, Refusal, Source, Spot, at};
 use crate::instances::refusal;
@@ -23,6 +16,11 @@ use crate::models::Models;
 use crate::parse::parse;
 use crate::ports::{Value, nets, ports, values};
 use crate::statements::Model;
+use cells::build::{BuildError, Built, Cell, NO_WIRE, build};
+use circuit::{Circuit, Label, bits};
+use netlist::Sizes;
+use std::alloc::{AllocError, Global};
+use std::collections::HashMap;
 
 /// The text of the netlist and that of the cells, where there is one.
 #[derive(Clone, Copy)]
@@ -108,8 +106,10 @@ fn name_wires(
     outputs: &[Value<'_>],
     built: Built,
 ) -> Result<Wired, AllocError>
-    ensures gates { IfOk result (λ wired. (wired.circuit.gates.items ≡ built.gates.items) × (wired.wire_of.items ≡ built.wire_of.items)) }
-    ensures judged { IfOk result (λ wired. AreJudged wired.circuit.judged.items wired.circuit.wires wired.wire_of.items) }
+    ensures gates { IfOk result (λ wired. (wired.circuit.gates.items ≡ built.gates.items)
+        × (wired.wire_of.items ≡ built.wire_of.items)) }
+    ensures judged { IfOk result (λ wired. AreJudged wired.circuit.judged.items wired.circuit.wires
+        wired.wire_of.items) }
 {
     let Built {
         gates,
@@ -133,8 +133,9 @@ fn name_wires(
     Ok(Wired { circuit, wire_of })
 }
 
-/// The circuit of a model with these models as its cells. With any bits of its wires that its gates allow, the wire of the net that each cover
-/// gives has the bit that the cover says, of the bits of the wires of the nets that it reads, whatever the order of the statements.
+/// The circuit of a model with these models as its cells. With any bits of its wires that its gates allow, the wire
+/// of the net that each cover gives has the bit that the cover says, of the bits of the wires of the nets that it
+/// reads, whatever the order of the statements.
 pub fn circuit_of(
     alloc: Global,
     model: &Model<'_>,
@@ -145,10 +146,12 @@ pub fn circuit_of(
     ensures covers { IfOk result (λ wired. (u : ℕ → Bool) → Holds u wired.circuit.gates.items
         → All (StatementHolds u wired.wire_of.items) model.now.statements.items) }
     // So it is with the bits that a netlist of these gates computes, from any input bits.
-    ensures runs { IfOk result (λ wired. (N : Netlist) → WellFormed N → N.gates ≡ wired.circuit.gates.items → (ins : List Bool)
+    ensures runs { IfOk result (λ wired. (N : Netlist) → WellFormed N → N.gates ≡ wired.circuit.gates.items
+        → (ins : List Bool)
         → All (StatementHolds (bits_at (wire_bits N ins)) wired.wire_of.items) model.now.statements.items) }
     // Each net's wire is judged.
-    ensures judged { IfOk result (λ wired. AreJudged wired.circuit.judged.items wired.circuit.wires wired.wire_of.items) }
+    ensures judged { IfOk result (λ wired. AreJudged wired.circuit.judged.items wired.circuit.wires
+        wired.wire_of.items) }
 {
     let assembled = match assemble(alloc, model, models) {
         Ok(cells) => cells,
@@ -177,15 +180,23 @@ pub fn circuit_of(
     Ok(wired)
 }
 
-/// The circuit of a text of BLIF: of its first model, with the others and those of `cells` as cells. The input value of the name `masks`,
-/// where one is told, is put last. Each net has a wire, which is judged, and so has each output.
-pub fn read(alloc: Global, text: &str, cells: Option<&str>, masks: Option<&str>) -> Result<Circuit, BlifError> {
+/// The circuit of a text of BLIF: of its first model, with the others and those of `cells` as cells. The input value
+/// of the name `masks`, where one is told, is put last. Each net has a wire, which is judged, and so has each output.
+pub fn read(
+    alloc: Global,
+    text: &str,
+    cells: Option<&str>,
+    masks: Option<&str>,
+) -> Result<Circuit, BlifError> {
     let texts = Texts {
         netlist: text,
         cells: cells.unwrap_or(""),
     };
     let own = parse(alloc, text).map_err(|refusal| refusal.placed(text, Source::Netlist))?;
-    let library = parse(alloc, texts.cells).map_err(|refusal| refusal.placed(texts.cells, Source::Cells))?;
+    let library = parse(alloc, texts.cells).map_err(|refusal| refusal.placed(
+        texts.cells,
+        Source::Cells,
+    ))?;
     let start = Spot { line: 1, word: 1 };
     let Some((model, others)) = own.split_first() else {
         return Err(texts.at_netlist(at(start, Fault::NoModel)));

@@ -1,8 +1,7 @@
 //! Which nets are read, and the constants that nothing reads.
 
-use std::alloc::{AllocError, Global};
-
 use crate::statements::{Model, Statement};
+use std::alloc::{AllocError, Global};
 
 /// Which nets are read: by a cell, or as an output.
 pub fn reads(alloc: Global, model: &Model<'_>) -> Result<Vec<bool>, AllocError> {

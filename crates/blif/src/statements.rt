@@ -1,11 +1,9 @@
 //! What a file of BLIF says: its models and their statements.
 
+use crate::error::Spot;
+use cells::cover::Cover;
 use std::alloc::{AllocError, Global};
 use std::collections::HashMap;
-
-use cells::cover::Cover;
-
-use crate::error::Spot;
 
 /// A word of a file, and where it stands.
 #[derive(Clone, Copy, Debug)]

@@ -1,11 +1,10 @@
 //! A circuit as a text of BLIF: a `.names` for each gate, in the order of the gates.
 
-use std::alloc::{AllocError, Global};
-use std::fmt::Write;
-
 use circuit::wires::wire_names;
 use circuit::{Circuit, Port, bit_name};
 use netlist::Gate;
+use std::alloc::{AllocError, Global};
+use std::fmt::Write;
 
 /// The name of a wire. A wire past the last has none.
 fn name(names: &[String], wire: u32) -> &str {
@@ -16,7 +15,12 @@ fn name(names: &[String], wire: u32) -> &str {
 }
 
 /// Writes a line for each value: a command, and the names of its bits.
-fn write_ports(alloc: Global, out: &mut String, command: &str, ports: &[Port]) -> Result<(), AllocError> {
+fn write_ports(
+    alloc: Global,
+    out: &mut String,
+    command: &str,
+    ports: &[Port],
+) -> Result<(), AllocError> {
     for port in ports {
         out.push_str(command)?;
         for bit in 0..port.width {
@@ -96,7 +100,9 @@ pub fn write(alloc: Global, circuit: &Circuit) -> Result<String, AllocError> {
         circuit.name.as_str()
     };
     let mut out = format!(in alloc; ".model {model}\n")?;
-    let first = circuit.wires.saturating_sub(circuit::bits(&circuit.outputs));
+    let first = circuit
+        .wires
+        .saturating_sub(circuit::bits(&circuit.outputs));
     write_ports(alloc, &mut out, ".inputs", &circuit.inputs)?;
     write_ports(alloc, &mut out, ".outputs", &circuit.outputs)?;
     for gate in &circuit.gates {

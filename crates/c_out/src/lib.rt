@@ -1,14 +1,14 @@
-//! A circuit as bit-sliced C: each word holds a bit of as many runs as it has bits. After each statement stands an empty barrier on the
-//! value: without it compilers add the terms in another order, which undoes masking.
+//! A circuit as bit-sliced C: each word holds a bit of as many runs as it has bits. After each statement stands an
+//! empty barrier on the value: without it compilers add the terms in another order, which undoes masking.
 #![tactic(auto)]
-
-use std::alloc::{AllocError, Global};
-use std::fmt::Write;
 
 use circuit::{Circuit, Port, bits};
 use netlist::Gate;
+use std::alloc::{AllocError, Global};
+use std::fmt::Write;
 
-/// What is written: the type of a word, as `uint32_t`, the name of the function, and whether a barrier stands after each statement.
+/// What is written: the type of a word, as `uint32_t`, the name of the function, and whether a barrier stands after
+/// each statement.
 #[derive(Clone, Copy, Debug)]
 pub struct Options<'a> {
     pub word: &'a str,
@@ -50,7 +50,9 @@ fn write_values(out: &mut String, list: &str, ports: &[Port]) -> Result<(), Allo
 /// Writes the head of the file.
 fn write_head(out: &mut String, circuit: &Circuit, options: Options<'_>) -> Result<(), AllocError> {
     let Options { word, function, .. } = options;
-    out.push_str("/* A netlist, bit-sliced: bit j of each word belongs to run j. A word is read for each input bit, and one is\n")?;
+    out.push_str(
+        "/* A netlist, bit-sliced: bit j of each word belongs to run j. A word is read for each input bit, one is\n",
+    )?;
     out.push_str(" * written for each output bit, from the lowest bit of each value on.\n")?;
     write_values(out, "in", &circuit.inputs)?;
     write_values(out, "out", &circuit.outputs)?;

@@ -1,11 +1,11 @@
 -- A cell whose table is a cover's gives what the cover says of the bits of its inputs.
-use Rattle.std.proofs.Common.{◌≡◌, ℕ, zero, suc, ◌<◌, ◌≤◌, Bool, true, false, List, [], ◌∷◌, map, take, length, refl, ap, ap₂, sym, ◌∙◌, arith}
+use Rattle.std.proofs.Common.{◌≡◌, ℕ, zero, suc, ◌<◌, ◌≤◌, Bool, false, List, [], ◌∷◌, map, take, length, refl, ap, ap₂, sym, ◌∙◌, arith}
 use Rattle.std.specs.List.{slice_index}
 use Rattle.cells.specs.declared.cover.Cover.{Cover}
 use Rattle.cells.specs.Tables.{table_bit}
 use Rattle.cells.specs.Covers.{cover_bit}
 use Rattle.cells.specs.Computes.{AreSet, input_tables, Computes}
-use Rattle.cells.proofs.Settings.{Row, row}
+use Rattle.cells.proofs.Settings.{row}
 
 -- what the table is of a cover over so many inputs
 abbrev pub TableOf : Cover → ℕ → ℕ → Type 0

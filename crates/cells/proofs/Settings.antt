@@ -1,10 +1,8 @@
 -- Each choice of the bits of up to six inputs is one of the settings of a table.
-use Rattle.std.proofs.Common.{◌≡◌, ℕ, zero, suc, ◌+◌, ◌*◌, ◌/◌, ◌%◌, ◌<◌, ◌≤◌, Bool, true, false, List, [], ◌∷◌, map, take, length, nat_eq, refl, ap, ◌∙◌, arith, slice_index_or}
-use Rattle.std.specs.List.{slice_index}
+use Rattle.std.proofs.Common.{◌≡◌, ℕ, ◌+◌, ◌*◌, ◌/◌, ◌%◌, ◌<◌, Bool, true, false, nat_eq, refl, ap, ◌∙◌, arith}
 use Rattle.netlist.specs.Eval.{bit}
 use Rattle.netlist.proofs.EachNumber.{same-below}
 use Rattle.cells.specs.Tables.{table_bit}
-use Rattle.cells.specs.Computes.{AreSet, input_tables}
 
 -- the setting of six bits
 abbrev pub setting : Bool → Bool → Bool → Bool → Bool → Bool → ℕ
@@ -68,7 +66,7 @@ pub row : (a b c d e f : Bool) → Row a b c d e f
 row a b c d e f =
     let n = setting a b c d e f in
     let all = digits (bit a) (bit b) (bit c) (bit d) (bit e) (bit f) n (bit_small a) (bit_small b) (bit_small c)
-        (bit_small d) (bit_small e) (bit_small f) refl in
+    (bit_small d) (bit_small e) (bit_small f) refl in
     record {
       at = n;
       below = all.0;

@@ -21,7 +21,8 @@ input_tables =
 
 -- the wires have the bits that the tables of the inputs say of setting j
 abbrev pub AreSet : (ℕ → Bool) → ℕ → List ℕ → Type 0
-AreSet u j wires = (k : ℕ) → k < length wires → k < 6 → u (slice_index wires k) ≡ table_bit (slice_index input_tables k) j
+AreSet u j wires =
+    (k : ℕ) → k < length wires → k < 6 → u (slice_index wires k) ≡ table_bit (slice_index input_tables k) j
 
 -- in each setting that the inputs' wires carry, the output's wire carries what the table says
 abbrev pub Computes : (ℕ → Bool) → List ℕ → ℕ → ℕ → Type 0

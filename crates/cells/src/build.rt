@@ -7,16 +7,14 @@ ghost use Rattle.netlist.specs.Read.{WellFormed};
 ghost use Rattle.cells.specs.Computes.{Holds};
 ghost use Rattle.cells.specs.Netlists.{CellHolds};
 
-use std::alloc::{AllocError, AllocFailed, Global};
-
-use netlist::Gate;
-use thiserror::Error;
-
 use crate::check::check_cells;
 use crate::emit::{EmitError, Emitter};
 use crate::order::order;
 use crate::outputs::put_outputs;
 use crate::table::MOST_INPUTS;
+use netlist::Gate;
+use std::alloc::{AllocError, AllocFailed, Global};
+use thiserror::Error;
 
 /// A cell: the net that it gives, the nets that it reads, and its truth table over these.
 #[derive(Debug, Drop)]
@@ -136,7 +134,12 @@ impl Builder {
 }
 
 /// The gates of cells, over `nets` nets of which `given` are the input bits, in the order of their wires.
-fn build_cells(alloc: Global, nets: usize, given: &[u32], cells: &[Cell]) -> Result<Built, BuildError> {
+fn build_cells(
+    alloc: Global,
+    nets: usize,
+    given: &[u32],
+    cells: &[Cell],
+) -> Result<Built, BuildError> {
     let bits = u32::try_from(given.len()).map_err(|_| BuildError::Wires)?;
     let mut builder = Builder {
         emitter: Emitter::new(alloc, bits),
@@ -168,8 +171,8 @@ fn build_cells(alloc: Global, nets: usize, given: &[u32], cells: &[Cell]) -> Res
     })
 }
 
-/// The gates of cells in any order, over `nets` nets. The nets `given` are the input bits, which are the first wires, and the nets `outputs`
-/// the output bits, which are the last.
+/// The gates of cells in any order, over `nets` nets. The nets `given` are the input bits, which are the first wires,
+/// and the nets `outputs` the output bits, which are the last.
 pub fn build(
     alloc: Global,
     nets: usize,
@@ -188,8 +191,8 @@ pub fn build(
     Ok(built)
 }
 
-/// In a well-formed netlist, the bits of all wires, from any input bits, are such bits: each gate's wire has what the gate makes.
+/// In a well-formed netlist, the bits of all wires, from any input bits, are such bits: each gate's wire has what the
+/// gate makes.
 pub fn runs_hold()
     ensures { (N : Netlist) (ins : List Bool) → WellFormed N → Holds (bits_at (wire_bits N ins)) N.gates }
-{
-}
+{}

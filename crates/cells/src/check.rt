@@ -4,12 +4,10 @@ ghost use Rattle.std.specs.Prelude.{◌≡◌, ℕ, Bool, IfOk, OnOk, IsTrue, ma
 ghost use Rattle.cells.specs.Computes.{Holds};
 ghost use Rattle.cells.specs.Netlists.{wire_at, CellHolds};
 
-use std::alloc::{AllocError, Global};
-
-use netlist::Gate;
-
 use crate::build::{BuildError, Built, Cell, NO_WIRE, Span};
 use crate::verify::{Known, verify};
+use netlist::Gate;
+use std::alloc::{AllocError, Global};
 
 /// The wire of a net.
 fn wire_of(wires: &[u32], net: u32) -> u32
@@ -40,7 +38,13 @@ fn check_cell(
     ensures { IfOk result (λ yes. IsTrue yes → (u : ℕ → Bool) → Holds u gates.now → CellHolds u wires.now cell.now) }
 {
     gather(inputs, wires, &cell.inputs)?;
-    let yes = verify(known, gates, inputs, wire_of(wires, cell.output), cell.table)?;
+    let yes = verify(
+        known,
+        gates,
+        inputs,
+        wire_of(wires, cell.output),
+        cell.table,
+    )?;
     Ok(yes)
 }
 
@@ -57,12 +61,17 @@ fn part(gates: &[Gate], span: Span) -> &[Gate]
 
 /// Asks that the gates of each cell compute what it says.
 pub fn check_cells(alloc: Global, built: &Built, cells: &[Cell]) -> Result<(), BuildError>
-    ensures { OnOk result ((u : ℕ → Bool) → Holds u built.now.gates.items → All (CellHolds u built.now.wire_of.items) cells.now) }
+    ensures { OnOk result ((u : ℕ → Bool) → Holds u built.now.gates.items
+        → All (CellHolds u built.now.wire_of.items) cells.now) }
 {
     let mut known = Vec::new(alloc);
     let mut inputs = Vec::new(alloc);
     for (number, cell) in cells.iter().enumerate() {
-        let span = built.spans.get(number).copied().unwrap_or(Span { start: 0, end: 0 });
+        let span = built
+            .spans
+            .get(number)
+            .copied()
+            .unwrap_or(Span { start: 0, end: 0 });
         let gates = part(&built.gates, span);
         if !check_cell(&mut known, &mut inputs, gates, &built.wire_of, cell)? {
             return Err(BuildError::Table { cell: number });

@@ -42,7 +42,8 @@ fn literal_table(literal: Literal, input: u64) -> u64
 /// The table of literals over inputs with these tables.
 #[tactic(auto, using(crate::proofs::TableBits::table_bit_always))]
 fn literals_table(literals: &[Literal], inputs: &[u64]) -> u64
-    ensures { (j : ℕ) → j < 64 → table_bit result j ≡ literals_admit literals.now (map (λ t. table_bit t j) inputs.now) }
+    ensures { (j : ℕ) → j < 64 → table_bit result j
+        ≡ literals_admit literals.now (map (λ t. table_bit t j) inputs.now) }
 {
     let [literal, more_literals @ ..] = literals else {
         return ALWAYS;

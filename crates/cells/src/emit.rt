@@ -2,12 +2,10 @@
 
 ghost use Rattle.std.specs.Prelude.{◌<◌, ◌≤◌, length};
 
-use std::alloc::{AllocError, AllocFailed, Global};
-
-use netlist::Gate;
-
 use crate::table::{ALWAYS, INPUTS, NEVER, at_one, at_zero};
 use crate::verify::Known;
+use netlist::Gate;
+use std::alloc::{AllocError, AllocFailed, Global};
 
 /// Why no gates were made.
 #[derive(Clone, Copy, Debug, PartialEq, Eq)]
@@ -40,7 +38,8 @@ pub struct Emitter {
     pub known: Vec<Known>,
 }
 
-/// Which two are made of a function where an input is zero, where it is one, and the sum of these; the third is the sum of the two.
+/// Which two are made of a function where an input is zero, where it is one, and the sum of these; the third is the
+/// sum of the two.
 #[derive(Clone, Copy)]
 enum Parts {
     ZeroAndSum,
@@ -95,7 +94,10 @@ impl Emitter {
 
     /// The known wire with this table.
     fn find(&self, table: u64) -> Option<Known> {
-        self.known.iter().find(|known| known.table == table).copied()
+        self.known
+            .iter()
+            .find(|known| known.table == table)
+            .copied()
     }
 
     /// Takes the next wire for a gate that gives this table.
@@ -176,7 +178,13 @@ impl Emitter {
 
     #[cycle(function)]
     /// The function that is `zero` where an input is zero and `one` where it is one.
-    fn joined(&mut self, zero: u64, one: u64, input: usize, parts: Parts) -> Result<Known, EmitError>
+    fn joined(
+        &mut self,
+        zero: u64,
+        one: u64,
+        input: usize,
+        parts: Parts,
+    ) -> Result<Known, EmitError>
         requires { input < 6 }
     {
         if let Parts::ZeroAndOne = parts {

@@ -1,8 +1,7 @@
 //! An order of cells in which each stands after those that give its inputs.
 
-use std::alloc::Global;
-
 use crate::build::{BuildError, Cell};
+use std::alloc::Global;
 
 /// How far the walk is with a cell.
 #[derive(Clone, Copy, Debug, PartialEq, Eq)]

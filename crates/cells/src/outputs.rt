@@ -1,10 +1,8 @@
 //! The outputs on the last wires.
 
-use std::alloc::Global;
-
-use netlist::Gate;
-
 use crate::build::{BuildError, Built, NO_WIRE};
+use netlist::Gate;
+use std::alloc::Global;
 
 /// The wire that a wire becomes.
 fn moved(wire_to: &[u32], wire: u32) -> u32 {
@@ -15,10 +13,18 @@ fn moved(wire_to: &[u32], wire: u32) -> u32 {
 fn moved_gate(wire_to: &[u32], gate: Gate) -> Gate {
     match gate {
         Gate::Xor(left, right, result) => {
-            Gate::Xor(moved(wire_to, left), moved(wire_to, right), moved(wire_to, result))
+            Gate::Xor(
+                moved(wire_to, left),
+                moved(wire_to, right),
+                moved(wire_to, result),
+            )
         }
         Gate::And(left, right, result) => {
-            Gate::And(moved(wire_to, left), moved(wire_to, right), moved(wire_to, result))
+            Gate::And(
+                moved(wire_to, left),
+                moved(wire_to, right),
+                moved(wire_to, result),
+            )
         }
         Gate::Inv(source, result) => Gate::Inv(moved(wire_to, source), moved(wire_to, result)),
         Gate::Eqw(source, result) => Gate::Eqw(moved(wire_to, source), moved(wire_to, result)),
@@ -39,7 +45,12 @@ struct Places {
 }
 
 /// The places that wires take: a net that is no input and no earlier output has a wire to move.
-fn take_places(alloc: Global, built: &Built, inputs: u32, outputs: &[u32]) -> Result<Places, BuildError> {
+fn take_places(
+    alloc: Global,
+    built: &Built,
+    inputs: u32,
+    outputs: &[u32],
+) -> Result<Places, BuildError> {
     let mut places = Places {
         place_of: vec![in alloc; NO_WIRE; built.wires as usize]?,
         copies: 0,
@@ -54,7 +65,8 @@ fn take_places(alloc: Global, built: &Built, inputs: u32, outputs: &[u32]) -> Re
     Ok(places)
 }
 
-/// What each wire becomes: the wires with a place among the outputs come from `base` on, the others before them in their order.
+/// What each wire becomes: the wires with a place among the outputs come from `base` on, the others before them in
+/// their order.
 fn moves(alloc: Global, place_of: &[u32], base: u32) -> Result<Vec<u32>, BuildError> {
     let mut wire_to = Vec::new(alloc);
     let mut next = 0u32;
@@ -88,7 +100,12 @@ fn moved_wires(alloc: Global, wire_to: &[u32], wires: &[u32]) -> Result<Vec<u32>
 }
 
 /// Adds a copy for each output whose net has another wire than the output's, which are those from `base` on.
-fn add_copies(gates: &mut Vec<Gate>, wire_of: &[u32], base: u32, outputs: &[u32]) -> Result<(), BuildError> {
+fn add_copies(
+    gates: &mut Vec<Gate>,
+    wire_of: &[u32],
+    base: u32,
+    outputs: &[u32],
+) -> Result<(), BuildError> {
     for (place, net) in outputs.iter().enumerate() {
         let own = u32::try_from(place).map_err(|_| BuildError::Wires)?;
         let own = base.checked_add(own).ok_or(BuildError::Wires)?;
@@ -100,12 +117,20 @@ fn add_copies(gates: &mut Vec<Gate>, wire_of: &[u32], base: u32, outputs: &[u32]
     Ok(())
 }
 
-/// The same gates with the outputs on the last wires: the wires of the outputs' nets become these, in order, and all others keep theirs. An
-/// output whose net is one of the first `inputs` wires, or an earlier output, gets a copy.
-pub fn put_outputs(alloc: Global, built: Built, inputs: u32, outputs: &[u32]) -> Result<Built, BuildError> {
+/// The same gates with the outputs on the last wires: the wires of the outputs' nets become these, in order, and all
+/// others keep theirs. An output whose net is one of the first `inputs` wires, or an earlier output, gets a copy.
+pub fn put_outputs(
+    alloc: Global,
+    built: Built,
+    inputs: u32,
+    outputs: &[u32],
+) -> Result<Built, BuildError> {
     let count = u32::try_from(outputs.len()).map_err(|_| BuildError::Wires)?;
     let places = take_places(alloc, &built, inputs, outputs)?;
-    let wires = built.wires.checked_add(places.copies).ok_or(BuildError::Wires)?;
+    let wires = built
+        .wires
+        .checked_add(places.copies)
+        .ok_or(BuildError::Wires)?;
     let base = wires.checked_sub(count).ok_or(BuildError::Wires)?;
     let wire_to = moves(alloc, &places.place_of, base)?;
     let mut gates = moved_gates(alloc, &wire_to, &built.gates)?;

@@ -7,11 +7,9 @@ ghost use Rattle.cells.specs.Tables.{table_bit};
 ghost use Rattle.cells.specs.Computes.{Satisfies, Holds, AreSet, Computes, input_tables};
 ghost use Rattle.cells.specs.Verify.{Right, AllRight};
 
-use std::alloc::AllocError;
-
-use netlist::Gate;
-
 use crate::table::{INPUTS, constant, inverse, product, sum};
+use netlist::Gate;
+use std::alloc::AllocError;
 
 /// A wire whose table over the inputs of the cell at hand is known.
 #[derive(Clone, Copy, Debug)]
@@ -22,7 +20,8 @@ pub struct Known {
 
 /// The table of a wire that is known.
 fn table_of(known: &[Known], wire: u32) -> Option<u64>
-    ensures { IfSome result (λ table. (u : ℕ → Bool) (j : ℕ) → AllRight u j known.now → u wire ≡ table_bit table j) }
+    ensures { IfSome result (λ table. (u : ℕ → Bool) (j : ℕ) → AllRight u j known.now
+        → u wire ≡ table_bit table j) }
 {
     for entry in known {
         if entry.wire == wire {

@@ -1,14 +1,13 @@
-//! A circuit from and to a text of Bristol Fashion, which has no names: values are `input0`, `input1`, .. and `output0`, `output1`, ...
+//! A circuit from and to a text of Bristol Fashion, which has no names: values are `input0`, `input1`, .. and
+//! `output0`, `output1`, ...
 
-use std::alloc::{AllocError, AllocFailed, Global};
-use std::fmt::Write;
-
+use crate::{Circuit, Port};
 use netlist::{Gate, Refusal, Sizes};
 use reader::gate_reader::GateReader;
 use reader::reader_opening::open_at;
+use std::alloc::{AllocError, AllocFailed, Global};
+use std::fmt::Write;
 use thiserror::Error;
-
-use crate::{Circuit, Port};
 
 /// Why a text is no circuit.
 #[derive(Clone, Copy, Debug, PartialEq, Eq, Error)]
@@ -68,12 +67,17 @@ fn all_wires(alloc: Global, wires: u32) -> Result<Vec<u32>, AllocError> {
     Ok(all)
 }
 
-/// The circuit of a text, by questions 2 to 7 with the limits for whole ciphers (docs/RULES.md, Questions). No wire has a label, and all are
-/// judged. Whether operands are given is not asked.
+/// The circuit of a text, by questions 2 to 7 with the limits for whole ciphers (docs/RULES.md, Questions). No wire
+/// has a label, and all are judged. Whether operands are given is not asked.
 pub fn read(alloc: Global, text: &[u8]) -> Result<Circuit, FashionError> {
     let mut input_widths = [0u32; 17];
     let mut output_widths = [0u32; 16];
-    let (header, reader) = match open_at(text, &mut input_widths, &mut output_widths, Sizes::Whole) {
+    let (header, reader) = match open_at(
+        text,
+        &mut input_widths,
+        &mut output_widths,
+        Sizes::Whole,
+    ) {
         Ok(opened) => opened,
         Err(refusal) => return Err(FashionError::Refused(refusal)),
     };

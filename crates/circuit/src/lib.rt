@@ -1,14 +1,13 @@
-//! A netlist with what people want kept: the names and widths of its values, the names of its wires with the lines that they came
-//! from, and the wires that are judged.
+//! A netlist with what people want kept: the names and widths of its values, the names of its wires with the lines
+//! that they came from, and the wires that are judged.
 #![tactic(auto)]
 
 pub mod fashion;
 pub mod names;
 pub mod wires;
 
-use std::alloc::{AllocError, Global};
-
 use netlist::Gate;
+use std::alloc::{AllocError, Global};
 
 /// An input or output value: its name, and its width in bits.
 #[derive(Debug, Drop, PartialEq, Eq)]
@@ -25,8 +24,8 @@ pub struct Label {
     pub line: u32,
 }
 
-/// A netlist: the bits of the inputs are the first wires, those of the outputs the last, and each gate stands after those that give
-/// its operands. `judged` is in the order of the wires, and `labels` is in no order.
+/// A netlist: the bits of the inputs are the first wires, those of the outputs the last, and each gate stands after
+/// those that give its operands. `judged` is in the order of the wires, and `labels` is in no order.
 #[derive(Drop)]
 pub struct Circuit {
     pub name: String,

@@ -1,5 +1,5 @@
-//! The file of names beside a netlist: a line for each input and output value with its name and width, for each wire that has a name, and for
-//! the wires that are judged.
+//! The file of names beside a netlist: a line for each input and output value with its name and width, for each wire
+//! that has a name, and for the wires that are judged.
 //!
 //! ```text
 //! wires 35
@@ -10,31 +10,45 @@
 //! judged 0 1 2 3 7
 //! ```
 //!
-//! A `wire` line has the wire, its name, and the line of the file that it came from. There is no order, and `#` begins a comment.
-
-use std::alloc::{AllocError, AllocFailed, Global};
-use std::fmt::Write;
-
-use thiserror::Error;
+//! A `wire` line has the wire, its name, and the line of the file that it came from. There is no order, and `#`
+//! begins a comment.
 
 use crate::wires::is_plain;
 use crate::{Circuit, Label, Port};
+use std::alloc::{AllocError, AllocFailed, Global};
+use std::fmt::Write;
+use thiserror::Error;
 
 /// Why a text is no file of names, or not that of a netlist.
 #[derive(Clone, Copy, Debug, PartialEq, Eq, Error)]
 pub enum NamesError {
     #[error("out of memory")]
     Memory,
-    #[error("line {line}: a line is `wires N`, `input NAME WIDTH`, `output NAME WIDTH`, `wire N NAME LINE` or `judged N ..`")]
-    Line { line: usize },
+    #[error("line {line}: `wires N`, `input NAME WIDTH`, `output NAME WIDTH`, `wire N NAME LINE` or `judged N ..`")]
+    Line {
+        line: usize,
+    },
     #[error("the names are of a netlist of {names} wires, and this one has {netlist}")]
-    Wires { names: u32, netlist: u32 },
+    Wires {
+        names: u32,
+        netlist: u32,
+    },
     #[error("the names are of {names} inputs, and the netlist has {netlist}")]
-    Inputs { names: usize, netlist: usize },
+    Inputs {
+        names: usize,
+        netlist: usize,
+    },
     #[error("the names are of {names} outputs, and the netlist has {netlist}")]
-    Outputs { names: usize, netlist: usize },
+    Outputs {
+        names: usize,
+        netlist: usize,
+    },
     #[error("value {place} has {names} bits by its name, and {netlist} in the netlist")]
-    Width { place: usize, names: u32, netlist: u32 },
+    Width {
+        place: usize,
+        names: u32,
+        netlist: u32,
+    },
 }
 
 impl From<AllocError> for NamesError {
@@ -98,7 +112,12 @@ fn number(word: &str, line: usize) -> Result<u32, NamesError> {
 
 impl Names {
     /// Takes a value.
-    fn add_port(alloc: Global, ports: &mut Vec<Port>, words: &[&str], line: usize) -> Result<(), NamesError> {
+    fn add_port(
+        alloc: Global,
+        ports: &mut Vec<Port>,
+        words: &[&str],
+        line: usize,
+    ) -> Result<(), NamesError> {
         match words {
             [_, name, width] if is_plain(name) => {
                 ports.push(Port {
@@ -185,8 +204,8 @@ fn ask_widths(names: &[Port], netlist: &[Port], first: usize) -> Result<(), Name
     Ok(())
 }
 
-/// The circuit with these names and these judged wires, where they fit it: the wires, and the number and the widths of the values. Places in the
-/// refusal count the inputs first.
+/// The circuit with these names and these judged wires, where they fit it: the wires, and the number and the widths
+/// of the values. Places in the refusal count the inputs first.
 pub fn named(circuit: Circuit, names: Names) -> Result<Circuit, NamesError> {
     if names.wires != circuit.wires {
         return Err(NamesError::Wires {
@@ -216,7 +235,10 @@ pub fn named(circuit: Circuit, names: Names) -> Result<Circuit, NamesError> {
         ..
     } = names;
     let Circuit {
-        name, wires, gates, ..
+        name,
+        wires,
+        gates,
+        ..
     } = circuit;
     Ok(Circuit {
         name,

@@ -1,9 +1,8 @@
 //! A name for each wire of a circuit, no two the same.
 
+use crate::{Circuit, Port, bit_name, bits};
 use std::alloc::{AllocError, Global};
 use std::collections::HashMap;
-
-use crate::{Circuit, Port, bit_name, bits};
 
 /// The names given so far, with empty texts for the wires that have none yet, and the names that are taken.
 #[derive(Drop)]
@@ -16,13 +15,15 @@ struct Given {
 /// What a taken name that is no wire's stands for.
 const NO_WIRE: u32 = 0xffff_ffff;
 
-/// Whether every notation takes a name as it is: one without white space, control characters, `#`, `=` and `\`, which does not begin with a
-/// dot.
+/// Whether every notation takes a name as it is: one without white space, control characters, `#`, `=` and `\`, which
+/// does not begin with a dot.
 pub fn is_plain(name: &str) -> bool {
     !name.starts_with('.')
-        && name
-            .bytes()
-            .all(|byte| byte > b' ' && byte != 127 && byte != b'#' && byte != b'=' && byte != b'\\')
+        && name.bytes().all(|byte| byte > b' '
+            && byte != 127
+            && byte != b'#'
+            && byte != b'='
+            && byte != b'\\')
 }
 
 impl Given {
@@ -104,7 +105,10 @@ impl Given {
             }
         }
         for wire in first..circuit.wires {
-            let named = self.names.get(wire as usize).is_some_and(|name| !name.is_empty());
+            let named = self
+                .names
+                .get(wire as usize)
+                .is_some_and(|name| !name.is_empty());
             if !named {
                 let name = self.fresh(wire)?;
                 self.give(wire, name.as_str())?;
@@ -114,8 +118,8 @@ impl Given {
     }
 }
 
-/// The names of all wires: that of its bit of an input or output, else its label, else `w` and its number. A name that another wire has, or
-/// that not every notation takes, is passed over.
+/// The names of all wires: that of its bit of an input or output, else its label, else `w` and its number. A name
+/// that another wire has, or that not every notation takes, is passed over.
 pub fn wire_names(alloc: Global, circuit: &Circuit) -> Result<Vec<String>, AllocError> {
     let mut given = Given::new(alloc, circuit.wires)?;
     given.give_ports(&circuit.inputs, 0)?;
@@ -126,7 +130,8 @@ pub fn wire_names(alloc: Global, circuit: &Circuit) -> Result<Vec<String>, Alloc
     Ok(names)
 }
 
-/// The names of the wires that gates give, none of which is an input, an output or a bit of one. Those of the input wires are empty.
+/// The names of the wires that gates give, none of which is an input, an output or a bit of one. Those of the input
+/// wires are empty.
 pub fn inner_names(alloc: Global, circuit: &Circuit) -> Result<Vec<String>, AllocError> {
     let mut given = Given::new(alloc, circuit.wires)?;
     given.take_ports(&circuit.inputs)?;

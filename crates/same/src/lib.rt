@@ -1,12 +1,11 @@
 //! Do two circuits compute the same? Asked by settings of their inputs, sixty-four at a time.
 #![tactic(auto)]
 
-use std::alloc::{AllocError, Global};
-
 use circuit::{Circuit, Port, bits};
 use netlist::Gate;
 use rand_core::{Rng, SeedableRng};
 use rand_xoshiro::Xoshiro256PlusPlus;
+use std::alloc::{AllocError, Global};
 use thiserror::Error;
 
 /// Up to this many input bits all settings are tried.
@@ -96,14 +95,21 @@ impl<'a> Runner<'a> {
 
     /// The word of an output bit after a run.
     pub fn output(&self, bit: u32) -> u64 {
-        let first = self.circuit.wires.saturating_sub(bits(&self.circuit.outputs));
+        let first = self
+            .circuit
+            .wires
+            .saturating_sub(bits(&self.circuit.outputs));
         word(&self.words, first.saturating_add(bit))
     }
 }
 
 /// Whether values have the same widths.
 fn same_widths(left: &[Port], right: &[Port]) -> bool {
-    left.len() == right.len() && left.iter().zip(right.iter()).all(|(left, right)| left.width == right.width)
+    left.len() == right.len()
+        && left
+            .iter()
+            .zip(right.iter())
+            .all(|(left, right)| left.width == right.width)
 }
 
 /// The bits of one setting in words.
@@ -125,7 +131,11 @@ struct Pair<'a> {
 
 impl Pair<'_> {
     /// A setting among sixty-four at which an output bit differs.
-    fn difference(&mut self, alloc: Global, inputs: &[u64]) -> Result<Option<Comparison>, AllocError> {
+    fn difference(
+        &mut self,
+        alloc: Global,
+        inputs: &[u64],
+    ) -> Result<Option<Comparison>, AllocError> {
         self.left.run(inputs);
         self.right.run(inputs);
         for output in 0..self.outputs {
@@ -153,11 +163,20 @@ impl Pair<'_> {
                 return Ok(found);
             }
         }
-        Ok(Comparison::NoDifference { settings, all: true })
+        Ok(Comparison::NoDifference {
+            settings,
+            all: true,
+        })
     }
 
     /// Random settings, sixty-four at a time.
-    fn some(&mut self, alloc: Global, inputs: &mut [u64], wanted: u64, seed: u64) -> Result<Comparison, AllocError> {
+    fn some(
+        &mut self,
+        alloc: Global,
+        inputs: &mut [u64],
+        wanted: u64,
+        seed: u64,
+    ) -> Result<Comparison, AllocError> {
         let mut random = Xoshiro256PlusPlus::seed_from_u64(seed);
         let blocks = wanted.div_ceil(64);
         for _ in 0..blocks {
@@ -175,8 +194,8 @@ impl Pair<'_> {
     }
 }
 
-/// Compares two circuits by their outputs: on all settings where the inputs have at most `MOST_TRIED` bits, else on `settings` random ones,
-/// rounded up to sixty-four, that `seed` picks.
+/// Compares two circuits by their outputs: on all settings where the inputs have at most `MOST_TRIED` bits, else on
+/// `settings` random ones, rounded up to sixty-four, that `seed` picks.
 pub fn compare(
     alloc: Global,
     left: &Circuit,

@@ -1,19 +1,19 @@
 -- Bits that satisfy the gates of a well-formed netlist are those that it computes.
-use Rattle.std.proofs.Common.{◌≡◌, ℕ, ◌<◌, Bool, true, false, cond, ◌&&◌, ◌||◌, List, [], ◌∷◌, length, get_or, refl, sym, subst, ◌∙◌}
+use Rattle.std.proofs.Common.{◌≡◌, ℕ, ◌<◌, Bool, true, false, cond, ◌||◌, List, [], ◌∷◌, refl, sym, subst, ◌∙◌}
 use Rattle.std.specs.List.{All}
 use Rattle.std.proofs.lemmas.List.Elements.{All-nil, All-cons, All-head, All-tail}
 use lib.Dec.{T, eqb, ltb, ltb→lt}
 use borrow.Author.Tests.{eqb-true}
 use Rattle.netlist.specs.declared.Gate.{Gate}
 use Rattle.netlist.specs.declared.Gate.TheVariants.{Xor, And, Inv, Eqw, Eq}
-use Rattle.netlist.specs.Lists.{All as Each, empty, each, member}
+use Rattle.netlist.specs.Lists.{empty, each, member}
 use Rattle.netlist.specs.Netlist.{Netlist, input_bits, result}
 use Rattle.netlist.specs.Eval.{made, bits_at, wire_bits}
 use Rattle.netlist.specs.Read.{is_given, gates_good, WellFormed}
 use Rattle.netlist.proofs.Tests.{on_bool, either}
 use Rattle.netlist.proofs.GoodGates.{GoodGate, good_gate}
 use Rattle.netlist.proofs.Models.{Models, made-same, bits-satisfy, bits-inputs}
-use Rattle.verilog_out.specs.Assigns.{Value, low, high, value_bit, assign_of, Allows, AllowsGates, Computes, HasInputs}
+use Rattle.verilog_out.specs.Assigns.{low, high, value_bit, assign_of, Allows, AllowsGates, Computes, HasInputs}
 
 const_bit : (bit : List ℕ → Bool) (b : Bool) → value_bit bit (cond b high low) ≡ b
 const_bit bit true = refl

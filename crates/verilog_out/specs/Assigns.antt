@@ -1,5 +1,5 @@
 -- Assignments of a module, how each is spelled, and what they say of the bits of names.
-use Rattle.std.specs.Prelude.{ℕ, ◌+◌, cond, eqb, ◌≡◌, Bool, true, false, not, ◌&&◌, List, [], ◌∷◌, ◌++◌, codes, flat_map, slice_get, string_bytes, String, map, All, length, get_or, ◌<◌}
+use Rattle.std.specs.Prelude.{ℕ, ◌+◌, cond, eqb, ◌≡◌, Bool, true, false, not, ◌&&◌, List, [], ◌∷◌, ◌++◌, codes, flat_map, slice_get, string_bytes, String, All, length, get_or, ◌<◌}
 use Rattle.std.specs.Option.{option_map_or}
 use Rattle.std.specs.declared.alloc.Global.{Global}
 use Rattle.netlist.specs.declared.Gate.{Gate}
@@ -69,7 +69,8 @@ gate_lines spell gs = flat_map (λ g. assign_text (assign_of spell g)) gs
 -- the lines of output bits with these names, which are the wires from w on
 abbrev pub output_lines : (ℕ → List ℕ) → ℕ → List (List ℕ) → List ℕ
 output_lines spell w [] = []
-output_lines spell w (t ∷ ts) = assign_text (record { target = t; value = copy (spell w) }) ++ output_lines spell (w + 1) ts
+output_lines spell w (t ∷ ts) =
+    assign_text (record { target = t; value = copy (spell w) }) ++ output_lines spell (w + 1) ts
 
 -- the spelling of a wire, of a list of spellings
 abbrev pub spelling_at : List (String Global) → ℕ → List ℕ
@@ -78,7 +79,8 @@ spelling_at names w = option_map_or string_bytes (slice_get names w) []
 -- a text is declarations, then the lines of the gates and of the outputs, where wires are spelled in some way
 abbrev pub IsModule : List Gate → List ℕ → Type 0
 IsModule gs text = (head : List ℕ) × (names : List (String Global)) × (first : ℕ) × (targets : List (List ℕ))
-    × (text ≡ head ++ (gate_lines (spelling_at names) gs ++ (output_lines (spelling_at names) first targets ++ codes "endmodule\n")))
+    × (text ≡ head ++ (gate_lines (spelling_at names) gs
+    ++ (output_lines (spelling_at names) first targets ++ codes "endmodule\n")))
 
 -- bits of names that the assignments of gates allow
 abbrev pub AllowsGates : (List ℕ → Bool) → (ℕ → List ℕ) → List Gate → Type 0

@@ -1,14 +1,13 @@
-//! A test bench: sixteen random settings of the inputs, each under the four settings of the masks, with the outputs that the circuit has there.
+//! A test bench: sixteen random settings of the inputs, each under the four settings of the masks, with the outputs
+//! that the circuit has there.
 
-use std::alloc::{AllocError, Global};
-use std::fmt::Write;
-
+use crate::spelling::spelled;
 use circuit::{Circuit, Port, bits};
 use rand_core::{Rng, SeedableRng};
 use rand_xoshiro::Xoshiro256PlusPlus;
 use same::Runner;
-
-use crate::spelling::spelled;
+use std::alloc::{AllocError, Global};
+use std::fmt::Write;
 
 /// The masks of the settings, four in a row: those of the last input value's two bits.
 const MASKS: [u64; 2] = [0xaaaa_aaaa_aaaa_aaaa, 0xcccc_cccc_cccc_cccc];
@@ -40,7 +39,12 @@ fn input_words(alloc: Global, count: u32, seed: u64) -> Result<Vec<u64>, AllocEr
 }
 
 /// Writes the declarations of the bench's variables or wires for ports.
-fn write_variables(alloc: Global, out: &mut String, kind: &str, ports: &[Port]) -> Result<(), AllocError> {
+fn write_variables(
+    alloc: Global,
+    out: &mut String,
+    kind: &str,
+    ports: &[Port],
+) -> Result<(), AllocError> {
     for port in ports {
         let name = spelled(alloc, port.name.as_str())?;
         let top = port.width.saturating_sub(1);
@@ -50,10 +54,20 @@ fn write_variables(alloc: Global, out: &mut String, kind: &str, ports: &[Port]) 
 }
 
 /// Writes the module's instance.
-fn write_instance(alloc: Global, out: &mut String, module: &str, circuit: &Circuit) -> Result<(), AllocError> {
+fn write_instance(
+    alloc: Global,
+    out: &mut String,
+    module: &str,
+    circuit: &Circuit,
+) -> Result<(), AllocError> {
     let module = spelled(alloc, module)?;
     write!(out, "  {module} netlist_under_test(")?;
-    for (place, port) in circuit.inputs.iter().chain(circuit.outputs.iter()).enumerate() {
+    for (place, port) in circuit
+        .inputs
+        .iter()
+        .chain(circuit.outputs.iter())
+        .enumerate()
+    {
         let between = if place == 0 { "" } else { ", " };
         let name = spelled(alloc, port.name.as_str())?;
         write!(out, "{between}.{name}({name})")?;
@@ -62,12 +76,22 @@ fn write_instance(alloc: Global, out: &mut String, module: &str, circuit: &Circu
 }
 
 /// Writes the bits of a value in a setting, the highest first: bit i is that of the word at `first + i`.
-fn write_bits(out: &mut String, words: &[u64], first: usize, width: u32, setting: u32) -> Result<(), AllocError> {
+fn write_bits(
+    out: &mut String,
+    words: &[u64],
+    first: usize,
+    width: u32,
+    setting: u32,
+) -> Result<(), AllocError> {
     write!(out, "{width}'b")?;
     for place in 0..width {
         let bit = (width - 1 - place) as usize;
         let word = words.get(first.saturating_add(bit)).copied().unwrap_or(0);
-        out.push(if word.wrapping_shr(setting) & 1 == 1 { '1' } else { '0' })?;
+        out.push(if word.wrapping_shr(setting) & 1 == 1 {
+            '1'
+        } else {
+            '0'
+        })?;
     }
     Ok(())
 }
@@ -95,15 +119,23 @@ fn write_setting(
         let name = spelled(alloc, port.name.as_str())?;
         write!(out, "    if ({name} !== ")?;
         write_bits(out, outputs, first, port.width, setting)?;
-        writeln!(out, ") begin $display(\"setting {setting}: %b\", {name}); bad = bad + 1; end")?;
+        writeln!(
+            out,
+            ") begin $display(\"setting {setting}: %b\", {name}); bad = bad + 1; end"
+        )?;
         first = first.saturating_add(port.width as usize);
     }
     Ok(())
 }
 
-/// The test bench of a circuit, whose last input value carries the masks, for a module of this name. It prints `64 settings, 0 bad` where the
-/// module does what the circuit does.
-pub fn write(alloc: Global, circuit: &Circuit, module: &str, seed: u64) -> Result<String, AllocError> {
+/// The test bench of a circuit, whose last input value carries the masks, for a module of this name. It prints `64
+/// settings, 0 bad` where the module does what the circuit does.
+pub fn write(
+    alloc: Global,
+    circuit: &Circuit,
+    module: &str,
+    seed: u64,
+) -> Result<String, AllocError> {
     let inputs = input_words(alloc, bits(&circuit.inputs), seed)?;
     let mut runner = Runner::new(alloc, circuit)?;
     runner.run(&inputs);

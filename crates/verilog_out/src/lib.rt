@@ -1,4 +1,5 @@
-//! A circuit as structural Verilog that synthesis tools keep: one wire and one assignment a line, each wire under `(* keep *)`.
+//! A circuit as structural Verilog that synthesis tools keep: one wire and one assignment a line, each wire under `(*
+//! keep *)`.
 #![tactic(auto)]
 
 pub mod bench;

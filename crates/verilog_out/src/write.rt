@@ -4,14 +4,12 @@ ghost use Rattle.std.specs.Prelude.{◌≡◌, ◌++◌, map, OnOk, IfOk, string
 ghost use Rattle.verilog_out.specs.Assigns.{sum, product, inverse, copy, constant, assign_text, assign_of};
 ghost use Rattle.verilog_out.specs.Assigns.{gate_lines, output_lines, spelling_at, IsModule};
 
-use std::alloc::{AllocError, Global};
-use std::fmt::Write;
-
+use crate::spelling::spelled;
 use circuit::wires::inner_names;
 use circuit::{Circuit, Port, bits};
 use netlist::Gate;
-
-use crate::spelling::spelled;
+use std::alloc::{AllocError, Global};
+use std::fmt::Write;
 
 /// What is written: the name of the module, or the circuit's own, and whether each wire is kept.
 #[derive(Clone, Copy, Debug)]
@@ -65,7 +63,12 @@ fn spelled_wires(alloc: Global, circuit: &Circuit) -> Result<Spelled, AllocError
 }
 
 /// Writes the declarations of ports.
-fn write_ports(alloc: Global, out: &mut String, direction: &str, ports: &[Port]) -> Result<(), AllocError> {
+fn write_ports(
+    alloc: Global,
+    out: &mut String,
+    direction: &str,
+    ports: &[Port],
+) -> Result<(), AllocError> {
     for port in ports {
         let name = spelled(alloc, port.name.as_str())?;
         let top = port.width.saturating_sub(1);
@@ -79,10 +82,20 @@ fn write_ports(alloc: Global, out: &mut String, direction: &str, ports: &[Port])
 }
 
 /// Writes the first line: the module's name and those of its ports.
-fn write_head(alloc: Global, out: &mut String, module: &str, circuit: &Circuit) -> Result<(), AllocError> {
+fn write_head(
+    alloc: Global,
+    out: &mut String,
+    module: &str,
+    circuit: &Circuit,
+) -> Result<(), AllocError> {
     let module = spelled(alloc, module)?;
     write!(out, "module {module}(")?;
-    for (place, port) in circuit.inputs.iter().chain(circuit.outputs.iter()).enumerate() {
+    for (place, port) in circuit
+        .inputs
+        .iter()
+        .chain(circuit.outputs.iter())
+        .enumerate()
+    {
         let between = if place == 0 { "" } else { ", " };
         let name = spelled(alloc, port.name.as_str())?;
         write!(out, "{between}{name}")?;
@@ -141,10 +154,20 @@ fn write_gate(out: &mut String, gate: Gate, spelled: &Spelled) -> Result<(), All
 {
     match gate {
         Gate::Xor(left, right, result) => {
-            write_sum(out, spelled.wire(result), spelled.wire(left), spelled.wire(right))
+            write_sum(
+                out,
+                spelled.wire(result),
+                spelled.wire(left),
+                spelled.wire(right),
+            )
         }
         Gate::And(left, right, result) => {
-            write_product(out, spelled.wire(result), spelled.wire(left), spelled.wire(right))
+            write_product(
+                out,
+                spelled.wire(result),
+                spelled.wire(left),
+                spelled.wire(right),
+            )
         }
         Gate::Inv(source, result) => write_inverse(out, spelled.wire(result), spelled.wire(source)),
         Gate::Eqw(source, result) => write_copy(out, spelled.wire(result), spelled.wire(source)),
@@ -164,7 +187,12 @@ fn write_gates(out: &mut String, gates: &[Gate], spelled: &Spelled) -> Result<()
 }
 
 /// Writes the assignments of the output bits of these names, which are the wires from `first` on.
-fn write_outputs(out: &mut String, targets: &[String], first: u32, spelled: &Spelled) -> Result<(), AllocError>
+fn write_outputs(
+    out: &mut String,
+    targets: &[String],
+    first: u32,
+    spelled: &Spelled,
+) -> Result<(), AllocError>
     ensures { OnOk result (string_bytes out.new ≡ string_bytes out.old
         ++ output_lines (spelling_at spelled.now.wires.items) first (map string_bytes targets.now)) }
 {
@@ -179,23 +207,37 @@ fn write_outputs(out: &mut String, targets: &[String], first: u32, spelled: &Spe
 }
 
 /// Writes a gate as an instance of the module of its kind.
-fn write_instance(out: &mut String, module: &str, gate: Gate, spelled: &Spelled) -> Result<(), AllocError> {
+fn write_instance(
+    out: &mut String,
+    module: &str,
+    gate: Gate,
+    spelled: &Spelled,
+) -> Result<(), AllocError> {
     let number = circuit::result(gate);
     let result = spelled.wire(number);
     match gate {
         Gate::Xor(left, right, _) => {
             let left = spelled.wire(left);
             let right = spelled.wire(right);
-            writeln!(out, "  {module}_xor gate{number}(.a({left}), .b({right}), .y({result}));")
+            writeln!(
+                out,
+                "  {module}_xor gate{number}(.a({left}), .b({right}), .y({result}));"
+            )
         }
         Gate::And(left, right, _) => {
             let left = spelled.wire(left);
             let right = spelled.wire(right);
-            writeln!(out, "  {module}_and gate{number}(.a({left}), .b({right}), .y({result}));")
+            writeln!(
+                out,
+                "  {module}_and gate{number}(.a({left}), .b({right}), .y({result}));"
+            )
         }
         Gate::Inv(source, _) => {
             let source = spelled.wire(source);
-            writeln!(out, "  {module}_inv gate{number}(.a({source}), .y({result}));")
+            writeln!(
+                out,
+                "  {module}_inv gate{number}(.a({source}), .y({result}));"
+            )
         }
         _ => write_gate(out, gate, spelled),
     }
@@ -204,9 +246,18 @@ fn write_instance(out: &mut String, module: &str, gate: Gate, spelled: &Spelled)
 /// Writes the modules of the three kinds of gates.
 fn write_kinds(out: &mut String, module: &str) -> Result<(), AllocError> {
     let keep = "(* keep_hierarchy *)";
-    writeln!(out, "{keep} module {module}_xor(input a, input b, output y); assign y = a ^ b; endmodule")?;
-    writeln!(out, "{keep} module {module}_and(input a, input b, output y); assign y = a & b; endmodule")?;
-    writeln!(out, "{keep} module {module}_inv(input a, output y); assign y = ~a; endmodule")
+    writeln!(
+        out,
+        "{keep} module {module}_xor(input a, input b, output y); assign y = a ^ b; endmodule"
+    )?;
+    writeln!(
+        out,
+        "{keep} module {module}_and(input a, input b, output y); assign y = a & b; endmodule"
+    )?;
+    writeln!(
+        out,
+        "{keep} module {module}_inv(input a, output y); assign y = ~a; endmodule"
+    )
 }
 
 /// The spellings of the bits of the outputs.
@@ -264,8 +315,13 @@ pub fn write(alloc: Global, circuit: &Circuit, options: Options<'_>) -> Result<S
     Ok(out)
 }
 
-/// The circuit with a module for each gate under `(* keep_hierarchy *)`, which keeps more tools from taking gates apart.
-pub fn write_cells(alloc: Global, circuit: &Circuit, options: Options<'_>) -> Result<String, AllocError> {
+/// The circuit with a module for each gate under `(* keep_hierarchy *)`, which keeps more tools from taking gates
+/// apart.
+pub fn write_cells(
+    alloc: Global,
+    circuit: &Circuit,
+    options: Options<'_>,
+) -> Result<String, AllocError> {
     let spelled = spelled_wires(alloc, circuit)?;
     let outputs = spelled_outputs(alloc, &circuit.outputs)?;
     let first = circuit.wires.saturating_sub(bits(&circuit.outputs));

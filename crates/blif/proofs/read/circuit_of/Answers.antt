@@ -1,5 +1,5 @@
 -- `circuit_of` meets its contract: naming wires changes no gate, and a run of a well-formed netlist satisfies its gates.
-use Rattle.std.proofs.Common.{ℕ, Bool, List, subst, sym}
+use Rattle.std.proofs.Common.{ℕ, List, subst, sym}
 use Rattle.std.specs.List.{All}
 use Rattle.netlist.specs.declared.Gate.{Gate}
 use Rattle.netlist.specs.Eval.{bits_at, wire_bits}

@@ -9,4 +9,4 @@ loop-gate-preserved c u j l holds all =
     let before = c.loop-gate.invariant u j l holds all in
     let operands = All-same (Right u j) _ _ c.deref.ensures.value before in
     All-same (Right u j) _ _ c.in_ok-push.ensures.items
-        (All-push (Right u j) _ _ before (ap u c.result_wire.ensures ∙ holds c.loop-gate.gate-index _ c.loop-gate-test.true ∙ c.in-Some.ensures u j l operands))
+    (All-push (Right u j) _ _ before (ap u c.result_wire.ensures ∙ holds c.loop-gate.gate-index _ c.loop-gate-test.true ∙ c.in-Some.ensures u j l operands))

@@ -1,5 +1,5 @@
 -- `add_names` meets its contract: the cell that is pushed says what the cover says.
-use Rattle.std.proofs.Common.{◌≡◌, ℕ, ◌≤◌, Bool, map, take, length, refl, ap, ◌∙◌, arith}
+use Rattle.std.proofs.Common.{◌≡◌, ℕ, ◌≤◌, map, take, length, refl, ap, ◌∙◌, arith}
 use Rattle.cells.specs.declared.build.Cell.{Cell}
 use Rattle.cells.specs.Tables.{table_bit}
 use Rattle.cells.specs.Covers.{cover_bit}
@@ -19,6 +19,6 @@ returns c =
       inputs = c.in_ok-inputs.ensures.items ∙ c.deref.ensures.value;
       few = few;
       table = λ j l. c.table-table.ensures j l
-        ∙ ap (λ (k : ℕ). cover_bit names.cover (map (λ t. table_bit t j) (take k input_tables))) count;
+          ∙ ap (λ (k : ℕ). cover_bit names.cover (map (λ t. table_bit t j) (take k input_tables))) count;
     } in
     (cell, says, c.in_ok-push-2.ensures.items)
