@@ -6,7 +6,7 @@ use command_answer::answer::Answer;
 use command_answer::failure::Failure;
 use command_answer::files::{Files, Text};
 use command_words::plan::{
-    CheckTask, ConvertTask, InfoTask, JoinTask, MaskTask, Plan, Role, RunTask, SessionTask, Task,
+    CheckTask, ConvertTask, InfoTask, JoinTask, MaskTask, Plan, Role, RunTask, SameTask, SessionTask, Task,
     TwinsTask,
 };
 use std::alloc::Global;
@@ -48,7 +48,7 @@ fn run(alloc: Global, task: RunTask, files: Files) -> Result<Answer, Failure> {
 
 fn convert(alloc: Global, task: ConvertTask, files: Files) -> Result<Answer, Failure> {
     let netlist = netlist(alloc, files)?;
-    command_tell::convert_answer::answer(alloc, task, netlist)
+    command_tell::convert_answer::answer(alloc, task, files, netlist)
 }
 
 fn join(alloc: Global, task: JoinTask, files: Files, manner: Manner) -> Result<Answer, Failure> {

@@ -2,6 +2,8 @@
 
 use crate::failure::Failure;
 use crate::files::Text;
+use circuit::Circuit;
+use circuit::fashion::{self, FashionError};
 use command_netlists::conversions::{Converted, Rewriting, from_aiger, from_equations, rewrite};
 use command_netlists::shape::{Shape, read_shape};
 use command_refusals::refused_text::{refused_in_words, refused_text};
@@ -53,7 +55,55 @@ fn converted(alloc: Global, format: Format, bytes: &[u8]) -> Result<Option<Conve
         Format::Older => Some(rewrite(alloc, Rewriting::FromOlder, bytes)?),
         Format::Aiger => Some(from_aiger(alloc, bytes)?),
         Format::Equations => Some(from_equations(alloc, bytes)?),
+        Format::Blif | Format::Verilog | Format::C => None,
     })
+}
+
+/// The circuit of a BLIF file, with the models of its cells and the name of the input that is the mask pair.
+pub fn blif_of(
+    alloc: Global,
+    file: &Text,
+    cells: Option<&Text>,
+    masks: Option<&str>,
+) -> Result<Circuit, Failure> {
+    let text = text_of(alloc, file)?;
+    let cells = match cells {
+        Some(file) => Some(text_of(alloc, file)?),
+        None => None,
+    };
+    match blif::read::read(alloc, text, cells, masks) {
+        Ok(circuit) => Ok(circuit),
+        Err(error) => {
+            let name = file.name.as_str();
+            Err(Failure::Words(format!(in alloc; "{name}: {error}")?))
+        }
+    }
+}
+
+/// The characters of a file.
+fn text_of<'a>(alloc: Global, file: &'a Text) -> Result<&'a str, Failure> {
+    match str::from_utf8(file.bytes.as_slice()) {
+        Ok(text) => Ok(text),
+        Err(_) => {
+            let name = file.name.as_str();
+            Err(Failure::Words(format!(in alloc; "{name}: the file is no UTF-8 text")?))
+        }
+    }
+}
+
+/// The circuit of a netlist in Bristol Fashion.
+pub fn circuit_of(alloc: Global, file: &str, text: &[u8]) -> Result<Circuit, Failure> {
+    match fashion::read(alloc, text) {
+        Ok(circuit) => Ok(circuit),
+        Err(FashionError::Memory) => Err(Failure::Memory),
+        Err(FashionError::Refused(question)) => Err(refused(
+            alloc,
+            file,
+            text,
+            question,
+            masked_limits(),
+        )),
+    }
 }
 
 /// The text of a file's netlist in Bristol Fashion, where it is written in another notation; none where it is Fashion
@@ -65,7 +115,12 @@ pub fn fashion_of(
 ) -> Result<Option<Vec<u8>>, Failure> {
     let bytes = file.bytes.as_slice();
     let name = file.name.as_str();
-    match converted(alloc, format_of(said, name, bytes), bytes)? {
+    let format = format_of(said, name, bytes);
+    if format == Format::Blif {
+        let circuit = blif_of(alloc, file, None, None)?;
+        return Ok(Some(fashion::write(alloc, &circuit)?.into_bytes()));
+    }
+    match converted(alloc, format, bytes)? {
         None => Ok(None),
         Some(Ok(text)) => Ok(Some(text)),
         Some(Err(question)) => Err(refused_elsewhere(alloc, name, bytes, question)),

@@ -102,11 +102,58 @@ fn run<'a>(alloc: Global) -> Result<Command<'a>, AllocError> {
 fn convert<'a>(alloc: Global) -> Result<Command<'a>, AllocError> {
     Command::new(alloc, "convert")
         .about("Writes a netlist in its written form, or in another notation")
-        .after_help("Example:\n  fidrovelj convert sbox.aag -o sbox.txt")
+        .after_help(
+            "Examples:\n  fidrovelj convert sbox.aag -o sbox.txt\n  fidrovelj convert sbox_m.txt --to verilog -o sbox_m.v\n\
+            writes a module with (* keep *) on every wire, which a synthesis tool leaves as they are.",
+        )
         .arg(file(alloc, "FILE"))?
         .arg(out(alloc))?
         .arg(from(alloc))?
         .arg(to(alloc))?
+        .arg(
+            Arg::new(alloc, "cells")
+                .long("cells")
+                .value_name("FILE")
+                .help("The models of the cells that a BLIF netlist uses"),
+        )?
+        .arg(
+            Arg::new(alloc, "masks")
+                .long("masks")
+                .value_name("NAME")
+                .help(
+                    "The input of a BLIF netlist that is the mask pair: it becomes the last value",
+                ),
+        )?
+        .arg(
+            Arg::new(alloc, "module")
+                .long("module")
+                .value_name("NAME")
+                .help("The name of the written module, or of the function in C"),
+        )?
+        .arg(flag(
+            alloc,
+            "no-keep",
+            "Leave out (* keep *), and in C the barriers",
+        ))?
+        .arg(quiet(alloc))
+}
+
+fn same<'a>(alloc: Global) -> Result<Command<'a>, AllocError> {
+    Command::new(alloc, "same")
+        .about("Says whether two netlists compute the same")
+        .after_help(
+            "Example:\n  fidrovelj same sbox_m.txt synth.blif\n\
+            tries all settings of at most twenty input bits, else random ones. The status is 1 at a difference.",
+        )
+        .arg(file(alloc, "FIRST"))?
+        .arg(file(alloc, "SECOND"))?
+        .arg(budget(
+            alloc,
+            "settings",
+            "How many random settings are tried [default: 65536]",
+        ))?
+        .arg(budget(alloc, "seed", "What picks them [default: 1]"))?
+        .arg(from(alloc))?
         .arg(quiet(alloc))
 }
 
@@ -185,5 +232,6 @@ pub fn all<'a>(alloc: Global) -> Result<Command<'a>, AllocError> {
         .subcommand(join(alloc)?)?
         .subcommand(info(alloc)?)?
         .subcommand(twins(alloc)?)?
+        .subcommand(same(alloc)?)?
         .subcommand(session(alloc)?)
 }

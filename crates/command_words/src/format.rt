@@ -9,6 +9,9 @@ pub fn format_named(name: &str) -> Option<Format> {
         "older" => Some(Format::Older),
         "aiger" => Some(Format::Aiger),
         "equations" => Some(Format::Equations),
+        "blif" => Some(Format::Blif),
+        "verilog" => Some(Format::Verilog),
+        "c" => Some(Format::C),
         _ => None,
     }
 }
@@ -20,17 +23,20 @@ pub fn format_of_name(name: &str) -> Option<Format> {
         "aag" => Some(Format::Aiger),
         "v" => Some(Format::Equations),
         "old" => Some(Format::Older),
+        "blif" => Some(Format::Blif),
         _ => None,
     }
 }
 
-/// The notation that the first bytes tell: AIGER and equations begin with a word of their own, and all other texts
-/// count as Fashion.
+/// The notation that the first bytes tell: AIGER, equations and BLIF begin with a word of their own, and all other
+/// texts count as Fashion.
 pub fn format_of_text(text: &[u8]) -> Format {
     if text.starts_with(b"aag ") {
         Format::Aiger
     } else if text.trim_ascii_start().starts_with(b"module ") {
         Format::Equations
+    } else if text.trim_ascii_start().starts_with(b".model") {
+        Format::Blif
     } else {
         Format::Fashion
     }

@@ -4,10 +4,10 @@ use clap::{Arg, ArgAction, value_parser};
 use std::alloc::Global;
 
 /// The names of the notations, as `--from` takes them.
-pub const FORMATS: [&str; 4] = ["fashion", "older", "aiger", "equations"];
+pub const FORMATS: [&str; 5] = ["fashion", "older", "aiger", "equations", "blif"];
 
 /// The names of the notations that are written.
-pub const WRITTEN_FORMATS: [&str; 2] = ["fashion", "older"];
+pub const WRITTEN_FORMATS: [&str; 5] = ["fashion", "older", "blif", "verilog", "c"];
 
 /// A netlist's file.
 pub fn file<'a>(alloc: Global, id: &'a str) -> Arg<'a> {

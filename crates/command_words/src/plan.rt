@@ -11,6 +11,12 @@ pub enum Format {
     Aiger,
     /// equations in Verilog
     Equations,
+    /// BLIF, as synthesis tools write it
+    Blif,
+    /// a structural module in Verilog, which is only written
+    Verilog,
+    /// bit-sliced C, which is only written
+    C,
 }
 
 /// What a file is read for.
@@ -36,6 +42,8 @@ pub enum Role {
     Pairs,
     /// the vectors
     Vectors,
+    /// the models of the cells that a BLIF netlist uses
+    Cells,
 }
 
 /// A file that is to be read before the plan is carried out.
@@ -121,6 +129,23 @@ pub struct ConvertTask {
     pub to: Format,
     /// the file for the netlist; none: standard output
     pub out: Option<String>,
+    /// the input of a BLIF netlist that is the mask pair; none: the last one is, if any
+    pub masks: Option<String>,
+    /// the name of the written module or function; none: the netlist's own
+    pub module: Option<String>,
+    /// whether every wire of a written module is kept, and every statement of C has a barrier
+    pub is_kept: bool,
+}
+
+/// Same: whether two netlists compute the same.
+#[derive(Debug, Drop)]
+pub struct SameTask {
+    /// the notation of both netlists
+    pub from: Option<Format>,
+    /// how many random settings are tried where the inputs have more than twenty bits
+    pub settings: u64,
+    /// what picks them
+    pub seed: u64,
 }
 
 /// Join: one netlist of two masked blocks.
@@ -180,6 +205,8 @@ pub enum Task {
     Info(InfoTask),
     /// `fidrovelj twins`
     Twins(TwinsTask),
+    /// `fidrovelj same`
+    Same(SameTask),
     /// `fidrovelj session`
     Session(SessionTask),
 }

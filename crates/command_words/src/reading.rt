@@ -36,6 +36,7 @@ fn task(
         "join" => Task::Join(tasks::join(alloc, matches, sources)?),
         "info" => Task::Info(tasks::info(alloc, matches, sources)?),
         "twins" => Task::Twins(tasks::twins(alloc, matches, sources)?),
+        "same" => Task::Same(tasks::same(alloc, matches, sources)?),
         "session" => Task::Session(tasks::session(alloc, matches, sources)?),
         _ => return Ok(None),
     }))

@@ -3,13 +3,16 @@
 use crate::format::format_named;
 use crate::plan::{
     CheckTask, ConvertTask, Format, InfoTask, JoinTask, List, MaskTask, Method, Role, RunTask,
-    SessionTask, Source, TwinsTask,
+    SameTask, SessionTask, Source, TwinsTask,
 };
 use clap::ArgMatches;
 use std::alloc::{AllocError, Global};
 
 /// How many settings the check of many inputs may try, unless the user says another number.
 const BUDGET: u64 = 20_000_000;
+
+/// How many random settings two netlists are compared on, unless the user says another number.
+const SETTINGS: u64 = 65_536;
 
 /// One file more.
 fn want(
@@ -218,10 +221,42 @@ pub fn convert(
         Some(name) => format_named(name).unwrap_or(Format::Fashion),
         None => Format::Fashion,
     };
+    if let Some(name) = matches.get_str("cells") {
+        want(alloc, sources, Role::Cells, name, false)?;
+    }
     Ok(ConvertTask {
         from: from(matches),
         to,
         out: destination(alloc, matches.get_str("out"))?,
+        masks: owned(alloc, matches.get_str("masks"))?,
+        module: owned(alloc, matches.get_str("module"))?,
+        is_kept: !matches.get_flag("no-keep"),
+    })
+}
+
+pub fn same(
+    alloc: Global,
+    matches: &ArgMatches,
+    sources: &mut Vec<Source>,
+) -> Result<SameTask, AllocError> {
+    want(
+        alloc,
+        sources,
+        Role::Netlist,
+        matches.get_str("FIRST").unwrap_or("-"),
+        false,
+    )?;
+    want(
+        alloc,
+        sources,
+        Role::Second,
+        matches.get_str("SECOND").unwrap_or("-"),
+        false,
+    )?;
+    Ok(SameTask {
+        from: from(matches),
+        settings: matches.get_one::<u64>("settings").unwrap_or(SETTINGS),
+        seed: matches.get_one::<u64>("seed").unwrap_or(1),
     })
 }
 
