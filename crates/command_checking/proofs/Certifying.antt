@@ -87,7 +87,7 @@ module _ {s : Sizes} {text codes leak leak' ones ones' o o' r r' g g' w w' b b' 
       let k = certified-of found.Unknown P in
       let told = k.judged.0 in
       let first : get_or leak' 0 0 ≡ told.wire =
-        ap (λ (l : List ℕ). get_or l 0 0) told.number ∙ ap (λ (l : List ℕ). get_or (sets l 0 (told.wire ∷ [])) 0 0) zeros in
+      ap (λ (l : List ℕ). get_or l 0 0) told.number ∙ ap (λ (l : List ℕ). get_or (sets l 0 (told.wire ∷ [])) 0 0) zeros in
       let below : ℕ → Type 0 = λ x. (x < k.netlist.wires) × ((w : ℕ) → w < x → EqualCounts k.netlist codes w) in
       record { sizes = s; netlist = k.netlist; read = k.read; holds = moved _ _ below first (told.inside, told.lower) }
 

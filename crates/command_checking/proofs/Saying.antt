@@ -68,7 +68,7 @@ module _ {s : Sizes} {text codes o o' r r' g g' w w' b b' : List ℕ} where
       unfolding wide_call
       wide-says f P =
           let tables : List ℕ = length o ∷ length r ∷ length g ∷ length w ∷ length b ∷ length z ∷ length a ∷ length c
-            ∷ length d ∷ length e ∷ length p ∷ [] in
+          ∷ length d ∷ length e ∷ length p ∷ [] in
           let k = read-of s text tables (wide_outcome codes ws) (many.both_of f) (sym P.outcome) in
           record { sizes = s; netlist = k.0; read = k.1; holds = P.judged k.0 k.1 }
 
