@@ -6,8 +6,8 @@ use command_answer::answer::Answer;
 use command_answer::failure::Failure;
 use command_answer::files::{Files, Text};
 use command_words::plan::{
-    CheckTask, ConvertTask, InfoTask, JoinTask, MaskTask, Plan, Role, RunTask, SameTask, SessionTask, Task,
-    TwinsTask,
+    CheckTask, ConvertTask, InfoTask, JoinTask, MaskTask, Plan, Role, RunTask, SameTask,
+    SessionTask, Task, TwinsTask,
 };
 use std::alloc::Global;
 
@@ -67,6 +67,12 @@ fn twins(alloc: Global, task: TwinsTask, files: Files, manner: Manner) -> Result
     command_mask::twins_answer::answer(alloc, task, files, netlist, manner.is_json)
 }
 
+fn same(alloc: Global, task: SameTask, files: Files) -> Result<Answer, Failure> {
+    let first = netlist(alloc, files)?;
+    let second = wanted(alloc, files, Role::Second)?;
+    command_tell::same_answer::answer(alloc, task, first, second)
+}
+
 /// A session has no answer of its own: its steps have.
 fn session(alloc: Global, _task: SessionTask) -> Result<Answer, Failure> {
     Ok(Answer::new(alloc))
@@ -87,6 +93,7 @@ fn answer_of_task(
         Task::Join(task) => join(alloc, task, files, manner),
         Task::Info(task) => info(alloc, task, files, manner),
         Task::Twins(task) => twins(alloc, task, files, manner),
+        Task::Same(task) => same(alloc, task, files),
         Task::Session(task) => session(alloc, task),
     }
 }
