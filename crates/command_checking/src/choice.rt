@@ -10,7 +10,7 @@ use crate::certified::certify;
 use crate::exact::{check, check_pairs};
 use crate::verdict::{By, Judgement, Leak, PairVerdict, Verdict};
 use crate::wide::check_wide;
-use check_wide::members::Members;
+use check_wide::members::Ones;
 use check_wide::search::WideLeak;
 use netlist::Refusal;
 use std::alloc::{AllocError, Global};
@@ -71,7 +71,7 @@ pub fn exact(alloc: Global, job: Job) -> Result<Judged, AllocError>
     }
 }
 
-fn members(alloc: Global, members: Members) -> Result<Vec<u32>, AllocError> {
+fn members(alloc: Global, members: Ones) -> Result<Vec<u32>, AllocError> {
     let mut list = Vec::new(alloc);
     for (index, item) in members.items.iter().enumerate() {
         if index < members.count {
