@@ -3,7 +3,7 @@
 use std::alloc::{AllocError, AllocFailed};
 
 /// The version that `--version` and every JSON object tell.
-pub const VERSION: &str = "0.1.0";
+pub const VERSION: &str = version::TEXT;
 
 /// Why there is nothing to do: help or the version was asked for, the words are no command, or memory ran out.
 #[derive(Debug, Drop)]
