@@ -1,6 +1,6 @@
 -- From the certifier's promise to what is said of a text.
 use Prim.Native.Nat.{ℕ, ◌<◌, ◌≤◌}
-use Rattle.std.specs.Prelude.{Result, Ok, Err, get_or}
+use Rattle.std.specs.Prelude.{Result, Ok, Err, Option, Some, None, get_or}
 use mathlib.Core.Path.{◌≡◌, sym, ap, ◌∙◌, refl}
 use mathlib.Core.Bool.{Bool}
 use mathlib.Core.List.{List, [], ◌∷◌}
@@ -18,7 +18,8 @@ use Rattle.masking.proofs.Settings.{length-public_only, public_only-twice}
 use Rattle.questions.specs.Asked.{codes_asked}
 use Rattle.certify.specs.declared.judge.Verdict.{Verdict}
 use Rattle.certify.specs.declared.judge.Verdict.TheVariants as found
-use Rattle.certify.specs.Judge.{Judged, LeakIn}
+use Rattle.leak_search.specs.declared.difference.Leak.{Leak as LeakFound}
+use Rattle.certify.specs.Judge.{Judged, JudgedBy, LeakIn}
 use Rattle.certify.specs.Promise.{codes_for, certify_call, Answers, Promise}
 use Rattle.command_checking.specs.Says.{Reads}
 
@@ -61,6 +62,32 @@ leak-breaks {N} {codes} {w} {b} {o} {x} L clean =
     record { first = length-public_only codes x; second = L.long; public = public_only-twice codes x } in
     L.differ (L.base ∙ clean w L.wire (public_only codes x) x same ∙ sym L.own)
 
+-- what each answer says, by what is found
+module _ (N : Netlist) (codes leak leak' ones ones' : List ℕ) where
+  clean-said : (left : Option ℕ) (p : Option (LeakFound ℕ)) (words : List ℕ)
+      → JudgedBy N codes leak leak' ones ones' left p words (Ok found.Clean) → Clean N codes
+  clean-said None p words h = h.0
+  clean-said (Some w) (Some p) words h = absurd h
+  clean-said (Some w) None words h = absurd h
+
+  leak-said : (left : Option ℕ) (p : Option (LeakFound ℕ)) (words : List ℕ)
+      → JudgedBy N codes leak leak' ones ones' left p words (Ok found.Leak) → Clean N codes → ⊥
+  leak-said None p words h = absurd h
+  leak-said (Some w) (Some p) words h = leak-breaks h.found
+  leak-said (Some w) None words h = absurd h
+
+  unknown-said : leak ≡ 0 ∷ 0 ∷ 0 ∷ 0 ∷ [] → (left : Option ℕ) (p : Option (LeakFound ℕ)) (words : List ℕ)
+      → JudgedBy N codes leak leak' ones ones' left p words (Ok found.Unknown)
+      → (get_or leak' 0 0 < N.wires) × ((w : ℕ) → w < get_or leak' 0 0 → EqualCounts N codes w)
+  unknown-said zeros None p words h = absurd h
+  unknown-said zeros (Some wire) (Some p) words h = absurd h
+  unknown-said zeros (Some wire) None words h =
+      let told = h.0 in
+      let first : get_or leak' 0 0 ≡ wire =
+      ap (λ (l : List ℕ). get_or l 0 0) told.number ∙ ap (λ (l : List ℕ). get_or (sets l 0 (wire ∷ [])) 0 0) zeros in
+      let below : ℕ → Type 0 = λ x. (x < N.wires) × ((w : ℕ) → w < x → EqualCounts N codes w) in
+      moved _ _ below first (told.inside, told.lower)
+
 module _ {s : Sizes} {text codes leak leak' ones ones' o o' r r' g g' w w' b b' t t' : List ℕ} where
   certified-of : (v : Verdict) → Promise s text codes leak leak' ones ones' o o' r r' g g' w w' b b' t t' (Ok v)
       → Read s text (λ N. Judged N codes leak leak' ones ones' (Ok v))
@@ -72,24 +99,38 @@ module _ {s : Sizes} {text codes leak leak' ones ones' o o' r r' g g' w w' b b' 
       → Reads text (λ N. Clean N codes)
   certified-clean P =
       let k = certified-of found.Clean P in
-      record { sizes = s; netlist = k.netlist; read = k.read; holds = k.judged.0 }
+      let F = k.judged.finding in
+      record {
+        sizes = s;
+        netlist = k.netlist;
+        read = k.read;
+        holds = clean-said k.netlist codes leak leak' ones ones' F.left F.found F.words k.judged.says;
+      }
 
   certified-leak : Promise s text codes leak leak' ones ones' o o' r r' g g' w w' b b' t t' (Ok found.Leak)
       → Reads text (λ N. Clean N codes → ⊥)
   certified-leak P =
       let k = certified-of found.Leak P in
-      record { sizes = s; netlist = k.netlist; read = k.read; holds = leak-breaks k.judged.found }
+      let F = k.judged.finding in
+      record {
+        sizes = s;
+        netlist = k.netlist;
+        read = k.read;
+        holds = leak-said k.netlist codes leak leak' ones ones' F.left F.found F.words k.judged.says;
+      }
 
   certified-unknown : leak ≡ 0 ∷ 0 ∷ 0 ∷ 0 ∷ []
       → Promise s text codes leak leak' ones ones' o o' r r' g g' w w' b b' t t' (Ok found.Unknown)
       → Reads text (λ N. (get_or leak' 0 0 < N.wires) × ((w : ℕ) → w < get_or leak' 0 0 → EqualCounts N codes w))
   certified-unknown zeros P =
       let k = certified-of found.Unknown P in
-      let told = k.judged.0 in
-      let first : get_or leak' 0 0 ≡ told.wire =
-      ap (λ (l : List ℕ). get_or l 0 0) told.number ∙ ap (λ (l : List ℕ). get_or (sets l 0 (told.wire ∷ [])) 0 0) zeros in
-      let below : ℕ → Type 0 = λ x. (x < k.netlist.wires) × ((w : ℕ) → w < x → EqualCounts k.netlist codes w) in
-      record { sizes = s; netlist = k.netlist; read = k.read; holds = moved _ _ below first (told.inside, told.lower) }
+      let F = k.judged.finding in
+      record {
+        sizes = s;
+        netlist = k.netlist;
+        read = k.read;
+        holds = unknown-said k.netlist codes leak leak' ones ones' zeros F.left F.found F.words k.judged.says;
+      }
 
   -- the same of an answer that is known to be one of the three
   module _ {a : Result Verdict Refusal} (P : Promise s text codes leak leak' ones ones' o o' r r' g g' w w' b b' t t' a) where
