@@ -2216,7 +2216,7 @@ int64_t baseline_join(const uint8_t *first, size_t first_len,
 /* What is known of a wire: a table over at most four atoms and the two mask bits. Bit 4 s + m of the table is the wire's bit at mask
  * setting m, m0 its lowest bit, where atom j has bit j of s. Atom 8 w + 2 m + p is the bit of wire w at mask setting m, XOR p, which
  * depends on the input setting alone. Atoms rise, and NO_ATOM fills up. */
-enum { MOST_ATOMS = 4, LEAF = 0, SLOTS = 5 };
+enum { MOST_ATOMS = 4, FIRST = 0, SLOTS = 5 };
 #define NO_ATOM UINT32_MAX
 
 struct record {
@@ -2224,8 +2224,8 @@ struct record {
     uint32_t atom[MOST_ATOMS];
 };
 
-/* A wire has five records, three words each, of which the first is its leaf, of at most one atom; zeros are no record. Its marks say
- * whether it is clean and whether its atom is public. */
+/* A wire has five records, three words each; zeros are no record. The first is what its operands' first records give, or the leaf, of at
+ * most one atom, that this gives. A wire's marks say whether it is clean and whether its atom is public. */
 enum { CLEAN = 1, PUBLIC = 2 };
 
 /* A hint is an atom and, in its upper half, the number of a record of the atom's wire: atoms that are the same function of the same
@@ -2314,17 +2314,24 @@ ALWAYS bool even(const struct certifier *c, const struct record *r)
     return true;
 }
 
-/* Keeps a record among the four behind the leaf, fewer atoms first; one with the atoms of another is not kept. */
+ALWAYS bool same_atoms(const struct record *a, const struct record *b)
+{
+    return memcmp(a->atom, b->atom, sizeof a->atom) == 0;
+}
+
+/* Keeps a record among the four after the first, fewer atoms first; one with the atoms of another is not kept. */
 ALWAYS void keep(struct record *records, struct record r)
 {
     unsigned count = atom_count(&r);
+    if (!absent(&records[FIRST]) && same_atoms(&records[FIRST], &r))
+        return;
     for (unsigned slot = 1; slot < SLOTS; slot++) {
         struct record *other = &records[slot];
         if (absent(other)) {
             *other = r;
             return;
         }
-        if (memcmp(other->atom, r.atom, sizeof r.atom) == 0)
+        if (same_atoms(other, &r))
             return;
         unsigned other_count = atom_count(other);
         if (other_count > count) {
@@ -2352,48 +2359,84 @@ ALWAYS uint32_t hinted(const struct certifier *c, const struct record *r, uint32
     uint32_t atom = low(*hint), other = high(*hint);
     if (atom / 8 == other / SLOTS) {
         const struct record *s = &c->records[0][other];
-        if (!absent(s) && memcmp(s->atom, r->atom, sizeof r->atom) == 0 && selector(s->table, atom) == chosen)
+        if (!absent(s) && same_atoms(s, r) && selector(s->table, atom) == chosen)
             return atom;
     }
     *hint = pair(own, number);
     return own;
 }
 
-/* The leaf: the first record of at most one atom, or that shows two values of the four mask settings' bits, which the wire's own atom
- * then tells apart. */
-static void keep_leaf(struct certifier *c, uint32_t wire)
+/* The leaf that a record gives, in place of it: itself, of at most one atom, or over the wire's own atom where it shows two values of the
+ * four mask settings' bits, which that atom tells apart; false where it gives none. */
+ALWAYS bool leaf_of(const struct certifier *c, uint32_t wire, unsigned slot, const struct record *r, struct record *leaf)
 {
-    struct record *records = c->records[wire];
+    if (atom_count(r) <= 1) {
+        *leaf = *r;
+        return true;
+    }
+    uint64_t first = r->table & 15, change = r->table ^ first * 0x1111111111111111U;
+    unsigned place = (unsigned)__builtin_ctzll(change), m = place % 4;
+    uint64_t difference = change >> place / 4 * 4 & 15, chosen = (change >> m & 0x1111111111111111U) * 15;
+    if (change != (chosen & difference * 0x1111111111111111U))
+        return false;
+    uint32_t atom = hinted(c, r, SLOTS * wire + slot, 8 * wire + 2 * m + (uint32_t)(first >> m & 1));
+    *leaf = (struct record){first * 0x1111111111111111U ^ (variable[0] & difference * 0x1111111111111111U),
+                            {atom, NO_ATOM, NO_ATOM, NO_ATOM}};
+    return true;
+}
+
+ALWAYS void show_public(const struct certifier *c, uint32_t wire, const struct record *r)
+{
+    bool public = true;
+    for (unsigned j = 0; j < MOST_ATOMS && r->atom[j] != NO_ATOM; j++)
+        public = public && public_atom(c, r->atom[j]);
+    if (public)
+        c->marks[wire] |= PUBLIC | CLEAN;
+}
+
+/* The first record of a wire: what its operands' first records give, or the leaf that this gives, and then both are kept. All that the
+ * masking steps need of a wire is its first record. */
+ALWAYS void lead(struct certifier *c, uint32_t kind, uint32_t p, uint32_t q, uint32_t wire)
+{
+    struct record *records = c->records[wire], r, leaf;
+    if (absent(&c->records[p][FIRST]) || absent(&c->records[q][FIRST]) || !merge(kind, c->records[p][FIRST], c->records[q][FIRST], &r))
+        return;
+    r = reduced(r);
+    if (even(c, &r))
+        c->marks[wire] |= CLEAN;
+    if (!leaf_of(c, wire, 1, &r, &leaf)) {
+        records[FIRST] = r;
+        return;
+    }
+    records[FIRST] = leaf;
+    keep(records, r);
+    show_public(c, wire, &r);
+}
+
+/* A leaf from the first of a wire's further records that gives one, where its first record is none. */
+ALWAYS void keep_leaf(const struct certifier *c, uint32_t wire)
+{
+    struct record *records = c->records[wire], leaf;
+    if (!absent(&records[FIRST]) && atom_count(&records[FIRST]) <= 1)
+        return;
     for (unsigned slot = 1; slot < SLOTS && !absent(&records[slot]); slot++) {
-        const struct record *r = &records[slot];
-        if (atom_count(r) <= 1) {
-            records[LEAF] = *r;
-            return;
-        }
-        uint64_t first = r->table & 15, change = r->table ^ first * 0x1111111111111111U;
-        unsigned place = (unsigned)__builtin_ctzll(change), m = place % 4;
-        uint64_t difference = change >> place / 4 * 4 & 15, chosen = (change >> m & 0x1111111111111111U) * 15;
-        if (change != (chosen & difference * 0x1111111111111111U))
+        struct record r = records[slot];
+        if (!leaf_of(c, wire, slot, &r, &leaf))
             continue;
-        uint32_t atom = hinted(c, r, SLOTS * wire + slot, 8 * wire + 2 * m + (uint32_t)(first >> m & 1));
-        records[LEAF] = (struct record){first * 0x1111111111111111U ^ (variable[0] & difference * 0x1111111111111111U),
-                                        {atom, NO_ATOM, NO_ATOM, NO_ATOM}};
-        bool public = true;
-        for (unsigned j = 0; j < MOST_ATOMS && r->atom[j] != NO_ATOM; j++)
-            public = public && public_atom(c, r->atom[j]);
-        if (public)
-            c->marks[wire] |= PUBLIC;
+        records[absent(&records[FIRST]) ? FIRST : SLOTS - 1] = leaf;
+        show_public(c, wire, &r);
         return;
     }
 }
 
-/* A gate: each record of one operand with each of the other, or of one wire with itself. */
+/* A gate: both first records, then each other record of one operand with each of the other, or of one wire with itself. */
 static void certify_gate(struct certifier *c, uint32_t kind, uint32_t p, uint32_t q, uint32_t wire)
 {
     struct record *records = c->records[wire];
-    bool clean = false;
     memset(records, 0, sizeof *c->records);
     c->marks[wire] = 0;
+    lead(c, kind, p, q, wire);
+    bool clean = c->marks[wire] & CLEAN;
     for (unsigned i = 0; i < SLOTS; i++) {
         const struct record *a = &c->records[p][i];
         if (absent(a))
@@ -2401,7 +2444,7 @@ static void certify_gate(struct certifier *c, uint32_t kind, uint32_t p, uint32_
         for (unsigned j = p == q ? i : 0; j < (p == q ? i + 1 : SLOTS); j++) {
             const struct record *b = &c->records[q][j];
             struct record r;
-            if (absent(b) || !merge(kind, *a, *b, &r))
+            if (i + j == 0 || absent(b) || !merge(kind, *a, *b, &r))
                 continue;
             r = reduced(r);
             clean = clean || even(c, &r);
@@ -2409,7 +2452,7 @@ static void certify_gate(struct certifier *c, uint32_t kind, uint32_t p, uint32_
         }
     }
     if (clean)
-        c->marks[wire] = CLEAN;
+        c->marks[wire] |= CLEAN;
     keep_leaf(c, wire);
 }
 
@@ -2417,9 +2460,9 @@ static void certify_gate(struct certifier *c, uint32_t kind, uint32_t p, uint32_
 static void certify_input(struct certifier *c, uint32_t wire, uint64_t table, uint32_t atom, bool public)
 {
     memset(c->records[wire], 0, sizeof *c->records);
-    c->records[wire][LEAF] = (struct record){table, {atom, NO_ATOM, NO_ATOM, NO_ATOM}};
+    c->records[wire][FIRST] = (struct record){table, {atom, NO_ATOM, NO_ATOM, NO_ATOM}};
     c->marks[wire] = public ? PUBLIC : 0;
-    if (even(c, &c->records[wire][LEAF]))
+    if (even(c, &c->records[wire][FIRST]))
         c->marks[wire] |= CLEAN;
 }
 

@@ -456,6 +456,596 @@ int64_t fidrovelj_session_masked(fidrovelj_session session,
                                  uint8_t *marks, size_t marks_len,
                                  uint8_t sizes);
 
+/* What a leak is made of: questions 1 to 12 as Check puts them, for codes and tables as Check takes them.
+ *
+ * A verdict on each wire, in the order of their numbers, at the front of out: 0 it has equal counts; 1 it leaks; 2 it
+ * leaks and is a cause, since no operand of its gate leaks. Returns how many wires there are. Question 14 of out. */
+int64_t fidrovelj_explain_wires(const uint8_t *text, size_t text_len,
+                                const uint8_t *codes, size_t codes_len,
+                                uint8_t *out, size_t out_len,
+                                uint64_t *operands, size_t operands_len,
+                                uint64_t *results, size_t results_len,
+                                uint8_t *marks, size_t marks_len,
+                                uint64_t *words, size_t words_len,
+                                uint64_t *base, size_t base_len,
+                                uint8_t sizes);
+
+/* The polynomial of a wire, as coefficients at the front of out: entry m is 1 where the product of the variables whose
+ * bits are one in m is in the sum, and otherwise 0. Bits 0 and 1 of m are m0 and m1, and bit i + 2 is input bit i,
+ * which comes in XOR its mask; entry 0 is the constant. Returns how many there are: 4 times 2 to the number of codes,
+ * so at most 16,384. After 12, question 21 asks whether wire is below W; then 14 of out. */
+int64_t fidrovelj_polynomial(const uint8_t *text, size_t text_len,
+                             const uint8_t *codes, size_t codes_len,
+                             size_t wire,
+                             uint8_t *out, size_t out_len,
+                             uint64_t *operands, size_t operands_len,
+                             uint64_t *results, size_t results_len,
+                             uint8_t *marks, size_t marks_len,
+                             uint64_t *words, size_t words_len,
+                             uint8_t sizes);
+
+/* How many settings have the counts 0, 1, 2, 3 and 4 on a wire, at the front of out: returns 5 where the wire has equal
+ * counts. Where it leaks three more numbers follow, and it returns 8: a setting whose count is not its base's, of those
+ * with the fewest ones the smallest; its base's count; its own. After 12, question 21 asks whether wire is below W;
+ * then 14 of out. */
+int64_t fidrovelj_counts(const uint8_t *text, size_t text_len,
+                         const uint8_t *codes, size_t codes_len,
+                         size_t wire,
+                         uint64_t *out, size_t out_len,
+                         uint64_t *operands, size_t operands_len,
+                         uint64_t *results, size_t results_len,
+                         uint8_t *bits, size_t bits_len,
+                         uint64_t *words, size_t words_len,
+                         uint8_t *bases, size_t bases_len,
+                         uint8_t sizes);
+
+/* ---- The version, the words of a refusal, the shape of a netlist and the first refused place. */
+
+/* The version of this header. fidrovelj_version gives that of the library: the first number times 10,000, the second
+ * times 100, and the third. */
+#define FIDROVELJ_VERSION_MAJOR 1
+#define FIDROVELJ_VERSION_MINOR 0
+#define FIDROVELJ_VERSION_PATCH 0
+#define FIDROVELJ_VERSION "1.0.0"
+
+uint32_t fidrovelj_version(void);
+
+/* The words of a refusal, by the number of its question, 1 to 25: how many bytes they have, at most
+ * FIDROVELJ_REFUSAL_BYTES; 0 where no question has the number. They go to the front of buffer, without a NUL, if it can
+ * hold them; otherwise it stays as it was. */
+#define FIDROVELJ_REFUSAL_BYTES 128
+
+int64_t fidrovelj_refusal(uint8_t question, uint8_t *buffer, size_t buffer_len);
+
+/* How many input and output values a netlist has, their bits, its wires and its gates; refused is 0, or the number of
+ * the question that refuses the text, and then all else is 0. */
+typedef struct {
+    uint64_t input_values, output_values, input_bits, output_bits, wires, gates;
+    uint8_t refused;
+} fidrovelj_shape_answer;
+
+/* Questions 1 to 9 with the limits of a masked netlist. */
+fidrovelj_shape_answer fidrovelj_shape(const uint8_t *text, size_t text_len,
+                                       uint64_t *operands, size_t operands_len,
+                                       uint64_t *results, size_t results_len,
+                                       uint8_t *marks, size_t marks_len,
+                                       uint8_t sizes);
+
+/* The first refused place of a text. refused is the question of 2 to 9 that refuses the text, 1 where marks is too
+ * short, or 0 where none does; where it is 0 or 1 all else is 0. offset is the byte, counted from 0; line and column
+ * are counted from 1, blank lines too. entry is the line counted from 0 without blank lines, and word the word of it,
+ * counted from 0; both are 0 for 2 and 3.
+ *
+ *  2  offset is the limit on texts: the first byte past it. have is the text's length, most the limit.
+ *  3  The first byte that may not stand.
+ *  4  The first header line that is not of its form; the text's end where it is not there.
+ *  5  The first limit that is passed: have is the number, and most its limit. Word 1 of entry 0 is W, word 0 of
+ *     entries 1 and 2 are the input and the output values, and word 1 of these the input and the output bits.
+ *  6  have is the gate count of the header, and most W less the input bits; where both agree, the number of gate lines.
+ *  7  The first line that is no gate, with every line before it passed by 7 to 9. So for
+ *  8  the first operand that is not given, or the constant that is no bit, and
+ *  9  the result. */
+typedef struct {
+    size_t offset, line, column, entry, word;
+    uint64_t have, most;
+    uint8_t refused;
+} fidrovelj_place_answer;
+
+/* masked is 0 for the limits of a source (Mask, Mask with fewest changes, Twins), and otherwise those of a masked
+ * netlist. */
+fidrovelj_place_answer fidrovelj_place(const uint8_t *text, size_t text_len,
+                                       uint8_t *marks, size_t marks_len,
+                                       uint8_t masked, uint8_t sizes);
+
+/* ---- The gate reader: one gate after another of a text, without a table. */
+
+/* The place before the first gate, what the header counts, and 0; or the question that refuses the text, and then all
+ * else is 0. */
+typedef struct {
+    size_t at, input_values, output_values;
+    uint64_t input_bits, output_bits;
+    uint32_t wires, gates;
+    uint8_t refused;
+} fidrovelj_open_answer;
+
+/* Opens a reader: questions 2 to 6 with the limits of a masked netlist, and 14 of the two lists, whose fronts get the
+ * widths of the input values and of the output values. 17 and 16 entries are always enough. */
+fidrovelj_open_answer fidrovelj_gate_open(const uint8_t *text, size_t text_len,
+                                          uint32_t *inputs, size_t inputs_len,
+                                          uint32_t *outputs, size_t outputs_len,
+                                          uint8_t sizes);
+
+/* A gate, and the place before the next one. At the end the gate has kind 0, and refused is 0. Where the line is no
+ * gate, the gate has kind 0, and refused is 7. Then the place is the one that was given, so the same answer comes
+ * again. */
+typedef struct {
+    fidrovelj_gate gate;
+    size_t at;
+    uint8_t refused;
+} fidrovelj_next_answer;
+
+/* The gate at a place: at is the opening's, or that of the gate before. */
+fidrovelj_next_answer fidrovelj_gate_next(const uint8_t *text, size_t text_len, size_t at);
+
+/* ---- One block of words for all working tables of a call.
+ *
+ * The functions whose names end in _in make the call of the same name on tables that lie one after another in one block
+ * of 64-bit words. fidrovelj_workspace_words says how many words a service needs. Of a block of more words those are
+ * used alone, and no other is touched; they are zero on return. A block of fewer words is refused by 1, and is zero on
+ * return. (fidrovelj_place_in with the limits of a source takes fewer words too, as many as those limits ask for.)
+ * The block's alignment is that of uint64_t. */
+#define FIDROVELJ_SERVICE_REWRITE 1
+#define FIDROVELJ_SERVICE_FROM_OLD 2
+#define FIDROVELJ_SERVICE_TO_OLD 3
+#define FIDROVELJ_SERVICE_RUN 4
+#define FIDROVELJ_SERVICE_RUN64 5
+#define FIDROVELJ_SERVICE_MASK 6
+#define FIDROVELJ_SERVICE_MASK_FEWEST 7
+#define FIDROVELJ_SERVICE_TWINS 8
+#define FIDROVELJ_SERVICE_CHECK 9
+#define FIDROVELJ_SERVICE_CHECK_PAIRS 10
+#define FIDROVELJ_SERVICE_CHECK_WIDE 11
+#define FIDROVELJ_SERVICE_CERTIFY 12
+#define FIDROVELJ_SERVICE_FROM_AIGER 13
+#define FIDROVELJ_SERVICE_JOIN 14
+#define FIDROVELJ_SERVICE_FROM_VERILOG 15
+#define FIDROVELJ_SERVICE_SESSION_TEXT 16
+#define FIDROVELJ_SERVICE_SESSION_MASKED 17
+#define FIDROVELJ_SERVICE_SHAPE 18
+#define FIDROVELJ_SERVICE_PLACE 19
+#define FIDROVELJ_SERVICE_EXPLAIN_WIRES 20
+#define FIDROVELJ_SERVICE_POLYNOMIAL 21
+#define FIDROVELJ_SERVICE_COUNTS 22
+
+/* How many words a service's tables have together; 0 where no service has the number. */
+size_t fidrovelj_workspace_words(uint8_t service, uint8_t sizes);
+
+/* Where a table stands in a block: the word that it starts at, and how many entries it has. */
+typedef struct {
+    size_t at, entries;
+} fidrovelj_span;
+
+/* Table number table of a service, counted from 0 in the order of the call's parameters. In a block of enough words it
+ * lies within it, apart from the others, with as many entries as question 1 asks for. In a block of fewer words the
+ * first table has all of them, and the others have no entry. */
+fidrovelj_span fidrovelj_workspace_span(uint8_t service, size_t table, size_t words, uint8_t sizes);
+
+/* The service, the block, its words and the sizes of the call in which it stands. */
+#define FIDROVELJ_TABLE(type, service, table)                                                         \
+    (type *)(workspace + fidrovelj_workspace_span(service, table, workspace_words, sizes).at),        \
+        fidrovelj_workspace_span(service, table, workspace_words, sizes).entries
+
+static inline int64_t fidrovelj_rewrite_in(const uint8_t *text, size_t text_len,
+                                           uint8_t *out, size_t out_len,
+                                           uint64_t *workspace, size_t workspace_words,
+                                           uint8_t sizes)
+{
+    return fidrovelj_rewrite(text, text_len,
+                             out, out_len,
+                             FIDROVELJ_TABLE(uint64_t, FIDROVELJ_SERVICE_REWRITE, 0),
+                             FIDROVELJ_TABLE(uint64_t, FIDROVELJ_SERVICE_REWRITE, 1),
+                             FIDROVELJ_TABLE(uint8_t, FIDROVELJ_SERVICE_REWRITE, 2),
+                             sizes);
+}
+
+static inline int64_t fidrovelj_from_old_in(const uint8_t *text, size_t text_len,
+                                            uint8_t *out, size_t out_len,
+                                            uint64_t *workspace, size_t workspace_words,
+                                            uint8_t sizes)
+{
+    return fidrovelj_from_old(text, text_len,
+                              out, out_len,
+                              FIDROVELJ_TABLE(uint64_t, FIDROVELJ_SERVICE_FROM_OLD, 0),
+                              FIDROVELJ_TABLE(uint64_t, FIDROVELJ_SERVICE_FROM_OLD, 1),
+                              FIDROVELJ_TABLE(uint8_t, FIDROVELJ_SERVICE_FROM_OLD, 2),
+                              sizes);
+}
+
+static inline int64_t fidrovelj_to_old_in(const uint8_t *text, size_t text_len,
+                                          uint8_t *out, size_t out_len,
+                                          uint64_t *workspace, size_t workspace_words,
+                                          uint8_t sizes)
+{
+    return fidrovelj_to_old(text, text_len,
+                            out, out_len,
+                            FIDROVELJ_TABLE(uint64_t, FIDROVELJ_SERVICE_TO_OLD, 0),
+                            FIDROVELJ_TABLE(uint64_t, FIDROVELJ_SERVICE_TO_OLD, 1),
+                            FIDROVELJ_TABLE(uint8_t, FIDROVELJ_SERVICE_TO_OLD, 2),
+                            sizes);
+}
+
+static inline int64_t fidrovelj_run_in(const uint8_t *text, size_t text_len,
+                                       const uint8_t *list, size_t list_len,
+                                       uint8_t *out, size_t out_len,
+                                       uint64_t *workspace, size_t workspace_words,
+                                       uint8_t sizes)
+{
+    return fidrovelj_run(text, text_len,
+                         list, list_len,
+                         out, out_len,
+                         FIDROVELJ_TABLE(uint64_t, FIDROVELJ_SERVICE_RUN, 0),
+                         FIDROVELJ_TABLE(uint64_t, FIDROVELJ_SERVICE_RUN, 1),
+                         FIDROVELJ_TABLE(uint8_t, FIDROVELJ_SERVICE_RUN, 2),
+                         FIDROVELJ_TABLE(uint64_t, FIDROVELJ_SERVICE_RUN, 3),
+                         sizes);
+}
+
+static inline int64_t fidrovelj_run64_in(const uint8_t *text, size_t text_len,
+                                         const uint64_t *list, size_t list_len,
+                                         uint64_t *out, size_t out_len,
+                                         uint64_t *workspace, size_t workspace_words,
+                                         uint8_t sizes)
+{
+    return fidrovelj_run64(text, text_len,
+                           list, list_len,
+                           out, out_len,
+                           FIDROVELJ_TABLE(uint64_t, FIDROVELJ_SERVICE_RUN64, 0),
+                           FIDROVELJ_TABLE(uint64_t, FIDROVELJ_SERVICE_RUN64, 1),
+                           FIDROVELJ_TABLE(uint8_t, FIDROVELJ_SERVICE_RUN64, 2),
+                           FIDROVELJ_TABLE(uint64_t, FIDROVELJ_SERVICE_RUN64, 3),
+                           sizes);
+}
+
+static inline int64_t fidrovelj_mask_in(const uint8_t *text, size_t text_len,
+                                        const uint8_t *codes, size_t codes_len,
+                                        const uint8_t *wanted, size_t wanted_len,
+                                        uint8_t *out, size_t out_len,
+                                        uint8_t *out_codes, size_t out_codes_len,
+                                        uint64_t *workspace, size_t workspace_words,
+                                        uint8_t sizes)
+{
+    return fidrovelj_mask(text, text_len,
+                          codes, codes_len,
+                          wanted, wanted_len,
+                          out, out_len,
+                          out_codes, out_codes_len,
+                          FIDROVELJ_TABLE(uint64_t, FIDROVELJ_SERVICE_MASK, 0),
+                          FIDROVELJ_TABLE(uint64_t, FIDROVELJ_SERVICE_MASK, 1),
+                          FIDROVELJ_TABLE(uint32_t, FIDROVELJ_SERVICE_MASK, 2),
+                          FIDROVELJ_TABLE(uint8_t, FIDROVELJ_SERVICE_MASK, 3),
+                          sizes);
+}
+
+static inline int64_t fidrovelj_mask_fewest_in(const uint8_t *text, size_t text_len,
+                                               const uint8_t *codes, size_t codes_len,
+                                               const uint8_t *wanted, size_t wanted_len,
+                                               uint64_t budget,
+                                               uint8_t *out, size_t out_len,
+                                               uint8_t *in_codes, size_t in_codes_len,
+                                               uint8_t *out_codes, size_t out_codes_len,
+                                               uint64_t *tally, size_t tally_len,
+                                               uint64_t *workspace, size_t workspace_words,
+                                               uint8_t sizes)
+{
+    return fidrovelj_mask_fewest(text, text_len,
+                                 codes, codes_len,
+                                 wanted, wanted_len,
+                                 budget,
+                                 out, out_len,
+                                 in_codes, in_codes_len,
+                                 out_codes, out_codes_len,
+                                 tally, tally_len,
+                                 FIDROVELJ_TABLE(uint64_t, FIDROVELJ_SERVICE_MASK_FEWEST, 0),
+                                 FIDROVELJ_TABLE(uint64_t, FIDROVELJ_SERVICE_MASK_FEWEST, 1),
+                                 FIDROVELJ_TABLE(uint32_t, FIDROVELJ_SERVICE_MASK_FEWEST, 2),
+                                 FIDROVELJ_TABLE(uint8_t, FIDROVELJ_SERVICE_MASK_FEWEST, 3),
+                                 FIDROVELJ_TABLE(uint8_t, FIDROVELJ_SERVICE_MASK_FEWEST, 4),
+                                 FIDROVELJ_TABLE(uint8_t, FIDROVELJ_SERVICE_MASK_FEWEST, 5),
+                                 FIDROVELJ_TABLE(uint64_t, FIDROVELJ_SERVICE_MASK_FEWEST, 6),
+                                 sizes);
+}
+
+static inline int64_t fidrovelj_twins_in(const uint8_t *text, size_t text_len,
+                                         const uint8_t *codes, size_t codes_len,
+                                         uint32_t *out_wires, size_t out_wires_len,
+                                         uint8_t *out_codes, size_t out_codes_len,
+                                         uint64_t *workspace, size_t workspace_words,
+                                         uint8_t sizes)
+{
+    return fidrovelj_twins(text, text_len,
+                           codes, codes_len,
+                           out_wires, out_wires_len,
+                           out_codes, out_codes_len,
+                           FIDROVELJ_TABLE(uint64_t, FIDROVELJ_SERVICE_TWINS, 0),
+                           FIDROVELJ_TABLE(uint64_t, FIDROVELJ_SERVICE_TWINS, 1),
+                           FIDROVELJ_TABLE(uint8_t, FIDROVELJ_SERVICE_TWINS, 2),
+                           sizes);
+}
+
+static inline int64_t fidrovelj_check_in(const uint8_t *text, size_t text_len,
+                                         const uint8_t *codes, size_t codes_len,
+                                         uint64_t *leak, size_t leak_len,
+                                         uint64_t *workspace, size_t workspace_words,
+                                         uint8_t sizes)
+{
+    return fidrovelj_check(text, text_len,
+                           codes, codes_len,
+                           leak, leak_len,
+                           FIDROVELJ_TABLE(uint64_t, FIDROVELJ_SERVICE_CHECK, 0),
+                           FIDROVELJ_TABLE(uint64_t, FIDROVELJ_SERVICE_CHECK, 1),
+                           FIDROVELJ_TABLE(uint8_t, FIDROVELJ_SERVICE_CHECK, 2),
+                           FIDROVELJ_TABLE(uint64_t, FIDROVELJ_SERVICE_CHECK, 3),
+                           FIDROVELJ_TABLE(uint64_t, FIDROVELJ_SERVICE_CHECK, 4),
+                           sizes);
+}
+
+static inline int64_t fidrovelj_check_pairs_in(const uint8_t *text, size_t text_len,
+                                               const uint8_t *codes, size_t codes_len,
+                                               const uint32_t *pairs, size_t pairs_len,
+                                               uint64_t *leak, size_t leak_len,
+                                               uint64_t *bad, size_t bad_len,
+                                               uint64_t *workspace, size_t workspace_words,
+                                               uint8_t sizes)
+{
+    return fidrovelj_check_pairs(text, text_len,
+                                 codes, codes_len,
+                                 pairs, pairs_len,
+                                 leak, leak_len,
+                                 bad, bad_len,
+                                 FIDROVELJ_TABLE(uint64_t, FIDROVELJ_SERVICE_CHECK_PAIRS, 0),
+                                 FIDROVELJ_TABLE(uint64_t, FIDROVELJ_SERVICE_CHECK_PAIRS, 1),
+                                 FIDROVELJ_TABLE(uint8_t, FIDROVELJ_SERVICE_CHECK_PAIRS, 2),
+                                 FIDROVELJ_TABLE(uint64_t, FIDROVELJ_SERVICE_CHECK_PAIRS, 3),
+                                 FIDROVELJ_TABLE(uint64_t, FIDROVELJ_SERVICE_CHECK_PAIRS, 4),
+                                 FIDROVELJ_TABLE(uint64_t, FIDROVELJ_SERVICE_CHECK_PAIRS, 5),
+                                 sizes);
+}
+
+static inline int64_t fidrovelj_check_wide_in(const uint8_t *text, size_t text_len,
+                                              const uint8_t *codes, size_t codes_len,
+                                              const uint32_t *pairs, size_t pairs_len,
+                                              uint64_t *leak, size_t leak_len,
+                                              uint64_t *ones, size_t ones_len,
+                                              uint64_t *bad, size_t bad_len,
+                                              uint64_t *workspace, size_t workspace_words,
+                                              uint8_t sizes)
+{
+    return fidrovelj_check_wide(text, text_len,
+                                codes, codes_len,
+                                pairs, pairs_len,
+                                leak, leak_len,
+                                ones, ones_len,
+                                bad, bad_len,
+                                FIDROVELJ_TABLE(uint64_t, FIDROVELJ_SERVICE_CHECK_WIDE, 0),
+                                FIDROVELJ_TABLE(uint64_t, FIDROVELJ_SERVICE_CHECK_WIDE, 1),
+                                FIDROVELJ_TABLE(uint8_t, FIDROVELJ_SERVICE_CHECK_WIDE, 2),
+                                FIDROVELJ_TABLE(uint64_t, FIDROVELJ_SERVICE_CHECK_WIDE, 3),
+                                FIDROVELJ_TABLE(uint64_t, FIDROVELJ_SERVICE_CHECK_WIDE, 4),
+                                FIDROVELJ_TABLE(uint64_t, FIDROVELJ_SERVICE_CHECK_WIDE, 5),
+                                FIDROVELJ_TABLE(uint64_t, FIDROVELJ_SERVICE_CHECK_WIDE, 6),
+                                FIDROVELJ_TABLE(uint64_t, FIDROVELJ_SERVICE_CHECK_WIDE, 7),
+                                FIDROVELJ_TABLE(uint64_t, FIDROVELJ_SERVICE_CHECK_WIDE, 8),
+                                FIDROVELJ_TABLE(uint64_t, FIDROVELJ_SERVICE_CHECK_WIDE, 9),
+                                FIDROVELJ_TABLE(uint8_t, FIDROVELJ_SERVICE_CHECK_WIDE, 10),
+                                sizes);
+}
+
+static inline int64_t fidrovelj_certify_in(const uint8_t *text, size_t text_len,
+                                           const uint8_t *codes, size_t codes_len,
+                                           uint64_t *leak, size_t leak_len,
+                                           uint64_t *ones, size_t ones_len,
+                                           uint64_t *workspace, size_t workspace_words,
+                                           uint8_t sizes)
+{
+    return fidrovelj_certify(text, text_len,
+                             codes, codes_len,
+                             leak, leak_len,
+                             ones, ones_len,
+                             FIDROVELJ_TABLE(uint64_t, FIDROVELJ_SERVICE_CERTIFY, 0),
+                             FIDROVELJ_TABLE(uint64_t, FIDROVELJ_SERVICE_CERTIFY, 1),
+                             FIDROVELJ_TABLE(uint8_t, FIDROVELJ_SERVICE_CERTIFY, 2),
+                             FIDROVELJ_TABLE(uint64_t, FIDROVELJ_SERVICE_CERTIFY, 3),
+                             FIDROVELJ_TABLE(uint64_t, FIDROVELJ_SERVICE_CERTIFY, 4),
+                             FIDROVELJ_TABLE(uint64_t, FIDROVELJ_SERVICE_CERTIFY, 5),
+                             sizes);
+}
+
+static inline int64_t fidrovelj_from_aiger_in(const uint8_t *text, size_t text_len,
+                                              uint8_t *out, size_t out_len,
+                                              uint64_t *workspace, size_t workspace_words,
+                                              uint8_t sizes)
+{
+    return fidrovelj_from_aiger(text, text_len,
+                                out, out_len,
+                                FIDROVELJ_TABLE(uint64_t, FIDROVELJ_SERVICE_FROM_AIGER, 0),
+                                FIDROVELJ_TABLE(uint64_t, FIDROVELJ_SERVICE_FROM_AIGER, 1),
+                                FIDROVELJ_TABLE(uint32_t, FIDROVELJ_SERVICE_FROM_AIGER, 2),
+                                sizes);
+}
+
+static inline int64_t fidrovelj_join_in(const uint8_t *first, size_t first_len,
+                                        const uint8_t *second, size_t second_len,
+                                        const uint8_t *first_codes, size_t first_codes_len,
+                                        const uint8_t *first_out_codes, size_t first_out_codes_len,
+                                        const uint8_t *second_codes, size_t second_codes_len,
+                                        uint8_t *out, size_t out_len,
+                                        uint64_t *workspace, size_t workspace_words,
+                                        uint8_t sizes)
+{
+    return fidrovelj_join(first, first_len,
+                          second, second_len,
+                          first_codes, first_codes_len,
+                          first_out_codes, first_out_codes_len,
+                          second_codes, second_codes_len,
+                          out, out_len,
+                          FIDROVELJ_TABLE(uint64_t, FIDROVELJ_SERVICE_JOIN, 0),
+                          FIDROVELJ_TABLE(uint64_t, FIDROVELJ_SERVICE_JOIN, 1),
+                          FIDROVELJ_TABLE(uint8_t, FIDROVELJ_SERVICE_JOIN, 2),
+                          FIDROVELJ_TABLE(uint64_t, FIDROVELJ_SERVICE_JOIN, 3),
+                          FIDROVELJ_TABLE(uint64_t, FIDROVELJ_SERVICE_JOIN, 4),
+                          sizes);
+}
+
+static inline int64_t fidrovelj_from_verilog_in(const uint8_t *text, size_t text_len,
+                                                uint8_t *out, size_t out_len,
+                                                uint64_t *workspace, size_t workspace_words,
+                                                uint8_t sizes)
+{
+    return fidrovelj_from_verilog(text, text_len,
+                                  out, out_len,
+                                  FIDROVELJ_TABLE(uint64_t, FIDROVELJ_SERVICE_FROM_VERILOG, 0),
+                                  FIDROVELJ_TABLE(uint64_t, FIDROVELJ_SERVICE_FROM_VERILOG, 1),
+                                  FIDROVELJ_TABLE(uint64_t, FIDROVELJ_SERVICE_FROM_VERILOG, 2),
+                                  FIDROVELJ_TABLE(uint64_t, FIDROVELJ_SERVICE_FROM_VERILOG, 3),
+                                  FIDROVELJ_TABLE(uint64_t, FIDROVELJ_SERVICE_FROM_VERILOG, 4),
+                                  FIDROVELJ_TABLE(uint32_t, FIDROVELJ_SERVICE_FROM_VERILOG, 5),
+                                  FIDROVELJ_TABLE(uint32_t, FIDROVELJ_SERVICE_FROM_VERILOG, 6),
+                                  sizes);
+}
+
+static inline int64_t fidrovelj_session_text_in(fidrovelj_session session,
+                                                const uint32_t *inputs, size_t inputs_len,
+                                                const uint32_t *outputs, size_t outputs_len,
+                                                const fidrovelj_source_gate *source, size_t source_len,
+                                                uint8_t *out, size_t out_len,
+                                                uint64_t *workspace, size_t workspace_words,
+                                                uint8_t sizes)
+{
+    return fidrovelj_session_text(session,
+                                  inputs, inputs_len,
+                                  outputs, outputs_len,
+                                  source, source_len,
+                                  out, out_len,
+                                  FIDROVELJ_TABLE(uint64_t, FIDROVELJ_SERVICE_SESSION_TEXT, 0),
+                                  FIDROVELJ_TABLE(uint64_t, FIDROVELJ_SERVICE_SESSION_TEXT, 1),
+                                  sizes);
+}
+
+static inline int64_t fidrovelj_session_masked_in(fidrovelj_session session,
+                                                  const uint32_t *inputs, size_t inputs_len,
+                                                  const uint32_t *outputs, size_t outputs_len,
+                                                  const fidrovelj_source_gate *source, size_t source_len,
+                                                  const uint8_t *codes, size_t codes_len,
+                                                  const uint8_t *wanted, size_t wanted_len,
+                                                  uint8_t *out, size_t out_len,
+                                                  uint8_t *out_codes, size_t out_codes_len,
+                                                  uint64_t *workspace, size_t workspace_words,
+                                                  uint8_t sizes)
+{
+    return fidrovelj_session_masked(session,
+                                    inputs, inputs_len,
+                                    outputs, outputs_len,
+                                    source, source_len,
+                                    codes, codes_len,
+                                    wanted, wanted_len,
+                                    out, out_len,
+                                    out_codes, out_codes_len,
+                                    FIDROVELJ_TABLE(uint64_t, FIDROVELJ_SERVICE_SESSION_MASKED, 0),
+                                    FIDROVELJ_TABLE(uint64_t, FIDROVELJ_SERVICE_SESSION_MASKED, 1),
+                                    FIDROVELJ_TABLE(uint32_t, FIDROVELJ_SERVICE_SESSION_MASKED, 2),
+                                    FIDROVELJ_TABLE(uint8_t, FIDROVELJ_SERVICE_SESSION_MASKED, 3),
+                                    sizes);
+}
+
+static inline fidrovelj_shape_answer fidrovelj_shape_in(const uint8_t *text, size_t text_len,
+                                                        uint64_t *workspace, size_t workspace_words,
+                                                        uint8_t sizes)
+{
+    return fidrovelj_shape(text, text_len,
+                           FIDROVELJ_TABLE(uint64_t, FIDROVELJ_SERVICE_SHAPE, 0),
+                           FIDROVELJ_TABLE(uint64_t, FIDROVELJ_SERVICE_SHAPE, 1),
+                           FIDROVELJ_TABLE(uint8_t, FIDROVELJ_SERVICE_SHAPE, 2),
+                           sizes);
+}
+
+static inline fidrovelj_place_answer fidrovelj_place_in(const uint8_t *text, size_t text_len,
+                                                        uint64_t *workspace, size_t workspace_words,
+                                                        uint8_t masked, uint8_t sizes)
+{
+    return fidrovelj_place(text, text_len,
+                           FIDROVELJ_TABLE(uint8_t, FIDROVELJ_SERVICE_PLACE, 0),
+                           masked, sizes);
+}
+
+static inline int64_t fidrovelj_explain_wires_in(const uint8_t *text, size_t text_len,
+                                                 const uint8_t *codes, size_t codes_len,
+                                                 uint8_t *out, size_t out_len,
+                                                 uint64_t *workspace, size_t workspace_words,
+                                                 uint8_t sizes)
+{
+    return fidrovelj_explain_wires(text, text_len,
+                                   codes, codes_len,
+                                   out, out_len,
+                                   FIDROVELJ_TABLE(uint64_t, FIDROVELJ_SERVICE_EXPLAIN_WIRES, 0),
+                                   FIDROVELJ_TABLE(uint64_t, FIDROVELJ_SERVICE_EXPLAIN_WIRES, 1),
+                                   FIDROVELJ_TABLE(uint8_t, FIDROVELJ_SERVICE_EXPLAIN_WIRES, 2),
+                                   FIDROVELJ_TABLE(uint64_t, FIDROVELJ_SERVICE_EXPLAIN_WIRES, 3),
+                                   FIDROVELJ_TABLE(uint64_t, FIDROVELJ_SERVICE_EXPLAIN_WIRES, 4),
+                                   sizes);
+}
+
+static inline int64_t fidrovelj_polynomial_in(const uint8_t *text, size_t text_len,
+                                              const uint8_t *codes, size_t codes_len,
+                                              size_t wire,
+                                              uint8_t *out, size_t out_len,
+                                              uint64_t *workspace, size_t workspace_words,
+                                              uint8_t sizes)
+{
+    return fidrovelj_polynomial(text, text_len,
+                                codes, codes_len,
+                                wire,
+                                out, out_len,
+                                FIDROVELJ_TABLE(uint64_t, FIDROVELJ_SERVICE_POLYNOMIAL, 0),
+                                FIDROVELJ_TABLE(uint64_t, FIDROVELJ_SERVICE_POLYNOMIAL, 1),
+                                FIDROVELJ_TABLE(uint8_t, FIDROVELJ_SERVICE_POLYNOMIAL, 2),
+                                FIDROVELJ_TABLE(uint64_t, FIDROVELJ_SERVICE_POLYNOMIAL, 3),
+                                sizes);
+}
+
+static inline int64_t fidrovelj_counts_in(const uint8_t *text, size_t text_len,
+                                          const uint8_t *codes, size_t codes_len,
+                                          size_t wire,
+                                          uint64_t *out, size_t out_len,
+                                          uint64_t *workspace, size_t workspace_words,
+                                          uint8_t sizes)
+{
+    return fidrovelj_counts(text, text_len,
+                            codes, codes_len,
+                            wire,
+                            out, out_len,
+                            FIDROVELJ_TABLE(uint64_t, FIDROVELJ_SERVICE_COUNTS, 0),
+                            FIDROVELJ_TABLE(uint64_t, FIDROVELJ_SERVICE_COUNTS, 1),
+                            FIDROVELJ_TABLE(uint8_t, FIDROVELJ_SERVICE_COUNTS, 2),
+                            FIDROVELJ_TABLE(uint64_t, FIDROVELJ_SERVICE_COUNTS, 3),
+                            FIDROVELJ_TABLE(uint8_t, FIDROVELJ_SERVICE_COUNTS, 4),
+                            sizes);
+}
+
+#undef FIDROVELJ_TABLE
+
+/* The cone of a wire, an entry for each wire, in the order of their numbers, at the front of out: one more than its
+ * distance, which is how many gates stand between, so 1 for the wire itself; 0 where it does not reach the wire within
+ * depth gates. Returns how many wires there are. Questions 1 to 9 with the large limits, 21 (is wire below W?), and 14
+ * of out. */
+int64_t fidrovelj_cone(const uint8_t *text, size_t text_len,
+                       size_t wire,
+                       uint16_t depth,
+                       uint32_t *out, size_t out_len,
+                       uint64_t *operands, size_t operands_len,
+                       uint64_t *results, size_t results_len,
+                       uint8_t *marks, size_t marks_len,
+                       uint8_t sizes);
+
 #ifdef __cplusplus
 }
 #endif

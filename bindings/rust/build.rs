@@ -1,5 +1,6 @@
-//! Links the proved static library, `target/staticlib/libcapi.a` of the repository (`./build library`
-//! writes it), or the archive that the environment variable `FIDROVELJ_LIB` names.
+//! Links the proved static library: `target/staticlib/libcapi.a` of the repository, which `./build library` writes, or
+//! the archive that the environment variable `FIDROVELJ_LIB` names. With `FIDROVELJ_LIB=none` nothing is linked, which
+//! is enough for documentation and for programs that call nothing.
 
 use std::env;
 use std::path::{Path, PathBuf};
@@ -8,12 +9,18 @@ fn main() {
     println!("cargo:rerun-if-env-changed=FIDROVELJ_LIB");
     let manifest = env::var("CARGO_MANIFEST_DIR").expect("cargo names the manifest's folder");
     let archive = match env::var_os("FIDROVELJ_LIB") {
+        Some(none) if none == "none" => return,
         Some(path) => PathBuf::from(path),
         None => Path::new(&manifest).join("../../target/staticlib/libcapi.a"),
     };
     println!("cargo:rerun-if-changed={}", archive.display());
     if !archive.is_file() {
-        println!("cargo:warning={} is missing: run `./build library` before linking", archive.display());
+        println!(
+            "cargo::error=the proved library {} is missing: run `./build library` at the top of the repository (it \
+             needs the Rattle kit, and minutes the first time), or name an archive in FIDROVELJ_LIB",
+            archive.display()
+        );
+        return;
     }
     let folder = archive.parent().expect("an archive stands in a folder");
     let stem = archive.file_stem().and_then(|stem| stem.to_str()).expect("an archive has a name");

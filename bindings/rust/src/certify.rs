@@ -1,7 +1,8 @@
 //! Certifying netlists of any number of inputs.
 
 use crate::lent::answer;
-use crate::{Refused, Sizes, Tables};
+use crate::tables::front;
+use crate::{Refusal, Sizes, Tables};
 
 extern "C" {
     fn fidrovelj_certify(
@@ -33,7 +34,23 @@ extern "C" {
 /// neither could be shown. A leak's four numbers go to `leak`: its wire, how many input bits are one in its
 /// setting, the base's count and its own; those input bits go to `ones`, rising. Of an answer 2 the lowest wire
 /// that is not known to be clean goes to the first entry of `leak`. A list too short for its numbers is refused
-/// by 14. Question 1 asks [`Sizes::records`] entries of `records` and [`Sizes::large`] of each other table.
+/// by 14. Question 1 asks [`Sizes::records`] entries of `records` and [`Sizes::masked_wires`] of each other table.
+///
+/// ```
+/// # use fidrovelj::{certify_lent, Refusal, Sizes};
+/// # let sizes = Sizes::Standard;
+/// let table = || vec![0; sizes.masked_wires()];
+/// let (mut operands, mut results, mut words, mut base) = (table(), table(), table(), table());
+/// let (mut marks, mut records) = (vec![0; sizes.masked_wires()], vec![0; sizes.records()]);
+/// let (mut leak, mut ones) = ([0; 4], [0; 1]);
+/// let open = b"1 4\n2 1 2\n1 1\n2 1 0 1 3 XOR\n";
+/// let answer = certify_lent(
+///     open, &[1], &mut leak, &mut ones, &mut operands, &mut results, &mut marks, &mut words, &mut base, &mut records,
+///     sizes,
+/// )?;
+/// assert_eq!((answer, leak, ones), (1, [3, 1, 0, 4], [0]));
+/// # Ok::<(), Refusal>(())
+/// ```
 #[allow(clippy::too_many_arguments)]
 pub fn certify_lent(
     text: &[u8],
@@ -47,8 +64,8 @@ pub fn certify_lent(
     base: &mut [u64],
     records: &mut [u64],
     sizes: Sizes,
-) -> Result<usize, Refused> {
-    // SAFETY: each pointer and length is that of a slice, and slices behind `&mut` overlap no other.
+) -> Result<usize, Refusal> {
+    // SAFETY: each pointer and length is that of a slice, and slices that are `&mut` overlap no other.
     answer(unsafe {
         fidrovelj_certify(
             text.as_ptr(),
@@ -76,14 +93,18 @@ pub fn certify_lent(
     })
 }
 
-impl Sizes {
-    /// The least entries of Certify's table of records: fifteen for each wire.
-    pub const fn records(self) -> usize {
-        15 * self.large()
-    }
-}
-
 /// What [`certify`] says of a netlist.
+///
+/// ```
+/// use fidrovelj::{certify, Certified, Tables};
+///
+/// let open = b"1 4\n2 1 2\n1 1\n2 1 0 1 3 XOR\n";
+/// match certify(open, &[1], &mut Tables::new())? {
+///     Certified::Leak { wire, .. } => assert_eq!(wire, 3),
+///     other => panic!("{other:?}"),
+/// }
+/// # Ok::<(), fidrovelj::Refusal>(())
+/// ```
 #[derive(Clone, Debug, PartialEq, Eq, Hash)]
 pub enum Certified {
     /// Each wire's count of ones over the four mask settings is the same for all input settings that agree
@@ -113,7 +134,7 @@ pub enum Certified {
 /// [`mask`](crate::mask) writes is certified clean.
 ///
 /// ```
-/// # use fidrovelj::{certify, mask, Certified, Refused, Tables};
+/// # use fidrovelj::{certify, mask, Certified, Refusal, Tables};
 /// let tables = &mut Tables::new();
 /// // The AND of sixty-four bits, masked: far beyond twelve bits.
 /// let gates: Vec<String> = (0..63).map(|i| {
@@ -128,25 +149,27 @@ pub enum Certified {
 /// let open = b"1 4\n2 1 2\n1 1\n\n2 1 0 1 3 XOR\n";
 /// let leak = Certified::Leak { wire: 3, ones: vec![0], base: 0, own: 4 };
 /// assert_eq!(certify(open, &[1], tables)?, leak);
-/// # Ok::<(), Refused>(())
+/// # Ok::<(), Refusal>(())
 /// ```
-pub fn certify(text: &[u8], codes: &[u8], tables: &mut Tables) -> Result<Certified, Refused> {
-    let t = tables;
+pub fn certify(text: &[u8], codes: &[u8], tables: &mut Tables) -> Result<Certified, Refusal> {
     let mut leak = [0; 4];
     let mut ones = vec![0; codes.len()];
-    let answer = certify_lent(
-        text,
-        codes,
-        &mut leak,
-        &mut ones,
-        &mut t.operands,
-        &mut t.results,
-        &mut t.marks,
-        &mut t.words,
-        &mut t.base,
-        &mut t.records,
-        t.sizes,
-    )?;
+    let answer = tables.lend(|t, sizes| {
+        let table = sizes.masked_wires();
+        certify_lent(
+            text,
+            codes,
+            &mut leak,
+            &mut ones,
+            front(&mut t.operands, table),
+            front(&mut t.results, table),
+            front(&mut t.marks, table),
+            front(&mut t.words, table),
+            front(&mut t.base, table),
+            front(&mut t.records, sizes.records()),
+            sizes,
+        )
+    })?;
     let [wire, count, base, own] = leak;
     Ok(match answer {
         0 => Certified::Clean,

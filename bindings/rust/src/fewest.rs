@@ -2,8 +2,11 @@
 
 #![allow(clippy::too_many_arguments)]
 
+use std::fmt;
+
 use crate::lent::answer;
-use crate::{Refused, Sizes, Tables};
+use crate::tables::front;
+use crate::{Refusal, Sizes, Tables};
 
 extern "C" {
     fn fidrovelj_mask_fewest(
@@ -42,7 +45,24 @@ extern "C" {
 
 /// Writes the masked text of the first choice with the fewest mask changes to `out`, the codes of its input bits
 /// to `in_codes` and of its output bits to `out_codes`, and its changes and the floor to the two entries of
-/// `tally`: the text's length. Question 1 asks [`Sizes::small`] entries of each table.
+/// `tally`: the text's length. Question 1 asks [`Sizes::source_wires`] entries of each table.
+///
+/// ```
+/// # use fidrovelj::{mask_fewest_lent, Refusal, Sizes};
+/// # let sizes = Sizes::Standard;
+/// let wide = || vec![0u64; sizes.source_wires()];
+/// let bytes = || vec![0u8; sizes.source_wires()];
+/// let (mut operands, mut results, mut spans, mut wires) = (wide(), wide(), wide(), vec![0; sizes.source_wires()]);
+/// let (mut marks, mut ways, mut best, mut out) = (bytes(), bytes(), bytes(), vec![0; sizes.text()]);
+/// let (mut in_codes, mut out_codes, mut tally) = ([0; 2], [0; 1], [0; 2]);
+/// let and = b"1 3\n2 1 1\n1 1\n2 1 0 1 2 AND\n";
+/// mask_fewest_lent(
+///     and, &[4, 4], &[0], 18, &mut out, &mut in_codes, &mut out_codes, &mut tally, &mut operands, &mut results,
+///     &mut wires, &mut marks, &mut ways, &mut best, &mut spans, sizes,
+/// )?;
+/// assert_eq!((in_codes, tally), ([1, 2], [0, 0]));
+/// # Ok::<(), Refusal>(())
+/// ```
 pub fn mask_fewest_lent(
     text: &[u8],
     codes: &[u8],
@@ -60,8 +80,8 @@ pub fn mask_fewest_lent(
     best: &mut [u8],
     spans: &mut [u64],
     sizes: Sizes,
-) -> Result<usize, Refused> {
-    // SAFETY: each pointer and length is that of a slice, and slices behind `&mut` overlap no other.
+) -> Result<usize, Refusal> {
+    // SAFETY: each pointer and length is that of a slice, and slices that are `&mut` overlap no other.
     answer(unsafe {
         fidrovelj_mask_fewest(
             text.as_ptr(),
@@ -99,7 +119,15 @@ pub fn mask_fewest_lent(
 }
 
 /// What [`mask_fewest`] gives.
-#[derive(Clone, Debug, PartialEq, Eq)]
+///
+/// ```
+/// # use fidrovelj::{codes, mask_fewest, Refusal, Tables};
+/// let and = b"1 3\n2 1 1\n1 1\n2 1 0 1 2 AND\n";
+/// let fewest = mask_fewest(and, &[codes::FREE; 2], &[codes::ANY], 18, &mut Tables::new())?;
+/// assert_eq!((fewest.input_codes.as_slice(), fewest.changes), ([1, 2].as_slice(), 0));
+/// # Ok::<(), Refusal>(())
+/// ```
+#[derive(Clone, PartialEq, Eq, Hash)]
 pub struct Fewest {
     /// The masked netlist's text, in the written form.
     pub text: Vec<u8>,
@@ -114,6 +142,14 @@ pub struct Fewest {
     pub floor: u64,
 }
 
+impl fmt::Debug for Fewest {
+    fn fmt(&self, f: &mut fmt::Formatter<'_>) -> fmt::Result {
+        let mut shown = f.debug_struct("Fewest");
+        shown.field("text", &String::from_utf8_lossy(&self.text)).field("input_codes", &self.input_codes);
+        shown.field("codes", &self.codes).field("changes", &self.changes).field("floor", &self.floor).finish()
+    }
+}
+
 /// The masked netlist of a source with the fewest mask changes among as many choices as `budget` allows. An input
 /// bit with code 4 is free: it may get code 1, 2 or 3. The choices are these codes for each free input, in order,
 /// then for each AND, in order, its operands as written or swapped; they are tried in order, the last choice
@@ -124,7 +160,7 @@ pub struct Fewest {
 /// walked; even so a budget of `u64::MAX` can take very long on circuits of many choices.
 ///
 /// ```
-/// # use fidrovelj::{mask, mask_fewest, Refused, Tables};
+/// # use fidrovelj::{mask, mask_fewest, Refusal, Tables};
 /// let tables = &mut Tables::new();
 /// // Wire 3 is a AND b, wire 4 is wire 3 XOR c.
 /// let source = b"2 5\n1 3\n1 1\n\n2 1 0 1 3 AND\n2 1 3 2 4 XOR\n";
@@ -139,8 +175,8 @@ pub struct Fewest {
 /// let swapped = b"2 5\n1 3\n1 1\n\n2 1 1 0 3 AND\n2 1 3 2 4 XOR\n";
 /// assert_eq!(fewest.text, mask(swapped, &[1, 2, 1], &[0], tables)?.text);
 ///
-/// assert_eq!(mask_fewest(source, &[4, 4, 4], &[0], 0, tables), Err(Refused(22)));
-/// # Ok::<(), Refused>(())
+/// assert_eq!(mask_fewest(source, &[4, 4, 4], &[0], 0, tables), Err(Refusal::Budget));
+/// # Ok::<(), Refusal>(())
 /// ```
 pub fn mask_fewest(
     text: &[u8],
@@ -148,30 +184,32 @@ pub fn mask_fewest(
     wanted: &[u8],
     budget: u64,
     tables: &mut Tables,
-) -> Result<Fewest, Refused> {
-    let t = tables;
-    let small = t.sizes.small();
+) -> Result<Fewest, Refusal> {
     // Of an accepted call the lists have an entry for each bit, as many as there are codes of bits to give.
     let (mut input_codes, mut output_codes) = (vec![0; codes.len()], vec![0; wanted.len()]);
     let mut tally = [0; 2];
-    let length = mask_fewest_lent(
-        text,
-        codes,
-        wanted,
-        budget,
-        &mut t.text,
-        &mut input_codes,
-        &mut output_codes,
-        &mut tally,
-        &mut t.operands[..small],
-        &mut t.results[..small],
-        &mut t.wires,
-        &mut t.marks[..small],
-        &mut t.ways,
-        &mut t.best,
-        &mut t.words[..small],
-        t.sizes,
-    )?;
+    let text = tables.lend(|t, sizes| {
+        let table = sizes.source_wires();
+        let length = mask_fewest_lent(
+            text,
+            codes,
+            wanted,
+            budget,
+            front(&mut t.text, sizes.text()),
+            &mut input_codes,
+            &mut output_codes,
+            &mut tally,
+            front(&mut t.operands, table),
+            front(&mut t.results, table),
+            front(&mut t.wires, table),
+            front(&mut t.marks, table),
+            front(&mut t.ways, table),
+            front(&mut t.best, table),
+            front(&mut t.words, table),
+            sizes,
+        )?;
+        Ok(t.text[..length].to_vec())
+    })?;
     let [changes, floor] = tally;
-    Ok(Fewest { text: t.text[..length].to_vec(), input_codes, codes: output_codes, changes, floor })
+    Ok(Fewest { text, input_codes, codes: output_codes, changes, floor })
 }

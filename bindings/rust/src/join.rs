@@ -1,7 +1,8 @@
 //! Joining masked blocks.
 
 use crate::lent::answer;
-use crate::{Refused, Sizes, Tables};
+use crate::tables::front;
+use crate::{Refusal, Sizes, Tables};
 
 extern "C" {
     fn fidrovelj_join(
@@ -32,7 +33,22 @@ extern "C" {
 }
 
 /// Writes two masked blocks, joined, to `out`, in the written form: its length. Question 1 asks
-/// [`Sizes::large`] entries of each table.
+/// [`Sizes::masked_wires`] entries of each table.
+///
+/// ```
+/// # use fidrovelj::{join_lent, mask, Refusal, Sizes, Tables};
+/// # let sizes = Sizes::Standard;
+/// let table = || vec![0u64; sizes.masked_wires()];
+/// let (mut operands, mut results, mut words, mut base) = (table(), table(), table(), table());
+/// let (mut marks, mut out) = (vec![0; sizes.masked_wires()], vec![0; sizes.text()]);
+/// let inverter = mask(b"1 2\n1 1\n1 1\n1 1 0 1 INV\n", &[1], &[1], &mut Tables::new())?;
+/// let length = join_lent(
+///     &inverter.text, &inverter.text, &[1], &[1], &[1], &mut out, &mut operands, &mut results, &mut marks, &mut words,
+///     &mut base, sizes,
+/// )?;
+/// assert!(out[..length].starts_with(b"10 13\n2 1 2\n1 1\n"));
+/// # Ok::<(), Refusal>(())
+/// ```
 #[allow(clippy::too_many_arguments)]
 pub fn join_lent(
     first: &[u8],
@@ -47,8 +63,8 @@ pub fn join_lent(
     words: &mut [u64],
     base: &mut [u64],
     sizes: Sizes,
-) -> Result<usize, Refused> {
-    // SAFETY: each pointer and length is that of a slice, and slices behind `&mut` overlap no other.
+) -> Result<usize, Refusal> {
+    // SAFETY: each pointer and length is that of a slice, and slices that are `&mut` overlap no other.
     answer(unsafe {
         fidrovelj_join(
             first.as_ptr(),
@@ -90,7 +106,7 @@ pub fn join_lent(
 /// bit among them, or a second with fewer gates than output bits.
 ///
 /// ```
-/// # use fidrovelj::{check, join, mask, Refused, Tables};
+/// # use fidrovelj::{check, join, mask, Refusal, Tables};
 /// let tables = &mut Tables::new();
 /// // An AND gate of two bits, and an inverter for what it puts out.
 /// let and = mask(b"1 3\n2 1 1\n1 1\n2 1 0 1 2 AND\n", &[1, 2], &[0], tables)?;
@@ -100,8 +116,8 @@ pub fn join_lent(
 /// assert_eq!(check(&nand, &[1, 2], tables)?, None);
 ///
 /// // The inverter was masked for code 1.
-/// assert_eq!(join(&and.text, &inverter.text, &[1, 2], &and.codes, &[2], tables), Err(Refused(25)));
-/// # Ok::<(), Refused>(())
+/// assert_eq!(join(&and.text, &inverter.text, &[1, 2], &and.codes, &[2], tables), Err(Refusal::Seam));
+/// # Ok::<(), Refusal>(())
 /// ```
 pub fn join(
     first: &[u8],
@@ -110,21 +126,23 @@ pub fn join(
     first_out_codes: &[u8],
     second_codes: &[u8],
     tables: &mut Tables,
-) -> Result<Vec<u8>, Refused> {
-    let t = tables;
-    let length = join_lent(
-        first,
-        second,
-        first_codes,
-        first_out_codes,
-        second_codes,
-        &mut t.text,
-        &mut t.operands,
-        &mut t.results,
-        &mut t.marks,
-        &mut t.words,
-        &mut t.base,
-        t.sizes,
-    )?;
-    Ok(t.text[..length].to_vec())
+) -> Result<Vec<u8>, Refusal> {
+    tables.lend(|t, sizes| {
+        let table = sizes.masked_wires();
+        let length = join_lent(
+            first,
+            second,
+            first_codes,
+            first_out_codes,
+            second_codes,
+            front(&mut t.text, sizes.text()),
+            front(&mut t.operands, table),
+            front(&mut t.results, table),
+            front(&mut t.marks, table),
+            front(&mut t.words, table),
+            front(&mut t.base, table),
+            sizes,
+        )?;
+        Ok(t.text[..length].to_vec())
+    })
 }

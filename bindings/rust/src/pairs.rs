@@ -3,7 +3,8 @@
 #![allow(clippy::too_many_arguments)]
 
 use crate::lent::answer;
-use crate::{Leak, Refused, Sizes, Tables};
+use crate::tables::front;
+use crate::{Leak, Refusal, Sizes, Tables};
 
 extern "C" {
     fn fidrovelj_check_pairs(
@@ -35,8 +36,22 @@ extern "C" {
 
 /// Whether a netlist leaks, and whether a listed pair of its wires does: 1 for a leak, whose four
 /// numbers go to `leak`, and 2 more for a bad pair; how many pairs stand before it goes to `bad`. A
-/// list too short for its numbers is refused by 14. Question 1 asks [`Sizes::large`] entries of each
+/// list too short for its numbers is refused by 14. Question 1 asks [`Sizes::masked_wires`] entries of each
 /// table.
+///
+/// ```
+/// # use fidrovelj::{check_pairs_lent, Refusal, Sizes};
+/// # let sizes = Sizes::Standard;
+/// let table = || vec![0u64; sizes.masked_wires()];
+/// let (mut operands, mut results, mut words, mut base, mut bases) = (table(), table(), table(), table(), table());
+/// let (mut marks, mut leak, mut bad) = (vec![0; sizes.masked_wires()], [0; 4], [0; 1]);
+/// let answer = check_pairs_lent(
+///     b"0 3\n2 1 2\n1 1\n", &[1], &[0, 2, 0, 1], &mut leak, &mut bad, &mut operands, &mut results, &mut marks,
+///     &mut words, &mut base, &mut bases, sizes,
+/// )?;
+/// assert_eq!((answer, bad), (2, [1]));
+/// # Ok::<(), Refusal>(())
+/// ```
 pub fn check_pairs_lent(
     text: &[u8],
     codes: &[u8],
@@ -50,8 +65,8 @@ pub fn check_pairs_lent(
     base: &mut [u64],
     bases: &mut [u64],
     sizes: Sizes,
-) -> Result<usize, Refused> {
-    // SAFETY: each pointer and length is that of a slice, and slices behind `&mut` overlap no other.
+) -> Result<usize, Refusal> {
+    // SAFETY: each pointer and length is that of a slice, and slices that are `&mut` overlap no other.
     answer(unsafe {
         fidrovelj_check_pairs(
             text.as_ptr(),
@@ -82,6 +97,13 @@ pub fn check_pairs_lent(
 }
 
 /// Both answers of [`check_pairs`].
+///
+/// ```
+/// # use fidrovelj::{check_pairs, Pairs, Refusal, Tables};
+/// let found = check_pairs(b"0 3\n2 1 2\n1 1\n", &[1], &[0, 1], &mut Tables::new())?;
+/// assert_eq!(found, Pairs { leak: None, bad: Some(0) });
+/// # Ok::<(), Refusal>(())
+/// ```
 #[derive(Clone, Copy, Debug, PartialEq, Eq)]
 pub struct Pairs {
     /// The leak on one wire, if there is one: what [`check`](crate::check) says.
@@ -99,7 +121,7 @@ pub struct Pairs {
 /// A list of odd length, or with a number that is no wire, is refused by 21.
 ///
 /// ```
-/// # use fidrovelj::{check_pairs, Refused, Tables};
+/// # use fidrovelj::{check_pairs, Refusal, Tables};
 /// let tables = &mut Tables::new();
 /// // A bit under mask m0; wires 1 and 2 are the mask bits.
 /// let text = b"0 3\n2 1 2\n1 1\n\n";
@@ -107,26 +129,28 @@ pub struct Pairs {
 /// let both = check_pairs(text, &[1], &[0, 2, 0, 1], tables)?;
 /// assert_eq!((both.leak, both.bad), (None, Some(1)));
 ///
-/// assert_eq!(check_pairs(text, &[1], &[0, 3], tables), Err(Refused(21)));
-/// # Ok::<(), Refused>(())
+/// assert_eq!(check_pairs(text, &[1], &[0, 3], tables), Err(Refusal::Pairs));
+/// # Ok::<(), Refusal>(())
 /// ```
-pub fn check_pairs(text: &[u8], codes: &[u8], pairs: &[u32], tables: &mut Tables) -> Result<Pairs, Refused> {
-    let t = tables;
+pub fn check_pairs(text: &[u8], codes: &[u8], pairs: &[u32], tables: &mut Tables) -> Result<Pairs, Refusal> {
     let (mut leak, mut bad) = ([0; 4], [0; 1]);
-    let answer = check_pairs_lent(
-        text,
-        codes,
-        pairs,
-        &mut leak,
-        &mut bad,
-        &mut t.operands,
-        &mut t.results,
-        &mut t.marks,
-        &mut t.words,
-        &mut t.base,
-        &mut t.bases,
-        t.sizes,
-    )?;
+    let answer = tables.lend(|t, sizes| {
+        let table = sizes.masked_wires();
+        check_pairs_lent(
+            text,
+            codes,
+            pairs,
+            &mut leak,
+            &mut bad,
+            front(&mut t.operands, table),
+            front(&mut t.results, table),
+            front(&mut t.marks, table),
+            front(&mut t.words, table),
+            front(&mut t.base, table),
+            front(&mut t.bases, table),
+            sizes,
+        )
+    })?;
     let [wire, setting, base, own] = leak;
     Ok(Pairs {
         leak: (answer & 1 != 0).then_some(Leak { wire, setting, base, own }),

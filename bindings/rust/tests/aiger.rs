@@ -104,7 +104,7 @@ fn second(
     let mut wires = HashMap::new();
     let give = |wires: &mut HashMap<u32, usize>, literal: u32, wire: usize| {
         let good =
-            literal > 1 && literal % 2 == 0 && literal / 2 <= most && !wires.contains_key(&(literal / 2));
+            literal > 1 && literal.is_multiple_of(2) && literal / 2 <= most && !wires.contains_key(&(literal / 2));
         wires.insert(literal / 2, wire);
         ask(19, good)
     };
@@ -155,11 +155,11 @@ fn second(
 fn library(text: &[u8], tables: usize, room: usize) -> Result<Vec<u8>, u8> {
     let (mut operands, mut results, mut variables) = (vec![7; tables], vec![7; tables], vec![7; tables]);
     let mut out = vec![0xaa; room];
-    let answer = from_aiger_lent(text, &mut out, &mut operands, &mut results, &mut variables, Sizes::Old);
+    let answer = from_aiger_lent(text, &mut out, &mut operands, &mut results, &mut variables, Sizes::Standard);
     assert!(operands.iter().chain(&results).all(|&x| x == 0) && variables.iter().all(|&x| x == 0));
     let length = *answer.as_ref().unwrap_or(&0);
     assert!(out[length..].iter().all(|&b| b == 0xaa));
-    answer.map(|n| out[..n].to_vec()).map_err(|refused| refused.0)
+    answer.map(|n| out[..n].to_vec()).map_err(|refused| refused.number())
 }
 
 fn compare(text: &[u8], tables: usize, room: usize) -> Result<Vec<u8>, u8> {
@@ -329,7 +329,7 @@ fn circuits() {
             for _ in 0..200 {
                 let bits: Vec<u8> = (0..width).map(|_| r.below(2) as u8).collect();
                 let run =
-                    |text: &[u8]| reference::run(&[], text, &bits, 100_000, reference::netlist::Sizes::Old);
+                    |text: &[u8]| reference::run(&[], text, &bits, 100_000, reference::netlist::Sizes::Standard);
                 assert_eq!(run(&made), run(&netlist), "{folder}/{name}");
             }
             count += 1;

@@ -13,7 +13,7 @@ mod reference;
 
 use calls::random::Random;
 use calls::{circuits, netlists, plan, Service};
-use fidrovelj::{certify, certify_lent, check, join, mask, Certified, Refused, Tables};
+use fidrovelj::{certify, certify_lent, check, join, mask, Certified, Refusal, Tables};
 use reference::ask;
 use reference::evaluate::{masked_inputs, wires, MASKS};
 use reference::netlist::{read, Gate, Netlist, Sizes, LARGE, WHOLE_LARGE, WHOLE_SMALL};
@@ -265,7 +265,7 @@ fn setting(name: &str, default: u64) -> u64 {
 #[test]
 fn up_to_twelve_bits() {
     let (first, count) = (setting("FIDROVELJ_SEED", 1), setting("FIDROVELJ_CALLS", 200_000) / 2);
-    let tables = &mut Tables::new();
+    let tables = &mut Tables::standard();
     let sources = small_sources();
     // By the truth, clean or leaking, then by the answer; and the unknown ones whose wire does not leak.
     let (mut said, mut astray) = ([[0_u64; 3]; 2], 0);
@@ -303,7 +303,7 @@ fn up_to_twelve_bits() {
 /// M5 to M7 and public bits, by hand.
 #[test]
 fn by_hand() {
-    let tables = &mut Tables::new();
+    let tables = &mut Tables::standard();
     let leak = |wire, ones: &[u64], base, own| Certified::Leak { wire, ones: ones.to_vec(), base, own };
     let (xor, and) =
         (b"1 4\n2 1 2\n1 1\n2 1 0 1 3 XOR\n".as_slice(), b"1 4\n2 1 2\n1 1\n2 1 0 1 3 AND\n".as_slice());
@@ -349,7 +349,7 @@ fn assert_masked_clean(name: &str, source: &Netlist, tables: &mut Tables) -> (us
 
 #[test]
 fn masked_circuits() {
-    let tables = &mut Tables::new();
+    let tables = &mut Tables::standard();
     for circuit in circuits::all() {
         let source = read(&LARGE, &circuit.text).expect("a circuit is good");
         let masked =
@@ -385,7 +385,7 @@ fn masked_ciphers() {
 /// Two masked blocks, joined: clean, and a leak where the second was masked for other codes than the first puts out.
 #[test]
 fn joined_blocks() {
-    let tables = &mut Tables::new();
+    let tables = &mut Tables::standard();
     let text = circuits::circuit("aes_sub_bytes").text;
     let random = &mut Random::new(4);
     let codes = random.list(128, 0, 3);
@@ -432,7 +432,7 @@ fn further_circuits() {
 #[test]
 fn many_bits() {
     let count = setting("FIDROVELJ_CALLS", 200_000) / 200;
-    let tables = &mut Tables::new();
+    let tables = &mut Tables::standard();
     let sources: Vec<Netlist> = circuits::all()
         .into_iter()
         .filter_map(|circuit| read(&LARGE, &circuit.text).ok())
@@ -459,7 +459,7 @@ fn many_bits() {
 /// The AND of sixty-four bits with its mask taken off is one in a single setting, which no search meets: unknown, and at that wire.
 #[test]
 fn a_rare_leak() {
-    let tables = &mut Tables::new();
+    let tables = &mut Tables::standard();
     let gates = (0..63).map(|i| Gate::And(if i == 0 { 0 } else { 63 + i }, i + 1, 64 + i)).collect();
     let source = Netlist { wires: 127, inputs: vec![64], outputs: vec![1], gates };
     let (mut netlist, codes) = reference::mask::mask(&source, &[1; 64], &[0]);
@@ -517,7 +517,7 @@ impl Call {
     /// The call's answer, by question or by number, once it is seen to be right, down to every lent entry.
     fn assert_outcome(&self, name: &str) -> Result<usize, u8> {
         let sizes = match self.sizes {
-            Sizes::Old => fidrovelj::Sizes::Old,
+            Sizes::Standard => fidrovelj::Sizes::Standard,
             Sizes::Whole => fidrovelj::Sizes::Whole,
         };
         let (mut leak, mut ones) = (vec![77; self.leak_room + BEHIND], vec![78; self.ones_room + BEHIND]);
@@ -547,7 +547,7 @@ impl Call {
         let netlist = match self.netlist() {
             Ok(netlist) => netlist,
             Err(question) => {
-                assert_eq!(answer, Err(Refused(question)), "{name}");
+                assert_eq!(answer, Err(Refusal::from_number(question).unwrap()), "{name}");
                 assert!(leak == leak_before && ones == ones_before, "{name}: a refusal writes nothing");
                 return Err(question);
             }
@@ -568,7 +568,7 @@ impl Call {
             leak_after[..told.0.len()].copy_from_slice(&told.0);
             ones_after[..told.1.len()].copy_from_slice(&told.1);
         }
-        assert_eq!(answer, if fits { Ok(told.2) } else { Err(Refused(14)) }, "{name}: {said:?}");
+        assert_eq!(answer, if fits { Ok(told.2) } else { Err(Refusal::Room) }, "{name}: {said:?}");
         assert_eq!(leak, leak_after, "{name}: the leak's numbers");
         assert_eq!(ones, ones_after, "{name}: the bits that are one");
         if fits {
@@ -581,7 +581,7 @@ impl Call {
 
 fn certify_with_room(text: &[u8], codes: &[u8], sizes: fidrovelj::Sizes) -> Certified {
     let mut tables = match sizes {
-        fidrovelj::Sizes::Old => Tables::new(),
+        fidrovelj::Sizes::Standard => Tables::standard(),
         fidrovelj::Sizes::Whole => Tables::whole(),
     };
     certify(text, codes, &mut tables).expect("it is good")
@@ -597,7 +597,7 @@ fn random_calls() {
             break;
         }
         let plan = plan::call(seed);
-        if plan.service != Service::Check || plan.sizes != Sizes::Old {
+        if plan.service != Service::Check || plan.sizes != Sizes::Standard {
             continue;
         }
         made += 1;
@@ -627,30 +627,30 @@ fn random_calls() {
 fn short_lists() {
     let open = b"1 7\n2 4 2\n1 1\n2 1 2 4 6 XOR\n";
     let codes = [0, 0, 1, 1];
-    let call = Call::new(Sizes::Old, open, &codes);
+    let call = Call::new(Sizes::Standard, open, &codes);
     assert_eq!(call.assert_outcome("room for all"), Ok(1));
-    let Certified::Leak { ones, .. } = certify_with_room(open, &codes, fidrovelj::Sizes::Old) else {
+    let Certified::Leak { ones, .. } = certify_with_room(open, &codes, fidrovelj::Sizes::Standard) else {
         panic!("a bare bit leaks")
     };
     for leak_room in 0..4 {
-        let short = Call { leak_room, ..Call::new(Sizes::Old, open, &codes) };
+        let short = Call { leak_room, ..Call::new(Sizes::Standard, open, &codes) };
         assert_eq!(short.assert_outcome("a short list of numbers"), Err(14));
     }
     for ones_room in 0..ones.len() {
-        let short = Call { ones_room, ..Call::new(Sizes::Old, open, &codes) };
+        let short = Call { ones_room, ..Call::new(Sizes::Standard, open, &codes) };
         assert_eq!(short.assert_outcome("a short list of bits"), Err(14));
     }
-    let exact = Call { ones_room: ones.len(), ..Call::new(Sizes::Old, open, &codes) };
+    let exact = Call { ones_room: ones.len(), ..Call::new(Sizes::Standard, open, &codes) };
     assert_eq!(exact.assert_outcome("a list that just holds the bits"), Ok(1));
     // Where nothing is told, no list is needed.
-    let clean = Call { leak_room: 0, ones_room: 0, ..Call::new(Sizes::Old, open, &[2, 2, 2, 2]) };
+    let clean = Call { leak_room: 0, ones_room: 0, ..Call::new(Sizes::Standard, open, &[2, 2, 2, 2]) };
     assert_eq!(clean.assert_outcome("nothing to tell"), Ok(0));
 }
 
 /// Each table one entry short, under either choice; wires and bytes on both sides of the limits; thirteen bits.
 #[test]
 fn limits() {
-    for sizes in [Sizes::Old, Sizes::Whole] {
+    for sizes in [Sizes::Standard, Sizes::Whole] {
         let limits = sizes.large();
         let good = b"1 4\n2 1 2\n1 1\n2 1 0 1 3 XOR\n";
         for table in 0..6 {
@@ -675,7 +675,7 @@ fn limits() {
         assert_eq!(Call::new(sizes, &long, &[2]).assert_outcome("one byte more"), Err(2));
     }
     let thirteen = b"0 15\n2 13 2\n1 1\n";
-    assert_eq!(Call::new(Sizes::Old, thirteen, &[1; 13]).assert_outcome("12 is not put"), Ok(0));
-    assert_eq!(Call::new(Sizes::Old, thirteen, &[1; 12]).assert_outcome("a code too few"), Err(11));
-    assert_eq!(Call::new(Sizes::Old, b"0 3\n1 3\n1 1\n", &[1]).assert_outcome("no mask pair"), Err(10));
+    assert_eq!(Call::new(Sizes::Standard, thirteen, &[1; 13]).assert_outcome("12 is not put"), Ok(0));
+    assert_eq!(Call::new(Sizes::Standard, thirteen, &[1; 12]).assert_outcome("a code too few"), Err(11));
+    assert_eq!(Call::new(Sizes::Standard, b"0 3\n1 3\n1 1\n", &[1]).assert_outcome("no mask pair"), Err(10));
 }

@@ -12,7 +12,7 @@ mod reference;
 
 use calls::random::Random;
 use calls::{circuits, known, plan, sizes, slips, Call, Given, Service, Tally};
-use fidrovelj::{check, from_words, mask, rewrite, run, run64, to_words, Refused, Tables};
+use fidrovelj::{check, from_words, mask, rewrite, run, run64, to_words, Refusal, Tables};
 use library::Library;
 use reference::netlist::{read, Gate, Netlist, LARGE, SMALL};
 use std::env;
@@ -43,7 +43,7 @@ fn random_calls() {
     let (first, count) = (setting("FIDROVELJ_SEED", 1), setting("FIDROVELJ_CALLS", 200_000));
     let start = Instant::now();
     let mut library = Library::new();
-    let tables = &mut Tables::new();
+    let tables = &mut Tables::standard();
     let mut tally = Tally::new();
     let mut fed = 0;
     for seed in first..first + count {
@@ -76,7 +76,7 @@ fn assert_masked(call: &Call, masked: &Given, seed: u64, tables: &mut Tables) {
     let clean = check(&masked.text, &call.list, tables);
     assert_eq!(
         clean,
-        if call.list.len() <= 12 { Ok(None) } else { Err(Refused(12)) },
+        if call.list.len() <= 12 { Ok(None) } else { Err(Refusal::Settings) },
         "seed {seed}\n{call:?}"
     );
     for _ in 0..2 {
@@ -115,7 +115,7 @@ fn mask_of(code: u8, [m0, m1]: [u8; 2]) -> u8 {
 #[test]
 fn public_circuits() {
     let mut library = Library::new();
-    let tables = &mut Tables::new();
+    let tables = &mut Tables::standard();
     for circuit in circuits::all() {
         let name = &circuit.name;
         assert!(rewrite(&circuit.text, tables).as_deref() == Ok(&circuit.text), "{name}");
@@ -148,7 +148,7 @@ fn public_circuits() {
 #[test]
 fn circuits_sixty_four_at_once() {
     let mut library = Library::new();
-    let tables = &mut Tables::new();
+    let tables = &mut Tables::standard();
     for circuit in circuits::all() {
         let (text, name) = (&circuit.text, &circuit.name);
         for vectors in circuit.vectors.chunks(64) {
@@ -222,7 +222,7 @@ fn twelve_bits() -> Netlist {
 #[test]
 fn twelve_bits_of_many_wires() {
     let mut library = Library::new();
-    let tables = &mut Tables::new();
+    let tables = &mut Tables::standard();
     let codes = [1, 2, 3, 1, 2, 3, 1, 2, 3, 1, 2, 3];
     let masked = mask(&twelve_bits().write(), &codes, &[0; 2_048], tables).expect("it can be masked");
     assert_eq!(check(&masked.text, &codes, tables), Ok(None));

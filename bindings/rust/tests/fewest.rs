@@ -13,7 +13,7 @@ mod reference;
 
 use calls::random::Random;
 use calls::{circuits, netlists, plan, Service};
-use fidrovelj::{check, mask, mask_fewest, mask_fewest_lent, run64, to_words, Fewest, Refused, Tables};
+use fidrovelj::{check, mask, mask_fewest, mask_fewest_lent, run64, to_words, Fewest, Refusal, Tables};
 use margins::Lent;
 use reference::fewest::{self, Found, Given};
 use reference::netlist::{read, Gate, Netlist, Sizes, LARGE, SMALL};
@@ -91,10 +91,10 @@ impl Library {
         }
     }
 
-    fn answer(&mut self, call: &Call) -> Result<usize, Refused> {
+    fn answer(&mut self, call: &Call) -> Result<usize, Refusal> {
         let random = &mut Random::new(call.text.len() as u64 ^ call.budget);
         let sizes = match call.sizes {
-            Sizes::Old => fidrovelj::Sizes::Old,
+            Sizes::Standard => fidrovelj::Sizes::Standard,
             Sizes::Whole => fidrovelj::Sizes::Whole,
         };
         let [in_codes, out_codes] = &mut self.lists;
@@ -124,7 +124,7 @@ impl Library {
     /// The library's outcome is the expected one, down to every byte that it was lent.
     fn assert_outcome(&mut self, name: &str, call: &Call, expected: &Result<Given, u8>) {
         let answer = self.answer(call);
-        let told = expected.as_ref().map(|given| given.text.len()).map_err(|&question| Refused(question));
+        let told = expected.as_ref().map(|given| given.text.len()).map_err(|&question| Refusal::from_number(question).unwrap());
         assert_eq!(answer, told, "{name}\n{call:?}");
         let nothing = Given::default();
         let given = expected.as_ref().unwrap_or(&nothing);
@@ -288,7 +288,7 @@ fn every_budget() {
         sources += 1;
         let mut before: Option<Given> = None;
         for budget in 0..=many + 2 {
-            let call = Call::new(Sizes::Old, &source.write(), &codes, &wanted, budget);
+            let call = Call::new(Sizes::Standard, &source.write(), &codes, &wanted, budget);
             let given = library.assert_call(&format!("seed {seed}"), &call).ok();
             made += 1;
             if let (Some(before), Some(given)) = (&before, &given) {
@@ -332,7 +332,9 @@ fn by_hand() {
     let zero = source(1, &[Xor(0, 0, 1)]);
     let and_xor = source(3, &[And(0, 1, 3), Xor(3, 2, 4)]);
     let all = u64::MAX;
-    let rows: [(&str, &Netlist, &[u8], &[u8], u64, &[u8], u64, u64); 27] = [
+    // What it is, the source, codes, wanted codes and budget; then the input codes given, the changes and the floor.
+    type Row<'a> = (&'a str, &'a Netlist, &'a [u8], &'a [u8], u64, &'a [u8], u64, u64);
+    let rows: [Row; 27] = [
         // Neither a free input nor an AND: one choice, which is all.
         ("one wire", &source(1, &[]), &[2], &[0], 1, &[2], 0, 0),
         ("one wire, another code wanted", &source(1, &[]), &[2], &[1], 1, &[2], 1, 1),
@@ -370,7 +372,7 @@ fn by_hand() {
         ("no swap", &and_xor, &[1, 2, 2], &[0], all, &[1, 2, 2], 0, 0),
     ];
     for (name, source, codes, wanted, budget, input_codes, changes, floor) in rows {
-        let call = Call::new(Sizes::Old, &source.write(), codes, wanted, budget);
+        let call = Call::new(Sizes::Standard, &source.write(), codes, wanted, budget);
         let given = library.assert_call(name, &call).expect("it is accepted");
         assert_eq!(
             (given.input_codes.as_slice(), given.tally),
@@ -385,7 +387,7 @@ fn by_hand() {
 fn questions_in_order() {
     let library = &mut Library::new();
     let text = b"1 3\n2 1 1\n1 1\n2 1 0 1 2 AND\n";
-    let good = Call::new(Sizes::Old, text, &[4, 0], &[3], 9);
+    let good = Call::new(Sizes::Standard, text, &[4, 0], &[3], 9);
     let given = library.assert_call("good", &good).expect("it is accepted");
     let refused = |library: &mut Library, name: &str, call: Call, question: u8| {
         assert_eq!(library.assert_call(name, &call), Err(question), "{name}");
@@ -414,8 +416,8 @@ fn questions_in_order() {
         refused(library, "a table one short", call, 1);
     }
     // Code 4 belongs to this call alone.
-    assert_eq!(mask(text, &[4, 0], &[3], &mut Tables::new()).err(), Some(Refused(11)));
-    assert_eq!(check(&given.text, &[4, 0], &mut Tables::new()).err(), Some(Refused(11)));
+    assert_eq!(mask(text, &[4, 0], &[3], &mut Tables::standard()).err(), Some(Refusal::Inputs));
+    assert_eq!(check(&given.text, &[4, 0], &mut Tables::standard()).err(), Some(Refusal::Inputs));
 }
 
 /// The search depth first, for budgets beyond what can be tried one by one: a branch ends where it has as many changes
@@ -558,7 +560,7 @@ fn many_choices() {
                 assert_eq!(fewest::search(&source, &codes, &wanted, budget), found, "seed {seed}");
             }
             cut_off += u64::from(found.changes > found.floor);
-            let call = Call::new(Sizes::Old, &source.write(), &codes, &wanted, budget);
+            let call = Call::new(Sizes::Standard, &source.write(), &codes, &wanted, budget);
             let given = fewest::given(&source, &codes, &wanted, &found);
             library.assert_outcome(&format!("seed {seed}, budget {budget}"), &call, &Ok(given));
         }
@@ -607,14 +609,14 @@ fn assert_masks(name: &str, text: &[u8], fewest: &Fewest, tables: &mut Tables) {
 #[test]
 fn circuits_by_budget() {
     let library = &mut Library::new();
-    let tables = &mut Tables::new();
+    let tables = &mut Tables::standard();
     for circuit in circuits::all() {
         let name = &circuit.name;
         let Ok(source) = read(&SMALL, &circuit.text) else { continue };
         let codes = vec![4; source.input_bits()];
         for (budget, wanted) in [(1, 0), (100, 0), (1_000, 2), (3_000, 0)] {
             let wanted = vec![wanted; source.output_bits()];
-            let call = Call::new(Sizes::Old, &circuit.text, &codes, &wanted, budget);
+            let call = Call::new(Sizes::Standard, &circuit.text, &codes, &wanted, budget);
             library.assert_call(name, &call).expect("a small circuit can be masked");
             let given = mask_fewest(&circuit.text, &codes, &wanted, budget, tables).expect("it is accepted");
             assert_masks(name, &circuit.text, &given, tables);
@@ -649,7 +651,7 @@ fn circuits_with_the_largest_budget() {
         let (codes, wanted) = (vec![4; source.input_bits()], vec![wanted; source.output_bits()]);
         let found = DepthFirst::found(&source, &codes, &wanted, u64::MAX);
         assert_eq!([found.changes, found.floor], tally, "{name}");
-        let call = Call::new(Sizes::Old, &text, &codes, &wanted, u64::MAX);
+        let call = Call::new(Sizes::Standard, &text, &codes, &wanted, u64::MAX);
         library.assert_outcome(name, &call, &Ok(fewest::given(&source, &codes, &wanted, &found)));
     }
 }
@@ -681,7 +683,7 @@ fn beyond_the_largest_budget() {
         assert_eq!([found.changes, found.floor], tally, "{ands} ANDs, budget {budget}");
         let given = fewest::given(&source(3, &gates), &codes, &[0], &found);
         assert_eq!(given.input_codes, [if tally[0] == 0 { 2 } else { 1 }, 1, 2]);
-        let call = Call::new(Sizes::Old, &text, &codes, &[0], budget);
+        let call = Call::new(Sizes::Standard, &text, &codes, &[0], budget);
         library.assert_outcome(&format!("{ands} ANDs, budget {budget}"), &call, &Ok(given));
     }
     // Free inputs alone: the last of so many costs a change unless its code is 2 or 3.
@@ -689,7 +691,7 @@ fn beyond_the_largest_budget() {
         let text = source(frees + 1, &[Gate::Xor(frees - 1, frees, frees + 1)]).write();
         let mut codes = vec![4; frees];
         codes.push(1);
-        let call = Call::new(Sizes::Old, &text, &codes, &[0], budget);
+        let call = Call::new(Sizes::Standard, &text, &codes, &[0], budget);
         let given =
             library.assert_call("free inputs", &Call { budget: 2, ..call.clone() }).expect("it is accepted");
         assert_eq!(given.tally, [0, 0]);
@@ -714,7 +716,7 @@ fn aes_sbox() {
     let text = circuits::circuit("aes_sbox").text;
     let source = read(&SMALL, &text).expect("it is a source");
     let (codes, wanted) = ([4; 8], [0; 8]);
-    let call = |budget| Call::new(Sizes::Old, &text, &codes, &wanted, budget);
+    let call = |budget| Call::new(Sizes::Standard, &text, &codes, &wanted, budget);
     for (budget, changes) in [(1_000, 38), (1_000_000, 34)] {
         let given = library.assert_call("the AES S-box", &call(budget)).expect("it is accepted");
         assert_eq!(given.tally, [changes, 0], "budget {budget}");
@@ -739,7 +741,7 @@ fn aes_sbox() {
         let given = fewest::given(&source, &codes, &wanted, &found);
         library.assert_outcome("the AES S-box", &call(budget), &Ok(given));
     }
-    let tables = &mut Tables::new();
+    let tables = &mut Tables::standard();
     let fewest = mask_fewest(&text, &codes, &wanted, u64::MAX, tables).expect("it is accepted");
     assert_masks("the AES S-box", &text, &fewest, tables);
 }
@@ -748,7 +750,7 @@ fn aes_sbox() {
 #[test]
 fn limits() {
     let library = &mut Library::new();
-    for sizes in [Sizes::Old, Sizes::Whole] {
+    for sizes in [Sizes::Standard, Sizes::Whole] {
         let limits = sizes.small();
         let ladder = |wires: usize| {
             let gates = (1..wires).map(|c| Gate::And(c - 1, c - 1, c)).collect();

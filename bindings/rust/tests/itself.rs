@@ -57,18 +57,18 @@ fn agrees_with_the_circuits_vectors() {
                 break;
             }
         }
-        let rewritten = reference::rewrite(&[], &circuit.text, ROOM, Sizes::Old).expect("a circuit is good");
+        let rewritten = reference::rewrite(&[], &circuit.text, ROOM, Sizes::Standard).expect("a circuit is good");
         assert!(rewritten == circuit.text, "{} is in the written form", circuit.name);
     }
 }
 
 /// The masked netlist has no leak, and its outputs and the twins of all wires with masks off are the source's.
 fn assert_masked(name: &str, source: &Netlist, codes: &[u8], wanted: &[u8]) {
-    let masked = reference::mask(&[], &source.write(), codes, wanted, ROOM, ROOM, Sizes::Old)
+    let masked = reference::mask(&[], &source.write(), codes, wanted, ROOM, ROOM, Sizes::Standard)
         .expect("it can be masked");
     let netlist = read(&LARGE, &masked.text).expect("a masked text is good");
     if codes.len() <= 8 {
-        assert_eq!(reference::check(&[], &masked.text, codes, Sizes::Old), Ok(None), "{name}");
+        assert_eq!(reference::check(&[], &masked.text, codes, Sizes::Standard), Ok(None), "{name}");
     }
     let ands = source.gates.iter().filter(|gate| matches!(gate, Gate::And(..))).count();
     let publics = codes.iter().filter(|&&code| code == 0).count();
@@ -110,7 +110,7 @@ fn masks_the_circuits() {
 fn masks_the_ladder() {
     let source = sizes::ladder().write();
     for (code, length, wires) in [(1, 398_136, 18_430), (0, 398_158, 18_431)] {
-        let masked = reference::mask(&[], &source, &[code], &[0; 2_048], ROOM, ROOM, Sizes::Old)
+        let masked = reference::mask(&[], &source, &[code], &[0; 2_048], ROOM, ROOM, Sizes::Standard)
             .expect("the ladder can be masked");
         assert_eq!(masked.text.len(), length);
         assert_eq!(read(&LARGE, &masked.text).expect("the masked ladder is good").wires, wires);

@@ -9,7 +9,7 @@ mod reference;
 use calls::circuits::circuit;
 use calls::netlists;
 use calls::random::Random;
-use fidrovelj::{check, join, join_lent, mask, run, Masked, Refused, Sizes, Tables};
+use fidrovelj::{check, join, join_lent, mask, run, Masked, Refusal, Sizes, Tables};
 use reference::ask;
 use reference::netlist::{read, Gate, Netlist, LARGE, WHOLE_LARGE};
 
@@ -25,7 +25,7 @@ struct Call {
 
 /// Questions 2 to 11 of a text with its input codes.
 fn block(text: &[u8], codes: &[u8], sizes: Sizes) -> Result<Netlist, u8> {
-    let netlist = read(if sizes == Sizes::Old { &LARGE } else { &WHOLE_LARGE }, text)?;
+    let netlist = read(if sizes == Sizes::Standard { &LARGE } else { &WHOLE_LARGE }, text)?;
     ask(10, netlist.inputs.len() >= 2 && netlist.inputs.last() == Some(&2))?;
     ask(11, codes.len() == netlist.input_bits() - 2 && codes.iter().all(|&code| code <= 3))?;
     Ok(netlist)
@@ -50,13 +50,13 @@ fn joined(a: &Netlist, b: &Netlist) -> Netlist {
 
 /// The outcome of a call.
 fn outcome(call: &Call, tables: &[usize; 5], room: usize, sizes: Sizes) -> Result<Vec<u8>, u8> {
-    ask(1, tables.iter().all(|&length| length >= sizes.large()))?;
+    ask(1, tables.iter().all(|&length| length >= sizes.masked_wires()))?;
     let a = block(&call.first, &call.codes, sizes)?;
     let b = block(&call.second, &call.inner, sizes)?;
     ask(25, call.ends.len() == a.output_bits() && call.ends == call.inner)?;
     ask(25, !call.inner.contains(&0) && b.gates.len() >= b.output_bits())?;
     let whole = joined(&a, &b);
-    ask(5, whole.wires <= sizes.large())?;
+    ask(5, whole.wires <= sizes.masked_wires())?;
     let text = whole.write();
     ask(14, text.len() <= room)?;
     Ok(text)
@@ -83,7 +83,7 @@ fn compare(call: &Call, tables: &[usize; 5], room: usize, sizes: Sizes) -> Resul
         sizes,
     );
     let expected = outcome(call, tables, room, sizes);
-    assert_eq!(answer, expected.as_ref().map(Vec::len).map_err(|&question| Refused(question)), "{call:?}");
+    assert_eq!(answer, expected.as_ref().map(Vec::len).map_err(|&question| Refusal::from_number(question).unwrap()), "{call:?}");
     let mut buffer = vec![0xa5; room];
     if let Ok(text) = &expected {
         buffer[..text.len()].copy_from_slice(text);
@@ -100,7 +100,7 @@ const TABLES: [usize; 5] = [18_431; 5];
 const ROOM: usize = 500_000;
 
 fn old(call: &Call) -> Result<Vec<u8>, u8> {
-    compare(call, &TABLES, ROOM, Sizes::Old)
+    compare(call, &TABLES, ROOM, Sizes::Standard)
 }
 
 fn call(first: &str, second: &str, codes: &[u8], ends: &[u8], inner: &[u8]) -> Call {
@@ -169,18 +169,18 @@ fn refusals_in_order() {
     assert_eq!(old(&call(COPY, INVERTER, &[2], &[9], &[2, 2])), Err(11));
     assert_eq!(old(&call("", INVERTER, &[2], &[2], &[2])), Err(4));
     // A public bit of the first is fine.
-    let public = mask(b"0 1\n1 1\n1 1\n", &[0], &[2], &mut Tables::new()).unwrap();
+    let public = mask(b"0 1\n1 1\n1 1\n", &[0], &[2], &mut Tables::standard()).unwrap();
     assert!(old(&Call { first: public.text, codes: vec![0], ..good.clone() }).is_ok());
 
     // 1 before all, of each table; 14 last, by a byte.
     for short in 0..5 {
         let mut tables = TABLES;
         tables[short] -= 1;
-        assert_eq!(compare(&call("", "", &[], &[], &[]), &tables, ROOM, Sizes::Old), Err(1));
+        assert_eq!(compare(&call("", "", &[], &[], &[]), &tables, ROOM, Sizes::Standard), Err(1));
     }
-    assert!(compare(&good, &TABLES, BOTH.len(), Sizes::Old).is_ok());
-    assert_eq!(compare(&good, &TABLES, BOTH.len() - 1, Sizes::Old), Err(14));
-    assert_eq!(compare(&good, &TABLES, 0, Sizes::Old), Err(14));
+    assert!(compare(&good, &TABLES, BOTH.len(), Sizes::Standard).is_ok());
+    assert_eq!(compare(&good, &TABLES, BOTH.len() - 1, Sizes::Standard), Err(14));
+    assert_eq!(compare(&good, &TABLES, 0, Sizes::Standard), Err(14));
 }
 
 /// A chain of so many EQW gates behind one bit and the mask pair.
@@ -201,7 +201,7 @@ fn joined_wires() {
     assert!(old(&two(10_000, most - 10_000)).is_ok());
     assert!(old(&two(1, most - 1)).is_ok());
     assert_eq!(old(&two(10_000, most - 9_999)), Err(5));
-    assert_eq!(compare(&two(10_000, most), &TABLES, 0, Sizes::Old), Err(5));
+    assert_eq!(compare(&two(10_000, most), &TABLES, 0, Sizes::Standard), Err(5));
     assert_eq!(old(&Call { inner: vec![2], ..two(10_000, most) }), Err(25));
     assert!(compare(&two(10_000, most), &[899_999; 5], 27_000_000, Sizes::Whole).is_ok());
 }
@@ -250,7 +250,7 @@ fn assert_unmasks(
 /// the same text in both orders.
 #[test]
 fn masked_blocks() {
-    let tables = &mut Tables::new();
+    let tables = &mut Tables::standard();
     let mut public = 0;
     for seed in 1..=3_000 {
         let random = &mut Random::new(seed);
@@ -362,7 +362,7 @@ fn random_calls_and_damaged_ones() {
             tables[random.below(5)] -= 1;
         }
         let room = if random.percent(20) { random.below(300) } else { 2_000 };
-        let question = compare(&call, &tables, room, Sizes::Old).err().unwrap_or(0);
+        let question = compare(&call, &tables, room, Sizes::Standard).err().unwrap_or(0);
         seen[usize::from(question)] += 1;
     }
     for question in [0, 1, 3, 4, 5, 6, 7, 8, 9, 10, 11, 14, 25] {
@@ -395,7 +395,7 @@ fn side_by_side(sbox: &Netlist, count: usize) -> Netlist {
 /// A column of AES: four masked S-boxes and a masked MixColumns block against the plain circuit.
 #[test]
 fn aes_column() {
-    let tables = &mut Tables::new();
+    let tables = &mut Tables::standard();
     let sboxes = side_by_side(&read(&LARGE, &circuit("aes_sbox").text).unwrap(), 4).write();
     let random = &mut Random::new(1);
     let codes = random.list(32, 0, 3);

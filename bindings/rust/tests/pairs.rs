@@ -12,7 +12,7 @@ mod reference;
 
 use calls::random::Random;
 use calls::{circuits, plan, Service};
-use fidrovelj::{check, check_pairs, check_pairs_lent, mask, Leak, Pairs, Refused, Sizes, Tables};
+use fidrovelj::{check, check_pairs, check_pairs_lent, mask, Leak, Pairs, Refusal, Sizes, Tables};
 use reference::ask;
 use reference::evaluate::{masked_inputs, setting_bits, wires, MASKS};
 use reference::netlist::{read, Netlist, LARGE};
@@ -49,9 +49,9 @@ type Answers = (Option<[u64; 4]>, Option<u64>);
 
 fn outcome(tables: &[usize], text: &[u8], codes: &[u8], pairs: &[u32]) -> Result<Answers, u8> {
     // Check has one table less, and puts the same questions to all.
-    let leak = reference::check(tables, text, codes, reference::netlist::Sizes::Old)?;
+    let leak = reference::check(tables, text, codes, reference::netlist::Sizes::Standard)?;
     let netlist = read(&LARGE, text).expect("Check has read it");
-    ask(21, pairs.len() % 2 == 0 && pairs.iter().all(|&wire| (wire as usize) < netlist.wires))?;
+    ask(21, pairs.len().is_multiple_of(2) && pairs.iter().all(|&wire| (wire as usize) < netlist.wires))?;
     let pairs: Vec<_> = pairs.chunks(2).map(|pair| (pair[0] as usize, pair[1] as usize)).collect();
     let bad = pairs.iter().position(|&(u, v)| !clean(&netlist, codes, u, v));
     Ok((leak, bad.map(|place| place as u64)))
@@ -87,13 +87,13 @@ fn assert_call(
         words,
         base,
         bases,
-        Sizes::Old,
+        Sizes::Standard,
     );
     let number = |(leak, bad): &Answers| usize::from(leak.is_some()) + 2 * usize::from(bad.is_some());
-    let wanted = expected.as_ref().map(number).map_err(|&question| Refused(question));
+    let wanted = expected.as_ref().map(number).map_err(|&question| Refusal::from_number(question).unwrap());
     let shown_text = String::from_utf8_lossy(&text[..text.len().min(4_000)]);
     assert_eq!(answer, wanted, "{name}: {codes:?} {pairs:?}\n{shown_text}");
-    let (wanted_leak, wanted_bad) = expected.clone().unwrap_or((None, None));
+    let (wanted_leak, wanted_bad) = expected.unwrap_or((None, None));
     let mut front = vec![77; rooms[0]];
     if let Some(numbers) = wanted_leak {
         front[..4].copy_from_slice(&numbers);
@@ -145,7 +145,7 @@ fn random_calls() {
             break;
         }
         let call = plan::call(seed);
-        if call.service != Service::Check || call.sizes != reference::netlist::Sizes::Old {
+        if call.service != Service::Check || call.sizes != reference::netlist::Sizes::Standard {
             continue;
         }
         made += 1;
@@ -195,7 +195,7 @@ fn random_gates(seed: u64) -> usize {
 /// Masked circuits: clean on every wire, and the pairs by the rule.
 #[test]
 fn masked_circuits() {
-    let tables = &mut Tables::new();
+    let tables = &mut Tables::standard();
     let mut bad = 0;
     for circuit in circuits::all() {
         let Ok(source) = read(&reference::netlist::SMALL, &circuit.text) else { continue };
@@ -220,7 +220,7 @@ fn masked_circuits() {
 /// Rows worked out by hand: text, codes, pairs and both answers.
 #[test]
 fn by_hand() {
-    let tables = &mut Tables::new();
+    let tables = &mut Tables::standard();
     let leak = |wire, setting, base, own| Some(Leak { wire, setting, base, own });
     let one = b"0 3\n2 1 2\n1 1\n".as_slice();
     let two = b"0 4\n2 2 2\n1 1\n".as_slice();
@@ -249,9 +249,9 @@ fn by_hand() {
     }
     // 21 comes after 11 and 12: odd lists, wire W, the largest number.
     for pairs in [[0].as_slice(), &[0, 1, 2], &[0, 3], &[u32::MAX, 0]] {
-        assert_eq!(check_pairs(one, &[1], pairs, tables), Err(Refused(21)));
-        assert_eq!(check_pairs(one, &[4], pairs, tables), Err(Refused(11)));
-        assert_eq!(check_pairs(b"0 15\n2 13 2\n1 1\n", &[1; 13], pairs, tables), Err(Refused(12)));
+        assert_eq!(check_pairs(one, &[1], pairs, tables), Err(Refusal::Pairs));
+        assert_eq!(check_pairs(one, &[4], pairs, tables), Err(Refusal::Inputs));
+        assert_eq!(check_pairs(b"0 15\n2 13 2\n1 1\n", &[1; 13], pairs, tables), Err(Refusal::Settings));
     }
     // Twelve bits are checked, pairs across all settings too: the last setting alone is bad.
     let mut text = b"12 26\n2 12 2\n1 1\n".to_vec();

@@ -13,7 +13,7 @@ use calls::random::Random;
 use calls::{circuits, netlists};
 use fidrovelj::{
     check, mask, rewrite, session_add_lent, session_gate_lent, session_masked_lent, session_open_lent,
-    session_take_off_lent, session_text_lent, twins, GateRecord, Masked, Refused, Session, SessionState, SourceGate, Tables,
+    session_take_off_lent, session_text_lent, twins, GateRecord, Masked, Refusal, Session, SessionState, SourceGate, Tables,
 };
 use reference::ask;
 use reference::netlist::{read, Gate, Netlist, Sizes, LARGE, SMALL};
@@ -169,7 +169,7 @@ impl Lent {
     /// Lists full of rubbish, and a session without gates.
     fn new(random: &mut Random, sizes: Sizes, codes: &[u8], places: usize, room: usize) -> Lent {
         let sizes = match sizes {
-            Sizes::Old => fidrovelj::Sizes::Old,
+            Sizes::Standard => fidrovelj::Sizes::Standard,
             Sizes::Whole => fidrovelj::Sizes::Whole,
         };
         let source = (0..places + BEHIND).map(|_| rubbish_source(random)).collect();
@@ -178,7 +178,7 @@ impl Lent {
     }
 
     /// A step's answer: the session behind it. With a refusal comes the session as it was.
-    fn settle(&mut self, answer: Result<SessionState, (Refused, SessionState)>) -> Result<(), Refused> {
+    fn settle(&mut self, answer: Result<SessionState, (Refusal, SessionState)>) -> Result<(), Refusal> {
         let before = self.state;
         self.state = answer.map_err(|(refused, state)| {
             assert_eq!(state, before, "a refusal leaves the session as it was");
@@ -187,18 +187,18 @@ impl Lent {
         Ok(())
     }
 
-    fn open(&mut self, widths: &[u32]) -> Result<(), Refused> {
+    fn open(&mut self, widths: &[u32]) -> Result<(), Refusal> {
         let answer = session_open_lent(widths, &self.codes, &mut self.masked[..self.room], self.sizes);
         self.settle(answer)
     }
 
-    fn add(&mut self, gate: GateRecord) -> Result<(), Refused> {
+    fn add(&mut self, gate: GateRecord) -> Result<(), Refusal> {
         let (source, masked) = (&mut self.source[..self.places], &mut self.masked[..self.room]);
         let answer = session_add_lent(self.state, gate, &self.codes, source, masked, self.sizes);
         self.settle(answer)
     }
 
-    fn take_off(&mut self) -> Result<(), Refused> {
+    fn take_off(&mut self) -> Result<(), Refusal> {
         let answer = session_take_off_lent(self.state, &self.source[..self.places]);
         self.settle(answer)
     }
@@ -231,7 +231,7 @@ fn assert_step(name: &str, lent: &mut Lent, model: &mut Model, step: Move) -> u8
         Move::Add(record) => (lent.add(record), model.add(&record, lent.places, lent.room)),
         Move::TakeOff => (lent.take_off(), model.take_off()),
     };
-    assert_eq!(answer, expected.map_err(Refused), "{name}: {step:?}");
+    assert_eq!(answer, expected.map_err(|question| Refusal::from_number(question).unwrap()), "{name}: {step:?}");
     assert_eq!(lent.state, model.state(), "{name}: {step:?}");
     let added = |now: u32, then: u32| now.saturating_sub(then) as usize;
     let (source, masked) =
@@ -257,7 +257,7 @@ fn assert_open(
     let before = lent.clone();
     let answer = lent.open(widths);
     let expected = Model::open(widths, codes, room, sizes);
-    assert_eq!(answer, expected.as_ref().map(|_| ()).map_err(|&question| Refused(question)), "{name}");
+    assert_eq!(answer, expected.as_ref().map(|_| ()).map_err(|&question| Refusal::from_number(question).unwrap()), "{name}");
     let model =
         expected.inspect_err(|_| assert!(lent == before, "{name}: a refused opening writes nothing"))?;
     let gates = model.masked_gates();
@@ -356,7 +356,7 @@ fn records_read(
     ask(5, n + gates <= SMALL.wires && widths.len() <= 16 && outputs.len() <= 16 && sum(outputs) <= n + gates)?;
     ask(6, gates <= source.len())?;
     let lengths = |values: &[u32]| values.iter().map(|&width| width as usize).collect::<Vec<_>>();
-    let mut model = Model { sizes: Sizes::Old, widths: lengths(widths), codes: vec![1; n], gates: Vec::new() };
+    let mut model = Model { sizes: Sizes::Standard, widths: lengths(widths), codes: vec![1; n], gates: Vec::new() };
     for &SourceGate { kind, first, second, result, .. } in &source[..gates] {
         let gate = model.asked(&GateRecord { kind, first, second, result })?;
         model.gates.push(gate);
@@ -418,7 +418,7 @@ fn look(random: &mut Random, name: &str, lent: &Lent, model: &Model, tables: &mu
     (shown.wires, shown.marks) = (vec![0; 1], vec![0; 1]);
     let Look { operands, results, text: buffer, .. } = &mut shown;
     let answer = session_text_lent(state, &inputs, &outputs, &source, buffer, operands, results, lent.sizes);
-    assert_eq!(answer, expected.as_ref().map(Vec::len).map_err(|&question| Refused(question)), "{name}: the text");
+    assert_eq!(answer, expected.as_ref().map(Vec::len).map_err(|&question| Refusal::from_number(question).unwrap()), "{name}: the text");
     shown.assert_zero(name);
     Look::assert_front(name, &shown.text, expected.as_deref().unwrap_or(&[]));
 
@@ -436,7 +436,7 @@ fn look(random: &mut Random, name: &str, lent: &Lent, model: &Model, tables: &mu
     let answer = session_masked_lent(
         state, &inputs, &outputs, &source, &codes, &wanted, buffer, out_codes, operands, results, wires, marks, lent.sizes,
     );
-    let lengths = expected.as_ref().map(|(text, _)| text.len()).map_err(|&question| Refused(question));
+    let lengths = expected.as_ref().map(|(text, _)| text.len()).map_err(|&question| Refusal::from_number(question).unwrap());
     assert_eq!(answer, lengths, "{name}: the masked text");
     shown.assert_zero(name);
     let (text, codes) = expected.as_ref().map_or((&[][..], &[][..]), |(text, codes)| (text, codes));
@@ -448,8 +448,8 @@ fn look(random: &mut Random, name: &str, lent: &Lent, model: &Model, tables: &mu
 /// The texts of a session: refusals by the output widths and the wanted codes.
 #[test]
 fn texts() {
-    let tables = &mut Tables::new();
-    let mut session = Session::open(&[2, 1], &[1, 2, 0], fidrovelj::Sizes::Old).expect("it opens");
+    let tables = &mut Tables::standard();
+    let mut session = Session::open(&[2, 1], &[1, 2, 0], fidrovelj::Sizes::Standard).expect("it opens");
     assert_eq!(session.text(&[3], tables).as_deref(), Ok(b"0 3\n2 2 1\n1 3\n\n".as_slice()));
     for gate in [
         fidrovelj::Gate::And(0, 2),
@@ -464,18 +464,18 @@ fn texts() {
     assert_eq!(session.text(&[1, 2], tables).as_deref(), Ok(text.as_slice()));
     assert_eq!(session.masked(&[1, 2], &[0, 1, 2], tables), mask(text, &[1, 2, 0], &[0, 1, 2], tables));
     for (outputs, question) in [([].as_slice(), 4), (&[0], 4), (&[9], 5), (&[1; 17], 5), (&[u32::MAX], 5)] {
-        assert_eq!(session.text(outputs, tables), Err(Refused(question)), "{outputs:?}");
-        assert_eq!(session.masked(outputs, &[], tables), Err(Refused(question)), "{outputs:?}");
+        assert_eq!(session.text(outputs, tables), Err(Refusal::from_number(question).unwrap()), "{outputs:?}");
+        assert_eq!(session.masked(outputs, &[], tables), Err(Refusal::from_number(question).unwrap()), "{outputs:?}");
     }
-    assert_eq!(session.masked(&[1], &[4], tables), Err(Refused(13)));
-    assert_eq!(session.masked(&[1], &[], tables), Err(Refused(13)));
+    assert_eq!(session.masked(&[1], &[4], tables), Err(Refusal::Wanted));
+    assert_eq!(session.masked(&[1], &[], tables), Err(Refusal::Wanted));
     assert_eq!(session.gate(1).map(|gate| (gate.kind, gate.first, gate.result)), Some((1, 3, 4)));
     assert_eq!(session.gate(5), None);
 
     // A session for whole ciphers asks for larger tables.
     let whole = Session::open(&[1], &[1], fidrovelj::Sizes::Whole).expect("it opens");
-    assert_eq!(whole.text(&[1], tables), Err(Refused(1)));
-    assert_eq!(whole.masked(&[1], &[0], tables), Err(Refused(1)));
+    assert_eq!(whole.text(&[1], tables), Err(Refusal::Tables));
+    assert_eq!(whole.masked(&[1], &[0], tables), Err(Refusal::Tables));
 }
 
 // ---- rows of steps
@@ -484,7 +484,7 @@ fn texts() {
 #[test]
 fn random_rows() {
     let (first, rows) = (setting("FIDROVELJ_SEED", 1), setting("FIDROVELJ_CALLS", 200_000) / 100);
-    let tables = &mut Tables::new();
+    let tables = &mut Tables::standard();
     let (mut openings, mut steps, mut looks) = ([0_u64; 26], [0_u64; 26], [0_u64; 26]);
     for seed in first..first + rows {
         let random = &mut Random::new(seed ^ 0x7365_7373);
@@ -508,7 +508,7 @@ fn random_rows() {
         let places = random.pick(&[0, 1, 5, 30, 100, 300, 2_048]);
         let room = random.pick(&[0, 2, 3, 4, 40, 400, 4_000]) + random.below(12);
         let (mut lent, mut model) =
-            match assert_open(random, &name, Sizes::Old, &widths, &codes, places, room) {
+            match assert_open(random, &name, Sizes::Standard, &widths, &codes, places, room) {
                 Ok(both) => both,
                 Err(question) => {
                     openings[usize::from(question)] += 1;
@@ -572,7 +572,7 @@ fn rising(netlist: &Netlist) -> Netlist {
 /// Each circuit gate by gate, taken off again to the middle and added once more: at the end its masked text is Mask's.
 #[test]
 fn circuits_gate_by_gate() {
-    let tables = &mut Tables::new();
+    let tables = &mut Tables::standard();
     let mut built = 0;
     for circuit in circuits::all() {
         let name = &circuit.name;
@@ -585,7 +585,7 @@ fn circuits_gate_by_gate() {
         let random = &mut Random::new(n as u64);
         let codes = random.list(n, 0, 3);
         let mut session =
-            Session::open(&numbers(&source.inputs), &codes, fidrovelj::Sizes::Old).expect("it opens");
+            Session::open(&numbers(&source.inputs), &codes, fidrovelj::Sizes::Standard).expect("it opens");
         let gate = |gate: &Gate| match *gate {
             Gate::Xor(a, b, _) => fidrovelj::Gate::Xor(a as u32, b as u32),
             Gate::And(a, b, _) => fidrovelj::Gate::And(a as u32, b as u32),
@@ -628,7 +628,7 @@ fn whole_sizes() {
     for wire in 1..100_000 {
         assert_eq!(session.add(fidrovelj::Gate::And(wire - 1, wire - 1)), Ok(wire));
     }
-    assert_eq!(session.add(fidrovelj::Gate::Inv(0)), Err(Refused(24)));
+    assert_eq!(session.add(fidrovelj::Gate::Inv(0)), Err(Refusal::Place));
     assert_eq!(session.masked_gates().len(), 4 + 8 * 99_999);
     let text = session.text(&[1], tables).expect("it has a text");
     let masked = session.masked(&[1], &[3], tables).expect("it can be masked");
@@ -641,7 +641,7 @@ fn whole_sizes() {
     assert!(mask(&text, &[0], &[3], tables) == Ok(masked), "50 wires, masked");
 
     let random = &mut Random::new(3);
-    for sizes in [Sizes::Old, Sizes::Whole] {
+    for sizes in [Sizes::Standard, Sizes::Whole] {
         let wires = sizes.small().wires;
         let codes = random.list(wires, 0, 3);
         let open = |random: &mut Random, widths: &[u32], codes: &[u8], room: usize| {
@@ -671,7 +671,7 @@ fn whole_sizes() {
 fn order() {
     let random = &mut Random::new(1);
     let open = |random: &mut Random, widths: &[u32], codes: &[u8], room: usize| {
-        assert_open(random, "order", Sizes::Old, widths, codes, 2, room).map(|_| ())
+        assert_open(random, "order", Sizes::Standard, widths, codes, 2, room).map(|_| ())
     };
     // 4 before 5, 5 before 11, 11 before 14.
     assert_eq!(open(random, &[2_049, 0], &[4], 0), Err(4));
@@ -682,7 +682,7 @@ fn order() {
     let gate = |kind, first, second, result| Move::Add(GateRecord { kind, first, second, result });
     // Two input bits, two places, and room for an AND whose operands have one code, and one gate more.
     let (mut lent, mut model) =
-        assert_open(random, "order", Sizes::Old, &[2], &[1, 1], 2, 3 + 8 + 1).expect("it opens");
+        assert_open(random, "order", Sizes::Standard, &[2], &[1, 1], 2, 3 + 8 + 1).expect("it opens");
     let rows = [
         // Nothing to take off.
         (Move::TakeOff, 23),
@@ -790,7 +790,7 @@ fn any_lists() {
         let bits = random.between(0, 6);
         let codes = if random.percent(80) { random.list(bits, 0, 3) } else { random.list(bits, 0, 255) };
         let (places, room) = (random.below(7), random.below(30));
-        let sizes = random.pick(&[Sizes::Old, Sizes::Whole]);
+        let sizes = random.pick(&[Sizes::Standard, Sizes::Whole]);
         let mut lent = Lent::new(random, sizes, &codes, places, room);
         // Numbers that often lie within the lists.
         for gate in &mut lent.source {
@@ -811,7 +811,7 @@ fn any_lists() {
             let answer = lent.take_off();
             lent.assert_written(&name, &before, 0, 0);
             if gates == 0 {
-                assert_eq!(answer, Err(Refused(23)), "{name}");
+                assert_eq!(answer, Err(Refusal::Gate), "{name}");
             } else {
                 // A session with more gates than the list has records.
                 let from = before.source[..places].get(gates as usize - 1).map_or(0, |gate| gate.from);
@@ -825,7 +825,7 @@ fn any_lists() {
         let record =
             GateRecord { result: if random.percent(80) { next as u32 } else { record.result }, ..record };
         let answer = lent.add(record);
-        let question = answer.err().map_or(0, |Refused(question)| question);
+        let question = answer.err().map_or(0, |refusal| refusal.number());
         let full = gates as usize >= places || next >= sizes.small().wires;
         // 7 to 9 are put to the gate and the next wire alone, whatever the records are.
         let given = vec![Gate::Eq(0, 0); if full { 0 } else { gates as usize }];

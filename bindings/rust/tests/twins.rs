@@ -8,7 +8,7 @@ mod reference;
 
 use calls::random::Random;
 use calls::{circuits, plan, Service};
-use fidrovelj::{check, mask, run64, to_words, twins, twins_lent, Refused, Tables, Twin};
+use fidrovelj::{check, mask, run64, to_words, twins, twins_lent, Refusal, Tables, Twin};
 use reference::evaluate::{mask_of, masked_inputs, wires, MASKS};
 use reference::netlist::{read, Gate, Netlist, Sizes, LARGE, SMALL};
 use std::{env, fs};
@@ -45,7 +45,7 @@ impl Call {
     fn assert_outcome(&self, name: &str, expected: &Result<(Vec<u32>, Vec<u8>), u8>) {
         const BEHIND: usize = 16;
         let sizes = match self.sizes {
-            Sizes::Old => fidrovelj::Sizes::Old,
+            Sizes::Standard => fidrovelj::Sizes::Standard,
             Sizes::Whole => fidrovelj::Sizes::Whole,
         };
         let mut wires = vec![0xa5a5_a5a5_u32; self.wire_room + BEHIND];
@@ -64,7 +64,7 @@ impl Call {
             &mut given,
             sizes,
         );
-        let told = expected.as_ref().map(|twins| twins.0.len()).map_err(|&question| Refused(question));
+        let told = expected.as_ref().map(|twins| twins.0.len()).map_err(|&question| Refusal::from_number(question).unwrap());
         assert_eq!(answer, told, "{name}");
         if let Ok((expected_wires, expected_codes)) = expected {
             wires_left[..expected_wires.len()].copy_from_slice(expected_wires);
@@ -122,7 +122,7 @@ fn setting(name: &str, default: u64) -> u64 {
 #[test]
 fn random_calls() {
     let (first, count) = (setting("FIDROVELJ_SEED", 1), setting("FIDROVELJ_CALLS", 200_000) / 4);
-    let tables = &mut Tables::new();
+    let tables = &mut Tables::standard();
     let (mut tally, mut compared) = ([0_u64; 15], 0);
     for seed in first..first + count {
         let plan = plan::call(seed);
@@ -184,14 +184,14 @@ fn circuits_wire_by_wire() {
     for circuit in circuits::all() {
         let name = &circuit.name;
         let Ok(source) = read(&SMALL, &circuit.text) else {
-            assert!(twins(&circuit.text, &[], &mut Tables::new()).is_err(), "{name}");
+            assert!(twins(&circuit.text, &[], &mut Tables::standard()).is_err(), "{name}");
             continue;
         };
         for (lowest, highest) in [(1, 1), (1, 3), (0, 3), (0, 0)] {
             let random = &mut Random::new(1);
             let codes = random.list(source.input_bits(), lowest, highest);
             let wanted = random.list(source.output_bits(), 0, 3);
-            let call = Call::new(Sizes::Old, &circuit.text, &codes, source.wires);
+            let call = Call::new(Sizes::Standard, &circuit.text, &codes, source.wires);
             call.assert_outcome(name, &call.outcome());
             let given = twins(&circuit.text, &codes, tables).expect("a small circuit has twins");
             let text =
@@ -225,7 +225,7 @@ fn circuits_wire_by_wire() {
 /// One gate more, an XOR of two twins with different codes, is clean; a gate that takes the mask off a twin is a leak.
 #[test]
 fn own_gates() {
-    let tables = &mut Tables::new();
+    let tables = &mut Tables::standard();
     for name in ["present_sbox", "gift_sbox", "ascon_sbox", "keccak_chi_row"] {
         let text = circuits::circuit(name).text;
         let source = read(&SMALL, &text).expect("it is a source");
@@ -257,7 +257,7 @@ fn own_gates() {
 /// Both sides of the limits, under either choice: wires, bytes, tables and rooms.
 #[test]
 fn limits() {
-    for sizes in [Sizes::Old, Sizes::Whole] {
+    for sizes in [Sizes::Standard, Sizes::Whole] {
         let limits = sizes.small();
         let ladder = |wires: usize| {
             let gates = (1..wires).map(|c| Gate::And(c - 1, c - 1, c)).collect();

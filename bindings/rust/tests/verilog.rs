@@ -117,14 +117,14 @@ fn expression<'a>(r: &mut Reader<'a>) -> Result<(Vec<Step<'a>>, usize), u8> {
             r.at += 1;
             match part {
                 b"&" | b"^" => {
-                    while stack.last().map_or(false, |&top| strength(top) >= strength(part[0])) {
+                    while stack.last().is_some_and(|&top| strength(top) >= strength(part[0])) {
                         pop(&mut out, stack.pop().unwrap());
                     }
                     stack.push(part[0]);
                     break;
                 }
                 b")" | b";" => {
-                    while stack.last().map_or(false, |&top| top != b'(') {
+                    while stack.last().is_some_and(|&top| top != b'(') {
                         pop(&mut out, stack.pop().unwrap());
                     }
                     if part == b";" {
@@ -239,11 +239,11 @@ fn library(text: &[u8], tables: usize, room: usize, sizes: Sizes) -> Result<Vec<
     assert!([states, wires].iter().flatten().all(|&x| x == 0));
     let length = *answer.as_ref().unwrap_or(&0);
     assert!(out[length..].iter().all(|&b| b == 0xaa));
-    answer.map(|n| out[..n].to_vec()).map_err(|refused| refused.0)
+    answer.map(|n| out[..n].to_vec()).map_err(|refused| refused.number())
 }
 
 fn compare(text: &[u8], tables: usize, room: usize) -> Result<Vec<u8>, u8> {
-    let a = library(text, tables, room, Sizes::Old);
+    let a = library(text, tables, room, Sizes::Standard);
     let b = second(text, tables, room);
     assert_eq!(a, b, "{}", String::from_utf8_lossy(&text[..text.len().min(2000)]));
     a
@@ -496,7 +496,7 @@ fn circuits() {
             let words: Vec<&str> = line.split(' ').collect();
             let bits: Vec<u8> = words[0].bytes().map(|b| b - b'0').collect();
             let want: Vec<u8> = words[1].bytes().map(|b| b - b'0').collect();
-            let got = reference::run(&[], &made, &bits, 100_000, reference::netlist::Sizes::Old);
+            let got = reference::run(&[], &made, &bits, 100_000, reference::netlist::Sizes::Standard);
             assert_eq!(got, Ok(want), "{name}: {line}");
         }
         count += 1;

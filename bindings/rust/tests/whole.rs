@@ -10,7 +10,7 @@ mod reference;
 
 use calls::{Call, Given, Service};
 use ciphers::Cipher;
-use fidrovelj::{check, from_words, mask, rewrite, run, run64, to_words, Refused, Tables};
+use fidrovelj::{check, from_words, mask, rewrite, run, run64, to_words, Refusal, Tables};
 use library::Library;
 use reference::netlist::{Gate, Netlist, Sizes};
 use std::time::Instant;
@@ -67,7 +67,7 @@ fn ciphers() {
         }
         let gates = cipher.netlist.gates.len();
         if cipher.netlist.wires > 100_000 {
-            assert_eq!(mask(&text, &[], &[], tables), Err(Refused(5)), "{name}");
+            assert_eq!(mask(&text, &[], &[], tables), Err(Refusal::Limits), "{name}");
             println!("{name}: {gates} gates, {} bytes, too many wires for Mask", text.len());
         } else {
             let length = assert_masked(&cipher, &text, tables);
@@ -129,12 +129,12 @@ fn wires() {
     for service in Service::ALL {
         // Check refuses so many bits by 12, once 5 is answered yes.
         let admitted = (service == Service::Check).then_some(12);
-        for sizes in [Sizes::Old, Sizes::Whole] {
+        for sizes in [Sizes::Standard, Sizes::Whole] {
             let most = service.limits_of(sizes).wires;
             assert_answer(library, "as many wires as may be", &fitted(service, sizes, &wide(most)), admitted);
             assert_answer(library, "one wire more", &fitted(service, sizes, &wide(most + 1)), Some(5));
         }
-        let more = fitted(service, Sizes::Old, &wide(service.limits_of(Sizes::Whole).wires));
+        let more = fitted(service, Sizes::Standard, &wide(service.limits_of(Sizes::Whole).wires));
         assert_answer(library, "whole wires under the old limits", &more, Some(5));
     }
 }
@@ -144,7 +144,7 @@ fn wires() {
 fn bytes() {
     let library = &mut Library::new();
     for service in Service::ALL {
-        for sizes in [Sizes::Old, Sizes::Whole] {
+        for sizes in [Sizes::Standard, Sizes::Whole] {
             let most = service.limits_of(sizes).text;
             let mut call = fitted(service, sizes, &wide(4));
             call.text.resize(most, b' ');
@@ -165,11 +165,11 @@ fn tables() {
             call.tables[table] -= 1;
             assert_answer(library, "a table one short", &call, Some(1));
         }
-        let mut call = fitted(service, Sizes::Old, &wide(4));
+        let mut call = fitted(service, Sizes::Standard, &wide(4));
         call.tables.fill(service.limits_of(Sizes::Whole).table);
         assert_answer(library, "whole tables under the old limits", &call, None);
         call.sizes = Sizes::Whole;
-        call.tables.fill(service.limits_of(Sizes::Old).table);
+        call.tables.fill(service.limits_of(Sizes::Standard).table);
         assert_answer(library, "old tables under the whole limits", &call, Some(1));
     }
 }
@@ -192,7 +192,7 @@ fn digits() {
         ("1 2\n1 1\n1 1\n1 1 0000001 1 EQ\n", 7),
     ] {
         for service in Service::ALL {
-            for sizes in [Sizes::Old, Sizes::Whole] {
+            for sizes in [Sizes::Standard, Sizes::Whole] {
                 assert_answer(
                     library,
                     text,

@@ -15,7 +15,7 @@ mod reference;
 use calls::damage::{damage_bytes, damage_list, Draft};
 use calls::random::Random;
 use calls::{circuits, netlists, plan, Service};
-use fidrovelj::{check_pairs, check_wide, check_wide_lent, mask, Refused, Tables, Wide, WideLeak};
+use fidrovelj::{check_pairs, check_wide, check_wide_lent, mask, Refusal, Tables, Wide, WideLeak};
 use margins::Lent;
 use reference::netlist::{read, Gate, Netlist, Sizes, LARGE, SMALL};
 use reference::wide::{self, Answers};
@@ -86,10 +86,10 @@ impl Library {
         }
     }
 
-    fn answer(&mut self, call: &Call) -> Result<usize, Refused> {
+    fn answer(&mut self, call: &Call) -> Result<usize, Refusal> {
         let random = &mut Random::new(call.text.len() as u64);
         let sizes = match call.sizes {
-            Sizes::Old => fidrovelj::Sizes::Old,
+            Sizes::Standard => fidrovelj::Sizes::Standard,
             Sizes::Whole => fidrovelj::Sizes::Whole,
         };
         let [leak, ones, bad] = &mut self.lists;
@@ -120,7 +120,7 @@ impl Library {
     /// The library's outcome is the expected one, down to every byte that it was lent.
     fn assert_outcome(&mut self, name: &str, call: &Call, expected: &Result<Answers, u8>) {
         let answer = self.answer(call);
-        let told = expected.as_ref().map(number).map_err(|&question| Refused(question));
+        let told = expected.as_ref().map(number).map_err(|&question| Refusal::from_number(question).unwrap());
         assert_eq!(answer, told, "{name}: {expected:?}\n{call:?}");
         let nothing = (None, None);
         let (leak, bad) = expected.as_ref().unwrap_or(&nothing);
@@ -264,7 +264,7 @@ fn choose_lengths(random: &mut Random, call: &mut Call) {
 fn call_on_many_inputs(random: &mut Random) -> Call {
     let (netlist, mut codes) = many_inputs(random);
     let mut pairs = random_pairs(random, netlist.wires);
-    if random.percent(50) && pairs.len() % 2 == 0 {
+    if random.percent(50) && pairs.len().is_multiple_of(2) {
         // Pairs of wires that stand near each other share inputs.
         for pair in pairs.chunks_mut(2) {
             pair[1] = pair[0].saturating_add(random.below(4) as u32).min(netlist.wires as u32 - 1);
@@ -283,11 +283,11 @@ fn call_on_many_inputs(random: &mut Random) -> Call {
     for _ in 0..bytes {
         damage_bytes(random, &mut text);
     }
-    Call::new(Sizes::Old, &text, &codes, &pairs)
+    Call::new(Sizes::Standard, &text, &codes, &pairs)
 }
 
 /// What the old check with pairs says, in this check's words.
-fn old_answers(call: &Call, tables: &mut Tables) -> Result<Wide, Refused> {
+fn old_answers(call: &Call, tables: &mut Tables) -> Result<Wide, Refusal> {
     let old = check_pairs(&call.text, &call.codes, &call.pairs, tables)?;
     let leak = old.leak.map(|leak| {
         let ones = (0..64).filter(|&bit| leak.setting >> bit & 1 == 1).collect();
@@ -301,7 +301,7 @@ fn old_answers(call: &Call, tables: &mut Tables) -> Result<Wide, Refused> {
 #[test]
 fn random_calls() {
     let (first, count) = (setting("FIDROVELJ_SEED", 1), setting("FIDROVELJ_CALLS", 200_000) / 20);
-    let (library, tables) = (&mut Library::new(), &mut Tables::new());
+    let (library, tables) = (&mut Library::new(), &mut Tables::standard());
     let (mut ended, mut beyond): (BTreeMap<usize, u64>, BTreeMap<usize, u64>) =
         (BTreeMap::new(), BTreeMap::new());
     let (mut made, mut within) = (0, 0);
@@ -339,7 +339,7 @@ fn random_calls() {
                     "{name}: cones\n{call:?}"
                 );
             }
-        } else if call.sizes == Sizes::Old {
+        } else if call.sizes == Sizes::Standard {
             let found = check_wide(&call.text, &call.codes, &call.pairs, tables);
             assert_eq!(found, old_answers(&call, tables), "{name}: the old check\n{call:?}");
             within += 1;
@@ -363,7 +363,7 @@ fn random_calls() {
 #[test]
 fn within_twelve_bits() {
     let (first, count) = (setting("FIDROVELJ_SEED", 1), setting("FIDROVELJ_CALLS", 200_000) / 5);
-    let tables = &mut Tables::new();
+    let tables = &mut Tables::standard();
     let mut ended: BTreeMap<usize, u64> = BTreeMap::new();
     let calls = (first..).map(|seed| (seed, plan::call(seed)));
     for (seed, plan) in calls.filter(|(_, plan)| plan.service == Service::Check).take(count as usize) {
@@ -373,11 +373,11 @@ fn within_twelve_bits() {
             continue;
         }
         let pairs = random_pairs(random, netlist.map_or(10, |netlist| netlist.wires));
-        let call = Call::new(Sizes::Old, &plan.text, &plan.list, &pairs);
+        let call = Call::new(Sizes::Standard, &plan.text, &plan.list, &pairs);
         let found = check_wide(&call.text, &call.codes, &call.pairs, tables);
         assert_eq!(found, old_answers(&call, tables), "seed {seed}\n{call:?}");
         let told = |found: Wide| usize::from(found.leak.is_some()) + 2 * usize::from(found.bad.is_some());
-        *ended.entry(found.map_or_else(|no| 100 + usize::from(no.0), told)).or_default() += 1;
+        *ended.entry(found.map_or_else(|no| 100 + usize::from(no.number()), told)).or_default() += 1;
     }
     println!("at most twelve bits, by the old check's answer, or 100 and the question: {ended:?}");
     for end in [0, 1, 2, 3, 103, 104, 105, 106, 107, 108, 109, 110, 111, 121] {
@@ -412,10 +412,10 @@ fn twelve_and_thirteen() {
         // The first bits, some in the middle, the last ones.
         for first in [0, 7, 17] {
             let twelve = netlist(bits, &chain(first, first + 11, bits + 2, make));
-            let answers = library.assert_call("twelve", &Call::new(Sizes::Old, &twelve.write(), &codes, &[]));
+            let answers = library.assert_call("twelve", &Call::new(Sizes::Standard, &twelve.write(), &codes, &[]));
             assert_eq!(answers.map(|(leak, _)| leak.is_some()), Ok(public == 1 && first + 11 < bits));
             let thirteen = netlist(bits, &chain(first, first + 12, bits + 2, make));
-            let call = Call::new(Sizes::Old, &thirteen.write(), &codes, &[]);
+            let call = Call::new(Sizes::Standard, &thirteen.write(), &codes, &[]);
             assert_eq!(library.assert_call("thirteen", &call), Err(12));
             // 21 comes first, and 14 only after an answer.
             let odd = Call { pairs: vec![0], ..call.clone() };
@@ -427,7 +427,7 @@ fn twelve_and_thirteen() {
     // A wire that no output needs, and one behind a wire that leaks.
     let mut gates = chain(0, 12, bits + 2, Gate::Xor);
     gates.push(Gate::Inv(bits, bits + 2 + gates.len()));
-    let call = Call::new(Sizes::Old, &netlist(bits, &gates).write(), &[1; 30], &[]);
+    let call = Call::new(Sizes::Standard, &netlist(bits, &gates).write(), &[1; 30], &[]);
     assert_eq!(library.assert_call("a wire that nothing reads", &call), Err(12));
     // Mask bits and constants reach nothing, and no constant is a wire's number; a wire with itself is reached once.
     let mut gates = chain(2, 13, bits + 2, Gate::And);
@@ -439,11 +439,11 @@ fn twelve_and_thirteen() {
         gates.push(Gate::Xor(at(&gates) - 2, at(&gates) - 1, at(&gates)));
     }
     gates.push(Gate::Xor(at(&gates) - 1, at(&gates) - 1, at(&gates)));
-    let few = Call::new(Sizes::Old, &netlist(bits, &gates).write(), &[2; 30], &[]);
+    let few = Call::new(Sizes::Standard, &netlist(bits, &gates).write(), &[2; 30], &[]);
     assert!(library.assert_call("masks, constants and one wire twice", &few).is_ok());
     // a XOR a is always 0 and reached by a's inputs all the same.
     gates.push(Gate::Xor(at(&gates) - 1, 20, at(&gates)));
-    let many = Call::new(Sizes::Old, &netlist(bits, &gates).write(), &[2; 30], &[]);
+    let many = Call::new(Sizes::Standard, &netlist(bits, &gates).write(), &[2; 30], &[]);
     assert_eq!(library.assert_call("a thirteenth", &many), Err(12));
 }
 
@@ -463,7 +463,7 @@ fn pairs_of_sets() {
         // Seven and seven, sharing 2, 1 and none; each wire by itself is within twelve.
         for (second, many) in [(0, 7), (2, 9), (5, 12), (6, 13), (7, 14), (33, 14)] {
             let text = two(second, make);
-            let call = Call::new(Sizes::Old, &text, &codes, &[u, v]);
+            let call = Call::new(Sizes::Standard, &text, &codes, &[u, v]);
             let outcome = library.assert_call("seven and seven", &call);
             assert_eq!(outcome.is_err(), many > 12, "{second}: {outcome:?}");
             let last = Call { pairs: vec![u, u, 0, 1, v, v, v, u], ..call.clone() };
@@ -489,7 +489,7 @@ fn pairs_of_sets() {
         let pairs = [wires - 1, wires - 2, bits as u32 + 2, wires - 1, 3, 4];
         for codes in [vec![0; bits], codes.clone()] {
             for pairs in [&[], &pairs[..2], &pairs[..]] {
-                library.assert_call("a ring", &Call::new(Sizes::Old, &ring.write(), &codes, pairs)).ok();
+                library.assert_call("a ring", &Call::new(Sizes::Standard, &ring.write(), &codes, pairs)).ok();
             }
         }
     }
@@ -498,10 +498,10 @@ fn pairs_of_sets() {
 /// Leaks worked out by hand: the setting has few ones, high ones, or as many as there may be.
 #[test]
 fn leaks_by_hand() {
-    let tables = &mut Tables::new();
+    let tables = &mut Tables::standard();
     let found = |bits: usize, gates: &[Gate], codes: &[u8], tables: &mut Tables| {
         let text = netlist(bits, gates).write();
-        let call = Call::new(Sizes::Old, &text, codes, &[]);
+        let call = Call::new(Sizes::Standard, &text, codes, &[]);
         Library::new().assert_call("by hand", &call).expect("it is accepted");
         check_wide(&text, codes, &[], tables).expect("it is accepted").leak
     };
@@ -540,7 +540,7 @@ fn leaks_by_hand() {
     let text = netlist(100, &gates).write();
     let library = &mut Library::new();
     for (rooms, question) in [([4, 11, 1], 14), ([3, 12, 1], 14), ([4, 12, 0], 0), ([0, 0, 0], 14)] {
-        let call = Call { rooms, ..Call::new(Sizes::Old, &text, &[1; 100], &[]) };
+        let call = Call { rooms, ..Call::new(Sizes::Standard, &text, &[1; 100], &[]) };
         let outcome = library.assert_call("twelve ones", &call);
         assert_eq!(outcome.err().unwrap_or(0), question);
     }
@@ -562,18 +562,18 @@ fn broken(netlist: &Netlist, skip: usize) -> Option<Netlist> {
     let bits = netlist.input_bits() - 2;
     let mut other = netlist.clone();
     // s4 XOR s5, then wire n+4, where it was s5 XOR wire n+4, then s4.
-    let orders = netlist.gates.windows(2).enumerate().filter_map(|(place, pair)| match *pair {
+    let mut orders = netlist.gates.windows(2).enumerate().filter_map(|(place, pair)| match *pair {
         [Gate::Xor(s5, either, s6), Gate::Xor(s4, last, s7)] if either == bits + 4 && last == s6 => {
             Some((place, [Gate::Xor(s4, s5, s6), Gate::Xor(s6, either, s7)]))
         }
         _ => None,
     });
-    if let Some((place, pair)) = orders.skip(skip).next() {
+    if let Some((place, pair)) = orders.nth(skip) {
         other.gates[place..place + 2].copy_from_slice(&pair);
         return Some(other);
     }
     // An XOR reads the wire whose mask was to be changed first.
-    let changes = netlist.gates.windows(2).enumerate().filter_map(|(place, pair)| match *pair {
+    let mut changes = netlist.gates.windows(2).enumerate().filter_map(|(place, pair)| match *pair {
         [Gate::Xor(b, mask, changed), Gate::Xor(a, second, c)]
             if (bits..bits + 3).contains(&mask) && second == changed =>
         {
@@ -581,7 +581,7 @@ fn broken(netlist: &Netlist, skip: usize) -> Option<Netlist> {
         }
         _ => None,
     });
-    let (place, gate) = changes.skip(skip).next()?;
+    let (place, gate) = changes.nth(skip)?;
     other.gates[place] = gate;
     Some(other)
 }
@@ -590,7 +590,7 @@ fn broken(netlist: &Netlist, skip: usize) -> Option<Netlist> {
 /// gate order broken a leak, by the reference.
 #[test]
 fn masked_circuits() {
-    let (library, tables) = (&mut Library::new(), &mut Tables::new());
+    let (library, tables) = (&mut Library::new(), &mut Tables::standard());
     for (name, bits) in [
         ("present_round", 128),
         ("ascon_sub_layer", 320),
@@ -613,7 +613,7 @@ fn masked_circuits() {
                     pairs.extend([u as u32, v as u32]);
                 }
             }
-            let call = Call::new(Sizes::Old, &text, &codes, &pairs);
+            let call = Call::new(Sizes::Standard, &text, &codes, &pairs);
             let (leak, _) = library.assert_call(name, &call).expect("few inputs reach each wire");
             assert_eq!(leak, None, "{name}");
             for skip in [0, 3] {
@@ -633,10 +633,10 @@ fn masked_circuits() {
 /// Circuits of which more than twelve inputs reach some wire.
 #[test]
 fn mixing_circuits() {
-    let tables = &mut Tables::new();
+    let tables = &mut Tables::standard();
     for name in ["keccak_f200_r1", "present80_r5", "aes_column", "adder64", "sub64"] {
         let (text, codes) = masked(name, 1, tables);
-        assert_eq!(check_wide(&text, &codes, &[], tables), Err(Refused(12)), "{name}");
+        assert_eq!(check_wide(&text, &codes, &[], tables), Err(Refusal::Settings), "{name}");
     }
 }
 
@@ -669,14 +669,14 @@ fn copies(netlist: &Netlist, many: usize) -> Netlist {
 /// broken leaks in the inputs of that copy alone.
 #[test]
 fn many_copies() {
-    let (library, tables) = (&mut Library::new(), &mut Tables::new());
+    let (library, tables) = (&mut Library::new(), &mut Tables::standard());
     let (text, codes) = masked("aes_sbox", 1, tables);
     let one = read(&LARGE, &text).expect("a masked text is good");
     let other = broken(&one, 0).expect("it has an AND");
     let alone =
         check_wide(&other.write(), &codes, &[], tables).expect("it is small").leak.expect("it is broken");
     let inner = one.gates.len();
-    for (sizes, many) in [(Sizes::Old, 50), (Sizes::Whole, 2_200)] {
+    for (sizes, many) in [(Sizes::Standard, 50), (Sizes::Whole, 2_200)] {
         let all = copies(&one, many);
         let list = codes.repeat(many);
         let call = Call::new(sizes, &all.write(), &list, &[]);
@@ -712,7 +712,7 @@ fn many_copies() {
 #[test]
 fn limits() {
     let library = &mut Library::new();
-    for sizes in [Sizes::Old, Sizes::Whole] {
+    for sizes in [Sizes::Standard, Sizes::Whole] {
         let limits = sizes.large();
         let inputs = |wires: usize| {
             let netlist = Netlist {

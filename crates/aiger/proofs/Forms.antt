@@ -10,7 +10,8 @@ use Rattle.aiger.specs.Lines.{if_some, Head, output_line, and_form, formed, inpu
 
 -- ---- a value taken apart
 
-pub if_some-some : {A B : Type 0} (o : Option A) (f : A → Option B) (b : B) → if_some o f ≡ some b → (a : A) × (o ≡ some a) × (f a ≡ some b)
+pub if_some-some : {A B : Type 0} (o : Option A) (f : A → Option B) (b : B) → if_some o f ≡ some b → (a : A)
+    × (o ≡ some a) × (f a ≡ some b)
 if_some-some none f b e = absurd (none-some b e)
 if_some-some (some a) f b e = (a, refl, e)
 

@@ -9,8 +9,7 @@ use lib.ListN.{length, get_or}
 use Rattle.netlist.specs.Lists.{every, member}
 use Rattle.netlist.specs.Netlist.{result}
 use Rattle.netlist.specs.Read.{operands_given}
-use Rattle.netlist.specs.Eval.{made}
-use Rattle.netlist.specs.Leak.{bit}
+use Rattle.netlist.specs.Eval.{made, bit}
 use Rattle.netlist.proofs.Tests.{both, all_head, all_tail, all_split}
 use Rattle.netlist.proofs.Models.{Models}
 use Rattle.netlist.proofs.Order.{Ordered, end, step, ordered-append, ordered-length, two-below}
@@ -40,7 +39,8 @@ module _ (at : ℕ → ℕ) (given : List ℕ) where
   operand-order (plain v) c h t = record { gates = end; wire = h v t }
   operand-order (inverse v) c h t = record { gates = step refl (lt→ltb (at v) c (h v t)) end; wire = omega arith }
 
-  pub and-order : (a : AndLine) (c : ℕ) → Located at c given → T (readable given a.first) → T (readable given a.second) → InOrder c (and_made at a c)
+  pub and-order : (a : AndLine) (c : ℕ) → Located at c given → T (readable given a.first) → T (readable given a.second)
+      → InOrder c (and_made at a c)
   and-order a c h s t =
       let L = operand at a.first c in
       let R = operand at a.second L.next in
@@ -50,11 +50,13 @@ module _ (at : ℕ → ℕ) (given : List ℕ) where
       let n : L.next ≤ R.next = order-next r in
       let w : L.wire < L.next = l.wire in
       record {
-        gates = ordered-append (ordered-append l.gates r.gates) (step refl (two-below L.wire R.wire R.next (omega arith) r.wire) end);
+        gates = ordered-append (ordered-append l.gates r.gates)
+            (step refl (two-below L.wire R.wire R.next (omega arith) r.wire) end);
         wire = omega arith;
       }
 
-  pub out-order : (l : Literal) (c d : ℕ) → c ≤ d → Located at c given → T (readable given l) → T (operands_given (λ w. ltb w d) (out_gate at l d))
+  pub out-order : (l : Literal) (c d : ℕ) → c ≤ d → Located at c given → T (readable given l)
+      → T (operands_given (λ w. ltb w d) (out_gate at l d))
   out-order (constant b) c d e h t = bit-small b
   out-order (plain v) c d e h t = let k = h v t in lt→ltb (at v) d (omega arith)
   out-order (inverse v) c d e h t = let k = h v t in lt→ltb (at v) d (omega arith)
@@ -64,13 +66,15 @@ out-result at (constant b) c = refl
 out-result at (plain v) c = refl
 out-result at (inverse v) c = refl
 
-pub outs-order : (at : ℕ → ℕ) (given : List ℕ) (ls : List Literal) (c d : ℕ) → c ≤ d → Located at c given → T (every (readable given) ls)
+pub outs-order : (at : ℕ → ℕ) (given : List ℕ) (ls : List Literal) (c d : ℕ) → c ≤ d → Located at c given
+    → T (every (readable given) ls)
     → Ordered d (out_gates at d ls) (d + length ls)
 outs-order at given [] c d e h t = let z : d + 0 ≡ d = omega arith in rw z end
 outs-order at given (l ∷ ls) c d e h t =
     let p = both (readable given l) (every (readable given) ls) t in
     let z : d + suc (length ls) ≡ d + 1 + length ls = omega arith in
-    rw z (step (out-result at l d) (out-order at given l c d e h p.0) (outs-order at given ls c (d + 1) (omega arith) h p.1))
+    rw z (step (out-result at l d) (out-order at given l c d e h p.0)
+    (outs-order at given ls c (d + 1) (omega arith) h p.1))
 
 -- ---- bits
 
@@ -83,12 +87,14 @@ abbrev pub Carry : (ℕ → Bool) → (ℕ → ℕ) → (ℕ → Bool) → List 
 Carry w at u given = (v : ℕ) → T (member v given) → w (at v) ≡ u v
 
 module _ (w : ℕ → Bool) (at : ℕ → ℕ) (u : ℕ → Bool) (given : List ℕ) (h : Carry w at u given) where
-  operand-bit : (l : Literal) (c : ℕ) → T (readable given l) → Models w (operand at l c).gates → w (operand at l c).wire ≡ literal_bit u l
+  operand-bit : (l : Literal) (c : ℕ) → T (readable given l) → Models w (operand at l c).gates → w (operand at l c).wire
+      ≡ literal_bit u l
   operand-bit (constant b) c t ms = all_head ms ∙ bit-one b
   operand-bit (plain v) c t ms = h v t
   operand-bit (inverse v) c t ms = all_head ms ∙ ap not (h v t)
 
-  pub and-bit : (a : AndLine) (c : ℕ) → T (readable given a.first) → T (readable given a.second) → Models w (and_made at a c).gates
+  pub and-bit : (a : AndLine) (c : ℕ) → T (readable given a.first) → T (readable given a.second)
+      → Models w (and_made at a c).gates
       → w (and_made at a c).wire ≡ (literal_bit u a.first && literal_bit u a.second)
   and-bit a c s t ms =
       let L = operand at a.first c in

@@ -16,7 +16,8 @@ use Rattle.netlist.proofs.Tests.{on_bool, both, pair, all_split}
 use Rattle.netlist.proofs.Models.{Models, bits-satisfy, bits-inputs, length-outputs_of, output-bit}
 use Rattle.netlist.proofs.Order.{Ordered, end, ordered-append, ordered-length, ordered-good}
 use Rattle.aiger.specs.File.{AndLine, File}
-use Rattle.aiger.specs.Rules.{readable, fresh, giving, fresh_all, and_good, ands_good, inputs_given, all_given, rules_kept}
+use Rattle.aiger.specs.Rules.{readable, fresh, giving, fresh_all, and_good, ands_good, inputs_given, all_given}
+use Rattle.aiger.specs.Rules.{rules_kept}
 use Rattle.aiger.specs.Outputs.{literal_bit, enter, blank, run_ands, variable_bits, file_outputs}
 use Rattle.aiger.specs.Made.{and_made, wire_at, Built, build, built, out_gates, up_from, netlist_made, Located}
 use Rattle.aiger.proofs.MadeGates.{InOrder, order-next, and-order, outs-order, Carry, and-bit, outs-bit}
@@ -32,7 +33,8 @@ pub record GoodAnd (M : ℕ) (given : List ℕ) (a : AndLine) (rest : List AndLi
   pub low : a.left ≤ M
   pub after : T (ands_good M (a.left ∷ given) rest)
 
-pub good_and : (M : ℕ) (given : List ℕ) (a : AndLine) (rest : List AndLine) → T (ands_good M given (a ∷ rest)) → GoodAnd M given a rest
+pub good_and : (M : ℕ) (given : List ℕ) (a : AndLine) (rest : List AndLine) → T (ands_good M given (a ∷ rest))
+    → GoodAnd M given a rest
 good_and M given a rest t =
     let r = readable given a.first in
     let s = readable given a.second in
@@ -61,21 +63,28 @@ kept F t i o =
 -- ---- one more variable
 
 -- what holds of the entries of the given variables, and of a new one
-entered : {A : Type 0} (P : ℕ → A → Type 0) (d : A) (given : List ℕ) (table : List A) (v : ℕ) (x : A) → v < length table → P v x
-    → ((y : ℕ) → T (member y given) → (eqb y v ≡ false) → P y (get_or table y d)) → (y : ℕ) → T (member y (v ∷ given)) → P y (get_or (set table v x) y d)
+entered : {A : Type 0} (P : ℕ → A → Type 0) (d : A) (given : List ℕ) (table : List A) (v : ℕ) (x : A) → v < length table
+    → P v x
+    → ((y : ℕ) → T (member y given) → (eqb y v ≡ false) → P y (get_or table y d)) → (y : ℕ) → T (member y (v ∷ given))
+    → P y (get_or (set table v x) y d)
 entered P d given table v x l p h y t =
     on_bool (eqb y v)
     (λ e. rw (eqb-true y v e, get_or-set_same table v x d l) p)
     (λ e. rw (get_or-set_other table v y x d (eqb-false y v e)) (h y (rw e at t) e))
 
-pub located-more : {c d : ℕ} (given table : List ℕ) (v x : ℕ) → v < length table → c ≤ d → x < d → Located (wire_at table) c given
+pub located-more : {c d : ℕ} (given table : List ℕ) (v x : ℕ) → v < length table → c ≤ d → x < d
+    → Located (wire_at table) c given
     → Located (wire_at (set table v x)) d (v ∷ given)
-located-more {c} {d} given table v x l e p h = entered (λ y z. z < d) 0 given table v x l p (λ y t n. let k = h y t in omega arith)
+located-more {c} {d} given table v x l e p h = entered (λ y z. z < d) 0 given table v x l p
+    (λ y t n. let k = h y t in omega arith)
 
-carry-more : (w : ℕ → Bool) (given table : List ℕ) (bits : List Bool) (v x : ℕ) (b : Bool) → v < length table → v < length bits → w x ≡ b
-    → Carry w (wire_at table) (bits_at bits) given → Carry w (wire_at (set table v x)) (bits_at (set bits v b)) (v ∷ given)
+carry-more : (w : ℕ → Bool) (given table : List ℕ) (bits : List Bool) (v x : ℕ) (b : Bool) → v < length table
+    → v < length bits → w x ≡ b
+    → Carry w (wire_at table) (bits_at bits) given → Carry w (wire_at (set table v x)) (bits_at (set bits v b))
+    (v ∷ given)
 carry-more w given table bits v x b l m p h =
-    entered (λ y z. w z ≡ get_or (set bits v b) y false) 0 given table v x l (p ∙ sym (get_or-set_same bits v b false m))
+    entered (λ y z. w z ≡ get_or (set bits v b) y false) 0 given table v x l
+    (p ∙ sym (get_or-set_same bits v b false m))
     (λ y t n. h y t ∙ sym (get_or-set_other bits v y b false (eqb-false y v n)))
 
 pub length-enter : {A : Type 0} (table : List A) (vs : List ℕ) (xs : List A) → length (enter table vs xs) ≡ length table
@@ -85,7 +94,8 @@ length-enter table (v ∷ vs) (x ∷ xs) = length-enter (set table v x) vs xs �
 
 -- ---- order
 
-pub inputs-located : (M : ℕ) (vs given table : List ℕ) (k : ℕ) → length table ≡ M + 1 → Located (wire_at table) k given → T (fresh_all M given vs)
+pub inputs-located : (M : ℕ) (vs given table : List ℕ) (k : ℕ) → length table ≡ M + 1 → Located (wire_at table) k given
+    → T (fresh_all M given vs)
     → Located (wire_at (enter table vs (up_from k (length vs)))) (k + length vs) (giving given vs)
 inputs-located M [] given table k l h t = let z : k + 0 ≡ k = omega arith in rw z h
 inputs-located M (v ∷ vs) given table k l h t =
@@ -101,7 +111,8 @@ record BuiltWell (c : ℕ) (given : List ℕ) (B : Built) : Type 0 where
   located : Located (wire_at B.table) B.next given
 
 build-well : (M : ℕ) (rest : List AndLine) (given table : List ℕ) (c : ℕ) → length table ≡ M + 1
-    → Located (wire_at table) c given → T (ands_good M given rest) → BuiltWell c (giving given (map (λ a. a.left) rest)) (build table c rest)
+    → Located (wire_at table) c given → T (ands_good M given rest) → BuiltWell c (giving given (map (λ a. a.left) rest))
+    (build table c rest)
 build-well M [] given table c l h t = record { gates = end; located = h }
 build-well M (a ∷ rest) given table c l h t =
     let G : GoodAnd M given a rest = good_and M given a rest t in
@@ -121,14 +132,16 @@ module _ {F : File} (K : Kept F) where
   built-well =
       let z : 0 + length F.inputs ≡ length F.inputs = omega arith in
       build-well F.most F.ands (inputs_given F) _ (length F.inputs) blank-length
-      (rw z at (inputs-located F.most F.inputs [] (blank 0 F) 0 (length-replicate (F.most + 1) 0) (λ v t. absurd t) K.inputs)) K.ands
+      (rw z at (inputs-located F.most F.inputs [] (blank 0 F) 0 (length-replicate (F.most + 1) 0) (λ v t. absurd t)
+      K.inputs)) K.ands
 
   made-ordered : Ordered (length F.inputs) (netlist_made F).gates (netlist_made F).wires
   unfolding netlist_made
   made-ordered =
       let B = built F in
       let W = built-well in
-      ordered-append W.gates (outs-order (wire_at B.table) (all_given F) F.outputs B.next B.next (omega arith) W.located K.outputs)
+      ordered-append W.gates (outs-order (wire_at B.table) (all_given F) F.outputs B.next B.next (omega arith) W.located
+      K.outputs)
 
   pub made-well_formed : WellFormed (netlist_made F)
   unfolding netlist_made
@@ -154,9 +167,12 @@ module _ {F : File} (K : Kept F) where
 -- ---- bits
 
 module _ (w : ℕ → Bool) where
-  inputs-carry : (M : ℕ) (vs given table : List ℕ) (bits ins : List Bool) (k : ℕ) → length table ≡ M + 1 → length bits ≡ M + 1
-      → length ins ≡ length vs → ((i : ℕ) → i < length vs → w (k + i) ≡ get_or ins i false) → Carry w (wire_at table) (bits_at bits) given
-      → T (fresh_all M given vs) → Carry w (wire_at (enter table vs (up_from k (length vs)))) (bits_at (enter bits vs ins)) (giving given vs)
+  inputs-carry : (M : ℕ) (vs given table : List ℕ) (bits ins : List Bool) (k : ℕ) → length table ≡ M + 1 → length bits
+      ≡ M + 1
+      → length ins ≡ length vs → ((i : ℕ) → i < length vs → w (k + i) ≡ get_or ins i false)
+      → Carry w (wire_at table) (bits_at bits) given
+      → T (fresh_all M given vs) → Carry w (wire_at (enter table vs (up_from k (length vs))))
+      (bits_at (enter bits vs ins)) (giving given vs)
   inputs-carry M [] given table bits ins k l m e f h t = h
   inputs-carry M (v ∷ vs) given table bits [] k l m e f h t = absurd (omega arith)
   inputs-carry M (v ∷ vs) given table bits (b ∷ ins) k l m e f h t =
@@ -164,14 +180,17 @@ module _ (w : ℕ → Bool) where
       let q = fresh-low M given v p.0 in
       let z : k + 0 ≡ k = omega arith in
       let first : w k ≡ b = rw z at (f 0 (omega arith)) in
-      inputs-carry M vs (v ∷ given) (set table v k) (set bits v b) ins (k + 1) (length-set table v k ∙ l) (length-set bits v b ∙ m) (omega arith)
+      inputs-carry M vs (v ∷ given) (set table v k) (set bits v b) ins (k + 1) (length-set table v k ∙ l)
+      (length-set bits v b ∙ m) (omega arith)
       (λ i s. let y : k + 1 + i ≡ k + suc i = omega arith in rw y (f (suc i) (omega arith)))
       (carry-more w given table bits v k b (omega arith) (omega arith) first h) p.1
 
   build-carry : (M : ℕ) (rest : List AndLine) (given table : List ℕ) (bits : List Bool) (c : ℕ)
-      → length table ≡ M + 1 → length bits ≡ M + 1 → Carry w (wire_at table) (bits_at bits) given → T (ands_good M given rest)
+      → length table ≡ M + 1 → length bits ≡ M + 1 → Carry w (wire_at table) (bits_at bits) given
+      → T (ands_good M given rest)
       → Models w (build table c rest).gates
-      → Carry w (wire_at (build table c rest).table) (bits_at (run_ands bits rest)) (giving given (map (λ a. a.left) rest))
+      → Carry w (wire_at (build table c rest).table) (bits_at (run_ands bits rest))
+      (giving given (map (λ a. a.left) rest))
   build-carry M [] given table bits c l k h t ms = h
   build-carry M (a ∷ rest) given table bits c l k h t ms =
       let G : GoodAnd M given a rest = good_and M given a rest t in
@@ -196,9 +215,11 @@ module _ {F : File} (K : Kept F) (ins : List Bool) (l : length ins ≡ length F.
   unfolding w netlist_made
   carried =
       let y : length (blank false F) ≡ F.most + 1 = length-replicate (F.most + 1) false in
-      build-carry w F.most F.ands (inputs_given F) _ _ (length F.inputs) (blank-length K) (length-enter (blank false F) F.inputs ins ∙ y)
+      build-carry w F.most F.ands (inputs_given F) _ _ (length F.inputs) (blank-length K)
+      (length-enter (blank false F) F.inputs ins ∙ y)
       (inputs-carry w F.most F.inputs [] (blank 0 F) (blank false F) ins 0 (length-replicate (F.most + 1) 0) y l
-      (λ i h. let z : 0 + i ≡ i = omega arith in rw z (bits-inputs (made-well_formed K) ins (omega arith) i (omega arith)))
+      (λ i h. let z : 0 + i ≡ i = omega arith in rw z (bits-inputs (made-well_formed K) ins (omega arith) i
+      (omega arith)))
       (λ v t. absurd t) K.inputs) K.ands models.0
 
   -- the netlist computes the file's outputs
@@ -210,7 +231,8 @@ module _ {F : File} (K : Kept F) (ins : List Bool) (l : length ins ≡ length F.
       let u = bits_at (variable_bits F ins) in
       let W = made-well_formed K in
       let o : length (outputs_of (netlist_made F) ins) ≡ length outs + 0 = length-outputs_of W ins (omega arith) in
-      ext_get_or false (outputs_of (netlist_made F) ins) (map (literal_bit u) outs) (rw length-map (omega arith)) (λ i h.
+      ext_get_or false (outputs_of (netlist_made F) ins) (map (literal_bit u) outs) (rw length-map (omega arith))
+      (λ i h.
       let y : c + length outs - (length outs + 0) + i ≡ c + i = omega arith in
       output-bit (netlist_made F) ins i
       ∙ ap w y

@@ -16,7 +16,7 @@ use Rattle.netlist.proofs.Tests.{both, is_true}
 use Rattle.netlist.proofs.Questions.{done-same, ask-done, given-done, and_then-done}
 use Rattle.netlist.proofs.Size.{Roomy, reads-back}
 use Rattle.aiger.specs.File.{File}
-use Rattle.aiger.specs.Lines.{opens, Head, head, head_good, lines_behind, output_line, input_line, file}
+use Rattle.aiger.specs.Lines.{opens, Head, head, head_good, lines_after, output_line, input_line, file}
 use Rattle.aiger.specs.Rules.{rules_kept}
 use Rattle.aiger.specs.Made.{netlist_made}
 use Rattle.aiger.specs.Delivered.{Stands, Reads, Delivered}
@@ -45,12 +45,12 @@ stands-kept : {L : Limits} {t : List ℕ} (S : Stands L t) → Kept S.is
 stands-kept {L} {t} S =
     let H = S.header in
     let F = S.is in
-    let f : Formed H (lines_behind t) F = file-formed H (lines_behind t) F S.lines in
+    let f : Formed H (lines_after t) F = file-formed H (lines_after t) F S.lines in
     let p = both (leb 1 H.inputs && leb 1 H.outputs) (ltb H.most L.wires) S.good in
     let q = both (leb 1 H.inputs) (leb 1 H.outputs) p.0 in
     kept F S.rules
-    (rw (formed-length input_line H.inputs (lines_behind t) F.inputs f.inputs) (leb→le 1 H.inputs q.0))
-    (rw (formed-length output_line H.outputs (drop H.inputs (lines_behind t)) F.outputs f.outputs)
+    (rw (formed-length input_line H.inputs (lines_after t) F.inputs f.inputs) (leb→le 1 H.inputs q.0))
+    (rw (formed-length output_line H.outputs (drop H.inputs (lines_after t)) F.outputs f.outputs)
     (leb→le 1 H.outputs q.1))
 
 pub aiger-reads : (L : Limits) (t : List ℕ) (S : Stands L t) → Reads L t (netlist_made S.is)
@@ -75,7 +75,7 @@ aiger-read L t N e =
     let kw = ask-done 19 (head_good L H) (ask 20 (eqb H.latches 0) (done H)) H₁ kg.2 in
     let k₂₀ = ask-done 20 (eqb H.latches 0) (done H) H₁ kw.1 in
     let same : H ≡ H₁ = done-same H H₁ k₂₀.1 in
-    let kf = and_then-done (given 19 (file H₁ (lines_behind t))) (file_outcome L) N kh.2 in
+    let kf = and_then-done (given 19 (file H₁ (lines_after t))) (file_outcome L) N kh.2 in
     let F : File = kf.0 in
     let M = netlist_made F in
     let kr = ask-done 19 (rules_kept F) (ask 5 (within_limits L (header_of M)) (done M)) N kf.2 in
@@ -88,7 +88,7 @@ aiger-read L t N e =
       good = kw.0;
       latches = k₂₀.0;
       is = F;
-      lines = ap (λ (H : Head). file H (lines_behind t)) same ∙ given-done 19 (file H₁ (lines_behind t)) F kf.1;
+      lines = ap (λ (H : Head). file H (lines_after t)) same ∙ given-done 19 (file H₁ (lines_after t)) F kf.1;
       rules = kr.0;
       limits = k₅.0;
     }))
@@ -109,10 +109,12 @@ aiger-accepted L t S =
     )
 
 -- the written form reads back, under limits that leave room for it
-pub aiger-written : {L : Limits} (R : Roomy L) (t : List ℕ) (N : Netlist) → read_aiger L t ≡ done N → read_netlist L (write_netlist N) ≡ done N
+pub aiger-written : {L : Limits} (R : Roomy L) (t : List ℕ) (N : Netlist) → read_aiger L t ≡ done N
+    → read_netlist L (write_netlist N) ≡ done N
 aiger-written {L} R t N e = let r = aiger-read L t N e in reads-back R N r.formed r.within
 
-pub aiger-delivered : {L : Limits} (R : Roomy L) (tables t : List ℕ) (room : ℕ) (result : List ℕ) → aiger_call L tables t room ≡ done result → Delivered L t result
+pub aiger-delivered : {L : Limits} (R : Roomy L) (tables t : List ℕ) (room : ℕ) (result : List ℕ)
+    → aiger_call L tables t room ≡ done result → Delivered L t result
 unfolding aiger_call
 aiger-delivered {L} R tables t room result e =
     let k₁ = ask-done 1 (tables_long L tables) (and_then (read_aiger L t) (rewrite_outcome room)) result e in
@@ -120,4 +122,10 @@ aiger-delivered {L} R tables t room result e =
     let N : Netlist = k.0 in
     let k₁₄ = ask-done 14 (holds room (write_netlist N)) (done (write_netlist N)) result k.2 in
     let w : write_netlist N ≡ result = done-same (write_netlist N) result k₁₄.1 in
-    record { netlist = N; reads = aiger-read L t N k.1; written = sym w; back = ap (read_netlist L) (sym w) ∙ aiger-written R t N k.1 }
+    record {
+      netlist = N;
+      reads = aiger-read L t N k.1;
+      written = sym w;
+      back = ap (read_netlist L) (sym w)
+          ∙ aiger-written R t N k.1;
+    }

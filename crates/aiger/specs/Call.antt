@@ -1,4 +1,4 @@
--- The outcome of the call (document 02, No. 9: 19, then 20, then 19 in place of 3 to 9, then 5 of the netlist made).
+-- The outcome of the call (docs/RULES.md, AIGER: 19, then 20, then 19 in place of 3 to 9, then 5 of the netlist made).
 use Rattle.std.specs.Prelude.{ℕ, List, eqb, leb, length}
 use Rattle.netlist.specs.declared.Limits.{Limits}
 use Rattle.netlist.specs.Netlist.{Netlist}
@@ -7,7 +7,7 @@ use Rattle.netlist.specs.Header.{within_limits}
 use Rattle.netlist.specs.Services.{tables_long, rewrite_outcome}
 use Rattle.netlist.specs.Read.{header_of}
 use Rattle.aiger.specs.File.{File}
-use Rattle.aiger.specs.Lines.{opens, Head, head, head_good, lines_behind, file}
+use Rattle.aiger.specs.Lines.{opens, Head, head, head_good, lines_after, file}
 use Rattle.aiger.specs.Rules.{rules_kept}
 use Rattle.aiger.specs.Made.{netlist_made}
 
@@ -27,12 +27,12 @@ file_outcome L F =
     (ask 5 (within_limits L (header_of (netlist_made F)))
     (done (netlist_made F)))
 
--- question 19 of the lines behind the header, and those that follow
+-- question 19 of the lines after the header, and those that follow
 abbrev pub lines_read : Limits → Head → List (List (List ℕ)) → Outcome Netlist
 lines_read L H ls = and_then (given 19 (file H ls)) (file_outcome L)
 
 abbrev pub lines_outcome : Limits → List ℕ → Head → Outcome Netlist
-lines_outcome L t H = lines_read L H (lines_behind t)
+lines_outcome L t H = lines_read L H (lines_after t)
 
 -- questions 2, 19, 20, 19 and 5: the netlist that an AIGER file gives
 unfoldable pub read_aiger : Limits → List ℕ → Outcome Netlist

@@ -1,4 +1,4 @@
--- What an AIGER file says (document 02, No. 9: "M I L O A, then inputs, outputs and AND lines").
+-- What an AIGER file says (docs/RULES.md, AIGER: M I L O A, then inputs, outputs and AND lines).
 use Rattle.std.specs.Prelude.{ℕ, ◌/◌, ◌%◌, Bool, true, false, cond, List, eqb}
 
 -- 0 and 1 are the constants, 2v is variable v, 2v+1 its inverse

@@ -1,12 +1,12 @@
--- The form of a file: its opening, its header and its lines (document 02, No. 9). Lines are taken one after another, and what
--- stands behind the last AND line is not looked at.
+-- The form of a file: its opening, its header and its lines (docs/RULES.md, AIGER). Lines are taken one after another,
+-- and what stands after the last AND line is not looked at.
 use Rattle.std.specs.Prelude.{ℕ, zero, suc, ◌+◌, Bool, ◌&&◌, List, [], ◌∷◌, map, leb, ltb, take, drop}
 use Rattle.std.proofs.Math.Option.{Option, none, some}
 use Rattle.netlist.specs.declared.Limits.{Limits}
 use Rattle.netlist.specs.Lists.{ascii, same_bytes}
 use Rattle.netlist.specs.Text.{lf_ends, is_line_end, split, filled, space_words}
 use Rattle.netlist.specs.Header.{numbers}
-use Rattle.read_text.specs.Line.{first_line, after_line}
+use Rattle.text.specs.Line.{first_line, after_line}
 use Rattle.aiger.specs.File.{Literal, constant, plain, inverse, literal, AndLine, line_of, File}
 
 -- a value where there is one
@@ -14,8 +14,8 @@ abbrev pub if_some : {A B : Type 0} → Option A → (A → Option B) → Option
 if_some none f = none
 if_some (some a) f = f a
 
--- ---- lines and words as in document 01, of a text that was not asked question 3: lines end in LF or CR LF, and words are
--- parted by spaces alone, so that any other byte, a CR elsewhere too, is part of a word
+-- ---- lines and words as in docs/RULES.md, Text and line ends, of a text that was not asked question 3: lines end in
+-- LF or CR LF, and words are parted by spaces alone, so that any other byte, a CR elsewhere too, is part of a word
 
 -- the words of the first line
 unfoldable pub file_line : List ℕ → List (List ℕ)
@@ -47,25 +47,26 @@ head_of (some (m ∷ [])) = none
 head_of (some (m ∷ (i ∷ []))) = none
 head_of (some (m ∷ (i ∷ (l ∷ [])))) = none
 head_of (some (m ∷ (i ∷ (l ∷ (o ∷ []))))) = none
-head_of (some (m ∷ (i ∷ (l ∷ (o ∷ (a ∷ [])))))) = some (record { most = m; inputs = i; latches = l; outputs = o; ands = a })
+head_of (some (m ∷ (i ∷ (l ∷ (o ∷ (a ∷ []))))))
+    = some (record { most = m; inputs = i; latches = l; outputs = o; ands = a })
 head_of (some (m ∷ (i ∷ (l ∷ (o ∷ (a ∷ (x ∷ xs))))))) = none
 
--- the header: the first line, behind the four bytes
+-- the header: the first line, after the four bytes
 abbrev pub head_line : List ℕ → List (List ℕ)
 head_line t = file_line (drop 4 t)
 
 abbrev pub head : List ℕ → Option Head
 head t = head_of (numbers (head_line t))
 
--- the lines behind the header
-abbrev pub lines_behind : List ℕ → List (List (List ℕ))
-lines_behind t = file_lines (after_line (drop 4 t))
+-- the lines after the header
+abbrev pub lines_after : List ℕ → List (List (List ℕ))
+lines_after t = file_lines (after_line (drop 4 t))
 
 -- one input and one output or more, M below the limit on W
 abbrev pub head_good : Limits → Head → Bool
 head_good L H = leb 1 H.inputs && leb 1 H.outputs && ltb H.most L.wires
 
--- ---- the lines behind it
+-- ---- the lines after it
 
 -- a line of one literal
 abbrev pub one_literal : Option (List ℕ) → Option Literal
@@ -107,7 +108,7 @@ output_line l = one_literal (numbers l)
 abbrev pub and_form : List (List ℕ) → Option AndLine
 and_form l = and_line (numbers l)
 
--- the file of a header and the lines behind it
+-- the file of a header and the lines after it
 abbrev pub file : Head → List (List (List ℕ)) → Option File
 file H ls =
     if_some (formed input_line H.inputs ls) λ ins.

@@ -1,10 +1,10 @@
--- The netlist made of a file (document 02, No. 9: "Inputs form one value .. for each output").
+-- The netlist made of a file (docs/RULES.md, AIGER).
 use Rattle.std.specs.Prelude.{ℕ, zero, suc, ◌+◌, ◌<◌, List, [], ◌∷◌, ◌++◌, T, length, get_or, set}
 use Rattle.netlist.specs.declared.Gate.{Gate}
 use Rattle.netlist.specs.declared.Gate.TheVariants.{And, Inv, Eqw, Eq}
 use Rattle.netlist.specs.Lists.{member}
 use Rattle.netlist.specs.Netlist.{Netlist}
-use Rattle.netlist.specs.Leak.{bit}
+use Rattle.netlist.specs.Eval.{bit}
 use Rattle.aiger.specs.File.{Literal, constant, plain, inverse, AndLine, File}
 use Rattle.aiger.specs.Outputs.{enter, blank}
 
@@ -41,20 +41,20 @@ out_gate at (inverse v) c = Inv (at v) c
 abbrev pub wire_at : List ℕ → ℕ → ℕ
 wire_at table v = get_or table v 0
 
--- the gates of AND lines, the wires of variables behind them, and the next wire
+-- the gates of AND lines, the wires of variables after them, and the next wire
 pub record Built : Type 0 where
   pub gates : List Gate
   pub table : List ℕ
   pub next : ℕ
 
-abbrev pub behind : List Gate → Built → Built
-behind gs B = record { gates = gs ++ B.gates; table = B.table; next = B.next }
+abbrev pub following : List Gate → Built → Built
+following gs B = record { gates = gs ++ B.gates; table = B.table; next = B.next }
 
 abbrev pub build : List ℕ → ℕ → List AndLine → Built
 build table c [] = record { gates = []; table = table; next = c }
 build table c (a ∷ rest) =
     let M = and_made (wire_at table) a c in
-    behind M.gates (build (set table a.left M.wire) M.next rest)
+    following M.gates (build (set table a.left M.wire) M.next rest)
 
 abbrev pub out_gates : (ℕ → ℕ) → ℕ → List Literal → List Gate
 out_gates at c [] = []

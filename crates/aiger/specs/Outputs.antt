@@ -1,4 +1,4 @@
--- A file's outputs for given input bits (document 02, No. 9).
+-- A file's outputs for given input bits (docs/RULES.md, AIGER).
 use Rattle.std.specs.Prelude.{ℕ, ◌+◌, Bool, false, not, ◌&&◌, List, [], ◌∷◌, map, set, replicate}
 use Rattle.netlist.specs.Eval.{bits_at}
 use Rattle.aiger.specs.File.{Literal, constant, plain, inverse, AndLine, File}
@@ -22,7 +22,8 @@ blank x F = replicate (F.most + 1) x
 -- the bits of variables after AND lines, line by line
 abbrev pub run_ands : List Bool → List AndLine → List Bool
 run_ands v [] = v
-run_ands v (a ∷ rest) = run_ands (set v a.left (literal_bit (bits_at v) a.first && literal_bit (bits_at v) a.second)) rest
+run_ands v (a ∷ rest) = run_ands (set v a.left (literal_bit (bits_at v) a.first && literal_bit (bits_at v) a.second))
+    rest
 
 -- the bits of all variables, from the input bits in the order of the input lines
 abbrev pub variable_bits : File → List Bool → List Bool

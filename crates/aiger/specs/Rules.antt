@@ -1,4 +1,5 @@
--- Variables: none above M, none given twice, none read by an AND line before it is given, none put out and never given (document 02, No. 9).
+-- Variables: none above M, none given twice, none read by an AND line before it is given, none put out and never given
+-- (docs/RULES.md, AIGER).
 use Rattle.std.specs.Prelude.{ℕ, Bool, true, false, not, ◌&&◌, List, [], ◌∷◌, map, leb}
 use Rattle.netlist.specs.Lists.{every, member}
 use Rattle.aiger.specs.File.{Literal, constant, plain, inverse, AndLine, File}

@@ -1,2 +1,2 @@
-// AIGER files (document 02, No. 9): the definitions are in specs/, the theorems about them in proofs/.
+//! AIGER files (docs/RULES.md, AIGER): the definitions are in specs/, the theorems about them in proofs/.
 #![tactic(auto)]

@@ -1,13 +1,13 @@
-// The certifier for programs in C and Rust.
+//! The certifier for programs in C and Rust.
 ghost use Rattle.certify.specs.Promise.{Promise};
-ghost use Rattle.capi_answers.specs.Number.{sizes_of};
-ghost use Rattle.capi_answers.specs.Certified.{ToldCertified};
+ghost use Rattle.capi.specs.Number.{sizes_of};
+ghost use Rattle.capi.specs.Certified.{ToldCertified};
 
-use capi_answers::certified::number_of;
-use capi_answers::sizes;
+use crate::answers::sizes;
+use crate::certified_answer::number_of;
 
-// Certify: 0 where every wire is clean; 1 for a leak, with its numbers at the front of `leak` and the input bits that are one in its
-// setting at the front of `ones`; 2 with the lowest wire not known to be clean at the front of `leak`.
+/// Certify: 0 where every wire is clean; 1 for a leak, with its numbers at the front of `leak` and the input bits that
+/// are one in its setting at the front of `ones`; 2 with the lowest wire not known to be clean at the front of `leak`.
 #[unsafe(no_mangle)]
 pub extern "C" fn fidrovelj_certify(
     text: &[u8],

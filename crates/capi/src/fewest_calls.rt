@@ -1,11 +1,12 @@
-// Mask with fewer changes for programs in C and Rust.
+//! Mask with fewer changes for programs in C and Rust.
 ghost use Rattle.mask_fewest.specs.Promise.{Promise};
-ghost use Rattle.capi_answers.specs.Number.{sizes_of, Told};
+ghost use Rattle.capi.specs.Number.{sizes_of, Told};
 
-use capi_answers::{number, sizes};
+use crate::answers::{number, sizes};
 
-// Mask with fewer changes: how many bytes the masked text has at the front of `out`; its input codes stand at the front of `in_codes`, its
-// output codes at the front of `out_codes`, its changes and the floor at the front of `tally`.
+/// Mask with fewer changes: how many bytes the masked text has at the front of `out`; its input codes stand at the
+/// front of `in_codes`, its output codes at the front of `out_codes`, its changes and the floor at the front of
+/// `tally`.
 #[unsafe(no_mangle)]
 pub extern "C" fn fidrovelj_mask_fewest(
     text: &[u8],

@@ -1,29 +1,40 @@
-// The services for programs in C and Rust: a slice comes as a pointer and a length, and the answer is one number, at
-// least 0 for a result and minus the number of the refusing question otherwise. include/fidrovelj.h declares them.
+//! The services for programs in C and Rust: a slice comes as a pointer and a length, and the answer is one number, at
+//! least 0 for a result and minus the number of the refusing question otherwise. include/fidrovelj.h declares them.
 #![tactic(auto)]
 
+mod about;
+pub mod answers;
 mod certified;
+pub mod certified_answer;
+mod explain_calls;
 mod fewest_calls;
+pub mod pair_answers;
 mod pair_calls;
+mod reading;
+mod refused_places;
 mod sessions;
+mod shapes;
+pub mod table_kinds;
+pub mod wide_answers;
 mod wide_calls;
+mod workspace;
 
-ghost use Rattle.rewrite.specs.Promise.{Promise as RewritePromise};
-ghost use Rattle.from_old.specs.Promise.{Promise as FromOldPromise};
-ghost use Rattle.to_old.specs.Promise.{Promise as ToOldPromise};
+ghost use Rattle.convert.specs.RewritePromise.{Promise as RewritePromise};
+ghost use Rattle.convert.specs.FromOldPromise.{Promise as FromOldPromise};
+ghost use Rattle.convert.specs.ToOldPromise.{Promise as ToOldPromise};
 ghost use Rattle.run.specs.Promise.{Promise as RunPromise};
-ghost use Rattle.run64.specs.Promise.{Promise as Run64Promise};
+ghost use Rattle.run.specs.SixtyFourPromise.{Promise as Run64Promise};
 ghost use Rattle.mask.specs.Promise.{Promise as MaskPromise};
-ghost use Rattle.twins.specs.Promise.{Promise as TwinsPromise};
+ghost use Rattle.mask.specs.TwinsPromise.{Promise as TwinsPromise};
 ghost use Rattle.checker.specs.Promise.{Promise as CheckPromise};
 ghost use Rattle.from_aiger.specs.Promise.{Promise as AigerPromise};
 ghost use Rattle.join.specs.Promise.{Promise as JoinPromise};
 ghost use Rattle.from_verilog.specs.Promise.{Promise as VerilogPromise};
-ghost use Rattle.capi_answers.specs.Number.{sizes_of, Told, ToldLeak};
+ghost use Rattle.capi.specs.Number.{sizes_of, Told, ToldLeak};
 
-use capi_answers::{number, sizes, tell};
+use crate::answers::{number, sizes, tell};
 
-// Rewrite: how many bytes the written form has at the front of `out`.
+/// Rewrite: how many bytes the written form has at the front of `out`.
 #[unsafe(no_mangle)]
 pub extern "C" fn fidrovelj_rewrite(
     text: &[u8],
@@ -36,10 +47,10 @@ pub extern "C" fn fidrovelj_rewrite(
     ensures { Told (RewritePromise (sizes_of whole) text.now out.old out.new operands.old
         operands.new results.old results.new marks.old marks.new) result }
 {
-    number(rewrite::rewrite(text, out, operands, results, marks, sizes(whole)))
+    number(convert::rewrite::rewrite(text, out, operands, results, marks, sizes(whole)))
 }
 
-// From the older dialect to Fashion: how many bytes the written form has at the front of `out`.
+/// From the older dialect to Fashion: how many bytes the written form has at the front of `out`.
 #[unsafe(no_mangle)]
 pub extern "C" fn fidrovelj_from_old(
     text: &[u8],
@@ -52,10 +63,10 @@ pub extern "C" fn fidrovelj_from_old(
     ensures { Told (FromOldPromise (sizes_of whole) text.now out.old out.new
         operands.old operands.new results.old results.new marks.old marks.new) result }
 {
-    number(from_old::from_old(text, out, operands, results, marks, sizes(whole)))
+    number(convert::from_old::from_old(text, out, operands, results, marks, sizes(whole)))
 }
 
-// From Fashion to the older dialect: how many bytes the old written form has at the front of `out`.
+/// From Fashion to the older dialect: how many bytes the old written form has at the front of `out`.
 #[unsafe(no_mangle)]
 pub extern "C" fn fidrovelj_to_old(
     text: &[u8],
@@ -68,10 +79,10 @@ pub extern "C" fn fidrovelj_to_old(
     ensures { Told (ToOldPromise (sizes_of whole) text.now out.old out.new
         operands.old operands.new results.old results.new marks.old marks.new) result }
 {
-    number(to_old::to_old(text, out, operands, results, marks, sizes(whole)))
+    number(convert::to_old::to_old(text, out, operands, results, marks, sizes(whole)))
 }
 
-// Run: how many output bits stand at the front of `out`.
+/// Run: how many output bits stand at the front of `out`.
 #[unsafe(no_mangle)]
 pub extern "C" fn fidrovelj_run(
     text: &[u8],
@@ -99,7 +110,7 @@ pub extern "C" fn fidrovelj_run(
     ))
 }
 
-// Sixty-four runs: how many output words stand at the front of `out`.
+/// Sixty-four runs: how many output words stand at the front of `out`.
 #[unsafe(no_mangle)]
 pub extern "C" fn fidrovelj_run64(
     text: &[u8],
@@ -115,7 +126,7 @@ pub extern "C" fn fidrovelj_run64(
         operands.old operands.new results.old results.new marks.old marks.new
         words.old words.new) result }
 {
-    number(run64::run64(
+    number(run::sixty_four::run64(
         text,
         list,
         out,
@@ -127,7 +138,7 @@ pub extern "C" fn fidrovelj_run64(
     ))
 }
 
-// Mask: how many bytes the masked text has at the front of `out`; the output codes stand at the front of `out_codes`.
+/// Mask: how many bytes the masked text has at the front of `out`; the output codes stand at the front of `out_codes`.
 #[unsafe(no_mangle)]
 pub extern "C" fn fidrovelj_mask(
     text: &[u8],
@@ -159,7 +170,8 @@ pub extern "C" fn fidrovelj_mask(
     ))
 }
 
-// Twins: how many source wires there are; the masked wire of each stands at the front of `wires`, its code at the front of `out_codes`.
+/// Twins: how many source wires there are; the masked wire of each stands at the front of `wires`, its code at the
+/// front of `out_codes`.
 #[unsafe(no_mangle)]
 pub extern "C" fn fidrovelj_twins(
     text: &[u8],
@@ -175,7 +187,7 @@ pub extern "C" fn fidrovelj_twins(
         out_codes.old out_codes.new operands.old operands.new results.old results.new
         marks.old marks.new) result }
 {
-    number(twins::twins(
+    number(mask::twins::twins(
         text,
         codes,
         wires,
@@ -187,7 +199,7 @@ pub extern "C" fn fidrovelj_twins(
     ))
 }
 
-// Check: 0 where the netlist is clean; 1 where it leaks, with the leak's numbers at the front of `leak`.
+/// Check: 0 where the netlist is clean; 1 where it leaks, with the leak's numbers at the front of `leak`.
 #[unsafe(no_mangle)]
 pub extern "C" fn fidrovelj_check(
     text: &[u8],
@@ -219,7 +231,7 @@ pub extern "C" fn fidrovelj_check(
     )
 }
 
-// The netlist made of an AIGER file: how many bytes its written form has at the front of `out`.
+/// The netlist made of an AIGER file: how many bytes its written form has at the front of `out`.
 #[unsafe(no_mangle)]
 pub extern "C" fn fidrovelj_from_aiger(
     text: &[u8],
@@ -235,7 +247,7 @@ pub extern "C" fn fidrovelj_from_aiger(
     number(from_aiger::from_aiger(text, out, operands, results, variables, sizes(whole)))
 }
 
-// Join: how many bytes the joined netlist's written form has at the front of `out`.
+/// Join: how many bytes the joined netlist's written form has at the front of `out`.
 #[unsafe(no_mangle)]
 pub extern "C" fn fidrovelj_join(
     first: &[u8],
@@ -272,7 +284,7 @@ pub extern "C" fn fidrovelj_join(
     ))
 }
 
-// The netlist made of equations in Verilog: how many bytes its written form has at the front of `out`.
+/// The netlist made of equations in Verilog: how many bytes its written form has at the front of `out`.
 #[unsafe(no_mangle)]
 pub extern "C" fn fidrovelj_from_verilog(
     text: &[u8],

@@ -1,13 +1,13 @@
-// Check with pairs for programs in C and Rust.
+//! Check with pairs for programs in C and Rust.
 ghost use Rattle.check_pairs.specs.Promise.{Promise};
-ghost use Rattle.capi_answers.specs.Number.{sizes_of};
-ghost use Rattle.capi_answers.specs.Pairs.{ToldBoth};
+ghost use Rattle.capi.specs.Number.{sizes_of};
+ghost use Rattle.capi.specs.Pairs.{ToldBoth};
 
-use capi_answers::pair_answers::tell;
-use capi_answers::sizes;
+use crate::answers::sizes;
+use crate::pair_answers::tell;
 
-// Check with pairs: 0 where the netlist and each listed pair of its wires is clean; 1 for a leak on a wire, with its numbers at the
-// front of `leak`, and 2 more for a bad pair, with how many stand before it at the front of `bad`.
+/// Check with pairs: 0 where the netlist and each listed pair of its wires is clean; 1 for a leak on a wire, with its
+/// numbers at the front of `leak`, and 2 more for a bad pair, with how many stand before it at the front of `bad`.
 #[unsafe(no_mangle)]
 pub extern "C" fn fidrovelj_check_pairs(
     text: &[u8],

@@ -1,17 +1,17 @@
-// Sessions for programs in C and Rust: a session and a gate travel by value, and the caller lends the two lists.
+//! Sessions for programs in C and Rust: a session and a gate travel by value, and the caller lends the two lists.
 ghost use Rattle.std.specs.Prelude.{◌≡◌};
 ghost use Rattle.session.specs.Lists.{lists_of, said, off_asked};
-ghost use Rattle.session_steps.specs.Promise.{OpenIs, AddIs};
-ghost use Rattle.session_text.specs.Promise.{gate_shown, TextPromise, MaskedPromise};
-ghost use Rattle.capi_answers.specs.Number.{sizes_of, Told};
+ghost use Rattle.session.specs.SessionStepsPromise.{OpenIs, AddIs};
+ghost use Rattle.session.specs.SessionTextPromise.{gate_shown, TextPromise, MaskedPromise};
+ghost use Rattle.capi.specs.Number.{sizes_of, Told};
 
-use capi_answers::{number, sizes};
-use gate_records::{GateRecord, SourceRecord};
+use crate::answers::{number, sizes};
+use gates::records::{GateRecord, SourceRecord};
+use session::given::Given;
+use session::results::{masked, text};
 use session::{Session, Step};
-use session_text::given::Given;
-use session_text::results::{masked, text};
 
-// Opens a session.
+/// Opens a session.
 #[unsafe(no_mangle)]
 pub extern "C" fn fidrovelj_session_open(
     widths: &[u32],
@@ -21,52 +21,52 @@ pub extern "C" fn fidrovelj_session_open(
 ) -> Step
     ensures { OpenIs (sizes_of whole) widths.now codes.now masked.old masked.new result }
 {
-    session_steps::open(widths, codes, masked, sizes(whole))
+    session::steps::open(widths, codes, masked, sizes(whole))
 }
 
-// Adds a gate at the end.
+/// Adds a gate at the end.
 #[unsafe(no_mangle)]
 pub extern "C" fn fidrovelj_session_add(
-    s: Session,
-    g: GateRecord,
+    session: Session,
+    gate: GateRecord,
     codes: &[u8],
     source: &mut [SourceRecord],
     masked: &mut [GateRecord],
     whole: u8,
 ) -> Step
-    ensures { AddIs (sizes_of whole) codes.now (lists_of s source.old masked.old) g
+    ensures { AddIs (sizes_of whole) codes.now (lists_of session source.old masked.old) gate
         source.new masked.new result }
 {
-    session_steps::add(s, g, codes, source, masked, sizes(whole))
+    session::steps::add(session, gate, codes, source, masked, sizes(whole))
 }
 
-// Takes the last gate off.
+/// Takes the last gate off.
 #[unsafe(no_mangle)]
-pub extern "C" fn fidrovelj_session_take_off(s: Session, source: &[SourceRecord]) -> Step
-    ensures { result ≡ said s (off_asked s source.now) }
+pub extern "C" fn fidrovelj_session_take_off(session: Session, source: &[SourceRecord]) -> Step
+    ensures { result ≡ said session (off_asked session source.now) }
 {
-    session_steps::take_off(s, source)
+    session::steps::take_off(session, source)
 }
 
-// Gate k, counted from 0: its record, which is blank where there is none.
+/// Gate k, counted from 0: its record, which is blank where there is none.
 #[unsafe(no_mangle)]
 pub extern "C" fn fidrovelj_session_gate(
-    s: Session,
-    k: u32,
+    session: Session,
+    index: u32,
     source: &[SourceRecord],
 ) -> SourceRecord
-    ensures { result ≡ gate_shown s k source.now }
+    ensures { result ≡ gate_shown session index source.now }
 {
-    if s.gates <= k {
+    if session.gates <= index {
         return SourceRecord::default();
     }
-    lists::entry(source, k as usize)
+    gates::entries::entry(source, index as usize)
 }
 
-// The session's netlist as text: how many bytes the written form has at the front of `out`.
+/// The session's netlist as text: how many bytes the written form has at the front of `out`.
 #[unsafe(no_mangle)]
 pub extern "C" fn fidrovelj_session_text(
-    s: Session,
+    session: Session,
     widths: &[u32],
     outputs: &[u32],
     source: &[SourceRecord],
@@ -75,11 +75,11 @@ pub extern "C" fn fidrovelj_session_text(
     results: &mut [u64],
     whole: u8,
 ) -> i64
-    ensures { Told (TextPromise (sizes_of whole) widths.now outputs.now s source.now out.old
+    ensures { Told (TextPromise (sizes_of whole) widths.now outputs.now session source.now out.old
         out.new operands.old operands.new results.old results.new) result }
 {
     let g = Given {
-        session: s,
+        session,
         widths,
         outputs,
         source,
@@ -87,10 +87,10 @@ pub extern "C" fn fidrovelj_session_text(
     number(text(g, out, operands, results, sizes(whole)))
 }
 
-// What Mask gives for that netlist: how many bytes the masked text has at the front of `out`.
+/// What Mask gives for that netlist: how many bytes the masked text has at the front of `out`.
 #[unsafe(no_mangle)]
 pub extern "C" fn fidrovelj_session_masked(
-    s: Session,
+    session: Session,
     widths: &[u32],
     outputs: &[u32],
     source: &[SourceRecord],
@@ -104,13 +104,13 @@ pub extern "C" fn fidrovelj_session_masked(
     marks: &mut [u8],
     whole: u8,
 ) -> i64
-    ensures { Told (MaskedPromise (sizes_of whole) widths.now outputs.now s source.now codes.now
+    ensures { Told (MaskedPromise (sizes_of whole) widths.now outputs.now session source.now codes.now
         wanted.now out.old out.new out_codes.old out_codes.new operands.old
         operands.new results.old results.new wires.old wires.new marks.old
         marks.new) result }
 {
     let g = Given {
-        session: s,
+        session,
         widths,
         outputs,
         source,

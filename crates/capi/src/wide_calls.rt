@@ -1,14 +1,14 @@
-// The check of netlists with many inputs for programs in C and Rust.
+//! The check of netlists with many inputs for programs in C and Rust.
 ghost use Rattle.check_wide.specs.Promise.{Promise};
-ghost use Rattle.capi_answers.specs.Number.{sizes_of};
-ghost use Rattle.capi_answers.specs.Wide.{ToldWide};
+ghost use Rattle.capi.specs.Number.{sizes_of};
+ghost use Rattle.capi.specs.Wide.{ToldWide};
 
-use capi_answers::sizes;
-use capi_answers::wide_answers::tell;
+use crate::answers::sizes;
+use crate::wide_answers::tell;
 
-// Check of netlists with many inputs: 0 where the netlist and each listed pair of its wires is clean; 1 for a leak on a wire, with its
-// numbers at the front of `leak` and the input bits that are one in its setting at the front of `ones`, and 2 more for a bad pair, with
-// how many stand before it at the front of `bad`.
+/// Check of netlists with many inputs: 0 where the netlist and each listed pair of its wires is clean; 1 for a leak on
+/// a wire, with its numbers at the front of `leak` and the input bits that are one in its setting at the front of
+/// `ones`, and 2 more for a bad pair, with how many stand before it at the front of `bad`.
 #[unsafe(no_mangle)]
 pub extern "C" fn fidrovelj_check_wide(
     text: &[u8],

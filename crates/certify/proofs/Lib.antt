@@ -1,2 +1,22 @@
--- Laws that several proofs cite.
+pub mod Bears
 pub mod Calling
+pub mod Complete
+pub mod Counting
+pub mod Drawing
+pub mod Frames
+pub mod Hinting
+pub mod InputSlots
+pub mod InputWires
+pub mod Leads
+pub mod Marking
+pub mod MaskedGates
+pub mod Passing
+pub mod Rounds
+pub mod Seats
+pub mod Slots
+pub mod Sound
+pub mod Steps
+pub mod Stores
+pub mod Telling
+pub mod Turns
+pub mod Walked

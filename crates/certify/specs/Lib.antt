@@ -1,2 +1,11 @@
--- What the certifier's contracts cite.
+pub mod Judge
+pub mod Kept
+pub mod Known
+pub mod Ones
+pub mod Pass
 pub mod Promise
+pub mod Round
+pub mod Search
+pub mod Step
+pub mod Store
+pub mod Witness

@@ -1,13 +1,24 @@
-// Certify: whether a netlist of any number of input bits, whose last input value is the mask pair, leaks on one wire. Questions 1 to
-// 11 with the large limits, and 14. Lists and tables are parameters of their own: C lends them one by one, and a struct of `&mut` slices would
-// have to promise at each call that it still holds them.
+//! Certify: whether a netlist of any number of input bits, whose last input value is the mask pair, leaks on one wire.
+//! Questions 1 to 11 with the large limits, and 14.
 #![tactic(auto)]
+
+mod gate;
+pub mod hints;
+mod inputs;
+pub mod judge;
+pub mod keeping;
+mod load;
+pub mod marks;
+mod ones;
+pub mod pass;
+pub mod search;
+pub mod store;
 
 ghost use Rattle.certify.specs.Promise.{call, Answers, Promise};
 
-use certify_netlist::Certified;
+use crate::judge::Certified;
 use netlist::Sizes;
-use read_tables::read;
+use reader::judged::read;
 
 // The answer, with tables that are still to be cleared.
 fn answer(
@@ -35,13 +46,14 @@ fn answer(
         results,
         marks,
         &[words.len(), base.len(), records.len() / 15],
-        sizes.large(),
+        sizes.masked_limits(),
     )?;
-    certify_netlist::judge(netlist, codes, leak, ones, marks, words, base, records)
+    crate::judge::judge(netlist, codes, leak, ones, marks, words, base, records)
 }
 
-// Whether every wire of the netlist in `text` is clean under the input codes. A leak's four numbers, or the lowest wire not known to be
-// clean, go to `leak`, and the input bits that are one in a leak's setting to `ones`. The tables, of any content, are zero on return.
+/// Whether every wire of the netlist in `text` is clean under the input codes. A leak's four numbers, or the lowest
+/// wire not known to be clean, go to `leak`, and the input bits that are one in a leak's setting to `ones`. The tables,
+/// of any content, are zero on return.
 pub fn certify(
     text: &[u8],
     codes: &[u8],

@@ -6,25 +6,25 @@ use native.Mathlib.Nat.{div-one}
 use native.Mathlib.Omega.{arith}
 use lib.Bits.{bit_and, bit_xor}
 use lib.Pow.{shr-shr}
-use Rattle.netlist.specs.Eval.{differs}
-use Rattle.netlist.specs.Leak.{bit}
+use Rattle.netlist.specs.Eval.{differs, bit}
 use Rattle.netlist.specs.Lists.{below}
-use Rattle.netlist.proofs.Codes.{below_at, same, same-below}
+use Rattle.netlist.proofs.EachNumber.{below_at, same, same-below}
 use Rattle.evaluate.specs.Lane.{lane, word}
 use Rattle.evaluate.proofs.Lanes.{lane_and, lane_xor}
-use Rattle.evaluate.proofs.Words.{word_same}
-use Rattle.check_counts.specs.Block.{nibble}
-use Rattle.check_counts.proofs.Numbers.{lane-shift}
+use Rattle.evaluate.proofs.Words.{word_same, word-known}
+use mathlib.Core.Logic.{◌≢◌}
+use lib.Count.{count_trailing_zeros}
+use borrow.Author.Tests.{eq-eqb, ne_eqb}
+use Rattle.std.specs.Prelude.{None, Some}
+use Rattle.certify_records.specs.Made.{repeated, chosen_at, chosen_by}
+use Rattle.leak_search.specs.Block.{nibble}
+use Rattle.leak_search.proofs.Numbers.{lane-shift}
 use Rattle.certify_records.specs.declared.Record.{Record}
-use Rattle.std.specs.Prelude.{Some}
 use Rattle.certify_records.specs.Record.{no_atom, over}
 use Rattle.certify_records.specs.Leaf.{Decides, LeafIs}
 use Rattle.certify_records.proofs.Tables.{lane-mod, and_no, and_yes}
-use Rattle.certify_records.proofs.Places.{nibble-word, setting-below}
+use Rattle.certify_records.proofs.Places.{nibble-word, nibble-lane, setting-below}
 use Rattle.certify_records.proofs.Evens.{setting_of, shown}
-
-nibble-lane : (w s i : ℕ) → i < 4 → lane i (nibble w s) ≡ lane (i + 4 * s) w
-nibble-lane w s i h = lane-mod 4 i (w / 2 ^ (4 * s)) h ∙ lane-shift (4 * s) i w
 
 -- the lowest nibble in every place
 module _ (r d : ℕ) (repeated : (s : ℕ) → s < 16 → nibble r s ≡ nibble d 0) where
@@ -32,6 +32,24 @@ module _ (r d : ℕ) (repeated : (s : ℕ) → s < 16 → nibble r s ≡ nibble 
   repeat-lane s i p q =
       let e : i + 4 * 0 ≡ i = omega arith in
       sym (nibble-lane r s i q) ∙ ap (lane i) (repeated s p) ∙ nibble-lane d 0 i q ∙ ap (λ (k : ℕ). lane k d) e
+
+-- which is one word
+lanes-repeated : (k : ℕ) → k < 16 → (l : ℕ) → l < 64 → lane l (k * 0x1111_1111_1111_1111) ≡ lane (l % 4) k
+lanes-repeated k h l q =
+    same-below 64 (λ l. lane l (k * 0x1111_1111_1111_1111)) (λ l. lane (l % 4) k)
+    (below_at 16 (λ k. below 64 (λ l. same (lane l (k * 0x1111_1111_1111_1111)) (lane (l % 4) k))) tt k h) l q
+
+pub repeat-is : (r d : ℕ) → r < 2 ^ 64 → ((s : ℕ) → s < 16 → nibble r s ≡ nibble d 0) → r ≡ repeated d
+repeat-is r d fits e =
+    let k = d % 16 in
+    let f : (l : ℕ) → l < 64 → lane l r ≡ lane (l % 4) k =
+    λ l h.
+    let q : l % 4 + 4 * (l / 4) ≡ l = omega arith in
+    ap (λ (n : ℕ). lane n r) (sym q) ∙ repeat-lane r d e (l / 4) (l % 4) (omega arith) (omega arith)
+    ∙ sym (lane-mod 4 (l % 4) d (omega arith)) in
+    word-known r (λ l. lane (l % 4) k) fits f
+    ∙ sym (word-known (k * 0x1111_1111_1111_1111) (λ l. lane (l % 4) k) (omega arith)
+    (λ l h. lanes-repeated k (omega arith) l h))
 
 -- one lane of each nibble, in all its lanes
 next-nibble : (w s : ℕ) → nibble w (suc s) ≡ nibble (w / 16) s
@@ -62,7 +80,8 @@ fifteen (suc s) y h =
     let e = div-one y in
     let d : 16 * (y / 16) + y % 16 ≡ y = omega arith in
     let q : y % 16 ≤ 1 = rw e at p in
-    next-nibble (y * 15) s ∙ ap (λ (n : ℕ). nibble (n * 15 / 16) s) (sym d) ∙ ap (λ (n : ℕ). nibble n s) (fifteen-high (y / 16) (y % 16) q)
+    next-nibble (y * 15) s ∙ ap (λ (n : ℕ). nibble (n * 15 / 16) s) (sym d) ∙ ap (λ (n : ℕ). nibble n s)
+    (fifteen-high (y / 16) (y % 16) q)
     ∙ fifteen s (y / 16) (λ k g. let r = h (suc k) (omega arith) in rw (next-nibble y k) at r)
     ∙ ap (λ (n : ℕ). 15 * n) (sym (next-nibble y s))
 
@@ -81,7 +100,8 @@ module _ (x m : ℕ) where
   picked = bit_and (x / 2 ^ m) 0x1111_1111_1111_1111
 
   picked-at : (l : ℕ) → lane l picked ≡ (lane (l + m) x && lane l 0x1111_1111_1111_1111)
-  picked-at l = lane_and l (x / 2 ^ m) 0x1111_1111_1111_1111 ∙ ap (λ (b : Bool). b && lane l 0x1111_1111_1111_1111) (lane-shift m l x)
+  picked-at l = lane_and l (x / 2 ^ m) 0x1111_1111_1111_1111 ∙ ap (λ (b : Bool). b && lane l 0x1111_1111_1111_1111)
+      (lane-shift m l x)
 
   -- only the lowest lane of a nibble is marked
   marked : (i s : ℕ) → i < 4 → s < 16 → lane (i + 4 * s) 0x1111_1111_1111_1111 ≡ only_first i true
@@ -93,16 +113,20 @@ module _ (x m : ℕ) where
   picked-nibble s q =
       let e : 0 + 4 * s + m ≡ m + 4 * s = omega arith in
       let low : lane (0 + 4 * s) picked ≡ lane (m + 4 * s) x =
-      picked-at (0 + 4 * s) ∙ ap (λ (b : Bool). lane (0 + 4 * s + m) x && b) (marked 0 s (omega arith) q) ∙ and_yes (lane (0 + 4 * s + m) x)
+      picked-at (0 + 4 * s) ∙ ap (λ (b : Bool). lane (0 + 4 * s + m) x && b) (marked 0 s (omega arith) q)
+      ∙ and_yes (lane (0 + 4 * s + m) x)
       ∙ ap (λ (k : ℕ). lane k x) e in
       let other : (i : ℕ) → i < 3 → lane (suc i + 4 * s) picked ≡ false =
-      λ i h. picked-at (suc i + 4 * s) ∙ ap (λ (b : Bool). lane (suc i + 4 * s + m) x && b) (marked (suc i) s (omega arith) q)
+      λ i h. picked-at (suc i + 4 * s) ∙ ap (λ (b : Bool). lane (suc i + 4 * s + m) x && b)
+      (marked (suc i) s (omega arith) q)
       ∙ and_no (lane (suc i + 4 * s + m) x) in
       nibble-word picked s
-      ∙ word_same 4 (λ i. lane (i + 4 * s) picked) (λ i. only_first i (lane (m + 4 * s) x)) (λ i h. first-only s i h low other)
+      ∙ word_same 4 (λ i. lane (i + 4 * s) picked) (λ i. only_first i (lane (m + 4 * s) x))
+      (λ i h. first-only s i h low other)
       ∙ alone (lane (m + 4 * s) x)
     where
-      first-only : (s : ℕ) {b : Bool} (i : ℕ) → i < 4 → lane (0 + 4 * s) picked ≡ b → ((i : ℕ) → i < 3 → lane (suc i + 4 * s) picked ≡ false)
+      first-only : (s : ℕ) {b : Bool} (i : ℕ) → i < 4 → lane (0 + 4 * s) picked ≡ b
+          → ((i : ℕ) → i < 3 → lane (suc i + 4 * s) picked ≡ false)
           → lane (i + 4 * s) picked ≡ only_first i b
       first-only s zero h e f = e
       first-only s (suc i) h e f = f i (omega arith)
@@ -115,7 +139,8 @@ module _ (x m : ℕ) where
   pub chosen-lane : (s i : ℕ) → s < 16 → i < 4 → lane (i + 4 * s) (picked * 15) ≡ lane (m + 4 * s) x
   chosen-lane s i q p =
       sym (nibble-lane (picked * 15) s i p)
-      ∙ ap (lane i) (fifteen s picked (λ k g. let e = picked-nibble k (omega arith) in let b = bit-most (lane (m + 4 * k) x) in omega arith)
+      ∙ ap (lane i) (fifteen s picked (λ k g. let e = picked-nibble k (omega arith) in let b
+      = bit-most (lane (m + 4 * k) x) in omega arith)
       ∙ ap (λ (n : ℕ). 15 * n) (picked-nibble s q))
       ∙ fifteens (lane (m + 4 * s) x) i p
     where
@@ -142,7 +167,8 @@ solve false false true false e = refl
 solve false false false true e = refl
 solve false false false false e = refl
 
-module _ (t low d e m : ℕ) (mask : m < 4) (lows : (s : ℕ) → s < 16 → nibble low s ≡ nibble t 0) (others : (s : ℕ) → s < 16 → nibble d s ≡ nibble e 0)
+module _ (t low d e m : ℕ) (mask : m < 4) (lows : (s : ℕ) → s < 16 → nibble low s ≡ nibble t 0)
+    (others : (s : ℕ) → s < 16 → nibble d s ≡ nibble e 0)
     (two : bit_xor t low ≡ bit_and (bit_and (bit_xor t low / 2 ^ m) 0x1111_1111_1111_1111 * 15) d) where
   x-at : (s i : ℕ) → s < 16 → i < 4 → lane (i + 4 * s) (bit_xor t low) ≡ differs (lane (i + 4 * s) t) (lane i t)
   x-at s i p q = lane_xor (i + 4 * s) t low ∙ ap (differs (lane (i + 4 * s) t)) (repeat-lane low t lows s i p q)
@@ -178,11 +204,40 @@ module _ (t low d e m : ℕ) (mask : m < 4) (lows : (s : ℕ) → s < 16 → nib
         (sym (x-at s i p q) ∙ x-two s i p q ∙ ap (λ (c : Bool). c && lane i e) b);
   }
 
+-- and that is what is chosen
+module _ (t low d : ℕ) where
+  abbrev changes : ℕ
+  changes = bit_xor t low
+
+  abbrev lowest : ℕ
+  lowest = count_trailing_zeros 64 changes
+
+  abbrev both_parts : ℕ
+  both_parts = bit_and (bit_and (changes / 2 ^ (lowest % 4)) 0x1111_1111_1111_1111 * 15) d
+
+  module _ (some : changes ≢ 0) (e : d ≡ repeated (nibble changes (lowest / 4))) where
+    pub chosen-no : changes ≢ both_parts → None ≡ chosen_by t low
+    chosen-no ne =
+        let p : None ≡ chosen_at low changes lowest d = rw (ne_eqb changes both_parts ne) refl in
+        rw (ne_eqb changes 0 some) (p ∙ ap (chosen_at low changes lowest) e)
+
+    pub chosen-yes : changes ≡ both_parts → Some (lowest % 4, bit_xor low (bit_and d 0xf0f0_f0f0_f0f0_f0f0))
+        ≡ chosen_by t low
+    chosen-yes eq =
+        let p : Some (lowest % 4, bit_xor low (bit_and d 0xf0f0_f0f0_f0f0_f0f0)) ≡ chosen_at low changes lowest d =
+        rw (eq-eqb changes both_parts eq) refl in
+        rw (ne_eqb changes 0 some) (p ∙ ap (chosen_at low changes lowest) e)
+
 -- so the record over the wire's own atom is right
 mask-bits : (l : ℕ) → l < 64 → (lane 0 (l % 4) ≡ lane 0 l) × (lane 1 (l % 4) ≡ lane 1 l)
-mask-bits l h = (same-below 64 (λ l. lane 0 (l % 4)) (λ l. lane 0 l) tt l h, same-below 64 (λ l. lane 1 (l % 4)) (λ l. lane 1 l) tt l h)
+mask-bits l h = (
+  same-below 64 (λ l. lane 0 (l % 4)) (λ l. lane 0 l) tt l h,
+  same-below 64 (λ l. lane 1 (l % 4))
+      (λ l. lane 1 l) tt l h,
+)
 
-pub leaf-right : {r : Record} {m u a w : ℕ} → Decides r.table m u → w < 268435456 → a ≡ 8 * w + (2 * m + bit (lane m r.table))
+pub leaf-right : {r : Record} {m u a w : ℕ} → Decides r.table m u → w < 268435456 → a
+    ≡ 8 * w + (2 * m + bit (lane m r.table))
     → LeafIs w r (Some (over u a))
 leaf-right {r} {m} {u} {a} {w} D small e bits wire own R = record {
   each = λ l h at.

@@ -1,7 +1,10 @@
--- Laws that several proofs cite.
-pub mod Tables
-pub mod Records
-pub mod Places
+pub mod Drawn
 pub mod Evens
 pub mod Leaves
+pub mod Places
+pub mod Placing
+pub mod Products
+pub mod Records
 pub mod Selectors
+pub mod Tables
+pub mod Tested

@@ -11,7 +11,8 @@ use Rattle.certify_records.specs.declared.Record.{Record}
 use Rattle.certify_records.specs.Place.{exchanged, turned}
 use Rattle.std.specs.Prelude.{Some}
 use Rattle.certify_records.specs.Record.{Has, At, Right, Says, JoinIs, no_atom}
-use Rattle.certify_records.proofs.Tables.{exchanged-bit, exchanged-mask, exchanged-below, turned_bit, turned-mask, turned-below}
+use Rattle.certify_records.proofs.Tables.{exchanged-bit, exchanged-mask, exchanged-below, turned_bit, turned-mask}
+use Rattle.certify_records.proofs.Tables.{turned-below}
 
 -- a record by its parts
 abbrev pub rec : ℕ → ℕ → ℕ → ℕ → ℕ → Record
@@ -29,9 +30,11 @@ on_pair false true f g = g refl
 on_pair false false f g = f refl
 
 module _ (t u a b c d : ℕ) where
-  module _ (j : ℕ) (p : j < 3) (tables : (l : ℕ) → l < 64 → lane l u ≡ lane (exchanged j l) t) (bits : ℕ → Bool) (wire : Bool → Bool → Bool) where
+  module _ (j : ℕ) (p : j < 3) (tables : (l : ℕ) → l < 64 → lane l u ≡ lane (exchanged j l) t) (bits : ℕ → Bool)
+      (wire : Bool → Bool → Bool) where
     -- what stands at a place of the table with exchanged atoms
-    moved : {r : Record} → r.table ≡ t → Right bits wire r → (l : ℕ) → l < 64 → At bits r (exchanged j l) → lane l u ≡ wire (lane 0 l) (lane 1 l)
+    moved : {r : Record} → r.table ≡ t → Right bits wire r → (l : ℕ) → l < 64 → At bits r (exchanged j l) → lane l u
+        ≡ wire (lane 0 l) (lane 1 l)
     moved {r} e R l h at =
         tables l h ∙ ap (lane (exchanged j l)) (sym e) ∙ R.each (exchanged j l) (exchanged-below j l p h) at
         ∙ ap₂ wire (exchanged-mask j 0 l p (omega arith) h) (exchanged-mask j 1 l p (omega arith) h)
@@ -79,15 +82,18 @@ module _ (t u a b c d : ℕ) where
     }
 
 module _ (t a b c d : ℕ) where
-  module _ (bits : ℕ → Bool) (wire : Bool → Bool → Bool) (j : ℕ) (p : j < 4) (tables : (l : ℕ) → l < 64 → lane l t ≡ lane (turned j l) t) where
+  module _ (bits : ℕ → Bool) (wire : Bool → Bool → Bool) (j : ℕ) (p : j < 4) (tables : (l : ℕ) → l < 64 → lane l t
+      ≡ lane (turned j l) t) where
     -- what stands at a place where atom j has either bit
     either : Right bits wire (rec t a b c d) → (l : ℕ) → l < 64 → (atom : ℕ)
-        → (bits atom ≡ lane (j + 2) l → At bits (rec t a b c d) l) → (bits atom ≡ lane (j + 2) (turned j l) → At bits (rec t a b c d) (turned j l))
+        → (bits atom ≡ lane (j + 2) l → At bits (rec t a b c d) l)
+        → (bits atom ≡ lane (j + 2) (turned j l) → At bits (rec t a b c d) (turned j l))
         → lane l t ≡ wire (lane 0 l) (lane 1 l)
     either R l h atom same other =
         on_pair (bits atom) (lane (j + 2) l) (λ e. R.each l h (same e)) (λ e.
         let f : lane (j + 2) (turned j l) ≡ not (lane (j + 2) l) =
-        turned_bit j (j + 2) l p (omega arith) h ∙ ap (λ (x : Bool). differs x (lane (j + 2) l)) (eq-eqb (j + 2) (j + 2) refl) in
+        turned_bit j (j + 2) l p (omega arith) h ∙ ap (λ (x : Bool). differs x (lane (j + 2) l))
+        (eq-eqb (j + 2) (j + 2) refl) in
         tables l h ∙ R.each (turned j l) (turned-below j l p h) (other (e ∙ sym f))
         ∙ ap₂ wire (turned-mask j 0 l p (omega arith) h) (turned-mask j 1 l p (omega arith) h))
 
@@ -163,8 +169,10 @@ module _ (t a b c d : ℕ) where
 abbrev pub Agrees : ℕ → ℕ → ℕ → Type 0
 Agrees a b z = (bits : ℕ → Bool) (x : Bool) → Has bits z x → Has bits a x × Has bits b x
 
-module _ (kind : ℕ) (x y : Record) (t : ℕ) {a b c d : ℕ} (tables : (l : ℕ) → l < 64 → lane l t ≡ made_of kind (lane l x.table) (lane l y.table))
-    (ga : Agrees x.first y.first a) (gb : Agrees x.second y.second b) (gc : Agrees x.third y.third c) (gd : Agrees x.fourth y.fourth d) where
+module _ (kind : ℕ) (x y : Record) (t : ℕ) {a b c d : ℕ} (tables : (l : ℕ) → l < 64 → lane l t
+    ≡ made_of kind (lane l x.table) (lane l y.table))
+    (ga : Agrees x.first y.first a) (gb : Agrees x.second y.second b) (gc : Agrees x.third y.third c)
+    (gd : Agrees x.fourth y.fourth d) where
   pub meet-law : JoinIs kind x y (Some (rec t a b c d))
   meet-law bits u v R S = record {
     each = λ l h at.

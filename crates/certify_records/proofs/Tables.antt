@@ -10,11 +10,11 @@ use borrow.Author.Tests.{leb-true, leb-false}
 use lib.Pow.{pow_pos}
 use Rattle.netlist.specs.Eval.{differs}
 use Rattle.netlist.specs.Lists.{below}
-use Rattle.netlist.proofs.Codes.{below_at, same, same-below}
+use Rattle.netlist.proofs.EachNumber.{below_at, same, same-below}
 use Rattle.netlist.proofs.Tests.{on_bool, both, both_true, is_true, is_false}
 use Rattle.evaluate.specs.Lane.{lane}
 use Rattle.evaluate.proofs.Lanes.{lane_and, lane_xor, lane-zero}
-use Rattle.check_counts.proofs.Numbers.{lane-shift, low-lane, high_lane}
+use Rattle.leak_search.proofs.Numbers.{lane-shift, low-lane, high_lane}
 use Rattle.certify_records.specs.Place.{other_bit, exchanged, turned, exchanges_at, turns_at}
 
 -- the lanes of a word that is shifted up, and of the low part of a number
@@ -65,13 +65,16 @@ module _ (t by moved : ℕ) where
   change-at : (l : ℕ) → lane l change ≡ (differs (lane (l + by) t) (lane l t) && lane l moved)
   change-at l =
       lane_and l (bit_xor (t / 2 ^ by) t) moved
-      ∙ ap (λ (b : Bool). b && lane l moved) (lane_xor l (t / 2 ^ by) t ∙ ap (λ (b : Bool). differs b (lane l t)) (lane-shift by l t))
+      ∙ ap (λ (b : Bool). b && lane l moved) (lane_xor l (t / 2 ^ by) t ∙ ap (λ (b : Bool). differs b (lane l t))
+      (lane-shift by l t))
 
   change-no : (l : ℕ) → lane l moved ≡ false → lane l change ≡ false
-  change-no l e = change-at l ∙ ap (λ (b : Bool). differs (lane (l + by) t) (lane l t) && b) e ∙ and_no (differs (lane (l + by) t) (lane l t))
+  change-no l e = change-at l ∙ ap (λ (b : Bool). differs (lane (l + by) t) (lane l t) && b) e
+      ∙ and_no (differs (lane (l + by) t) (lane l t))
 
   change-yes : (l : ℕ) → lane l moved ≡ true → lane l change ≡ differs (lane (l + by) t) (lane l t)
-  change-yes l e = change-at l ∙ ap (λ (b : Bool). differs (lane (l + by) t) (lane l t) && b) e ∙ and_yes (differs (lane (l + by) t) (lane l t))
+  change-yes l e = change-at l ∙ ap (λ (b : Bool). differs (lane (l + by) t) (lane l t) && b) e
+      ∙ and_yes (differs (lane (l + by) t) (lane l t))
 
   -- what comes up to a place
   abbrev risen : ℕ
@@ -81,16 +84,19 @@ module _ (t by moved : ℕ) where
   risen-no l h e =
       lane-mod 64 l (change * 2 ^ by) h
       ∙ on_bool (leb by l)
-      (λ s. up-high by l change (leb-true by l s) ∙ change-no (l - by) (ap (λ (b : Bool). b && lane (l - by) moved) (sym s) ∙ e))
+      (λ s. up-high by l change (leb-true by l s) ∙ change-no (l - by)
+      (ap (λ (b : Bool). b && lane (l - by) moved) (sym s) ∙ e))
       (λ s. let f = leb-false by l s in up-low by l change (omega arith))
 
-  risen-yes : (l : ℕ) → l < 64 → by ≤ l → lane (l - by) moved ≡ true → lane l risen ≡ differs (lane l t) (lane (l - by) t)
+  risen-yes : (l : ℕ) → l < 64 → by ≤ l → lane (l - by) moved ≡ true → lane l risen
+      ≡ differs (lane l t) (lane (l - by) t)
   risen-yes l h s e =
       let f : l - by + by ≡ l = omega arith in
       lane-mod 64 l (change * 2 ^ by) h ∙ up-high by l change s ∙ change-yes (l - by) e
       ∙ ap (λ (k : ℕ). differs (lane k t) (lane (l - by) t)) f
 
-  result-at : (l : ℕ) → lane l (bit_xor (bit_xor t change) risen) ≡ differs (differs (lane l t) (lane l change)) (lane l risen)
+  result-at : (l : ℕ) → lane l (bit_xor (bit_xor t change) risen) ≡ differs (differs (lane l t) (lane l change))
+      (lane l risen)
   result-at l = lane_xor l (bit_xor t change) risen ∙ ap (λ (b : Bool). differs b (lane l risen)) (lane_xor l t change)
 
   test : ℕ → ℕ → Bool
@@ -98,7 +104,8 @@ module _ (t by moved : ℕ) where
       cond (lane l moved) (eqb (exchanged j l) (l + by) && not (leb by l && lane (l - by) moved))
       (cond (leb by l && lane (l - by) moved) (eqb (exchanged j l) (l - by)) (eqb (exchanged j l) l))
 
-  pub exchange-law : (j : ℕ) → T (exchanges_at j by moved) → (l : ℕ) → l < 64 → lane l (bit_xor (bit_xor t change) risen) ≡ lane (exchanged j l) t
+  pub exchange-law : (j : ℕ) → T (exchanges_at j by moved) → (l : ℕ) → l < 64
+      → lane l (bit_xor (bit_xor t change) risen) ≡ lane (exchanged j l) t
   unfolding test
   exchange-law j ok l h =
       let p : T (test j l) = below_at 64 (test j) ok l h in
@@ -106,7 +113,8 @@ module _ (t by moved : ℕ) where
       (λ e.
       let q = both (eqb (exchanged j l) (l + by)) (not (leb by l && lane (l - by) moved)) (rw e at p) in
       result-at l
-      ∙ ap₂ (λ (a b : Bool). differs (differs (lane l t) a) b) (change-yes l e) (risen-no l h (is_false (leb by l && lane (l - by) moved) q.1))
+      ∙ ap₂ (λ (a b : Bool). differs (differs (lane l t) a) b) (change-yes l e)
+      (risen-no l h (is_false (leb by l && lane (l - by) moved) q.1))
       ∙ twice (lane l t) (lane (l + by) t)
       ∙ ap (λ (k : ℕ). lane k t) (sym (eqb→eq (exchanged j l) (l + by) q.0)))
       (λ e.
@@ -127,11 +135,13 @@ module _ (t by moved : ℕ) where
 
 module _ (t by low : ℕ) (zero : bit_and (bit_xor (t / 2 ^ by) t) low ≡ 0) where
   low_same : (l : ℕ) → lane l low ≡ true → lane l t ≡ lane (l + by) t
-  low_same l e = equal-bits (lane (l + by) t) (lane l t) (sym (change-yes t by low l e) ∙ ap (lane l) zero ∙ lane-zero l)
+  low_same l e = equal-bits (lane (l + by) t) (lane l t) (sym (change-yes t by low l e) ∙ ap (lane l) zero
+      ∙ lane-zero l)
 
   pub independent-law : (j : ℕ) → T (turns_at j by low) → (l : ℕ) → l < 64 → lane l t ≡ lane (turned j l) t
   independent-law j ok l h =
-      let p = below_at 64 (λ l. cond (lane l low) (eqb (turned j l) (l + by)) (leb by l && (lane (l - by) low && eqb (turned j l) (l - by)))) ok l h in
+      let p = below_at 64 (λ l. cond (lane l low) (eqb (turned j l) (l + by))
+      (leb by l && (lane (l - by) low && eqb (turned j l) (l - by)))) ok l h in
       on_bool (lane l low)
       (λ e. low_same l e ∙ ap (λ (k : ℕ). lane k t) (sym (eqb→eq (turned j l) (l + by) (rw e at p))))
       (λ e.
@@ -148,17 +158,20 @@ pub exchanged-bit : (j i l : ℕ) → j < 3 → i < 6 → l < 64 → lane i (exc
 exchanged-bit j i l p q h =
     same-below 64 (λ l. lane i (exchanged j l)) (λ l. lane (other_bit j i) l)
     (below_at 6 (λ i. below 64 (λ l. same (lane i (exchanged j l)) (lane (other_bit j i) l)))
-    (below_at 3 (λ j. below 6 (λ i. below 64 (λ l. same (lane i (exchanged j l)) (lane (other_bit j i) l)))) tt j p) i q) l h
+    (below_at 3 (λ j. below 6 (λ i. below 64 (λ l. same (lane i (exchanged j l)) (lane (other_bit j i) l)))) tt j p) i
+    q) l h
 
 pub exchanged-below : (j l : ℕ) → j < 3 → l < 64 → exchanged j l < 64
 exchanged-below j l p h =
-    ltb→lt (exchanged j l) 64 (below_at 64 (λ l. ltb (exchanged j l) 64) (below_at 3 (λ j. below 64 (λ l. ltb (exchanged j l) 64)) tt j p) l h)
+    ltb→lt (exchanged j l) 64 (below_at 64 (λ l. ltb (exchanged j l) 64)
+    (below_at 3 (λ j. below 64 (λ l. ltb (exchanged j l) 64)) tt j p) l h)
 
 pub turned_bit : (j i l : ℕ) → j < 4 → i < 6 → l < 64 → lane i (turned j l) ≡ differs (eqb i (j + 2)) (lane i l)
 turned_bit j i l p q h =
     same-below 64 (λ l. lane i (turned j l)) (λ l. differs (eqb i (j + 2)) (lane i l))
     (below_at 6 (λ i. below 64 (λ l. same (lane i (turned j l)) (differs (eqb i (j + 2)) (lane i l))))
-    (below_at 4 (λ j. below 6 (λ i. below 64 (λ l. same (lane i (turned j l)) (differs (eqb i (j + 2)) (lane i l))))) tt j p) i q) l h
+    (below_at 4 (λ j. below 6 (λ i. below 64 (λ l. same (lane i (turned j l)) (differs (eqb i (j + 2)) (lane i l))))) tt
+    j p) i q) l h
 
 pub turned-mask : (j i l : ℕ) → j < 4 → i < 2 → l < 64 → lane i (turned j l) ≡ lane i l
 turned-mask j i l p q h =
@@ -168,7 +181,8 @@ turned-mask j i l p q h =
 
 pub turned-below : (j l : ℕ) → j < 4 → l < 64 → turned j l < 64
 turned-below j l p h =
-    ltb→lt (turned j l) 64 (below_at 64 (λ l. ltb (turned j l) 64) (below_at 4 (λ j. below 64 (λ l. ltb (turned j l) 64)) tt j p) l h)
+    ltb→lt (turned j l) 64 (below_at 64 (λ l. ltb (turned j l) 64)
+    (below_at 4 (λ j. below 64 (λ l. ltb (turned j l) 64)) tt j p) l h)
 
 pub exchanged-mask : (j i l : ℕ) → j < 3 → i < 2 → l < 64 → lane i (exchanged j l) ≡ lane i l
 exchanged-mask j i l p q h =

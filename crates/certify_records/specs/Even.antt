@@ -1,6 +1,7 @@
 -- A record whose count depends on public atoms alone.
 use Rattle.std.specs.Prelude.{ℕ, ◌+◌, ◌*◌, Bool, true, ◌≡◌}
-use Rattle.netlist.specs.Leak.{bit, count_of}
+use Rattle.netlist.specs.Eval.{bit}
+use Rattle.masking.specs.Leak.{count_of}
 use Rattle.certify_records.specs.declared.Record.{Record}
 use Rattle.certify_records.specs.Record.{Right}
 
@@ -12,4 +13,5 @@ atom_setting a b c d = bit a + (2 * bit b + (4 * bit c + 8 * bit d))
 pub record Even (r : Record) (a b c d : Bool) : Type 0 where
   pub same : {bits bits' : ℕ → Bool} {wire wire' : Bool → Bool → Bool} → Right bits wire r → Right bits' wire' r
       → (a ≡ true → bits r.first ≡ bits' r.first) → (b ≡ true → bits r.second ≡ bits' r.second)
-      → (c ≡ true → bits r.third ≡ bits' r.third) → (d ≡ true → bits r.fourth ≡ bits' r.fourth) → count_of wire ≡ count_of wire'
+      → (c ≡ true → bits r.third ≡ bits' r.third) → (d ≡ true → bits r.fourth ≡ bits' r.fourth) → count_of wire
+      ≡ count_of wire'

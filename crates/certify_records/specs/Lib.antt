@@ -1,6 +1,6 @@
--- What the contracts of records cite.
-pub mod Place
-pub mod Record
 pub mod Even
 pub mod Leaf
+pub mod Made
 pub mod Mix
+pub mod Place
+pub mod Record

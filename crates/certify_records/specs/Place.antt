@@ -1,4 +1,5 @@
--- The places of a record's table: bits 0 and 1 of a place are the mask setting, bits 2 to 5 the bits of the record's four atoms.
+-- The places of a record's table: bits 0 and 1 of a place are the mask setting, bits 2 to 5 the bits of the record's
+-- four atoms.
 use Rattle.std.specs.Prelude.{ℕ, ◌+◌, ◌-◌, Bool, cond, not, ◌&&◌, eqb, leb}
 use Rattle.netlist.specs.Eval.{differs}
 use Rattle.netlist.specs.Lists.{below}
@@ -16,7 +17,8 @@ exchanged j l = word 6 (λ i. lane (other_bit j i) l)
 abbrev pub turned : ℕ → ℕ → ℕ
 turned j l = word 6 (λ i. differs (eqb i (j + 2)) (lane i l))
 
--- the places marked in `moved` go up by so many, those that they meet come down, and all others stay: that exchanges atoms j and j + 1
+-- the places marked in `moved` go up by so many, those that they meet come down, and all others stay: that exchanges
+-- atoms j and j + 1
 abbrev pub exchanges_at : ℕ → ℕ → ℕ → Bool
 exchanges_at j by moved =
     below 64 λ l.
@@ -26,4 +28,5 @@ exchanges_at j by moved =
 -- the places marked in `low` and those so many above them are all places, and differ in atom j alone
 abbrev pub turns_at : ℕ → ℕ → ℕ → Bool
 turns_at j by low =
-    below 64 λ l. cond (lane l low) (eqb (turned j l) (l + by)) (leb by l && (lane (l - by) low && eqb (turned j l) (l - by)))
+    below 64 λ l. cond (lane l low) (eqb (turned j l) (l + by))
+    (leb by l && (lane (l - by) low && eqb (turned j l) (l - by)))

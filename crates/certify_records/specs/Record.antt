@@ -1,5 +1,5 @@
--- What a record says of a wire. An atom is a bit that the input setting alone decides; a record has up to four atoms and a table of
--- what the wire is at each mask setting for each setting of these atoms.
+-- What a record says of a wire. An atom is a bit that the input setting alone decides; a record has up to four atoms
+-- and a table of what the wire is at each mask setting for each setting of these atoms.
 use Rattle.std.specs.Prelude.{ℕ, ◌<◌, Bool, cond, eqb, ◌≡◌, ◌≢◌, Option, Some, None}
 use Rattle.netlist.specs.Table.{made_of}
 use Rattle.evaluate.specs.Lane.{lane}
@@ -44,7 +44,8 @@ abbrev pub EitherIs : ℕ → ℕ → Option ℕ → Type 0
 EitherIs a b (Some z) = EitherAt a b z
 EitherIs a b None = Unit
 
--- a record is right, for the bits of the atoms and of a wire under each mask setting: at each such place stands the wire's bit
+-- a record is right, for the bits of the atoms and of a wire under each mask setting: at each such place stands the
+-- wire's bit
 pub record Right (bits : ℕ → Bool) (wire : Bool → Bool → Bool) (r : Record) : Type 0 where
   pub each : (l : ℕ) → l < 64 → At bits r l → lane l r.table ≡ wire (lane 0 l) (lane 1 l)
 
@@ -55,5 +56,6 @@ pub record Says (r s : Record) : Type 0 where
 -- a record is right for what a kind of gate makes of two wires, where two records are right for them
 abbrev pub JoinIs : ℕ → Record → Record → Option Record → Type 0
 JoinIs kind x y (Some z) =
-    (bits : ℕ → Bool) (u v : Bool → Bool → Bool) → Right bits u x → Right bits v y → Right bits (λ m0 m1. made_of kind (u m0 m1) (v m0 m1)) z
+    (bits : ℕ → Bool) (u v : Bool → Bool → Bool) → Right bits u x → Right bits v y
+    → Right bits (λ m0 m1. made_of kind (u m0 m1) (v m0 m1)) z
 JoinIs kind x y None = Unit

@@ -1,7 +1,8 @@
-// The places of a record's table by the bit of one atom.
+//! The places of a record's table by the bit of one atom.
 ghost use Rattle.std.specs.Prelude.{◌<◌};
 
-// The places where an atom is zero, as the bits of a word. Where it is one, and all else is as before, lies so many places above.
+/// The places where an atom is zero, as the bits of a word. Where it is one, and all else is as before, lies so many
+/// places above.
 #[derive(Clone, Copy)]
 pub struct AtomPlaces {
     pub zero: u64,
@@ -9,7 +10,7 @@ pub struct AtomPlaces {
     ghost within: { up < 64 },
 }
 
-// Those of a record's four atoms: bit j of s in place 4 s + m is the bit of atom j.
+/// Those of a record's four atoms: bit j of s in place 4 s + m is the bit of atom j.
 pub const FIRST: AtomPlaces = AtomPlaces {
     zero: 0x0f0f_0f0f_0f0f_0f0f,
     up: 4,

@@ -1,4 +1,4 @@
-// Records: what the certifier knows of a wire.
+//! Records: what the certifier knows of a wire.
 #![tactic(auto)]
 
 mod align;
@@ -11,15 +11,16 @@ mod table;
 
 ghost use Rattle.std.specs.Prelude.{◌≡◌, true, ◌<◌};
 ghost use Rattle.certify_records.specs.Record.{JoinIs, SameAtoms, over};
+ghost use Rattle.certify_records.specs.Made.{combined, same_atoms};
 
-// No atom. A number and no Option: as the greatest it stands behind every atom, so that places are compared without a case for it, and
-// two places fill one entry of C's table.
+/// No atom.
 pub const NO_ATOM: u32 = 0xffff_ffff;
 
-// The most wires that have atoms: the numbers of the atoms of a wire w, 8 w to 8 w + 7, are then below 2^31, and none is `NO_ATOM`.
+/// The most wires that have atoms: the numbers of the atoms of a wire w, 8 w to 8 w + 7, are then below 2^31, and none
+/// is `NO_ATOM`.
 pub const MOST_WIRES: usize = 0x1000_0000;
 
-// Up to four atoms, rising, and a table: bit 4 s + m is the wire's bit at mask setting m where atom j has bit j of s.
+/// Up to four atoms, rising, and a table: bit 4 s + m is the wire's bit at mask setting m where atom j has bit j of s.
 #[derive(Clone, Copy)]
 pub struct Record {
     pub table: u64,
@@ -30,7 +31,7 @@ pub struct Record {
 }
 
 impl Record {
-    // The record over one atom.
+    /// The record over one atom.
     pub fn over(table: u64, atom: u32) -> Record
         ensures { result ≡ over table atom }
     {
@@ -44,23 +45,26 @@ impl Record {
     }
 }
 
-// Whether two records have the same atoms. Place by place: an array of the four would be one comparison here, `all` in `certify_wires`, and a
-// loop for four lines in `meet` and `reduced`, each with an invariant; but `Says`, `SameAtoms`, `Even` and `JoinIs` of specs/ name the four, and
-// would say entry 2 of a list for `third`, as `align` and `reduce` would have an index where a name says which place moves.
-pub fn have_same_atoms(r: Record, s: Record) -> bool
-    ensures { result ≡ true → SameAtoms r s }
+/// Whether two records have the same atoms.
+pub fn have_same_atoms(known: Record, other: Record) -> bool
+    ensures says { result ≡ true → SameAtoms known other }
+    ensures is { result ≡ same_atoms known other }
 {
-    r.first == s.first && r.second == s.second && r.third == s.third && r.fourth == s.fourth
+    known.first == other.first
+        && known.second == other.second
+        && known.third == other.third
+        && known.fourth == other.fourth
 }
 
-// The record of what a kind of gate makes of two wires, from a record of each; none where it has more than four atoms. Atoms on
-// which nothing depends are left out. The kind stays the number of the tables: `evaluate::gate::made` works by it without a jump. Its bound
-// is a clause, as are those of a wire and of a mask setting in `leaf`: a type for each such number would be longer than the clause.
-pub fn combine(kind: usize, x: Record, y: Record) -> Option<Record>
+/// The record of what a kind of gate makes of two wires, from a record of each; none where it has more than four atoms.
+/// Atoms on which nothing depends are left out. The kind stays the number of the tables: `evaluate::gate::made` works
+/// by it without a jump.
+pub fn combine(kind: usize, first: Record, second: Record) -> Option<Record>
     requires { kind < 8 }
-    ensures { JoinIs kind x y result }
+    ensures says { JoinIs kind first second result }
+    ensures is { result ≡ combined kind first second }
 {
-    let (left, right) = align::aligned(x, y);
+    let (left, right) = align::aligned(first, second);
     let r = align::meet(kind, left, right)?;
     Some(reduce::reduced(r))
 }

@@ -1,25 +1,36 @@
-// Atoms on which a record's table does not depend are left out.
+//! Atoms on which a record's table does not depend are left out.
 ghost use Rattle.std.specs.Prelude.{◌≡◌, ℕ, ◌<◌, T};
 ghost use Rattle.evaluate.specs.Lane.{lane};
 ghost use Rattle.certify_records.specs.Place.{turned, turns_at};
 ghost use Rattle.certify_records.specs.Record.{Says};
+ghost use Rattle.certify_records.specs.Made.{low_of, middle_of, high_of, without_of, reduced_of};
 
 use crate::align::{high, low, middle};
 use crate::atom::{AtomPlaces, FIRST, FOURTH, SECOND, THIRD};
 use crate::{NO_ATOM, Record, table};
 
 // The first place moved to the end.
-fn first_last(r: Record) -> Record
-    ensures { Says r result }
+fn first_last(known: Record) -> Record
+    ensures says { Says known result }
+    ensures is { result ≡ high_of (middle_of (low_of known)) }
 {
-    high(middle(low(r)))
+    high(middle(low(known)))
 }
 
 // The second place moved to the end.
-fn second_last(r: Record) -> Record
-    ensures { Says r result }
+fn second_last(known: Record) -> Record
+    ensures says { Says known result }
+    ensures is { result ≡ high_of (middle_of known) }
 {
-    high(middle(r))
+    high(middle(known))
+}
+
+// The last place, which is at the end.
+fn last_stays(known: Record) -> Record
+    ensures says { Says known result }
+    ensures is { result ≡ known }
+{
+    known
 }
 
 // An atom left out, if nothing depends on it: `left` is the record without it, whose place `last` moves to the end.
@@ -30,11 +41,14 @@ fn without<F: Fn(Record) -> Record>(
     left: Record,
     last: F,
 ) -> Record
-    requires left_out { ((j : ℕ) → T (turns_at j places.up places.zero) → (l : ℕ) → l < 64 → lane l r.table ≡ lane (turned j l) r.table)
+    requires left_out { ((j : ℕ) → T (turns_at j places.up places.zero) → (l : ℕ) → l < 64 → lane l r.table
+        ≡ lane (turned j l) r.table)
         → Says r left }
     requires callable { F.IsAlwaysCallable last }
     requires says { (x y : _) → F.post last x y → Says x y }
-    ensures { Says r result }
+    ensures says { Says r result }
+    ensures is { (f : Record → Record) → ((x y : _) → F.post last x y → y ≡ f x)
+        → result ≡ without_of r atom places.up places.zero (f left) }
 {
     if atom != NO_ATOM && table::is_independent(r.table, places) {
         last(left)
@@ -43,15 +57,16 @@ fn without<F: Fn(Record) -> Record>(
     }
 }
 
-// Every atom left out on which nothing depends.
-pub fn reduced(r: Record) -> Record
-    ensures { Says r result }
+/// Every atom left out on which nothing depends.
+pub fn reduced(known: Record) -> Record
+    ensures says { Says known result }
+    ensures is { result ≡ reduced_of known }
 {
     let left = Record {
         fourth: NO_ATOM,
-        ..r
+        ..known
     };
-    let a = without(r, r.fourth, FOURTH, left, |r| r);
+    let a = without(known, known.fourth, FOURTH, left, last_stays);
     let left = Record {
         third: NO_ATOM,
         ..a

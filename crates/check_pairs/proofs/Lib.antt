@@ -1,2 +1,10 @@
--- Laws that belong to no one function.
 pub mod Calling
+pub mod Examples
+pub mod Finds
+pub mod Judging
+pub mod Lanes
+pub mod Levels
+pub mod PairCalls
+pub mod PairCheck
+pub mod PairCounts
+pub mod Uneven

@@ -1,2 +1,7 @@
--- What the contracts of Check with pairs cite.
+pub mod Bases
+pub mod Call
+pub mod Judge
+pub mod Level
+pub mod Pairs
 pub mod Promise
+pub mod Search

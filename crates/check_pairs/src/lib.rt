@@ -1,16 +1,21 @@
-// Check with pairs: whether a netlist whose last input value is the mask pair leaks on one wire, and whether listed pairs of its
-// wires, as a register shows them that holds one after the other, leak together. Questions 1 to 12 with the large limits, and 21.
-// Lent tables stay parameters of their own: C lends them one by one, and a struct of `&mut` slices would have to promise at each call
-// that it still holds the same ones.
+//! Check with pairs: whether a netlist whose last input value is the mask pair leaks on one wire, and whether listed
+//! pairs of its wires, as a register shows them that holds one after the other, leak together. Questions 1 to 12 with
+//! the large limits, and 21.
 #![tactic(auto)]
 
+mod base;
+mod held;
+pub mod judge;
+mod pair;
+pub mod search;
+
 ghost use Rattle.std.specs.Prelude.{◌≡◌};
-ghost use Rattle.pairs_judge.specs.Judge.{outcome_of};
+ghost use Rattle.check_pairs.specs.Judge.{outcome_of};
 ghost use Rattle.check_pairs.specs.Promise.{call, Promise};
 
+use crate::judge::CheckedPairs;
 use netlist::Sizes;
-use pairs_judge::CheckedPairs;
-use read_tables::read;
+use reader::judged::read;
 
 // The answer, with tables that are still to be cleared.
 fn answer(
@@ -36,13 +41,13 @@ fn answer(
         results,
         marks,
         &[words.len(), base.len(), bases.len()],
-        sizes.large(),
+        sizes.masked_limits(),
     )?;
-    pairs_judge::judge(netlist, codes, pairs, words, base, bases)
+    crate::judge::judge(netlist, codes, pairs, words, base, bases)
 }
 
-// Whether the netlist in `text` is clean under the input codes, and each pair of wires: pair j is entries 2j and 2j + 1 of `pairs`.
-// The tables, of any content, are zero on return.
+/// Whether the netlist in `text` is clean under the input codes, and each pair of wires: pair j is entries 2j and 2j +
+/// 1 of `pairs`. The tables, of any content, are zero on return.
 pub fn check_pairs(
     text: &[u8],
     codes: &[u8],

@@ -1,2 +1,23 @@
--- Laws that several proofs cite.
+pub mod Alike
+pub mod Answers
 pub mod Calling
+pub mod ColourGiving
+pub mod ColoursLaws
+pub mod Depends
+pub mod Fews
+pub mod ItemSets
+pub mod Lowest
+pub mod Marks
+pub mod Merges
+pub mod Merging
+pub mod Nexts
+pub mod Packing
+pub mod Painted
+pub mod Passes
+pub mod Picked
+pub mod Places
+pub mod Reaching
+pub mod Servings
+pub mod Spread
+pub mod Starts
+pub mod Verdicts

@@ -1,2 +1,15 @@
--- What the contract of the check cites.
+pub mod Items
+pub mod Judging
+pub mod Packed
+pub mod PaintColours
 pub mod Promise
+pub mod Reach
+pub mod Reached
+pub mod Rule
+pub mod Served
+pub mod Sets
+pub mod Together
+pub mod Told
+pub mod Verdict
+pub mod Wide
+pub mod WireSets

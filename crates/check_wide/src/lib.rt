@@ -1,16 +1,27 @@
-// Check of netlists with many inputs: what Check with pairs decides, where at most twelve input bits besides the mask pair reach each
-// wire and each listed pair through gate lines. Questions 1 to 11 with the large limits, then 21, then 12.
-// Lent tables stay parameters of their own: C lends them one by one, and a struct of `&mut` slices would have to promise at each call
-// that it still holds the same ones.
+//! Check of netlists with many inputs: what Check with pairs decides, where at most twelve input bits besides the mask
+//! pair reach each wire and each listed pair through gate lines. Questions 1 to 11 with the large limits, then 21, then
+//! 12.
 #![tactic(auto)]
 
+pub mod colours;
+pub mod item;
+pub mod items;
+pub mod job;
+pub mod judge;
+pub mod members;
+pub mod pass;
+pub mod reach;
+pub mod search;
+pub mod unite;
+pub mod wire_sets;
+
 ghost use Rattle.std.specs.Prelude.{◌≡◌};
-ghost use Rattle.wide_judge.specs.Judge.{outcome_of};
+ghost use Rattle.check_wide.specs.Verdict.{outcome_of};
 ghost use Rattle.check_wide.specs.Promise.{call, Promise};
 
+use crate::judge::CheckedWide;
 use netlist::Sizes;
-use read_tables::read;
-use wide_judge::CheckedWide;
+use reader::judged::read;
 
 // The answer, with tables that are still to be cleared.
 fn answer(
@@ -51,15 +62,16 @@ fn answer(
             set3.len(),
             paints.len(),
         ],
-        sizes.large(),
+        sizes.masked_limits(),
     )?;
-    wide_judge::judge(
+    crate::judge::judge(
         netlist, codes, pairs, marks, words, base, bases, set0, set1, set2, set3, paints,
     )
 }
 
-// Whether the netlist in `text` is clean under the input codes, and each pair of wires: pair j is entries 2j and 2j + 1 of `pairs`. A
-// leak's setting comes as the rising list of the input bits that are one. The tables, of any content, are zero on return.
+/// Whether the netlist in `text` is clean under the input codes, and each pair of wires: pair j is entries 2j and 2j +
+/// 1 of `pairs`. A leak's setting comes as the rising list of the input bits that are one. The tables, of any content,
+/// are zero on return.
 pub fn check_wide(
     text: &[u8],
     codes: &[u8],

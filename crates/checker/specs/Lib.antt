@@ -1,2 +1,2 @@
--- What Check's contracts cite.
 pub mod Promise
+pub mod Verdict

@@ -1,15 +1,16 @@
-// Check: whether a netlist whose last input value is the mask pair leaks on one wire. Questions 1 to 12 with the large limits.
-// Lent tables stay parameters of their own: C lends them one by one, and a struct of `&mut` slices would have to promise at each call
-// that it still holds the same ones.
+//! Check: whether a netlist whose last input value is the mask pair leaks on one wire. Questions 1 to 12 with the large
+//! limits.
 #![tactic(auto)]
 
+pub mod judge;
+
 ghost use Rattle.std.specs.Prelude.{◌≡◌};
-ghost use Rattle.check_netlist.specs.Judge.{outcome_of};
+ghost use Rattle.checker.specs.Verdict.{outcome_of};
 ghost use Rattle.checker.specs.Promise.{call, Promise};
 
-use check_netlist::Checked;
+use crate::judge::Checked;
 use netlist::Sizes;
-use read_tables::read;
+use reader::judged::read;
 
 // The answer, with tables that are still to be cleared.
 fn answer(
@@ -33,12 +34,12 @@ fn answer(
         results,
         marks,
         &[words.len(), base.len()],
-        sizes.large(),
+        sizes.masked_limits(),
     )?;
-    check_netlist::judge(netlist, codes, words, base)
+    crate::judge::judge(netlist, codes, words, base)
 }
 
-// Whether the netlist in `text` is clean under the input codes. The tables, of any content, are zero on return.
+/// Whether the netlist in `text` is clean under the input codes. The tables, of any content, are zero on return.
 pub fn check(
     text: &[u8],
     codes: &[u8],

@@ -8,60 +8,65 @@ use native.Mathlib.Omega.{arith}
 use lib.Dec.{leb, lit≤}
 use lib.ListN.{length, take, length-append}
 use borrow.Author.Tests.{le-leb}
-use Rattle.netlist.specs.declared.Sizes.TheVariants.{Old}
-use Rattle.netlist.specs.Netlist.{large}
+use Rattle.netlist.specs.declared.Sizes.TheVariants.{Standard}
+use Rattle.netlist.specs.Netlist.{masked_limits}
 use Rattle.netlist.specs.Number.{digits, decimal}
 use Rattle.netlist.specs.Outcome.{Outcome, refused, done, ask, and_then}
 use Rattle.netlist.specs.Read.{read_netlist}
-use Rattle.netlist.specs.Leak.{Found}
-use Rattle.netlist.specs.Services.{tables_long, check_outcome, check_call}
-use Rattle.netlist.specs.Programs.{readable, list_file, print_check, check_program, file_limit}
+use Rattle.masking.specs.Leak.{Found}
+use Rattle.netlist.specs.Services.{tables_long}
+use Rattle.masking.specs.Calls.{check_outcome, check_call}
+use Rattle.program.specs.Programs.{readable, list_file, print_check, check_program, file_limit}
 use Rattle.netlist.proofs.Tests.{on_bool}
-use Rattle.write_buffer.specs.Wrote.{Wrote}
-use Rattle.write_buffer.proofs.Writing.{wrote-front, front-within}
+use Rattle.writer.specs.Wrote.{Wrote}
+use Rattle.writer.proofs.Writing.{wrote-front, front-within}
 use Rattle.checker.specs.Promise.{call}
 
 -- ---- the answer
 
 -- question 1 admits the program's tables
 pub record Roomy (o r g w b : List ℕ) : Type 0 where
-  pub operands : (large Old).table ≤ length o
-  pub results : (large Old).table ≤ length r
-  pub marks : (large Old).table ≤ length g
-  pub words : (large Old).table ≤ length w
-  pub base : (large Old).table ≤ length b
+  pub operands : (masked_limits Standard).table ≤ length o
+  pub results : (masked_limits Standard).table ≤ length r
+  pub marks : (masked_limits Standard).table ≤ length g
+  pub words : (masked_limits Standard).table ≤ length w
+  pub base : (masked_limits Standard).table ≤ length b
 
 -- what the program asks of the bytes of its two files
 abbrev pub asked : List ℕ → List ℕ → Outcome (Option Found)
-asked netlist inputs = readable netlist (check_call (large Old) [] netlist (list_file inputs))
+asked netlist inputs = readable netlist (check_call (masked_limits Standard) [] netlist (list_file inputs))
 
 -- tables that are long enough
-call-roomy : {o r g w b : List ℕ} (text codes : List ℕ) → Roomy o r g w b → call Old text codes o r g w b ≡ check_call (large Old) [] text codes
+call-roomy : {o r g w b : List ℕ} (text codes : List ℕ) → Roomy o r g w b → call Standard text codes o r g w b
+    ≡ check_call (masked_limits Standard) [] text codes
 unfolding check_call
 call-roomy {o} {r} {g} {w} {b} text codes room =
-    ap (λ (k : Bool). ask 1 k (and_then (read_netlist (large Old) text) (check_outcome codes))) long
+    ap (λ (k : Bool). ask 1 k (and_then (read_netlist (masked_limits Standard) text) (check_outcome codes))) long
   where
-    long : tables_long (large Old) (length o ∷ length r ∷ length g ∷ length w ∷ length b ∷ []) ≡ true
+    long : tables_long (masked_limits Standard) (length o ∷ length r ∷ length g ∷ length w ∷ length b ∷ []) ≡ true
     long =
         rw (
-          le-leb (large Old).table (length o) room.operands,
-          le-leb (large Old).table (length r) room.results,
-          le-leb (large Old).table (length g) room.marks,
-          le-leb (large Old).table (length w) room.words,
-          le-leb (large Old).table (length b) room.base,
+          le-leb (masked_limits Standard).table (length o) room.operands,
+          le-leb (masked_limits Standard).table (length r) room.results,
+          le-leb (masked_limits Standard).table (length g) room.marks,
+          le-leb (masked_limits Standard).table (length w) room.words,
+          le-leb (masked_limits Standard).table (length b) room.base,
         )
 
-pub asked-short : {a : Outcome (Option Found)} {o r g w b : List ℕ} (netlist inputs codes : List ℕ) → Roomy o r g w b → length netlist ≤ file_limit
-    → codes ≡ list_file inputs → a ≡ call Old netlist codes o r g w b → a ≡ asked netlist inputs
+pub asked-short : {a : Outcome (Option Found)} {o r g w b : List ℕ} (netlist inputs codes : List ℕ) → Roomy o r g w b
+    → length netlist ≤ file_limit
+    → codes ≡ list_file inputs → a ≡ call Standard netlist codes o r g w b → a ≡ asked netlist inputs
 asked-short netlist inputs codes room h e p =
-    p ∙ call-roomy netlist codes room ∙ ap (check_call (large Old) [] netlist) e ∙ sym (rw (le-leb (length netlist) file_limit h))
+    p ∙ call-roomy netlist codes room ∙ ap (check_call (masked_limits Standard) [] netlist) e
+    ∙ sym (rw (le-leb (length netlist) file_limit h))
 
 -- ---- the line
 
 length_digits : (k n : ℕ) → length (digits k n) ≤ k
 length_digits zero n = omega arith
 length_digits (suc k) n =
-    on_bool (leb n 9) (λ e. rw e (omega arith)) λ e. let h = length_digits k (n / 10) in rw e (simp length-append (omega arith))
+    on_bool (leb n 9) (λ e. rw e (omega arith)) λ e. let h = length_digits k (n / 10)
+    in rw e (simp length-append (omega arith))
 
 length-decimal : (n : ℕ) → length (decimal n) ≤ 20
 unfolding decimal
@@ -81,7 +86,8 @@ length-printed (done (some f)) =
     let k = length-decimal f.own in
     simp length-append (omega arith)
 
-pub reported : {e x : List ℕ} {r : ℕ} {a : Outcome (Option Found)} (netlist inputs : List ℕ) → a ≡ asked netlist inputs → Wrote e 0 (print_check a) x r
+pub reported : {e x : List ℕ} {r : ℕ} {a : Outcome (Option Found)} (netlist inputs : List ℕ) → a ≡ asked netlist inputs
+    → Wrote e 0 (print_check a) x r
     → line_room ≤ length e
     → (r ≤ length x) × (take r x ≡ check_program netlist inputs)
 unfolding check_program

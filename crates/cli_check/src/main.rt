@@ -1,18 +1,18 @@
 #![tactic(auto)]
 
-// *check*: reads netlist.txt and inputs.txt, and prints whether the netlist is clean under those codes, or its leak, or the question
-// that refuses it.
+// *check*: reads netlist.txt and inputs.txt, and prints whether the netlist is clean under those codes, or its leak, or
+// the question that refuses it.
 ghost use Rattle.std.specs.Prelude.{◌≡◌, [], ◌≤◌, length, take};
-ghost use Rattle.netlist.specs.declared.Sizes.TheVariants.{Old};
-ghost use Rattle.netlist.specs.Netlist.{large as large_limits};
-ghost use Rattle.netlist.specs.Programs.{readable, list_file, print_check, check_program};
-ghost use Rattle.netlist.specs.Services.{check_call};
-ghost use Rattle.write_buffer.specs.Wrote.{Wrote};
-ghost use Rattle.check_netlist.specs.Judge.{outcome_of};
+ghost use Rattle.netlist.specs.declared.Sizes.TheVariants.{Standard};
+ghost use Rattle.netlist.specs.Netlist.{masked_limits as limits_of_masked};
+ghost use Rattle.program.specs.Programs.{readable, list_file, print_check, check_program};
+ghost use Rattle.masking.specs.Calls.{check_call};
+ghost use Rattle.writer.specs.Wrote.{Wrote};
+ghost use Rattle.checker.specs.Verdict.{outcome_of};
 
-use check_netlist::Checked;
-use netlist::{Question, Sizes};
-use program_text::{FILE_LIMIT, LARGE_TABLE};
+use checker::judge::Checked;
+use netlist::{Refusal, Sizes};
+use program::lines::{FILE_LIMIT, LARGE_TABLE};
 use std::io;
 use std::io::Write;
 
@@ -44,37 +44,37 @@ impl Tables {
 // The answer, from the bytes of the two files; the list takes the place of its file's bytes.
 fn answer(netlist: &[u8], inputs: &mut [u8], tables: &mut Tables) -> Checked
     ensures { outcome_of result ≡ readable netlist.now
-        (check_call (large_limits Old) [] netlist.now (list_file inputs.old)) }
+        (check_call (limits_of_masked Standard) [] netlist.now (list_file inputs.old)) }
 {
     if FILE_LIMIT < netlist.len() {
-        return Err(Question::Length);
+        return Err(Refusal::Length);
     }
     checker::check(
         netlist,
-        program_text::list(inputs),
+        program::lines::list(inputs),
         &mut tables.operands,
         &mut tables.results,
         &mut tables.marks,
         &mut tables.words,
         &mut tables.base,
-        Sizes::Old,
+        Sizes::Standard,
     )
 }
 
 // The line that an answer prints.
-fn print(out: &mut [u8], a: Checked) -> usize
-    ensures { Wrote out.old 0 (print_check (outcome_of a)) out.new result }
+fn print(out: &mut [u8], answer: Checked) -> usize
+    ensures { Wrote out.old 0 (print_check (outcome_of answer)) out.new result }
 {
-    match a {
-        Ok(None) => program_text::clean(out),
-        Ok(Some(leak)) => program_text::leak(
+    match answer {
+        Ok(None) => program::lines::clean(out),
+        Ok(Some(leak)) => program::lines::leak(
             out,
             leak.wire,
             leak.setting as usize,
             leak.base as usize,
             leak.own as usize,
         ),
-        Err(question) => program_text::refused(out, question),
+        Err(question) => program::lines::refused(out, question),
     }
 }
 
@@ -92,8 +92,8 @@ fn main(rt: HostRuntime) -> io::Result<()> {
     let mut inputs = [0u8; FILE_LIMIT];
     let mut tables = Tables::new();
     let mut out = [0u8; LINE];
-    let bytes = program_files::read(&rt, b"netlist.txt", &mut netlist);
-    let entries = program_files::read(&rt, b"inputs.txt", &mut inputs);
+    let bytes = program::files::read(&rt, b"netlist.txt", &mut netlist);
+    let entries = program::files::read(&rt, b"inputs.txt", &mut inputs);
     let n = report(
         &mut out,
         &netlist[..bytes],

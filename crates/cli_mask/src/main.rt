@@ -1,13 +1,13 @@
 #![tactic(auto)]
 
-// *mask*: reads netlist.txt, inputs.txt and outputs.txt, and prints the output codes and the masked netlist, or the question that
-// refuses them.
+// *mask*: reads netlist.txt, inputs.txt and outputs.txt, and prints the output codes and the masked netlist, or the
+// question that refuses them.
 ghost use Rattle.std.specs.Prelude.{◌+◌, ◌*◌, ◌≤◌, length, take};
-ghost use Rattle.netlist.specs.Programs.{print_mask, mask_program};
+ghost use Rattle.program.specs.Programs.{print_mask, mask_program};
 ghost use Rattle.cli_mask.specs.Report.{outcome, outcome_of, Answered, Counted, Prints};
 
-use netlist::{Answer, Question, Sizes};
-use program_text::{FILE_LIMIT, SMALL_TABLE};
+use netlist::{Answer, Refusal, Sizes};
+use program::lines::{FILE_LIMIT, SMALL_TABLE};
 use std::io;
 use std::io::Write;
 
@@ -54,7 +54,7 @@ fn answer(
         out_codes.new (length wanted.now) result }
 {
     if FILE_LIMIT < netlist.len() {
-        return Err(Question::Length);
+        return Err(Refusal::Length);
     }
     mask::mask(
         netlist,
@@ -66,23 +66,23 @@ fn answer(
         &mut tables.results,
         &mut tables.wires,
         &mut tables.marks,
-        Sizes::Old,
+        Sizes::Standard,
     )
 }
 
 // What an answer prints, where there are so many output codes.
-fn print(line: &mut [u8], text: &[u8], out_codes: &[u8], codes: usize, a: Answer) -> Printed
-    requires { Counted text.now out_codes.now codes a × (3 * length out_codes.now + 64 ≤ length line.old) }
+fn print(line: &mut [u8], text: &[u8], out_codes: &[u8], codes: usize, answer: Answer) -> Printed
+    requires { Counted text.now out_codes.now codes answer × (3 * length out_codes.now + 64 ≤ length line.old) }
     ensures { Prints line.new text.now result
-        (print_mask (outcome_of text.now (take codes out_codes.now) a)) }
+        (print_mask (outcome_of text.now (take codes out_codes.now) answer)) }
 {
-    match a {
+    match answer {
         Ok(n) => Printed {
-            line: program_text::digits(line, &out_codes[..codes]),
+            line: program::lines::digits(line, &out_codes[..codes]),
             text: n,
         },
         Err(question) => Printed {
-            line: program_text::refused(line, question),
+            line: program::lines::refused(line, question),
             text: 0,
         },
     }
@@ -101,8 +101,8 @@ fn report(
     ensures { Prints line.new text.new result
         (mask_program netlist.now inputs.old outputs.old) }
 {
-    let codes = program_text::list(inputs);
-    let wanted = program_text::list(outputs);
+    let codes = program::lines::list(inputs);
+    let wanted = program::lines::list(outputs);
     let a = answer(netlist, codes, wanted, text, out_codes, tables);
     print(line, text, out_codes, wanted.len(), a)
 }
@@ -116,9 +116,9 @@ fn main(rt: HostRuntime) -> io::Result<()> {
     let mut out_codes = [0u8; SMALL_TABLE];
     let mut tables = Tables::new();
     let mut line = [0u8; LINE];
-    let bytes = program_files::read(&rt, b"netlist.txt", &mut netlist);
-    let codes = program_files::read(&rt, b"inputs.txt", &mut inputs);
-    let wanted = program_files::read(&rt, b"outputs.txt", &mut outputs);
+    let bytes = program::files::read(&rt, b"netlist.txt", &mut netlist);
+    let codes = program::files::read(&rt, b"inputs.txt", &mut inputs);
+    let wanted = program::files::read(&rt, b"outputs.txt", &mut outputs);
     let p = report(
         &mut line,
         &mut text,

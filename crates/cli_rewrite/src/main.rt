@@ -2,13 +2,13 @@
 
 // *rewrite*: reads netlist.txt and prints the same netlist in the written form, or the question that refuses it.
 ghost use Rattle.std.specs.Prelude.{◌≤◌, length};
-ghost use Rattle.netlist.specs.Programs.{print_rewrite, rewrite_program};
+ghost use Rattle.program.specs.Programs.{print_rewrite, rewrite_program};
 ghost use Rattle.netlist.specs.Services.{outcome_of};
-ghost use Rattle.program_text.specs.Front.{Front, Counted, Answered};
+ghost use Rattle.program.specs.Front.{Front, Counted, Answered};
 ghost use Rattle.cli_rewrite.specs.Report.{outcome};
 
-use netlist::{Answer, Question, Sizes};
-use program_text::{FILE_LIMIT, LARGE_TABLE};
+use netlist::{Answer, Refusal, Sizes};
+use program::lines::{FILE_LIMIT, LARGE_TABLE};
 use std::io;
 use std::io::Write;
 
@@ -38,26 +38,26 @@ fn answer(netlist: &[u8], out: &mut [u8; LONGEST_TEXT], tables: &mut Tables) -> 
     ensures { Answered (outcome netlist.now) out.new result }
 {
     if FILE_LIMIT < netlist.len() {
-        return Err(Question::Length);
+        return Err(Refusal::Length);
     }
-    rewrite::rewrite(
+    convert::rewrite::rewrite(
         netlist,
         out,
         &mut tables.operands,
         &mut tables.results,
         &mut tables.marks,
-        Sizes::Old,
+        Sizes::Standard,
     )
 }
 
 // What an answer prints: the text that stands in the buffer, or a refusal's line in its place.
-fn print(out: &mut [u8], a: Answer) -> usize
-    requires { Counted out.old a × (64 ≤ length out.old) }
-    ensures { Front out.new result (print_rewrite (outcome_of out.old a)) }
+fn print(out: &mut [u8], answer: Answer) -> usize
+    requires { Counted out.old answer × (64 ≤ length out.old) }
+    ensures { Front out.new result (print_rewrite (outcome_of out.old answer)) }
 {
-    match a {
+    match answer {
         Ok(n) => n,
-        Err(question) => program_text::refused(out, question),
+        Err(question) => program::lines::refused(out, question),
     }
 }
 
@@ -74,7 +74,7 @@ fn main(rt: HostRuntime) -> io::Result<()> {
     let mut netlist = [0u8; FILE_LIMIT + 1];
     let mut out = [0u8; LONGEST_TEXT];
     let mut tables = Tables::new();
-    let bytes = program_files::read(&rt, b"netlist.txt", &mut netlist);
+    let bytes = program::files::read(&rt, b"netlist.txt", &mut netlist);
     let n = report(&mut out, &netlist[..bytes], &mut tables);
     io::writer(&rt).write_all(&out[..n])
 }

@@ -1,15 +1,15 @@
 #![tactic(auto)]
 
-// *run*: reads netlist.txt and inputs.txt, whose entries are bits, and prints the netlist's output bits, or the question that
-// refuses it.
+// *run*: reads netlist.txt and inputs.txt, whose entries are bits, and prints the netlist's output bits, or the
+// question that refuses it.
 ghost use Rattle.std.specs.Prelude.{◌+◌, ◌*◌, ◌≤◌, length};
-ghost use Rattle.netlist.specs.Programs.{print_run, run_program};
+ghost use Rattle.program.specs.Programs.{print_run, run_program};
 ghost use Rattle.netlist.specs.Services.{outcome_of};
-ghost use Rattle.program_text.specs.Front.{Front, Counted, Answered};
+ghost use Rattle.program.specs.Front.{Front, Counted, Answered};
 ghost use Rattle.cli_run.specs.Report.{outcome};
 
-use netlist::{Answer, Question, Sizes};
-use program_text::{FILE_LIMIT, LARGE_TABLE};
+use netlist::{Answer, Refusal, Sizes};
+use program::lines::{FILE_LIMIT, LARGE_TABLE};
 use std::io;
 use std::io::Write;
 
@@ -43,28 +43,28 @@ fn answer(
     ensures { Answered (outcome netlist.now inputs.old) bits.new result }
 {
     if FILE_LIMIT < netlist.len() {
-        return Err(Question::Length);
+        return Err(Refusal::Length);
     }
     run::run(
         netlist,
-        program_text::list(inputs),
+        program::lines::list(inputs),
         bits,
         &mut tables.operands,
         &mut tables.results,
         &mut tables.marks,
         &mut tables.words,
-        Sizes::Old,
+        Sizes::Standard,
     )
 }
 
 // The line that an answer prints.
-fn print(out: &mut [u8], bits: &[u8], a: Answer) -> usize
-    requires { Counted bits.now a × (3 * length bits.now + 64 ≤ length out.old) }
-    ensures { Front out.new result (print_run (outcome_of bits.now a)) }
+fn print(out: &mut [u8], bits: &[u8], answer: Answer) -> usize
+    requires { Counted bits.now answer × (3 * length bits.now + 64 ≤ length out.old) }
+    ensures { Front out.new result (print_run (outcome_of bits.now answer)) }
 {
-    match a {
-        Ok(n) => program_text::digits(out, &bits[..n]),
-        Err(question) => program_text::refused(out, question),
+    match answer {
+        Ok(n) => program::lines::digits(out, &bits[..n]),
+        Err(question) => program::lines::refused(out, question),
     }
 }
 
@@ -89,8 +89,8 @@ fn main(rt: HostRuntime) -> io::Result<()> {
     let mut bits = [0u8; LARGE_TABLE];
     let mut tables = Tables::new();
     let mut out = [0u8; FILE_LIMIT];
-    let bytes = program_files::read(&rt, b"netlist.txt", &mut netlist);
-    let entries = program_files::read(&rt, b"inputs.txt", &mut inputs);
+    let bytes = program::files::read(&rt, b"netlist.txt", &mut netlist);
+    let entries = program::files::read(&rt, b"inputs.txt", &mut inputs);
     let n = report(
         &mut out,
         &netlist[..bytes],

@@ -1,3 +1,5 @@
--- The laws of the conversion.
-pub mod OldEntries
 pub mod Converting
+pub mod FromOldPromised
+pub mod OldEntries
+pub mod RewritePromised
+pub mod ToOldPromised

@@ -1,2 +1,4 @@
--- What the contracts of the conversion cite.
 pub mod Convert
+pub mod FromOldPromise
+pub mod RewritePromise
+pub mod ToOldPromise

@@ -1,32 +1,35 @@
-// A netlist from a text in one dialect to its written form in another. Questions 1 to 9 with the large limits, 15 where the result
-// is in the older dialect, and 14. The tables stay parameters of their own: C lends them one by one, and a struct of `&mut` slices would have
-// to promise at each call that it still holds them.
+//! A netlist from a text in one dialect to its written form in another. Questions 1 to 9 with the large limits, 15
+//! where the result is in the older dialect, and 14.
 #![tactic(auto)]
 
+pub mod from_old;
 mod question;
+pub mod rewrite;
+pub mod to_old;
 
 ghost use Rattle.std.specs.Prelude.{length};
 ghost use Rattle.netlist.specs.Outcome.{ask};
 ghost use Rattle.netlist.specs.Services.{delivered, Answers};
-ghost use Rattle.gate_table.specs.Gates.{gates_in};
+ghost use Rattle.gates.specs.Gates.{gates_in};
 ghost use Rattle.write_netlist.specs.Text.{text_of};
 ghost use Rattle.convert.specs.Convert.{call, has_form, Converts};
 
 use crate::question::has_form;
-use gate_table::Gates;
-use netlist::{Answer, Question, Sizes};
-use old_form::Dialect;
+use dialect::Dialect;
+use gates::Gates;
+use netlist::{Answer, Refusal, Sizes};
 use write_netlist::form::Form;
 
 // Question 15, and then 14 and the text.
-fn write(out: &mut [u8], f: Form) -> Answer
-    ensures { let F = f.entry in Answers (ask 15 (has_form F.dialect (gates_in F.gates) (length F.ins.now) (length F.outs.now))
+fn write(out: &mut [u8], form: Form) -> Answer
+    ensures { let F = form.entry
+        in Answers (ask 15 (has_form F.dialect (gates_in F.gates) (length F.ins.now) (length F.outs.now))
         (delivered (length out.old) (text_of F))) out.old out.new result }
 {
-    if !has_form(f.gates, f.ins.len(), f.outs.len(), f.dialect) {
-        return Err(Question::OldForm);
+    if !has_form(form.gates, form.ins.len(), form.outs.len(), form.dialect) {
+        return Err(Refusal::OldForm);
     }
-    write_netlist::deliver(out, f)
+    write_netlist::deliver(out, form)
 }
 
 // The answer, with tables that are still to be cleared. None is lent but the reader's own.
@@ -45,7 +48,7 @@ fn answer(
 {
     let mut inputs = [0u32; 17];
     let mut outputs = [0u32; 16];
-    let h = read_netlist::read::read_in(
+    let h = reader::whole::read_in(
         text,
         &mut inputs,
         &mut outputs,
@@ -53,7 +56,7 @@ fn answer(
         results,
         marks,
         &[],
-        sizes.large(),
+        sizes.masked_limits(),
         from,
     )?;
     let gates = Gates {
@@ -71,7 +74,8 @@ fn answer(
     write(out, f)
 }
 
-// The netlist of a text in one dialect, written in the other at the front of `out`. The tables, of any content, are zero on return.
+/// The netlist of a text in one dialect, written in the other at the front of `out`. The tables, of any content, are
+/// zero on return.
 pub fn convert(
     text: &[u8],
     out: &mut [u8],

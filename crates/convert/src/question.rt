@@ -1,12 +1,12 @@
-// Question 15: whether a netlist has a form in a dialect.
+//! Question 15: whether a netlist has a form in a dialect.
 ghost use Rattle.std.specs.Prelude.{◌≤◌, ◌≡◌, length};
 ghost use Rattle.netlist.specs.Lists.{every};
-ghost use Rattle.gate_table.specs.Gates.{gates_in};
+ghost use Rattle.gates.specs.Gates.{gates_in};
 ghost use Rattle.convert.specs.Convert.{old_entry, has_form};
 
-use gate_table::{Gates, Kind};
-use halves::unpack;
-use old_form::Dialect;
+use dialect::Dialect;
+use gates::halves::unpack;
+use gates::{Gates, Kind};
 
 // Whether an entry is that of XOR, AND or INV.
 fn is_old_entry(res: u64) -> bool
@@ -23,8 +23,8 @@ fn old_entries(results: &[u64]) -> bool
     results.iter().all(|r| is_old_entry(*r))
 }
 
-// The question as a dialect puts it, of gates and so many values. In the older dialect there is no EQ or EQW, and there are at most two
-// input values and at most one output value.
+/// The question as a dialect puts it, of gates and so many values. In the older dialect there is no EQ or EQW, and
+/// there are at most two input values and at most one output value.
 pub fn has_form(gates: Gates, inputs: usize, outputs: usize, to: Dialect) -> bool
     requires { gates.count ≤ length gates.results.now }
     ensures { result ≡ has_form to (gates_in gates.entry) inputs outputs }

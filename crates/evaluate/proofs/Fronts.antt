@@ -6,7 +6,7 @@ use Prim.Native.Nat.{ℕ, ◌+◌, ◌≤◌}
 use native.Mathlib.Omega.{arith}
 use lib.ListN.{length, get_or, drop, length-map, get_or-map}
 use lib.Seq.{sets, sets-eq}
-use Rattle.netlist.specs.Leak.{bit}
+use Rattle.netlist.specs.Eval.{bit}
 
 front-eq : (s d : List ℕ) → length s ≤ length d → sets d 0 s ≡ s ++ drop (length s) d
 front-eq s d h =
@@ -14,7 +14,8 @@ front-eq s d h =
     sets-eq s d 0 (omega arith) ∙ ap (λ (k : ℕ). s ++ drop k d) e
 
 -- what a copy over the front leaves
-pub copied-front : (s d : List ℕ) {n : ℕ} {x : List ℕ} → x ≡ s → n ≡ length s → length s ≤ length d → x ++ drop n d ≡ sets d 0 s
+pub copied-front : (s d : List ℕ) {n : ℕ} {x : List ℕ} → x ≡ s → n ≡ length s → length s ≤ length d → x ++ drop n d
+    ≡ sets d 0 s
 copied-front s d e l h = rw (e, l) (sym (front-eq s d h))
 
 -- a list's bits, as a test has them

@@ -7,12 +7,11 @@ use lib.Dec.{T, eqb, ltb, ltb→lt}
 use lib.Bits.{bit_and, bit_xor, differ, and_step, xor_step, and_mask}
 use lib.Pow.{shr-shr}
 use mir.Val.{bool_byte}
-use Rattle.netlist.specs.Eval.{differs}
-use Rattle.netlist.specs.Leak.{bit}
+use Rattle.netlist.specs.Eval.{differs, bit}
 use Rattle.netlist.specs.Lists.{below}
 use Rattle.netlist.proofs.Tests.{both}
 use Rattle.evaluate.specs.Lane.{lane}
-use Rattle.netlist.proofs.Codes.{below_at, same, same-eq}
+use Rattle.netlist.proofs.EachNumber.{below_at, same, same-eq}
 
 -- an operation on words that works digit by digit, as f does on digits and g on bits
 module _ (op f : ℕ → ℕ → ℕ) (g : Bool → Bool → Bool)
@@ -22,7 +21,8 @@ module _ (op f : ℕ → ℕ → ℕ) (g : Bool → Bool → Bool)
   digits a b =
       let x = a % 2 in
       let y = b % 2 in
-      let row = below_at 2 (λ x. below 2 (λ y. ltb (f x y) 2 && same (eqb (f x y) 1) (g (eqb x 1) (eqb y 1)))) agree x (omega arith) in
+      let row = below_at 2 (λ x. below 2 (λ y. ltb (f x y) 2 && same (eqb (f x y) 1) (g (eqb x 1) (eqb y 1)))) agree x
+      (omega arith) in
       let p = both (ltb (f x y) 2) (same (eqb (f x y) 1) (g (eqb x 1) (eqb y 1)))
       (below_at 2 (λ y. ltb (f x y) 2 && same (eqb (f x y) 1) (g (eqb x 1) (eqb y 1))) row y (omega arith)) in
       (ltb→lt (f x y) 2 p.0, same-eq (eqb (f x y) 1) (g (eqb x 1) (eqb y 1)) p.1)

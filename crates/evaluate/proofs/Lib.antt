@@ -1,7 +1,6 @@
--- Laws that several proofs cite.
+pub mod Fronts
 pub mod Lanes
 pub mod Made
+pub mod Runs
 pub mod Steps
 pub mod Words
-pub mod Fronts
-pub mod Runs

@@ -3,12 +3,11 @@ use mathlib.Core.Path.{◌≡◌, ap, ap₂, ◌∙◌}
 use mathlib.Core.Bool.{Bool, true, false, ◌&&◌}
 use Prim.Native.Nat.{ℕ, ◌*◌, ◌/◌, ◌-◌, ◌^◌, ◌<◌}
 use lib.Bits.{bit_and, bit_xor}
-use Rattle.netlist.specs.Eval.{differs}
-use Rattle.netlist.specs.Leak.{bit}
+use Rattle.netlist.specs.Eval.{differs, bit}
 use Rattle.netlist.specs.Table.{made_of}
 use Rattle.evaluate.specs.Lane.{lane}
 use Rattle.evaluate.specs.Form.{factor_of, term_of}
-use Rattle.netlist.proofs.Codes.{same-below}
+use Rattle.netlist.proofs.EachNumber.{same-below}
 use Rattle.evaluate.proofs.Lanes.{lane_and, lane_xor, lane-zero, bit-low}
 
 lane-spread : (j : ℕ) → j < 64 → (b : Bool) → lane j (bit b * (2 ^ 64 - 1)) ≡ b
@@ -32,4 +31,5 @@ row-law false false = same-below 8 (row false false) (λ k. made_of k false fals
 pub made-law : (k a b j x y : ℕ) → k < 8 → lane j x ≡ factor_of k (lane j b) → lane j y ≡ term_of k (lane j b)
     → lane j (bit_xor (bit_and a x) y) ≡ made_of k (lane j a) (lane j b)
 made-law k a b j x y l ex ey =
-    lane_xor j (bit_and a x) y ∙ ap₂ differs (lane_and j a x ∙ ap (λ (f : Bool). lane j a && f) ex) ey ∙ row-law (lane j a) (lane j b) k l
+    lane_xor j (bit_and a x) y ∙ ap₂ differs (lane_and j a x ∙ ap (λ (f : Bool). lane j a && f) ex) ey
+    ∙ row-law (lane j a) (lane j b) k l

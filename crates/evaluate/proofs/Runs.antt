@@ -8,8 +8,7 @@ use lib.ListN.{length, get_or, take, drop, replicate, length-map, length-drop, d
 use lib.Seq.{sets, length-sets, length-take-le, take_all, get_or-drop}
 use borrow.Rule.Slice.PartMut.{put_mid, mid_of, mid_len, Post-is}
 use Rattle.netlist.specs.Netlist.{Netlist}
-use Rattle.netlist.specs.Eval.{run_gates, wire_bits, outputs_of}
-use Rattle.netlist.specs.Leak.{bit}
+use Rattle.netlist.specs.Eval.{run_gates, wire_bits, outputs_of, bit}
 use Rattle.netlist.specs.Services.{is_one, bools, output_list}
 use Rattle.netlist.specs.Table.{Tables, gates_of, Holds}
 use Rattle.netlist.proofs.Answering.{take-sets}
@@ -33,25 +32,30 @@ lanes-bits : (bs : List Bool) → lanes 0 (map bit bs) ≡ bs
 lanes-bits [] = refl
 lanes-bits (b ∷ bs) = ap₂ (λ (x : Bool) (l : List Bool). x ∷ l) (lane-bit b) (lanes-bits bs)
 
--- the words behind the inputs are set to zero, and the gates run
-module _ (t : Tables) (n ins : ℕ) (ws zs us : List ℕ) (room : ins ≤ length ws) (cleared : zs ≡ replicate (length (mid_of ins (length ws - ins) ws)) 0)
+-- the words after the inputs are set to zero, and the gates run
+module _ (t : Tables) (n ins : ℕ) (ws zs us : List ℕ) (room : ins ≤ length ws)
+    (cleared : zs ≡ replicate (length (mid_of ins (length ws - ins) ws)) 0)
   where
     start : put_mid ins (length ws - ins) ws zs ≡ take ins ws ++ replicate (length ws - ins) 0
     start =
         let e : drop (length ws) ws ≡ [] = drop_of_length-le ws {i = length ws} (omega arith) in
         let m = mid_len ins (length ws) ws (omega arith) in
-        ap₂ (λ (z r : List ℕ). take ins ws ++ (z ++ r)) (cleared ∙ ap (λ (k : ℕ). replicate k 0) m) (Post-is ins (length ws) ws room ∙ e)
+        ap₂ (λ (z r : List ℕ). take ins ws ++ (z ++ r)) (cleared ∙ ap (λ (k : ℕ). replicate k 0) m)
+        (Post-is ins (length ws) ws room ∙ e)
         ∙ ap (λ (z : List ℕ). take ins ws ++ z) (append-nil (replicate (length ws - ins) 0))
 
     pub wires-law : (j : ℕ) → lanes j us ≡ run_gates (lanes j (put_mid ins (length ws - ins) ws zs)) (gates_of t n)
         → lanes j us ≡ wire_bits (bare t n (length ws)) (lanes j (take ins ws))
     unfolding wire_bits
     wires-law j ran =
-        let long : length (lanes j (take ins ws)) ≡ ins = length-map (take ins ws) (lane j) ∙ length-take-le ins ws room in
-        rw long (ran ∙ ap (λ (v : List Bool). run_gates v (gates_of t n)) (ap (lanes j) start ∙ lanes-zeros j (take ins ws) (length ws - ins)))
+        let long : length (lanes j (take ins ws)) ≡ ins = length-map (take ins ws) (lane j) ∙ length-take-le ins ws room
+        in
+        rw long (ran ∙ ap (λ (v : List Bool). run_gates v (gates_of t n))
+        (ap (lanes j) start ∙ lanes-zeros j (take ins ws) (length ws - ins)))
 
 -- the header of a netlist does not matter to its wires
-pub bare-wires : {t : Tables} {m W n o : ℕ} {N : Netlist} → Holds t m W n o N → (x : List Bool) → wire_bits (bare t m W) x ≡ wire_bits N x
+pub bare-wires : {t : Tables} {m W n o : ℕ} {N : Netlist} → Holds t m W n o N → (x : List Bool)
+    → wire_bits (bare t m W) x ≡ wire_bits N x
 unfolding wire_bits
 bare-wires h x = rw (h.gates, h.wires)
 
@@ -61,7 +65,8 @@ last o us = mid_of (length us - o) (length us - (length us - o)) us
 
 -- a list laid over the words, and the run
 module _ (ws list laid us : List ℕ) {t : Tables} {n m o : ℕ} {N : Netlist} (h : Holds t n (length ws) m o N)
-    (front : laid ≡ sets ws 0 list) (fits : length list ≤ length ws) (long : length us ≡ length ws) (room : o ≤ length ws) where
+    (front : laid ≡ sets ws 0 list) (fits : length list ≤ length ws) (long : length us ≡ length ws)
+    (room : o ≤ length ws) where
   last-long : length (last o us) ≡ o
   last-long = mid_len (length us - o) (length us) us (omega arith) ∙ omega arith
 
@@ -74,10 +79,12 @@ module _ (ws list laid us : List ℕ) {t : Tables} {n m o : ℕ} {N : Netlist} (
       → lanes j (last o us) ≡ outputs_of N (lanes j list)
   unfolding outputs_of
   outputs-law j ran =
-      let in_all : wire_bits (bare t n (length laid)) (lanes j (take (length list) laid)) ≡ wire_bits (bare t n (length ws)) (lanes j list) =
+      let in_all : wire_bits (bare t n (length laid)) (lanes j (take (length list) laid))
+      ≡ wire_bits (bare t n (length ws)) (lanes j list) =
       ap₂ (λ (k : ℕ) (x : List ℕ). wire_bits (bare t n k) (lanes j x)) (ap length front ∙ length-sets ws 0 list)
       (ap (take (length list)) front ∙ take-sets list ws fits) in
-      let out : drop (length ws - o) (wire_bits N (lanes j list)) ≡ outputs_of N (lanes j list) = rw (h.wires, h.outs) in
+      let out : drop (length ws - o) (wire_bits N (lanes j list)) ≡ outputs_of N (lanes j list)
+      = rw (h.wires, h.outs) in
       ap (lanes j) last-drop ∙ lanes-drop j (length us - o) us
       ∙ ap₂ (λ (k : ℕ) (v : List Bool). drop (k - o) v) long (ran ∙ in_all ∙ bare-wires h (lanes j list)) ∙ out
 
@@ -87,7 +94,8 @@ module _ (ws list laid us : List ℕ) {t : Tables} {n m o : ℕ} {N : Netlist} (
       → copied ≡ last o us → copied ≡ output_words N list
   wide-law copied fits ran e =
       e ∙ words-known N list (last o us) (last-long ∙ sym h.outs)
-      (λ i l. rw (last-drop, get_or-drop (length us - o) us i 0) (fits (length us - o + i))) (λ j l. outputs-law j (ran j l))
+      (λ i l. rw (last-drop, get_or-drop (length us - o) us i 0) (fits (length us - o + i)))
+      (λ j l. outputs-law j (ran j l))
 
 -- one run, on the bits of a list, in lane 0
 pub single-law : (ws bits laid us out : List ℕ) {t : Tables} {n m o : ℕ} {N : Netlist} → Holds t n (length ws) m o N
@@ -96,6 +104,8 @@ pub single-law : (ws bits laid us out : List ℕ) {t : Tables} {n m o : ℕ} {N 
     → out ≡ map bit (lanes 0 (last o us)) → out ≡ output_list N bits
 single-law ws bits laid us out {t} {n} {N = N} h front fits long room ran e =
     let k = bits-long is_one bits in
-    let ran_bits : lanes 0 us ≡ wire_bits (bare t n (length laid)) (lanes 0 (take (length (map bit (bools bits))) laid)) = rw k ran in
+    let ran_bits : lanes 0 us ≡ wire_bits (bare t n (length laid)) (lanes 0 (take (length (map bit (bools bits))) laid))
+    = rw k ran in
     e ∙ ap (map bit)
-    (outputs-law ws (map bit (bools bits)) laid us h front (omega arith) long room 0 ran_bits ∙ ap (outputs_of N) (lanes-bits (bools bits)))
+    (outputs-law ws (map bit (bools bits)) laid us h front (omega arith) long room 0 ran_bits
+    ∙ ap (outputs_of N) (lanes-bits (bools bits)))

@@ -11,8 +11,7 @@ use lib.Pow.{pow_pos}
 use lib.ListN.{length, get_or, length-map, get_or-map}
 use lib.Seq.{ext_get_or}
 use Rattle.netlist.specs.Netlist.{Netlist, output_bits}
-use Rattle.netlist.specs.Eval.{outputs_of}
-use Rattle.netlist.specs.Leak.{bit}
+use Rattle.netlist.specs.Eval.{outputs_of, bit}
 use Rattle.evaluate.specs.Lane.{lane, lanes, word, up_to, output_words}
 use Rattle.evaluate.proofs.Lanes.{lane-zero}
 
@@ -37,7 +36,8 @@ word_lanes (suc k) w =
 pub word_same : (k : ℕ) (f g : ℕ → Bool) → ((j : ℕ) → j < k → f j ≡ g j) → word k f ≡ word k g
 word_same zero f g h = refl
 word_same (suc k) f g h =
-    ap₂ (λ (b : Bool) (w : ℕ). bit b + 2 * w) (h 0 (omega arith)) (word_same k (λ j. f (suc j)) (λ j. g (suc j)) (λ j l. h (suc j) (omega arith)))
+    ap₂ (λ (b : Bool) (w : ℕ). bit b + 2 * w) (h 0 (omega arith))
+    (word_same k (λ j. f (suc j)) (λ j. g (suc j)) (λ j l. h (suc j) (omega arith)))
 
 -- a word of 64 bits is known by its lanes
 pub word-known : (w : ℕ) (f : ℕ → Bool) → w < 2 ^ 64 → ((j : ℕ) → j < 64 → lane j w ≡ f j) → w ≡ word 64 f
@@ -55,7 +55,8 @@ bit_high false w = omega arith
 pub lane_word : (k : ℕ) (f : ℕ → Bool) (j : ℕ) → j < k → lane j (word k f) ≡ f j
 lane_word zero f j h = absurd (omega arith)
 lane_word (suc k) f zero h = bit-low (f 0) (word k (λ j. f (suc j)))
-lane_word (suc k) f (suc j) h = ap (lane j) (bit_high (f 0) (word k (λ j. f (suc j)))) ∙ lane_word k (λ j. f (suc j)) j (omega arith)
+lane_word (suc k) f (suc j) h = ap (lane j) (bit_high (f 0) (word k (λ j. f (suc j)))) ∙ lane_word k (λ j. f (suc j)) j
+    (omega arith)
 
 length-up_to : (n : ℕ) (f : ℕ → ℕ) → length (up_to n f) ≡ n
 length-up_to zero f = refl
@@ -71,7 +72,8 @@ lanes_at : (j : ℕ) (ws : List ℕ) (i : ℕ) → get_or (lanes j ws) i false �
 lanes_at j ws i = rw (← lane-zero j) (get_or-map (lane j) ws i 0)
 
 -- words whose lanes are those of the runs are the output words
-pub words-known : (N : Netlist) (list ws : List ℕ) → length ws ≡ output_bits N → ((i : ℕ) → i < length ws → get_or ws i 0 < 2 ^ 64)
+pub words-known : (N : Netlist) (list ws : List ℕ) → length ws ≡ output_bits N
+    → ((i : ℕ) → i < length ws → get_or ws i 0 < 2 ^ 64)
     → ((j : ℕ) → j < 64 → lanes j ws ≡ outputs_of N (lanes j list)) → ws ≡ output_words N list
 unfolding output_words
 words-known N list ws long fits each =
@@ -86,12 +88,14 @@ unfolding output_words
 length-output_words N list = length-up_to (output_bits N) _
 
 -- and the other way round
-pub lanes-output_words : (N : Netlist) (list : List ℕ) (j : ℕ) → j < 64 → length (outputs_of N (lanes j list)) ≡ output_bits N
+pub lanes-output_words : (N : Netlist) (list : List ℕ) (j : ℕ) → j < 64 → length (outputs_of N (lanes j list))
+    ≡ output_bits N
     → lanes j (output_words N list) ≡ outputs_of N (lanes j list)
 unfolding output_words
 lanes-output_words N list j l long =
     let f : ℕ → ℕ = λ i. word 64 λ j. get_or (outputs_of N (lanes j list)) i false in
-    let n : length (lanes j (up_to (output_bits N) f)) ≡ output_bits N = length-map (up_to (output_bits N) f) (lane j) ∙ length-up_to (output_bits N) f in
+    let n : length (lanes j (up_to (output_bits N) f)) ≡ output_bits N = length-map (up_to (output_bits N) f) (lane j)
+    ∙ length-up_to (output_bits N) f in
     ext_get_or false (lanes j (up_to (output_bits N) f)) (outputs_of N (lanes j list)) (n ∙ sym long)
     (λ i h. lanes_at j (up_to (output_bits N) f) i ∙ ap (lane j) (up_to-at (output_bits N) f i (omega arith))
     ∙ lane_word 64 (λ j. get_or (outputs_of N (lanes j list)) i false) j l)

@@ -2,8 +2,8 @@
 use Rattle.std.specs.Prelude.{ℕ, []}
 use Rattle.netlist.specs.Netlist.{Netlist}
 use Rattle.netlist.specs.Table.{Tables, gates_of}
-use Rattle.gate_table.specs.declared.Gates.{Gates}
-use Rattle.gate_table.specs.Gates.{tables_of}
+use Rattle.gates.specs.declared.Gates.{Gates}
+use Rattle.gates.specs.Gates.{tables_of}
 
 -- the tables' first n gates on W wires; the widths of its values do not matter to its wires' bits
 abbrev pub bare : Tables → ℕ → ℕ → Netlist

@@ -1,8 +1,7 @@
 -- Sixty-four settings in one word: bit j of each word, its lane j, belongs to setting j.
 use Rattle.std.specs.Prelude.{ℕ, zero, suc, ◌+◌, ◌*◌, ◌/◌, ◌%◌, Bool, false, List, [], ◌∷◌, map, eqb, get_or}
 use Rattle.netlist.specs.Netlist.{Netlist, output_bits}
-use Rattle.netlist.specs.Eval.{outputs_of}
-use Rattle.netlist.specs.Leak.{bit}
+use Rattle.netlist.specs.Eval.{outputs_of, bit}
 
 -- bit j of a number
 abbrev pub lane : ℕ → ℕ → Bool

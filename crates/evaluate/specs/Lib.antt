@@ -1,4 +1,3 @@
--- What the evaluator's contracts cite.
-pub mod Lane
-pub mod Form
 pub mod Bare
+pub mod Form
+pub mod Lane

@@ -1,10 +1,10 @@
-// A list told entry by entry into a table with a place for each.
+//! A list told entry by entry into a table with a place for each.
 ghost use Rattle.std.specs.Prelude.{◌≡◌, ℕ, ◌<◌, map, length, get_or};
-ghost use Rattle.netlist.specs.Leak.{bit};
+ghost use Rattle.netlist.specs.Eval.{bit};
 ghost use Rattle.netlist.specs.Services.{is_one, bools};
 ghost use Rattle.evaluate.specs.Lane.{lane, lanes};
 
-// What `f` makes of each entry, in its place of the table.
+/// What `f` makes of each entry, in its place of the table.
 pub fn each<A: Copy, B: Copy, F: Fn(A) -> B>(src: &[A], dst: &mut [B], f: F)
     requires long { length dst.old ≡ length src.now }
     requires callable { F.IsAlwaysCallable f }
@@ -16,20 +16,20 @@ pub fn each<A: Copy, B: Copy, F: Fn(A) -> B>(src: &[A], dst: &mut [B], f: F)
 }
 
 // A bit as a word that holds it in lane 0.
-fn word(b: u8) -> u64
-    ensures { result ≡ bit (is_one b) }
+fn word(byte: u8) -> u64
+    ensures { result ≡ bit (is_one byte) }
 {
-    u64::from(b == 1)
+    u64::from(byte == 1)
 }
 
 // Lane 0 of a word, as a bit.
-fn low_bit(w: u64) -> u8
-    ensures { result ≡ bit (lane 0 w) }
+fn low_bit(word: u64) -> u8
+    ensures { result ≡ bit (lane 0 word) }
 {
-    (w & 1) as u8
+    (word & 1) as u8
 }
 
-// Bits as words that hold them in lane 0.
+/// Bits as words that hold them in lane 0.
 pub fn bits(src: &[u8], dst: &mut [u64])
     requires { length dst.old ≡ length src.now }
     ensures { dst.new ≡ map bit (bools src.now) }
@@ -37,7 +37,7 @@ pub fn bits(src: &[u8], dst: &mut [u64])
     each(src, dst, word);
 }
 
-// Lane 0 of words, as bits.
+/// Lane 0 of words, as bits.
 pub fn low_bits(src: &[u64], dst: &mut [u8])
     requires { length dst.old ≡ length src.now }
     ensures { dst.new ≡ map bit (lanes 0 src.now) }

@@ -1,5 +1,5 @@
-// The evaluator of netlists whose gates lie in tables. A wire's value is a word, whose bit j (its
-// lane j) belongs to setting j: one pass over the gates is sixty-four runs.
+//! The evaluator of netlists whose gates lie in tables. A wire's value is a word, whose bit j (its
+//! lane j) belongs to setting j: one pass over the gates is sixty-four runs.
 #![tactic(auto)]
 
 pub mod gate;
@@ -9,15 +9,14 @@ pub mod wide;
 
 ghost use Rattle.std.specs.Prelude.{◌≡◌, ℕ, ◌≤◌, ◌<◌, length, take};
 ghost use Rattle.netlist.specs.Eval.{run_gates, wire_bits};
-ghost use Rattle.gate_table.specs.Gates.{WiredGates, gates_in};
+ghost use Rattle.gates.specs.Gates.{WiredGates, gates_in};
 ghost use Rattle.evaluate.specs.Lane.{lanes};
 ghost use Rattle.evaluate.specs.Bare.{bare_of};
 
-use gate_table::Gates;
+use gates::Gates;
 
-// Runs the gates on the wires' words, each lane for itself. A gate's entries are taken
-// apart a turn before its step: so it is compiled to fewer instructions. By number: a `zip` of the two tables, each cut to the count, would be
-// longer than `gates.at(i)`.
+// Runs the gates on the wires' words, each lane for itself. A gate's entries are taken apart a turn before its step: so
+// it is compiled to fewer instructions.
 fn run(gates: Gates, words: &mut [u64])
     requires { WiredGates gates (length words.old) }
     ensures { (j : ℕ) → j < 64 → lanes j words.new ≡ run_gates (lanes j words.old) (gates_in gates.entry) }
@@ -33,8 +32,8 @@ fn run(gates: Gates, words: &mut [u64])
     gate::step(words, next);
 }
 
-// The words of all wires, from those of the input wires, which are the first; what the others held
-// before does not matter.
+/// The words of all wires, from those of the input wires, which are the first; what the others held
+/// before does not matter.
 pub fn wires(gates: Gates, ins: usize, words: &mut [u64])
     requires wired { WiredGates gates (length words.old) }
     requires ins_in_bounds { ins ≤ length words.old }

@@ -1,5 +1,5 @@
--- The source under a choice: a netlist that questions 4 to 9 admit and that computes the same, and codes that question 11 of Mask
--- admits. So all that holds of Mask holds of it, with the source's outputs.
+-- The source under a choice: a netlist that questions 4 to 9 admit and that computes the same, and codes that question
+-- 11 of Mask admits. So all that holds of Mask holds of it, with the source's outputs.
 use Prim.Native.Nat.{ℕ, zero, suc, ◌+◌, ◌<◌}
 use mathlib.Core.Path.{◌≡◌, refl, ap, ap₂, ◌∙◌}
 use mathlib.Core.Bool.{Bool, true, false, ◌&&◌}
@@ -12,15 +12,18 @@ use Rattle.netlist.specs.declared.Gate.{Gate}
 use Rattle.netlist.specs.declared.Gate.TheVariants.{Xor, And, Inv, Eqw, Eq}
 use Rattle.netlist.specs.Lists.{every}
 use Rattle.netlist.specs.Netlist.{Netlist, input_bits, output_bits, result}
-use Rattle.netlist.specs.Eval.{made, bits_at, run_gates, wire_bits, outputs_of}
+use Rattle.netlist.specs.Eval.{differs, made, bits_at, run_gates, wire_bits, outputs_of}
 use Rattle.netlist.specs.Read.{operands_given, is_given, result_good, gates_good, WellFormed, Within}
-use Rattle.netlist.specs.Mask.{is_input_code, is_wanted}
-use Rattle.netlist.specs.Unmask.{Unmasks}
-use Rattle.netlist.specs.Leak.{Clean}
+use Rattle.masking.specs.Mask.{is_input_code, is_wanted, no_twin, finish}
+use Rattle.masking.specs.Unmask.{Unmasks}
+use Rattle.masking.specs.Leak.{mask_of, Clean}
+use Rattle.masking.specs.Twins.{Twins}
 use Rattle.netlist.proofs.Tests.{both, pair, on_bool}
-use Rattle.netlist.proofs.MaskInputs.{MaskInputs}
-use Rattle.netlist.proofs.Masking.{outputs-unmask, counts-equal}
-use Rattle.fewest.specs.Choice.{Choice, is_call_code, is_free, input_ways, ways, chosen_code, chosen_codes, chosen_gate, chosen_gates, chosen_source, chosen_inputs, Takes}
+use Rattle.masking.proofs.Carried.{twins-carried}
+use Rattle.masking.proofs.MaskInputs.{MaskInputs}
+use Rattle.masking.proofs.Masking.{outputs-unmask, counts-equal}
+use Rattle.fewest.specs.Choice.{Choice, is_call_code, is_free, input_ways, ways, chosen_code, chosen_codes, chosen_gate}
+use Rattle.fewest.specs.Choice.{chosen_gates, chosen_source, chosen_inputs, Takes}
 use Rattle.fewest.specs.Fewest.{masked_under}
 
 -- what a call is handed: as Mask, with free codes
@@ -58,7 +61,8 @@ chosen-made u d (Eq v c) = refl
 
 pub chosen-given : (has : ℕ → Bool) (d : ℕ) (g : Gate) → operands_given has (chosen_gate d g) ≡ operands_given has g
 chosen-given has d (Xor a b c) = refl
-chosen-given has d (And a b c) = on-way (λ g. operands_given has g ≡ (has a && has b)) d a b c (and-swap (has b) (has a)) refl
+chosen-given has d (And a b c) = on-way (λ g. operands_given has g ≡ (has a && has b)) d a b c
+    (and-swap (has b) (has a)) refl
 chosen-given has d (Inv a c) = refl
 chosen-given has d (Eqw a c) = refl
 chosen-given has d (Eq v c) = refl
@@ -70,14 +74,17 @@ length-chosen_gates d p (g ∷ gs) = ap suc (length-chosen_gates d (suc p) gs)
 chosen-run : (d : Choice) (p : ℕ) (gs : List Gate) (v : List Bool) → run_gates v (chosen_gates d p gs) ≡ run_gates v gs
 chosen-run d p [] v = refl
 chosen-run d p (g ∷ gs) v =
-    ap₂ (λ (r : ℕ) (b : Bool). run_gates (set v r b) (chosen_gates d (suc p) gs)) (chosen-result (d p) g) (chosen-made (bits_at v) (d p) g)
+    ap₂ (λ (r : ℕ) (b : Bool). run_gates (set v r b) (chosen_gates d (suc p) gs)) (chosen-result (d p) g)
+    (chosen-made (bits_at v) (d p) g)
     ∙ chosen-run d (suc p) gs (set v (result g) (made (bits_at v) g))
 
-pub chosen-good : (d : Choice) (p n W : ℕ) (rs : List ℕ) (gs : List Gate) → gates_good n W rs (chosen_gates d p gs) ≡ gates_good n W rs gs
+pub chosen-good : (d : Choice) (p n W : ℕ) (rs : List ℕ) (gs : List Gate) → gates_good n W rs (chosen_gates d p gs)
+    ≡ gates_good n W rs gs
 chosen-good d p n W rs [] = refl
 chosen-good d p n W rs (g ∷ gs) =
     rw (chosen-given (is_given n rs) (d p) g, chosen-result (d p) g)
-    (ap (λ (t : Bool). operands_given (is_given n rs) g && result_good n W rs g && t) (chosen-good d (suc p) n W (result g ∷ rs) gs))
+    (ap (λ (t : Bool). operands_given (is_given n rs) g && result_good n W rs g && t)
+    (chosen-good d (suc p) n W (result g ∷ rs) gs))
 
 module _ (N : Netlist) (d : Choice) where
   pub chosen-wires : (x : List Bool) → wire_bits (chosen_source N d) x ≡ wire_bits N x
@@ -113,7 +120,8 @@ chosen-code d e t h =
     (λ z. let l : d < 3 = rw z at h in rw z (le→leb (d + 1) 3 (omega arith)))
     (λ z. let m = leb→le e 4 t in let n : e ≡ 4 → ⊥ = eqb-false e 4 z in rw z (le→leb e 3 (omega arith)))
 
-chosen-codes : (d : Choice) (p : ℕ) (es : List ℕ) → T (every is_call_code es) → ((i : ℕ) → i < length es → d (p + i) < input_ways (get_or es i 0))
+chosen-codes : (d : Choice) (p : ℕ) (es : List ℕ) → T (every is_call_code es)
+    → ((i : ℕ) → i < length es → d (p + i) < input_ways (get_or es i 0))
     → T (every is_input_code (chosen_codes d p es))
 chosen-codes d p [] t h = tt
 chosen-codes d p (e ∷ es) t h =
@@ -121,21 +129,25 @@ chosen-codes d p (e ∷ es) t h =
     let z : p + 0 ≡ p = omega arith in
     pair (is_input_code (chosen_code (d p) e)) (every is_input_code (chosen_codes d (suc p) es))
     (chosen-code (d p) e s.0 (rw z at (h 0 (omega arith))))
-    (chosen-codes d (suc p) es s.1 (λ i l. let y : p + suc i ≡ suc p + i = omega arith in rw y at (h (suc i) (omega arith))))
+    (chosen-codes d (suc p) es s.1 (λ i l. let y : p + suc i ≡ suc p + i = omega arith
+    in rw y at (h (suc i) (omega arith))))
 
 -- the ways of a choice's first places are those of the inputs
-pub input-ways : (es : List ℕ) (gs : List Gate) (i : ℕ) → i < length es → get_or (ways es gs) i 0 ≡ input_ways (get_or es i 0)
+pub input-ways : (es : List ℕ) (gs : List Gate) (i : ℕ) → i < length es → get_or (ways es gs) i 0
+    ≡ input_ways (get_or es i 0)
 input-ways [] gs i h = absurd (omega arith)
 input-ways (e ∷ es) gs zero h = refl
 input-ways (e ∷ es) gs (suc i) h = input-ways es gs i (omega arith)
 
-module _ {N : Netlist} {codes wanted : List ℕ} (C : CallInputs N codes wanted) (d : Choice) (t : Takes (ways codes N.gates) d) where
+module _ {N : Netlist} {codes wanted : List ℕ} (C : CallInputs N codes wanted) (d : Choice)
+    (t : Takes (ways codes N.gates) d) where
   -- Mask admits the source and the codes under a choice
   pub chosen-inputs : MaskInputs (chosen_source N d) (chosen_inputs codes d) wanted
   chosen-inputs = record {
     source = chosen-formed N d C.source;
     codes_length = length-chosen_codes d 0 codes ∙ C.codes_length;
-    codes_good = chosen-codes d 0 codes C.codes_good (λ i h. let z : 0 + i ≡ i = omega arith in rw z (rw (input-ways codes N.gates i h) at (t i (long i h))));
+    codes_good = chosen-codes d 0 codes C.codes_good (λ i h. let z : 0 + i ≡ i = omega arith
+        in rw z (rw (input-ways codes N.gates i h) at (t i (long i h))));
     wanted_length = C.wanted_length;
     wanted_good = C.wanted_good;
   }
@@ -144,12 +156,32 @@ module _ {N : Netlist} {codes wanted : List ℕ} (C : CallInputs N codes wanted)
       long i h = rw length-append (let l = length-map codes input_ways in omega arith)
 
   -- with the masks taken off its outputs are the source's
-  pub chosen-unmask : Unmasks N (chosen_inputs codes d) (masked_under N codes wanted d).netlist (masked_under N codes wanted d).codes
+  pub chosen-unmask : Unmasks N (chosen_inputs codes d) (masked_under N codes wanted d).netlist
+      (masked_under N codes wanted d).codes
   chosen-unmask m0 m1 x l = outputs-unmask chosen-inputs m0 m1 x l ∙ chosen-outputs N d x
 
   -- and each wire's count is the same for all input settings that agree in their public bits
   pub chosen-clean : Clean (masked_under N codes wanted d).netlist (chosen_inputs codes d)
   chosen-clean = counts-equal chosen-inputs
+
+  -- each source wire has the twin that the masking steps leave under the choice
+  pub chosen-twins : Twins N (chosen_inputs codes d) (masked_under N codes wanted d).netlist
+      (finish (chosen_source N d) (chosen_inputs codes d)).twins
+  chosen-twins =
+      let T = twins-carried chosen-inputs in
+      record {
+        many = T.many;
+        each = λ w l.
+            let A = T.each w l in
+            record {
+              wire = A.wire;
+              code = A.code;
+              carries = λ m0 m1 x k. A.carries m0 m1 x k
+                  ∙ ap (λ (v : List Bool). differs (bits_at v w)
+                  (mask_of m0 m1 (get_or (finish (chosen_source N d) (chosen_inputs codes d)).twins w no_twin).code))
+                  (chosen-wires N d x);
+            };
+      }
 
   pub chosen-within : {L : _} → Within L N → Within L (chosen_source N d)
   chosen-within H = record { wires = H.wires; inputs = H.inputs; outputs = H.outputs }

@@ -2,7 +2,8 @@
 use Prim.Native.Nat.{ℕ, zero, suc, ◌+◌, ◌*◌, ◌%◌, ◌≤◌, ◌<◌}
 use mathlib.Core.Path.{◌≡◌, refl, ap, ◌∙◌}
 use mathlib.Core.List.{List, [], ◌∷◌}
-use native.Mathlib.Nat.{mod-lt, mod-eq_of_lt, div-eq_of_lt, div-lt_iff_lt-mul, mul-add-div_right, mul-add-mod_self_right, mul-le-mul, suc-mul}
+use native.Mathlib.Nat.{mod-lt, mod-eq_of_lt, div-eq_of_lt, div-lt_iff_lt-mul, mul-add-div_right}
+use native.Mathlib.Nat.{mul-add-mod_self_right, mul-le-mul, suc-mul}
 use native.Mathlib.Omega.{arith}
 use lib.Dec.{T, leb, leb→le}
 use lib.ListN.{length, get_or}
@@ -11,13 +12,13 @@ use Rattle.netlist.proofs.Tests.{both}
 use Rattle.fewest.specs.Choice.{Choice, Takes, product, digits}
 
 -- the choice from the second place on
-abbrev pub behind : Choice → Choice
-behind d p = d (suc p)
+abbrev pub following : Choice → Choice
+following d p = d (suc p)
 
 -- the number of a choice
 abbrev pub number : List ℕ → Choice → ℕ
 number [] d = 0
-number (b ∷ bs) d = d 0 * product bs + number bs (behind d)
+number (b ∷ bs) d = d 0 * product bs + number bs (following d)
 
 pub product-positive : (bs : List ℕ) → T (every (leb 1) bs) → 1 ≤ product bs
 product-positive [] t = omega arith
@@ -30,7 +31,8 @@ length_digits [] j = refl
 length_digits (b ∷ bs) j = ap suc (length_digits bs (j % product bs))
 
 -- choice number j is a choice
-pub digits-take : (bs : List ℕ) → T (every (leb 1) bs) → (j : ℕ) → j < product bs → Takes bs (λ p. get_or (digits bs j) p 0)
+pub digits-take : (bs : List ℕ) → T (every (leb 1) bs) → (j : ℕ) → j < product bs
+    → Takes bs (λ p. get_or (digits bs j) p 0)
 digits-take [] t j h p l = absurd (omega arith)
 digits-take (b ∷ bs) t j h zero l =
     let s = both (leb 1 b) (every (leb 1) bs) t in
@@ -46,15 +48,18 @@ carried d b r k h l = let m : suc d * k ≤ b * k = mul-le-mul {m₁ = k} h (ome
 pub number-below : (bs : List ℕ) (d : Choice) → Takes bs d → number bs d < product bs
 number-below [] d t = omega arith
 number-below (b ∷ bs) d t =
-    carried (d 0) b (number bs (behind d)) (product bs) (t 0 (omega arith)) (number-below bs (behind d) (λ p h. t (suc p) (omega arith)))
+    carried (d 0) b (number bs (following d)) (product bs) (t 0 (omega arith))
+    (number-below bs (following d) (λ p h. t (suc p) (omega arith)))
 
 -- every choice is the one of its number
-pub digits_number : (bs : List ℕ) (d : Choice) → Takes bs d → (p : ℕ) → p < length bs → get_or (digits bs (number bs d)) p 0 ≡ d p
+pub digits_number : (bs : List ℕ) (d : Choice) → Takes bs d → (p : ℕ) → p < length bs → get_or (digits bs (number bs d))
+    p 0 ≡ d p
 digits_number [] d t p h = absurd (omega arith)
 digits_number (b ∷ bs) d t zero h =
-    let low = number-below bs (behind d) (λ p h. t (suc p) (omega arith)) in
-    mul-add-div_right (omega (arith, low)) (d 0) (number bs (behind d)) ∙ omega (arith, div-eq_of_lt low)
+    let low = number-below bs (following d) (λ p h. t (suc p) (omega arith)) in
+    mul-add-div_right (omega (arith, low)) (d 0) (number bs (following d)) ∙ omega (arith, div-eq_of_lt low)
 digits_number (b ∷ bs) d t (suc p) h =
-    let low = number-below bs (behind d) (λ p h. t (suc p) (omega arith)) in
-    ap (λ (j : ℕ). get_or (digits bs j) p 0) (mul-add-mod_self_right (d 0) (product bs) (number bs (behind d)) ∙ mod-eq_of_lt low)
-    ∙ digits_number bs (behind d) (λ p h. t (suc p) (omega arith)) p (omega arith)
+    let low = number-below bs (following d) (λ p h. t (suc p) (omega arith)) in
+    ap (λ (j : ℕ). get_or (digits bs j) p 0) (mul-add-mod_self_right (d 0) (product bs) (number bs (following d))
+    ∙ mod-eq_of_lt low)
+    ∙ digits_number bs (following d) (λ p h. t (suc p) (omega arith)) p (omega arith)

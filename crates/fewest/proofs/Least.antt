@@ -10,7 +10,8 @@ use Rattle.fewest.specs.Fewest.{FirstLeast, first_least}
 
 -- one number more
 pub least_more : (f : ℕ → ℕ) (k j : ℕ) → FirstLeast f k j → FirstLeast f (suc k) (cond (ltb (f k) (f j)) k j)
-least_more f k j F = on_bool (ltb (f k) (f j)) (λ e. rw e (less (ltb-true (f k) (f j) e))) (λ e. rw e (more (ltb-false (f k) (f j) e)))
+least_more f k j F = on_bool (ltb (f k) (f j)) (λ e. rw e (less (ltb-true (f k) (f j) e)))
+    (λ e. rw e (more (ltb-false (f k) (f j) e)))
   where
     old : (i : ℕ) → i < k → f j ≤ f i
     old = F.least
@@ -18,19 +19,22 @@ least_more f k j F = on_bool (ltb (f k) (f j)) (λ e. rw e (less (ltb-true (f k)
     less : f k < f j → FirstLeast f (suc k) k
     less h = record {
       below = omega arith;
-      least = λ i l. on_bool (eqb i k) (λ e. rw (eqb-true i k e) (omega arith)) (λ e. let n : i ≡ k → ⊥ = eqb-false i k e in let o = old i (omega arith) in omega arith);
+      least = λ i l. on_bool (eqb i k) (λ e. rw (eqb-true i k e) (omega arith))
+          (λ e. let n : i ≡ k → ⊥ = eqb-false i k e in let o = old i (omega arith) in omega arith);
       first = λ i l. let o = old i l in omega arith;
     }
 
     more : f j ≤ f k → FirstLeast f (suc k) j
     more h = record {
       below = let b = F.below in omega arith;
-      least = λ i l. on_bool (eqb i k) (λ e. rw (eqb-true i k e) h) (λ e. let n : i ≡ k → ⊥ = eqb-false i k e in old i (omega arith));
+      least = λ i l. on_bool (eqb i k) (λ e. rw (eqb-true i k e) h) (λ e. let n : i ≡ k → ⊥ = eqb-false i k e
+          in old i (omega arith));
       first = F.first;
     }
 
 -- numbers that are not less may be left out
-pub least_skip : {f : ℕ → ℕ} {k j : ℕ} (m : ℕ) → FirstLeast f k j → ((i : ℕ) → k ≤ i → i < k + m → f j ≤ f i) → FirstLeast f (k + m) j
+pub least_skip : {f : ℕ → ℕ} {k j : ℕ} (m : ℕ) → FirstLeast f k j → ((i : ℕ) → k ≤ i → i < k + m → f j ≤ f i)
+    → FirstLeast f (k + m) j
 least_skip {f} {k} {j} m F h = record {
   below = let b = F.below in omega arith;
   least = λ i l. on_bool (ltb i k) (λ e. F.least i (ltb-true i k e)) (λ e. h i (ltb-false i k e) l);

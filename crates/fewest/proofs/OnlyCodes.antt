@@ -8,10 +8,12 @@ use Rattle.netlist.specs.declared.Gate.{Gate}
 use Rattle.netlist.specs.declared.Gate.TheVariants.{Xor, And, Inv, Eqw, Eq}
 use Rattle.netlist.specs.declared.Twin.{Twin}
 use Rattle.netlist.specs.Netlist.{Netlist, input_bits, output_bits, result}
-use Rattle.netlist.specs.Mask.{is_public, input_twin, input_twins, past_public, no_twin, State, twin, result_twin, advance, advance_all, start, finish, out_twins, changed, third}
+use Rattle.masking.specs.Mask.{is_public, input_twin, input_twins, past_public, no_twin, State, twin, result_twin}
+use Rattle.masking.specs.Mask.{advance, advance_all, start, finish, out_twins, changed, third}
 use Rattle.netlist.proofs.Tests.{on_bool}
-use Rattle.mask_changes.specs.Changes.{one_change, changed_operands, output_change, changed_outputs, mask_changes}
-use Rattle.fewest.specs.Codes.{code_at, second_code, gate_code, gate_change, coded, coded_all, code_changes, input_code, first_codes, end_changes}
+use Rattle.masking.specs.Changes.{one_change, changed_operands, output_change, changed_outputs, mask_changes}
+use Rattle.fewest.specs.Codes.{code_at, second_code, gate_code, gate_change, coded, coded_all, code_changes, input_code}
+use Rattle.fewest.specs.Codes.{first_codes, end_changes}
 
 abbrev pub code_of : Twin → ℕ
 code_of t = t.code
@@ -49,7 +51,8 @@ code_same u v h (Eq k c) = refl
 state-code : (S : State) (g : Gate) → codes_of (advance S g) ≡ coded (codes_of S) g
 state-code S g =
     map-set code_of S.twins (result g) (result_twin S g)
-    ∙ ap (set (codes_of S) (result g)) (result-code S g ∙ sym (code_same (code_at (codes_of S)) (λ w. (twin S w).code) (code-at S) g))
+    ∙ ap (set (codes_of S) (result g)) (result-code S g ∙ sym
+    (code_same (code_at (codes_of S)) (λ w. (twin S w).code) (code-at S) g))
 
 state-change : (S : State) (g : Gate) → one_change S g ≡ gate_change (code_at (codes_of S)) g
 state-change S (Xor a b c) = rw (code-at S a, code-at S b)
@@ -66,15 +69,18 @@ state-codes S (g ∷ gs) = state-codes (advance S g) gs ∙ ap (λ (u : List ℕ
 pub state-changes : (S : State) (gs : List Gate) → changed_operands S gs ≡ code_changes (codes_of S) gs
 state-changes S [] = refl
 state-changes S (g ∷ gs) =
-    ap₂ (λ (a b : ℕ). a + b) (state-change S g) (state-changes (advance S g) gs ∙ ap (λ (u : List ℕ). code_changes u gs) (state-code S g))
+    ap₂ (λ (a b : ℕ). a + b) (state-change S g) (state-changes (advance S g) gs ∙ ap (λ (u : List ℕ). code_changes u gs)
+    (state-code S g))
 
 -- the start and the outputs
 input-code : (c w e : ℕ) → (input_twin c w e).code ≡ input_code e
 input-code c w e = on_bool (is_public e) (λ z. rw z refl) (λ z. rw z refl)
 
-input-codes : (c w : ℕ) (es : List ℕ) (ts : List Twin) → map code_of (input_twins c w es ++ ts) ≡ map input_code es ++ map code_of ts
+input-codes : (c w : ℕ) (es : List ℕ) (ts : List Twin) → map code_of (input_twins c w es ++ ts) ≡ map input_code es
+    ++ map code_of ts
 input-codes c w [] ts = refl
-input-codes c w (e ∷ es) ts = ap₂ (λ (x : ℕ) (l : List ℕ). x ∷ l) (input-code c w e) (input-codes (past_public c e) (w + 1) es ts)
+input-codes c w (e ∷ es) ts = ap₂ (λ (x : ℕ) (l : List ℕ). x ∷ l) (input-code c w e)
+    (input-codes (past_public c e) (w + 1) es ts)
 
 map-replicate : (k : ℕ) → map code_of (replicate k no_twin) ≡ replicate k 0
 map-replicate zero = refl
@@ -98,7 +104,8 @@ map-drop (suc k) (t ∷ ts) = map-drop k ts
 -- the changes of a masking, by codes
 pub mask-changes : (N : Netlist) (codes wanted : List ℕ)
     → mask_changes N codes wanted
-    ≡ code_changes (first_codes N codes) N.gates + end_changes (drop (N.wires - output_bits N) (coded_all (first_codes N codes) N.gates)) wanted
+    ≡ code_changes (first_codes N codes) N.gates + end_changes
+    (drop (N.wires - output_bits N) (coded_all (first_codes N codes) N.gates)) wanted
 unfolding mask_changes
 mask-changes N codes wanted =
     let s = start-codes N codes in
@@ -107,4 +114,5 @@ mask-changes N codes wanted =
     (state-changes (start N codes) N.gates ∙ ap (λ (u : List ℕ). code_changes u N.gates) s)
     (end-changes (out_twins N codes) wanted
     ∙ ap (λ (u : List ℕ). end_changes u wanted)
-    (map-drop k (finish N codes).twins ∙ ap (drop k) (state-codes (start N codes) N.gates ∙ ap (λ (u : List ℕ). coded_all u N.gates) s)))
+    (map-drop k (finish N codes).twins ∙ ap (drop k) (state-codes (start N codes) N.gates
+    ∙ ap (λ (u : List ℕ). coded_all u N.gates) s)))

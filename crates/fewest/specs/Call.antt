@@ -1,11 +1,11 @@
--- The outcome of a call (document 02, No. 12): questions 1 to 9, 11 with 0 to 4, 13, 22 and 14.
+-- The outcome of a call (docs/RULES.md, Fewest changes): questions 1 to 9, 11 with 0 to 4, 13, 22 and 14.
 use Rattle.std.specs.Prelude.{ℕ, Bool, ◌&&◌, List, [], ◌∷◌, leb}
 use Rattle.netlist.specs.declared.Limits.{Limits}
 use Rattle.netlist.specs.Netlist.{Netlist, input_bits, output_bits}
 use Rattle.netlist.specs.Outcome.{Outcome, done, ask, and_then}
 use Rattle.netlist.specs.Read.{read_netlist}
 use Rattle.netlist.specs.Write.{write_netlist}
-use Rattle.netlist.specs.Mask.{is_wanted}
+use Rattle.masking.specs.Mask.{is_wanted}
 use Rattle.netlist.specs.Services.{tables_long, list_good, holds}
 use Rattle.fewest.specs.Choice.{Choice, is_call_code, choice, chosen_inputs}
 use Rattle.fewest.specs.Fewest.{masked_under, changes_under, given, floor}
@@ -34,7 +34,8 @@ pub record Room : Type 0 where
 
 -- question 14 of the four buffers
 abbrev pub room_for : Room → Result → Bool
-room_for room R = holds room.text R.text && holds room.inputs R.inputs && holds room.outputs R.outputs && holds room.tally R.tally
+room_for room R = holds room.text R.text && holds room.inputs R.inputs && holds room.outputs R.outputs && holds
+    room.tally R.tally
 
 abbrev pub deliver : Room → Result → Outcome Result
 deliver room R = ask 14 (room_for room R) (done R)

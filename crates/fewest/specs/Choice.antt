@@ -1,5 +1,7 @@
--- The choices of a call (document 02, No. 12): a code for each free input, then written or swapped operands for each AND.
-use Rattle.std.specs.Prelude.{ℕ, suc, ◌+◌, ◌*◌, ◌/◌, ◌%◌, ◌<◌, Bool, cond, ◌≡◌, List, [], ◌∷◌, ◌++◌, map, eqb, leb, length, get_or}
+-- The choices of a call (docs/RULES.md, Fewest changes): a code for each free input, then written or swapped operands
+-- for each AND.
+use Rattle.std.specs.Prelude.{ℕ, suc, ◌+◌, ◌*◌, ◌/◌, ◌%◌, ◌<◌, Bool, cond, ◌≡◌, List, [], ◌∷◌, ◌++◌, map, eqb, leb}
+use Rattle.std.specs.Prelude.{length, get_or}
 use Rattle.netlist.specs.declared.Gate.{Gate}
 use Rattle.netlist.specs.declared.Gate.TheVariants.{Xor, And, Inv, Eqw, Eq}
 use Rattle.netlist.specs.Netlist.{Netlist, input_bits}

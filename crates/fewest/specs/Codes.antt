@@ -1,19 +1,20 @@
 -- What trying the next choice keeps: the codes of the wires alone decide the changes.
-use Rattle.std.specs.Prelude.{ℕ, suc, ◌+◌, ◌-◌, cond, List, [], ◌∷◌, ◌++◌, map, eqb, ltb, get_or, set, take, drop, replicate}
+use Rattle.std.specs.Prelude.{ℕ, suc, ◌+◌, ◌-◌, cond, List, [], ◌∷◌, ◌++◌, map, eqb, ltb, get_or, set, take, drop}
+use Rattle.std.specs.Prelude.{replicate}
 use Rattle.netlist.specs.declared.Gate.{Gate}
 use Rattle.netlist.specs.declared.Gate.TheVariants.{Xor, And, Inv, Eqw, Eq}
 use Rattle.netlist.specs.Netlist.{Netlist, input_bits, result}
-use Rattle.netlist.specs.Mask.{third, after, is_public}
-use Rattle.netlist.specs.Leak.{bit}
+use Rattle.masking.specs.Mask.{third, after, is_public}
+use Rattle.netlist.specs.Eval.{bit}
 use Rattle.fewest.specs.Choice.{Choice, chosen_gates, chosen_inputs}
 use Rattle.fewest.specs.Fewest.{twices}
-use Rattle.mask_changes.specs.Changes.{output_change}
+use Rattle.masking.specs.Changes.{output_change}
 
 -- the code of each wire
 abbrev pub code_at : List ℕ → ℕ → ℕ
 code_at u w = get_or u w 0
 
--- the second operand's code behind the mask change, if there is one
+-- the second operand's code after the mask change, if there is one
 abbrev pub second_code : ℕ → ℕ → ℕ
 second_code e f = cond (eqb e f) (third f (after f)) f
 
@@ -32,7 +33,7 @@ gate_change u (Inv a c) = 0
 gate_change u (Eqw a c) = 0
 gate_change u (Eq v c) = 0
 
--- the codes behind a gate, and behind gates
+-- the codes after a gate, and after gates
 abbrev pub coded : List ℕ → Gate → List ℕ
 coded u g = set u (result g) (gate_code (code_at u) g)
 
@@ -60,13 +61,15 @@ end_changes (e ∷ es) (w ∷ ws) = output_change e w + end_changes es ws
 
 -- the codes before gate i under a choice, and the changes of the gates before it
 abbrev pub codes_before : Netlist → List ℕ → Choice → ℕ → List ℕ
-codes_before N codes d i = coded_all (first_codes N (chosen_inputs codes d)) (chosen_gates d (input_bits N) (take i N.gates))
+codes_before N codes d i = coded_all (first_codes N (chosen_inputs codes d))
+    (chosen_gates d (input_bits N) (take i N.gates))
 
 abbrev pub changes_before : Netlist → List ℕ → Choice → ℕ → ℕ
-changes_before N codes d i = code_changes (first_codes N (chosen_inputs codes d)) (chosen_gates d (input_bits N) (take i N.gates))
+changes_before N codes d i = code_changes (first_codes N (chosen_inputs codes d))
+    (chosen_gates d (input_bits N) (take i N.gates))
 
--- so many at least under every choice that agrees before gate i: the changes before it, and one for each gate from i on that names
--- one wire twice
+-- so many at least under every choice that agrees before gate i: the changes before it, and one for each gate from i on
+-- that names one wire twice
 abbrev pub least_before : Netlist → List ℕ → Choice → ℕ → ℕ
 least_before N codes d i = changes_before N codes d i + twices (drop i N.gates)
 
@@ -74,6 +77,6 @@ least_before N codes d i = changes_before N codes d i + twices (drop i N.gates)
 abbrev pub gates_from : Netlist → Choice → ℕ → List Gate
 gates_from N d i = chosen_gates d (input_bits N + i) (drop i N.gates)
 
--- the choice behind d: place p takes its next way, and the places behind it their first
+-- the choice after d: place p takes its next way, and the places after it their first
 abbrev pub moved : Choice → ℕ → Choice
 moved d p q = cond (ltb q p) (d q) (cond (eqb q p) (suc (d p)) 0)

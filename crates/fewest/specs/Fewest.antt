@@ -1,12 +1,12 @@
--- The first choice with the fewest changes, and the floor (document 02, No. 12).
+-- The first choice with the fewest changes, and the floor (docs/RULES.md, Fewest changes).
 use Rattle.std.specs.Prelude.{ℕ, zero, suc, ◌+◌, ◌-◌, ◌≤◌, ◌<◌, min, Bool, false, cond, List, [], ◌∷◌, eqb, leb, ltb}
 use Rattle.netlist.specs.declared.Gate.{Gate}
 use Rattle.netlist.specs.declared.Gate.TheVariants.{Xor, And, Inv, Eqw, Eq}
 use Rattle.netlist.specs.Netlist.{Netlist}
-use Rattle.netlist.specs.Mask.{Masked, mask_netlist}
-use Rattle.netlist.specs.Leak.{bit}
+use Rattle.masking.specs.Mask.{Masked, mask_netlist}
+use Rattle.netlist.specs.Eval.{bit}
 use Rattle.fewest.specs.Choice.{Choice, choices, choice, chosen_source, chosen_inputs}
-use Rattle.mask_changes.specs.Changes.{mask_changes}
+use Rattle.masking.specs.Changes.{mask_changes}
 
 -- j is the first of the numbers below k at which f is least
 pub record FirstLeast (f : ℕ → ℕ) (k j : ℕ) : Type 0 where

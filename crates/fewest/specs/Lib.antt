@@ -1,6 +1,13 @@
--- Fewer mask changes (document 02, No. 12).
-pub mod Choice
-pub mod Fewest
+pub mod Advance
+pub mod Apply
 pub mod Call
-pub mod Worth
+pub mod Choice
+pub mod Coded
 pub mod Codes
+pub mod Ends
+pub mod Fewest
+pub mod Search
+pub mod Span
+pub mod Try
+pub mod Walk
+pub mod Worth

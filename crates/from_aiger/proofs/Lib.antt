@@ -1,3 +1,21 @@
--- Laws of the service.
+pub mod Adding
+pub mod AndLines
+pub mod AndLoop
+pub mod BodyLines
 pub mod Calling
+pub mod Heads
+pub mod InputLines
+pub mod KeptLines
+pub mod LineByLine
+pub mod MarkedLines
+pub mod NumberBound
+pub mod NumberLines
+pub mod OutGates
+pub mod OutLines
 pub mod PassedOver
+pub mod Places
+pub mod Placing
+pub mod Strays
+pub mod TableEnd
+pub mod WholeFile
+pub mod WholeLines

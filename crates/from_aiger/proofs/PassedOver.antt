@@ -1,4 +1,4 @@
--- Whatever stands behind the last line, and an LF, is passed over (document 02, No. 9).
+-- Whatever stands after the last line, and an LF, is passed over (docs/RULES.md, AIGER).
 use Prim.Native.Nat.{ℕ, zero, suc, ◌+◌, ◌≤◌}
 use mathlib.Core.Path.{◌≡◌, refl, sym, ap, ◌∙◌}
 use mathlib.Core.Bool.{Bool, true, false, cond, ◌&&◌}
@@ -16,15 +16,16 @@ use Rattle.netlist.specs.Netlist.{Netlist}
 use Rattle.netlist.specs.Outcome.{done}
 use Rattle.netlist.proofs.Tests.{both, pair}
 use Rattle.netlist.proofs.Questions.{none-some}
-use Rattle.read_text.specs.Line.{first_line, after_line}
+use Rattle.text.specs.Line.{first_line, after_line}
 use Rattle.aiger.specs.File.{File}
-use Rattle.aiger.specs.Lines.{file_line, file_lines, Head, head_of, lines_behind, output_line, and_form, formed, input_line, file}
+use Rattle.aiger.specs.Lines.{file_line, file_lines, Head, head_of, lines_after, output_line, and_form, formed}
+use Rattle.aiger.specs.Lines.{input_line, file}
 use Rattle.aiger.specs.Call.{read_aiger}
 use Rattle.aiger.specs.Delivered.{Stands}
 use Rattle.aiger.proofs.Forms.{if_some-some, file-formed, formed-file}
 use Rattle.aiger.proofs.Reading.{aiger-read, aiger-accepted}
 
--- the last byte is a CR, which an LF behind it would make part of a line's end
+-- the last byte is a CR, which an LF after it would make part of a line's end
 abbrev pub ends_in_cr : List ℕ → Bool
 ends_in_cr [] = false
 ends_in_cr (x ∷ []) = eqb x cr
@@ -38,7 +39,8 @@ ends-append (a ∷ []) x h = rw h
 ends-append (a ∷ (b ∷ t)) x h = go (eqb a cr && eqb b lf) (ends-append (b ∷ t) x h)
   where
     go : (c : Bool) → lf_ends (b ∷ (t ++ lf ∷ x)) ≡ lf_ends (b ∷ t) ++ lf ∷ lf_ends x
-        → cond c (lf_ends (b ∷ (t ++ lf ∷ x))) (a ∷ lf_ends (b ∷ (t ++ lf ∷ x))) ≡ cond c (lf_ends (b ∷ t)) (a ∷ lf_ends (b ∷ t)) ++ lf ∷ lf_ends x
+        → cond c (lf_ends (b ∷ (t ++ lf ∷ x))) (a ∷ lf_ends (b ∷ (t ++ lf ∷ x)))
+        ≡ cond c (lf_ends (b ∷ t)) (a ∷ lf_ends (b ∷ t)) ++ lf ∷ lf_ends x
     go true e = e
     go false e = ap (λ (u : List ℕ). a ∷ u) e
 
@@ -94,10 +96,12 @@ lines-append t s h =
 
 line-append : (t x : List ℕ) → ends_in_cr t ≡ false → file_line (t ++ lf ∷ x) ≡ file_line t
 unfolding file_line
-line-append t x h = ap (λ (u : List ℕ). space_words (first_line u)) (ends-append t x h) ∙ ap space_words (first-append (lf_ends t) (lf_ends x))
+line-append t x h = ap (λ (u : List ℕ). space_words (first_line u)) (ends-append t x h)
+    ∙ ap space_words (first-append (lf_ends t) (lf_ends x))
 
--- the lines behind the first, whether or not it ends in t
-after-append : (t x : List ℕ) → ends_in_cr t ≡ false → file_lines (after_line (t ++ lf ∷ x)) ≡ file_lines (after_line t) ++ file_lines x
+-- the lines after the first, whether or not it ends in t
+after-append : (t x : List ℕ) → ends_in_cr t ≡ false → file_lines (after_line (t ++ lf ∷ x)) ≡ file_lines (after_line t)
+    ++ file_lines x
 unfolding file_lines
 after-append [] x h = refl
 after-append (a ∷ []) x h = go (is_line_end a)
@@ -108,7 +112,8 @@ after-append (a ∷ []) x h = go (is_line_end a)
 after-append (a ∷ (b ∷ t)) x h = go (is_line_end a) (after-append (b ∷ t) x h)
   where
     go : (c : Bool) → file_lines (after_line (b ∷ (t ++ lf ∷ x))) ≡ file_lines (after_line (b ∷ t)) ++ file_lines x
-        → file_lines (cond c (b ∷ (t ++ lf ∷ x)) (after_line (b ∷ (t ++ lf ∷ x)))) ≡ file_lines (cond c (b ∷ t) (after_line (b ∷ t))) ++ file_lines x
+        → file_lines (cond c (b ∷ (t ++ lf ∷ x)) (after_line (b ∷ (t ++ lf ∷ x))))
+        ≡ file_lines (cond c (b ∷ t) (after_line (b ∷ t))) ++ file_lines x
     go true e = lines-append (b ∷ t) x h
     go false e = e
 
@@ -121,7 +126,7 @@ front-more (b ∷ w) (a ∷ t) x h =
     let p = both (eqb a b) (same_bytes (take (length w) t) w) h in
     pair (eqb a b) (same_bytes (take (length w) (t ++ x)) w) p.0 (front-more w t x p.1)
 
--- behind so many bytes that stand there
+-- after so many bytes that stand there
 drop_more : (w t x : List ℕ) → T (same_bytes (take (length w) t) w) → drop (length w) (t ++ x) ≡ drop (length w) t ++ x
 drop_more [] t x h = refl
 drop_more (b ∷ w) [] x h = absurd h
@@ -130,7 +135,8 @@ drop_more (b ∷ w) (a ∷ t) x h = drop_more w t x (both (eqb a b) (same_bytes 
 -- ---- lines of a form
 
 module _ {A : Type 0} (f : List (List ℕ) → Option A) where
-  formed-more : (j k : ℕ) (ls more : List (List (List ℕ))) (xs : List A) → formed f k (drop j ls) ≡ some xs → formed f k (drop j (ls ++ more)) ≡ some xs
+  formed-more : (j k : ℕ) (ls more : List (List (List ℕ))) (xs : List A) → formed f k (drop j ls) ≡ some xs
+      → formed f k (drop j (ls ++ more)) ≡ some xs
   formed-more zero zero ls more xs e = e
   formed-more zero (suc k) [] more xs e = absurd (none-some xs e)
   formed-more zero (suc k) (l ∷ ls) more xs e =
@@ -154,7 +160,8 @@ file-more H ls more F e =
 
 -- ---- a whole text
 
-pub passed_over : (L : Limits) (t x : List ℕ) (N : Netlist) → read_aiger L t ≡ done N → ends_in_cr t ≡ false → length (t ++ lf ∷ x) ≤ L.text
+pub passed_over : (L : Limits) (t x : List ℕ) (N : Netlist) → read_aiger L t ≡ done N → ends_in_cr t ≡ false
+    → length (t ++ lf ∷ x) ≤ L.text
     → read_aiger L (t ++ lf ∷ x) ≡ done N
 passed_over L t x N e h l =
     let R = aiger-read L t N e in
@@ -162,7 +169,8 @@ passed_over L t x N e h l =
     let d : drop 4 (t ++ lf ∷ x) ≡ drop 4 t ++ lf ∷ x = drop_more (ascii "aag ") t (lf ∷ x) S.opening in
     let k = ends-drop 4 t h in
     let line : file_line (drop 4 (t ++ lf ∷ x)) ≡ file_line (drop 4 t) = ap file_line d ∙ line-append (drop 4 t) x k in
-    let more : lines_behind (t ++ lf ∷ x) ≡ lines_behind t ++ file_lines x = ap (λ (u : List ℕ). file_lines (after_line u)) d ∙ after-append (drop 4 t) x k in
+    let more : lines_after (t ++ lf ∷ x) ≡ lines_after t ++ file_lines x
+    = ap (λ (u : List ℕ). file_lines (after_line u)) d ∙ after-append (drop 4 t) x k in
     let T' : Stands L (t ++ lf ∷ x) = record {
       size = rw (le-leb (length (t ++ lf ∷ x)) L.text l) tt;
       opening = front-more (ascii "aag ") t (lf ∷ x) S.opening;
@@ -171,7 +179,7 @@ passed_over L t x N e h l =
       good = S.good;
       latches = S.latches;
       is = S.is;
-      lines = ap (file S.header) more ∙ file-more S.header (lines_behind t) (file_lines x) S.is S.lines;
+      lines = ap (file S.header) more ∙ file-more S.header (lines_after t) (file_lines x) S.is S.lines;
       rules = S.rules;
       limits = S.limits;
     } in

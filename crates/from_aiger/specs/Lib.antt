@@ -1,2 +1,10 @@
--- What the service's contracts cite.
+pub mod AndAnswers
+pub mod Counts
+pub mod HeadAnswers
+pub mod LineAnswers
+pub mod OutAnswers
+pub mod Places
 pub mod Promise
+pub mod StepAnswers
+pub mod Stray
+pub mod WholeAnswers

@@ -1,37 +1,30 @@
-// An AIGER file as a netlist in the written form (document 02, No. 9). Questions 1, 2, 19, 20, 19, 5 and 14 with the small
-// limits.
+//! An AIGER file as a netlist in the written form (docs/RULES.md, AIGER). Questions 1, 2, 19, 20, 19, 5 and 14 with the
+//! small limits.
 #![tactic(auto)]
 
-ghost use Rattle.std.specs.Prelude.{[], ◌∷◌};
-ghost use Rattle.netlist.specs.Services.{Answers, Delivers};
-ghost use Rattle.gate_table.specs.Gates.{tables_of, WiredGates};
-ghost use Rattle.write_netlist.specs.Form.{form_text};
+pub mod and_gates;
+pub mod ands;
+pub mod between;
+pub mod body;
+pub mod counts;
+pub mod head;
+pub mod inputs;
+pub mod keep;
+pub mod kept;
+pub mod lines;
+pub mod numbers;
+pub mod output_gates;
+pub mod output_marks;
+pub mod read;
+pub mod variables;
+
+ghost use Rattle.netlist.specs.Services.{Answers};
 ghost use Rattle.from_aiger.specs.Promise.{call, Promise};
 
-use gate_table::Gates;
+use gates::Gates;
 use netlist::{Answer, Sizes};
-use old_form::Dialect;
-use read_aiger::read::NetlistNumbers;
-use write_netlist::form::Form;
 
-// Question 14 and the text of a netlist of these numbers with these gates, whose count is that of `gates`.
-pub fn write(out: &mut [u8], m: NetlistNumbers, gates: Gates) -> Answer
-    requires { WiredGates gates m.wires }
-    ensures { Delivers (form_text gates.entry.count m.wires (m.inputs ∷ []) (m.outputs ∷ []) (tables_of gates.entry))
-        out.old out.new result }
-{
-    let f = Form {
-        gates,
-        wires: m.wires,
-        ins: &[m.inputs],
-        outs: &[m.outputs],
-        dialect: Dialect::Fashion,
-    };
-    write_netlist::deliver(out, f)
-}
-
-// The file read, and its netlist's text. The tables are lent one by one: a struct of `&mut` slices would have to promise at each call that
-// it still holds them.
+// The file read, and its netlist's text.
 fn answer(
     text: &[u8],
     out: &mut [u8],
@@ -43,17 +36,17 @@ fn answer(
     ensures { Answers (call sizes text.now out.old operands.old results.old
         variables.old) out.old out.new result }
 {
-    let m = read_aiger::read::read(text, operands, results, variables, sizes.small())?;
+    let m = crate::read::read(text, operands, results, variables, sizes.source_limits())?;
     let gates = Gates {
         operands,
         results,
         count: m.gates,
     };
-    write(out, m, gates)
+    write_netlist::made::write(out, m, gates)
 }
 
-// The netlist made of the AIGER file in `text`, in the written form, at the front of `out`. The tables, of any content, are
-// zero on return.
+/// The netlist made of the AIGER file in `text`, in the written form, at the front of `out`. The tables, of any
+/// content, are zero on return.
 pub fn from_aiger(
     text: &[u8],
     out: &mut [u8],

@@ -1,2 +1,18 @@
--- What the contracts cite.
+pub mod Copies
+pub mod Equations
+pub mod Gates
+pub mod Kept
+pub mod Kind
+pub mod Names
+pub mod Next
+pub mod One
+pub mod Operands
+pub mod Parts
+pub mod Ports
 pub mod Promise
+pub mod Puts
+pub mod Settled
+pub mod Stages
+pub mod States
+pub mod Turns
+pub mod Wires

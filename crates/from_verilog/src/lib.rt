@@ -1,17 +1,32 @@
-// Equations in Verilog as a netlist in the written form (document 02, No. 6). Questions 1, 2, 16, 17, 18, 5 and 14 with the small
-// limits.
+//! Equations in Verilog as a netlist in the written form (docs/RULES.md, Equations). Questions 1, 2, 16, 17, 18, 5 and
+//! 14 with the small limits.
 #![tactic(auto)]
 
+pub mod assigns;
+pub mod copies;
+pub mod declarations;
+pub mod equations;
+pub mod expression;
+pub mod form;
+pub mod names;
+pub mod ports;
+pub mod put_gates;
+pub mod read;
+pub mod rules;
+pub mod states;
+pub mod tokens;
+pub mod wires;
+
 ghost use Rattle.std.specs.Prelude.{◌≡◌, ◌*◌, ◌≤◌, ◌<◌, length, replicate};
-ghost use Rattle.netlist.specs.Netlist.{small as small_limits};
+ghost use Rattle.netlist.specs.Netlist.{source_limits as limits_of_source};
 ghost use Rattle.netlist.specs.Outcome.{and_then};
 ghost use Rattle.netlist.specs.Services.{rewrite_outcome, Answers};
 ghost use Rattle.verilog.specs.Call.{read_equations};
 ghost use Rattle.from_verilog.specs.Promise.{call, Promise};
 
-use gate_table::Gates;
-use netlist::{Answer, Question, Sizes};
-use read_verilog::read::NUMBERS;
+use crate::read::NUMBERS;
+use gates::Gates;
+use netlist::{Answer, Refusal, Sizes};
 
 // Questions 2, 16, 17, 18, 5 and 14, with tables that question 1 admits.
 fn read_and_write(
@@ -26,16 +41,20 @@ fn read_and_write(
     wires: &mut [u32],
     sizes: Sizes,
 ) -> Answer
-    requires gates_fit { ((small_limits sizes).table ≤ length operands.old) × ((small_limits sizes).table ≤ length results.old) }
-    requires cleared { (heads.old ≡ replicate (length heads.old) 0) × (wires.old ≡ replicate (length wires.old) 0) × (0 < length heads.old) }
-    requires names_fit { (8 * (small_limits sizes).table ≤ length words.old) × (8 * (small_limits sizes).table ≤ length links.old)
-        × (8 * (small_limits sizes).table ≤ length states.old) × (8 * (small_limits sizes).table ≤ length wires.old) }
-    ensures { Answers (and_then (read_equations (small_limits sizes) text.now) (rewrite_outcome (length out.old)))
+    requires gates_fit { ((limits_of_source sizes).table ≤ length operands.old)
+        × ((limits_of_source sizes).table ≤ length results.old) }
+    requires cleared { (heads.old ≡ replicate (length heads.old) 0) × (wires.old ≡ replicate (length wires.old) 0)
+        × (0 < length heads.old) }
+    requires names_fit { (8 * (limits_of_source sizes).table ≤ length words.old)
+        × (8 * (limits_of_source sizes).table ≤ length links.old)
+        × (8 * (limits_of_source sizes).table ≤ length states.old)
+        × (8 * (limits_of_source sizes).table ≤ length wires.old) }
+    ensures { Answers (and_then (read_equations (limits_of_source sizes) text.now) (rewrite_outcome (length out.old)))
         out.old out.new result }
 {
-    let m = read_verilog::read::read(
+    let m = crate::read::read(
         text,
-        sizes.small(),
+        sizes.source_limits(),
         heads,
         words,
         links,
@@ -49,11 +68,10 @@ fn read_and_write(
         results,
         count: m.gates,
     };
-    from_aiger::write(out, m, gates)
+    write_netlist::made::write(out, m, gates)
 }
 
-// Question 1, and then the others. The tables are lent one by one: a struct of `&mut` slices would have to promise at each call that it
-// still holds them.
+// Question 1, and then the others.
 fn answer(
     text: &[u8],
     out: &mut [u8],
@@ -79,8 +97,8 @@ fn answer(
         states.len() / NUMBERS,
         wires.len() / NUMBERS,
     ];
-    if !sizes.small().admit(&lengths) {
-        return Err(Question::Tables);
+    if !sizes.source_limits().admit(&lengths) {
+        return Err(Refusal::Tables);
     }
     heads.fill(0);
     wires.fill(0);
@@ -89,8 +107,8 @@ fn answer(
     )
 }
 
-// The netlist made of the equations in `text`, in the written form, at the front of `out`. The tables, of any content, are zero
-// on return; each entry of the last five, which are for names, has eight numbers.
+/// The netlist made of the equations in `text`, in the written form, at the front of `out`. The tables, of any content,
+/// are zero on return; each entry of the last five, which are for names, has eight numbers.
 pub fn from_verilog(
     text: &[u8],
     out: &mut [u8],

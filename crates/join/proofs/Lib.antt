@@ -1,2 +1,15 @@
--- Laws that belong to no one function.
+pub mod Appending
+pub mod BlockTexts
+pub mod Blocks
 pub mod Calling
+pub mod Calls
+pub mod Delivering
+pub mod Formed
+pub mod KnownJoins
+pub mod Renumbered
+pub mod Runs
+pub mod SeamBits
+pub mod SeamLaws
+pub mod Three
+pub mod ThreeTexts
+pub mod Wires

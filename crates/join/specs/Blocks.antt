@@ -1,17 +1,18 @@
 -- A text with its input codes, read into tables: questions 1 to 11; and question 25 of two of them.
 use Rattle.std.specs.Prelude.{ℕ, ◌-◌, ◌≤◌, ◌≡◌, Result, Ok, Err, Bool, true, ◌&&◌, List, T, eqb, leb, length}
 use Rattle.netlist.specs.declared.Limits.{Limits}
-use Rattle.netlist.specs.declared.Question.{Question}
-use Rattle.netlist.specs.Question.{number_of}
+use Rattle.netlist.specs.declared.Refusal.{Refusal}
+use Rattle.netlist.specs.Refusal.{number_of}
 use Rattle.netlist.specs.Lists.{every, same_bytes}
 use Rattle.netlist.specs.Netlist.{Netlist, input_bits}
 use Rattle.netlist.specs.Outcome.{refused, ask}
-use Rattle.netlist.specs.Mask.{is_input_code}
-use Rattle.netlist.specs.Services.{tables_long, list_good, ends_in_masks}
+use Rattle.masking.specs.Mask.{is_input_code}
+use Rattle.netlist.specs.Services.{tables_long, list_good}
+use Rattle.masking.specs.Calls.{ends_in_masks}
 use Rattle.netlist.specs.Table.{Tables, Wired, Holds}
-use Rattle.read_header.specs.declared.header.Header.{Header}
-use Rattle.read_netlist.specs.Whole.{ReadAt}
-use Rattle.joined.specs.Call.{read_block, is_secret}
+use Rattle.reader.specs.declared.header.Header.{Header}
+use Rattle.reader.specs.Whole.{ReadAt}
+use Rattle.join.specs.Call.{read_block, is_secret}
 
 -- the text reads as a netlist that the tables hold, and questions 10 and 11 get a yes
 pub record BlockAt (L : Limits) (text codes ins outs : List ℕ) (t : Tables) (h : Header) : Type 0 where
@@ -20,9 +21,10 @@ pub record BlockAt (L : Limits) (text codes ins outs : List ℕ) (t : Tables) (h
   pub list : T (list_good is_input_code (input_bits at.is - 2) codes)
 
 -- what an answer to questions 1 to 11 stands for, with lent tables of these lengths
-abbrev pub BlockIs : Limits → List ℕ → List ℕ → List ℕ → List ℕ → List ℕ → Tables → Result Header Question → Type 0
+abbrev pub BlockIs : Limits → List ℕ → List ℕ → List ℕ → List ℕ → List ℕ → Tables → Result Header Refusal → Type 0
 BlockIs L lengths text codes ins outs t (Ok h) = (tables_long L lengths ≡ true) × BlockAt L text codes ins outs t h
-BlockIs L lengths text codes ins outs t (Err q) = ask 1 (tables_long L lengths) (read_block L text codes) ≡ refused (number_of q)
+BlockIs L lengths text codes ins outs t (Err q) = ask 1 (tables_long L lengths) (read_block L text codes)
+    ≡ refused (number_of q)
 
 -- the numbers of a block, besides its header's law, and its gates in tables
 pub record Numbers (h : Header) (t : Tables) : Type 0 where
@@ -42,4 +44,5 @@ pub record Second (h : Header) (outs : List ℕ) (t : Tables) (N : Netlist) : Ty
 
 -- question 25, from the headers' numbers
 abbrev pub seam_holds : Header → List ℕ → Header → List ℕ → Bool
-seam_holds a out_codes b codes = eqb (length out_codes) a.output_bits && same_bytes out_codes codes && every is_secret codes && leb b.output_bits b.gates
+seam_holds a out_codes b codes = eqb (length out_codes) a.output_bits && same_bytes out_codes codes && every is_secret
+    codes && leb b.output_bits b.gates

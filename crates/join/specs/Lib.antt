@@ -1,3 +1,9 @@
--- What Join's contracts cite.
+pub mod Appended
+pub mod Block
 pub mod Blocks
+pub mod Call
+pub mod Delivered
+pub mod Join
+pub mod Known
 pub mod Promise
+pub mod Seams

@@ -1,27 +1,29 @@
-// Join: two masked blocks over the same two mask bits as one netlist, the outputs of the first the inputs of the second. Questions 1 to 11
-// with the large limits to the first text and then to the second, 25, 5 of the joined netlist, and 14.
-// Lent tables stay parameters of their own: C lends them one by one, and a struct of `&mut` slices would have to promise at each call
-// that it still holds the same ones.
+//! Join: two masked blocks over the same two mask bits as one netlist, the outputs of the first the inputs of the
+//! second. Questions 1 to 11 with the large limits to the first text and then to the second, 25, 5 of the joined
+//! netlist, and 14.
 #![tactic(auto)]
+
+pub mod appended_gates;
+pub mod seam;
 
 ghost use Rattle.std.specs.Prelude.{◌≡◌, true, [], ◌∷◌, ◌-◌, ◌≤◌, length};
 ghost use Rattle.netlist.specs.Lists.{every};
-ghost use Rattle.netlist.specs.Netlist.{Netlist, large};
+ghost use Rattle.netlist.specs.Netlist.{Netlist, masked_limits};
 ghost use Rattle.netlist.specs.Outcome.{and_then};
 ghost use Rattle.netlist.specs.Services.{tables_long, Answers};
 ghost use Rattle.netlist.specs.Table.{tables};
-ghost use Rattle.joined.specs.Call.{is_secret, read_block, join_outcome};
+ghost use Rattle.join.specs.Call.{is_secret, read_block, join_outcome};
 ghost use Rattle.join.specs.Blocks.{BlockIs, Numbers, First, Second, seam_holds};
 ghost use Rattle.join.specs.Promise.{call, Promise};
 
-use gate_table::Gates;
-use join_gates::seam::SeamNumbers;
-use netlist::{Answer, Question, Sizes};
-use old_form::Dialect;
-use read_header::header::Header;
+use crate::seam::SeamNumbers;
+use dialect::Dialect;
+use gates::Gates;
+use netlist::{Answer, Refusal, Sizes};
+use reader::header::Header;
 use write_netlist::form::Form;
 
-// Questions 1 to 11 of a text with its input codes, as `read_netlist::read::read` puts 1 to 9.
+// Questions 1 to 11 of a text with its input codes, as `reader::whole::read` puts 1 to 9.
 fn read_block(
     text: &[u8],
     codes: &[u8],
@@ -32,14 +34,14 @@ fn read_block(
     marks: &mut [u8],
     others: &[usize],
     sizes: Sizes,
-) -> Result<Header, Question>
-    ensures { BlockIs (large sizes) (length operands.old ∷ length results.old ∷ length marks.old ∷ others.now)
+) -> Result<Header, Refusal>
+    ensures { BlockIs (masked_limits sizes) (length operands.old ∷ length results.old ∷ length marks.old ∷ others.now)
         text.now codes.now inputs.new outputs.new
         (tables operands.new results.new) result }
 {
-    let l = sizes.large();
-    let h = read_netlist::read::read(text, inputs, outputs, operands, results, marks, others, l)?;
-    check_netlist::ask_codes(h.input_bits, &inputs[..h.input_values], codes)?;
+    let l = sizes.masked_limits();
+    let h = reader::whole::read(text, inputs, outputs, operands, results, marks, others, l)?;
+    questions::masks::ask_codes(h.input_bits, &inputs[..h.input_values], codes)?;
     Ok(h)
 }
 
@@ -50,23 +52,23 @@ fn all_secret(codes: &[u8]) -> bool
     !codes.contains(&0)
 }
 
-// Question 25. The first block's header and output codes are two parameters, here and below: C hands in the codes, the reader gives the header.
-fn seam_holds(a: Header, out_codes: &[u8], b: Header, codes: &[u8]) -> bool
-    ensures { result ≡ seam_holds a out_codes.now b codes.now }
+// Question 25.
+fn seam_holds(first: Header, out_codes: &[u8], second: Header, codes: &[u8]) -> bool
+    ensures { result ≡ seam_holds first out_codes.now second codes.now }
 {
-    out_codes.len() as u64 == a.output_bits
+    out_codes.len() as u64 == first.output_bits
         && out_codes == codes
         && all_secret(codes)
-        && b.output_bits <= b.gates as u64
+        && second.output_bits <= second.gates as u64
 }
 
-// Questions 25, 5 and 14 and the joined text, of two blocks that were read: the second's gates go behind the first's.
+// Questions 25, 5 and 14 and the joined text, of two blocks that were read: the second's gates go after the first's.
 fn deliver<'w>(
     out_codes: &[u8],
     codes: &[u8],
     out: &mut [u8],
-    a: Header,
-    b: Header,
+    left: Header,
+    right: Header,
     inputs: &'w [u32],
     outputs: &'w [u32],
     operands: &mut [u64],
@@ -75,34 +77,36 @@ fn deliver<'w>(
     base: &[u64],
     sizes: Sizes,
 ) -> Answer
-    requires blocks { Numbers a (tables operands.old results.old) × Numbers b (tables words.now base.now)
-        × (length codes.now ≡ b.input_bits - 2) }
-    requires wires_in_bounds { ((large sizes).wires ≤ length operands.old) × ((large sizes).wires ≤ length results.old) }
-    ensures { (A B : Netlist) → First a inputs.now (tables operands.old results.old) A
-        → Second b outputs.now (tables words.now base.now) B
-        → Answers (join_outcome (large sizes) out_codes.now codes.now (length out.old) A B) out.old out.new result }
+    requires blocks { Numbers left (tables operands.old results.old) × Numbers right (tables words.now base.now)
+        × (length codes.now ≡ right.input_bits - 2) }
+    requires wires_in_bounds { ((masked_limits sizes).wires ≤ length operands.old)
+        × ((masked_limits sizes).wires ≤ length results.old) }
+    ensures { (A B : Netlist) → First left inputs.now (tables operands.old results.old) A
+        → Second right outputs.now (tables words.now base.now) B
+        → Answers (join_outcome (masked_limits sizes) out_codes.now codes.now (length out.old) A B) out.old out.new
+        result }
 {
-    if !seam_holds(a, out_codes, b, codes) {
-        return Err(Question::Seam);
+    if !seam_holds(left, out_codes, right, codes) {
+        return Err(Refusal::Seam);
     }
-    let wires = a.wires as u64 + b.wires as u64 - b.input_bits;
-    if (sizes.large().wires as u64) < wires {
-        return Err(Question::Limits);
+    let wires = left.wires as u64 + right.wires as u64 - right.input_bits;
+    if (sizes.masked_limits().wires as u64) < wires {
+        return Err(Refusal::Limits);
     }
     let seam = SeamNumbers {
-        wires: a.wires,
-        outs: a.output_bits as u32,
-        ins: a.input_bits as u32,
-        second: b.wires,
-        inner: b.input_bits as u32,
+        wires: left.wires,
+        outs: left.output_bits as u32,
+        ins: left.input_bits as u32,
+        second: right.wires,
+        inner: right.input_bits as u32,
     };
-    let count = a.gates as usize;
+    let count = left.gates as usize;
     let second = Gates {
         operands: words,
         results: base,
-        count: b.gates as usize,
+        count: right.gates as usize,
     };
-    join_gates::append(operands, results, count, second, seam);
+    crate::appended_gates::append(operands, results, count, second, seam);
     let gates = Gates {
         operands,
         results,
@@ -124,7 +128,7 @@ fn read_second(
     out_codes: &[u8],
     codes: &[u8],
     out: &mut [u8],
-    a: Header,
+    left: Header,
     inputs: &[u32],
     operands: &mut [u64],
     results: &mut [u64],
@@ -133,12 +137,13 @@ fn read_second(
     base: &mut [u64],
     sizes: Sizes,
 ) -> Answer
-    requires first { Numbers a (tables operands.old results.old) }
-    requires tables_long { tables_long (large sizes) (length operands.old ∷ length results.old ∷ length marks.old
+    requires first { Numbers left (tables operands.old results.old) }
+    requires tables_long { tables_long (masked_limits sizes)
+        (length operands.old ∷ length results.old ∷ length marks.old
         ∷ length words.old ∷ length base.old ∷ []) ≡ true }
-    ensures { (A : Netlist) → First a inputs.now (tables operands.old results.old) A
-        → Answers (and_then (read_block (large sizes) second.now codes.now)
-        (join_outcome (large sizes) out_codes.now codes.now (length out.old) A)) out.old out.new result }
+    ensures { (A : Netlist) → First left inputs.now (tables operands.old results.old) A
+        → Answers (and_then (read_block (masked_limits sizes) second.now codes.now)
+        (join_outcome (masked_limits sizes) out_codes.now codes.now (length out.old) A)) out.old out.new result }
 {
     let mut inner = [0u32; 17];
     let mut outputs = [0u32; 16];
@@ -155,7 +160,7 @@ fn read_second(
     )?;
     let outputs = &outputs[..b.output_values];
     deliver(
-        out_codes, codes, out, a, b, inputs, outputs, operands, results, words, base, sizes,
+        out_codes, codes, out, left, b, inputs, outputs, operands, results, words, base, sizes,
     )
 }
 
@@ -197,8 +202,8 @@ fn answer(
     )
 }
 
-// The joined netlist of the texts `first`, with its input and output codes, and `second`, with its input codes, at the front of `out`. The
-// tables, of any content, are zero on return.
+/// The joined netlist of the texts `first`, with its input and output codes, and `second`, with its input codes, at the
+/// front of `out`. The tables, of any content, are zero on return.
 pub fn join(
     first: &[u8],
     second: &[u8],

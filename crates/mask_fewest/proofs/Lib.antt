@@ -1,3 +1,2 @@
--- Laws of Mask with fewer changes.
 pub mod Giving
 pub mod Promised

@@ -1,3 +1,2 @@
--- What the contracts of Mask with fewer changes cite.
-pub mod Stages
 pub mod Promise
+pub mod Stages

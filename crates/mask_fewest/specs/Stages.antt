@@ -1,24 +1,25 @@
--- The stages of a call: tables that hold a netlist that was read, the choice that is given, and the results in their buffers.
+-- The stages of a call: tables that hold a netlist that was read, the choice that is given, and the results in their
+-- buffers.
 use Rattle.std.specs.Prelude as std
 use Rattle.std.specs.Prelude.{ℕ, ◌≤◌, ◌≡◌, List, [], ◌∷◌, length, take}
 use Rattle.std.proofs.lemmas.List.Edits.{sets}
-use Rattle.netlist.specs.declared.Question.{Question}
+use Rattle.netlist.specs.declared.Refusal.{Refusal}
 use Rattle.netlist.specs.Netlist.{Netlist}
 use Rattle.netlist.specs.Outcome.{Outcome, done, and_then}
 use Rattle.netlist.specs.Write.{write_netlist}
-use Rattle.netlist.specs.Mask.{mask_netlist}
+use Rattle.masking.specs.Mask.{mask_netlist}
 use Rattle.netlist.specs.Services.{Answers, written}
 use Rattle.netlist.specs.Table.{Tables, gates_of}
-use Rattle.read_header.specs.declared.header.Header.{Header}
+use Rattle.reader.specs.declared.header.Header.{Header}
 use Rattle.mask.specs.Fronts.{Fronts, Read}
 use Rattle.fewest.specs.Choice.{choice, chosen_gates, chosen_inputs}
 use Rattle.fewest.specs.Fewest.{changes_at, given as given_number, floor as floor_of}
 use Rattle.fewest.specs.Call.{Result, Room as Rooms}
-use Rattle.fewest_search.specs.declared.search.Tally.{Tally}
-use Rattle.fewest_search.specs.Search.{Source}
+use Rattle.fewest.specs.declared.search.Tally.{Tally}
+use Rattle.fewest.specs.Search.{Source}
 
--- the tables of a netlist that was read: Mask's, and those of ways, best ways and spans; and the widths of its values, is and os, with room
--- for the width of the mask pair
+-- the tables of a netlist that was read: Mask's, and those of ways, best ways and spans; and the widths of its values,
+-- is and os, with room for the width of the mask pair
 pub record Room (h : Header) (t : Tables) (is os ws ms ys bs ss : List ℕ) : Type 0 where
   pub fronts : Fronts h t h.gates ws ms
   pub widths : length is ≤ 16
@@ -37,9 +38,12 @@ pub record Choosable (h : Header) (t : Tables) (codes wanted ws ms ys bs ss : Li
   pub netlist : Netlist
   pub source : Source t h.gates codes wanted h.wires netlist
 
--- the gate tables t hold the source under the choice that is given, the table ys has its input codes at the front; its changes and the floor
-pub record Chose (N : Netlist) (codes wanted : List ℕ) (budget : ℕ) (t : Tables) (count : ℕ) (ys : List ℕ) (r : Tally) : Type 0 where
-  pub gates : gates_of t count ≡ chosen_gates (choice N codes (given_number N codes wanted budget)) (length codes) N.gates
+-- the gate tables t hold the source under the choice that is given, the table ys has its input codes at the front; its
+-- changes and the floor
+pub record Chose (N : Netlist) (codes wanted : List ℕ) (budget : ℕ) (t : Tables) (count : ℕ) (ys : List ℕ) (r : Tally) :
+    Type 0 where
+  pub gates : gates_of t count ≡ chosen_gates (choice N codes (given_number N codes wanted budget)) (length codes)
+      N.gates
   pub inputs : take (length codes) ys ≡ chosen_inputs codes (choice N codes (given_number N codes wanted budget))
   pub changes : r.changes ≡ changes_at N codes wanted (given_number N codes wanted budget)
   pub floor : r.floor ≡ floor_of N codes wanted budget
@@ -71,7 +75,8 @@ abbrev pub part : (Result → List ℕ) → Outcome Result → Outcome (List ℕ
 part f call = and_then call λ R. done (f R)
 
 -- the answer, and each buffer before and after the call, are those of its outcome
-pub record FewestAnswers (call : Outcome Result) (out out' is is' es es' ts ts' : List ℕ) (a : std.Result ℕ Question) : Type 0 where
+pub record FewestAnswers (call : Outcome Result) (out out' is is' es es' ts ts' : List ℕ) (a : std.Result ℕ Refusal) :
+    Type 0 where
   pub text : Answers (part (λ R. R.text) call) out out' a
   pub inputs : is' ≡ sets is 0 (written (part (λ R. R.inputs) call))
   pub outputs : es' ≡ sets es 0 (written (part (λ R. R.outputs) call))

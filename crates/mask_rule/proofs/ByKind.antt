@@ -2,10 +2,10 @@
 use Prim.Native.Nat.{ℕ}
 use mathlib.Core.Path.{◌≡◌, refl}
 use Rattle.netlist.specs.Netlist.{result}
-use Rattle.netlist.specs.Mask.{State, twin, emit, result_twin}
-use Rattle.gate_table.specs.declared.Kind.{Kind}
-use Rattle.gate_table.specs.declared.Kind.TheVariants.{Xor, And, Inv, Eqw, Eq}
-use Rattle.gate_table.specs.Kind.{gate_for}
+use Rattle.masking.specs.Mask.{State, twin, emit, result_twin}
+use Rattle.gates.specs.declared.Kind.{Kind}
+use Rattle.gates.specs.declared.Kind.TheVariants.{Xor, And, Inv, Eqw, Eq}
+use Rattle.gates.specs.Kind.{gate_for}
 use Rattle.mask_rule.specs.Rule.{steps_of, twin_of}
 
 module _ (S : State) (a b d : ℕ) where

@@ -1,4 +1,9 @@
--- The laws of the masking rule.
+pub mod Advances
 pub mod ByKind
-pub mod Twins
+pub mod Finishes
 pub mod Gates
+pub mod Made
+pub mod PublicWires
+pub mod Starts
+pub mod States
+pub mod Twins

@@ -3,9 +3,9 @@ use Prim.Native.Nat.{ℕ, ◌+◌, ◌≤◌}
 use mathlib.Core.Path.{◌≡◌}
 use mathlib.Core.List.{[], ◌∷◌}
 use Rattle.netlist.specs.declared.Twin.{Twin}
-use Rattle.netlist.proofs.GateCount.{next-most}
-use Rattle.gate_table.specs.declared.Kind.{Kind}
-use Rattle.gate_table.specs.Kind.{gate_for}
+use Rattle.masking.proofs.GateCount.{next-most}
+use Rattle.gates.specs.declared.Kind.{Kind}
+use Rattle.gates.specs.Kind.{gate_for}
 use Rattle.mask_rule.specs.Rule.{operands, twin_of}
 
 -- at most eight

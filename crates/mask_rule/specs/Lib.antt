@@ -1,2 +1,3 @@
--- What the contracts of `mask_rule` cite.
+pub mod Place
 pub mod Rule
+pub mod State

@@ -2,11 +2,11 @@
 use Rattle.std.specs.Prelude.{ℕ, ◌<◌, ◌≡◌, List, [], ◌∷◌, length, get_or}
 use Rattle.netlist.specs.declared.Gate.{Gate}
 use Rattle.netlist.specs.declared.Twin.{Twin}
-use Rattle.netlist.specs.Mask.{State, emit, result_twin}
-use Rattle.gate_records.specs.declared.GateRecord.{GateRecord}
-use Rattle.gate_records.specs.Records.{blank}
-use Rattle.gate_table.specs.declared.Kind.{Kind}
-use Rattle.gate_table.specs.Kind.{gate_for}
+use Rattle.masking.specs.Mask.{State, emit, result_twin}
+use Rattle.gates.specs.declared.records.GateRecord.{GateRecord}
+use Rattle.gates.specs.Records.{blank}
+use Rattle.gates.specs.declared.Kind.{Kind}
+use Rattle.gates.specs.Kind.{gate_for}
 
 -- a state in which the first two source wires have the twins A and B
 abbrev pub operands : ℕ → Twin → Twin → State

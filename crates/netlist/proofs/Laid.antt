@@ -8,7 +8,7 @@ use native.Mathlib.Omega.{arith}
 use lib.ListN.{length, get_or, set, take, drop, replicate, length-set}
 use lib.Seq.{take_all}
 
--- the first i of the list s are laid over d₀, what lies behind them is as it was; z is the value past a list's end
+-- the first i of the list s are laid over d₀, what lies after them is as it was; z is the value past a list's end
 pub record Laid {A : Type 0} (z : A) (s d₀ d : List A) (i : ℕ) : Type 0 where
   pub passed : i ≤ length s
   pub long : length d ≡ length d₀
@@ -23,9 +23,11 @@ module _ {A : Type 0} where
   laid-suc z [] d i h k = absurd (not-suc-le-zero h)
   laid-suc z (x ∷ xs) [] i h k = absurd (not-suc-le-zero k)
   laid-suc z (x ∷ xs) (y ∷ ys) zero h k = refl
-  laid-suc z (x ∷ xs) (y ∷ ys) (suc i) h k = ap (λ (l : List A). x ∷ l) (laid-suc z xs ys i (le_of_suc-le-suc h) (le_of_suc-le-suc k))
+  laid-suc z (x ∷ xs) (y ∷ ys) (suc i) h k = ap (λ (l : List A). x ∷ l)
+      (laid-suc z xs ys i (le_of_suc-le-suc h) (le_of_suc-le-suc k))
 
-  pub laid_more : {z : A} {s d₀ d : List A} {i : ℕ} (v : A) → Laid z s d₀ d i → i < length s → i < length d → v ≡ get_or s i z
+  pub laid_more : {z : A} {s d₀ d : List A} {i : ℕ} (v : A) → Laid z s d₀ d i → i < length s → i < length d → v
+      ≡ get_or s i z
       → Laid z s d₀ (set d i v) (i + 1)
   laid_more {z} {s} {d₀} {d} {i} v f h k e = record {
     passed = omega arith;
@@ -43,4 +45,5 @@ module _ {A : Type 0} where
   pub drop-replicate : (n m : ℕ) (v : A) → drop n (replicate m v) ≡ replicate (m - n) v
   drop-replicate zero m v = let e : m ≡ m - 0 = omega arith in ap (λ (k : ℕ). replicate k v) e
   drop-replicate (suc n) zero v = let e : 0 ≡ 0 - suc n = omega arith in ap (λ (k : ℕ). replicate k v) e
-  drop-replicate (suc n) (suc m) v = let e : m - n ≡ suc m - suc n = omega arith in drop-replicate n m v ∙ ap (λ (k : ℕ). replicate k v) e
+  drop-replicate (suc n) (suc m) v = let e : m - n ≡ suc m - suc n = omega arith in drop-replicate n m v
+      ∙ ap (λ (k : ℕ). replicate k v) e

@@ -1,8 +1,16 @@
--- The theorems: what masking reads, one gate more and one less, an opening, rows of steps, and Mask.
-pub mod Padded
-pub mod More
+pub mod Adds
+pub mod Askings
+pub mod Calling
+pub mod Filling
+pub mod Gates
 pub mod Keeps
 pub mod Less
+pub mod More
+pub mod Openings
 pub mod Opens
+pub mod Padded
+pub mod Plans
 pub mod RowsHold
 pub mod SameAsMask
+pub mod Showing
+pub mod Writes

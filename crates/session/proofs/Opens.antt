@@ -10,16 +10,16 @@ use lib.Seq.{sets, sets-eq, take-append_seam, take_at}
 use Rattle.netlist.specs.declared.Gate.{Gate}
 use Rattle.netlist.specs.declared.Sizes.{Sizes}
 use Rattle.netlist.specs.Lists.{every, sum}
-use Rattle.netlist.specs.Netlist.{small}
+use Rattle.netlist.specs.Netlist.{source_limits}
 use Rattle.netlist.specs.Outcome.{Outcome, done, ask}
 use Rattle.netlist.specs.Services.{list_good}
-use Rattle.netlist.specs.Mask.{is_input_code, input_twins}
+use Rattle.masking.specs.Mask.{is_input_code, input_twins}
 use Rattle.netlist.proofs.Tests.{both}
 use Rattle.netlist.proofs.Questions.{ask-done}
-use Rattle.netlist.proofs.PublicGates.{length-input_twins}
-use Rattle.gate_records.specs.declared.SourceRecord.{SourceRecord}
-use Rattle.gate_records.specs.declared.GateRecord.{GateRecord}
-use Rattle.gate_records.specs.Records.{record_of, twin_in}
+use Rattle.masking.proofs.PublicGates.{length-input_twins}
+use Rattle.gates.specs.declared.records.SourceRecord.{SourceRecord}
+use Rattle.gates.specs.declared.records.GateRecord.{GateRecord}
+use Rattle.gates.specs.Records.{record_of, twin_in}
 use Rattle.session.specs.Afresh.{open_gates}
 use Rattle.session.specs.Asked.{widths_good, opening}
 use Rattle.session.specs.Lists.{opened_lists}
@@ -40,18 +40,22 @@ module _ (z : Sizes) (widths codes : List ℕ) (source : List SourceRecord) (mas
   asks11 = ask 11 (list_good is_input_code (sum widths) codes) asks14
 
   abbrev asks5 : Outcome (List Gate)
-  asks5 = ask 5 (leb (length widths) (small z).inputs && leb (sum widths) (small z).wires) asks11
+  asks5 = ask 5 (leb (length widths) (source_limits z).inputs && leb (sum widths) (source_limits z).wires) asks11
 
-  pub opened-holds : {gs : List Gate} → opening z widths codes (length masked) ≡ done gs → (gs ≡ []) × Holds z codes [] (opened_lists codes source masked)
+  pub opened-holds : {gs : List Gate} → opening z widths codes (length masked) ≡ done gs → (gs ≡ [])
+      × Holds z codes [] (opened_lists codes source masked)
   unfolding opening
   opened-holds {gs} e =
       let q4 = ask-done 4 (widths_good widths) asks5 gs e in
-      let q5 = ask-done 5 (leb (length widths) (small z).inputs && leb (sum widths) (small z).wires) asks11 gs q4.1 in
+      let q5 = ask-done 5 (leb (length widths) (source_limits z).inputs && leb (sum widths) (source_limits z).wires)
+      asks11 gs q4.1 in
       let q11 = ask-done 11 (list_good is_input_code (sum widths) codes) asks14 gs q5.1 in
       let q14 = ask-done 14 (leb (length (open_gates codes)) (length masked)) (done []) gs q11.1 in
       let d : ◌≡◌ {A = Outcome (List Gate)} (done []) (done gs) = q14.1 in
-      let few = leb→le (sum widths) (small z).wires (both (leb (length widths) (small z).inputs) (leb (sum widths) (small z).wires) q5.0).1 in
-      let many = eqb→eq (length codes) (sum widths) (both (eqb (length codes) (sum widths)) (every is_input_code codes) q11.0).0 in
+      let few = leb→le (sum widths) (source_limits z).wires (both (leb (length widths) (source_limits z).inputs)
+      (leb (sum widths) (source_limits z).wires) q5.0).1 in
+      let many = eqb→eq (length codes) (sum widths) (both (eqb (length codes) (sum widths)) (every is_input_code codes)
+      q11.0).0 in
       let room = leb→le (length (open_gates codes)) (length masked) q14.0 in
       let lm = length-map (open_gates codes) record_of in
       let ts = input_twins (n + 5) 0 codes in
@@ -62,7 +66,8 @@ module _ (z : Sizes) (widths codes : List ℕ) (source : List SourceRecord) (mas
           masked = ap length (sym (append-nil (open_gates codes)));
           sources = refl;
           maskeds =
-              ap (λ (gs : List Gate). take (length gs) (sets masked 0 (map record_of (open_gates codes)))) (append-nil (open_gates codes))
+              ap (λ (gs : List Gate). take (length gs) (sets masked 0 (map record_of (open_gates codes))))
+              (append-nil (open_gates codes))
               ∙ ap (λ (k : ℕ). take k (sets masked 0 (map record_of (open_gates codes)))) (sym lm)
               ∙ sets-front masked (map record_of (open_gates codes)) (omega (arith, room, lm))
               ∙ ap (map record_of) (sym (append-nil (open_gates codes)));

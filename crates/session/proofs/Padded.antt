@@ -1,4 +1,5 @@
--- What masking a gate reads of a state: the next wire and its operands' twins. So entries behind those of the gates do not matter.
+-- What masking a gate reads of a state: the next wire and its operands' twins. So entries after those of the gates do
+-- not matter.
 use Prim.Native.Nat.{ℕ, zero, suc, ◌+◌, ◌≤◌, ◌<◌}
 use mathlib.Core.Path.{◌≡◌, refl, ap, ap₂, ◌∙◌}
 use mathlib.Core.List.{List, [], ◌∷◌, ◌++◌}
@@ -11,7 +12,7 @@ use Rattle.netlist.specs.declared.Gate.TheVariants.{Xor, And, Inv, Eqw, Eq}
 use Rattle.netlist.specs.declared.Twin.{Twin}
 use Rattle.netlist.specs.Netlist.{result}
 use Rattle.netlist.specs.Read.{operands_given}
-use Rattle.netlist.specs.Mask.{State, no_twin, twin, emit, result_twin, advance, emit_all, advance_all}
+use Rattle.masking.specs.Mask.{State, no_twin, twin, emit, result_twin, advance, emit_all, advance_all}
 use Rattle.netlist.proofs.Tests.{both}
 use Rattle.session.specs.Rows.{Rising}
 
@@ -30,9 +31,18 @@ alike_all S S' h (Inv a c) = h a
 alike_all S S' h (Eqw a c) = h a
 alike_all S S' h (Eq v c) = tt
 
-pub alike-below : (S S' : State) (k : ℕ) → ((w : ℕ) → w < k → twin S w ≡ twin S' w) → (g : Gate) → T (operands_given (λ w. ltb w k) g) → Alike S S' g
-alike-below S S' k h (Xor a b c) t = (h a (ltb→lt a k (both (ltb a k) (ltb b k) t).0), h b (ltb→lt b k (both (ltb a k) (ltb b k) t).1))
-alike-below S S' k h (And a b c) t = (h a (ltb→lt a k (both (ltb a k) (ltb b k) t).0), h b (ltb→lt b k (both (ltb a k) (ltb b k) t).1))
+pub alike-below : (S S' : State) (k : ℕ) → ((w : ℕ) → w < k → twin S w ≡ twin S' w) → (g : Gate)
+    → T (operands_given (λ w. ltb w k) g) → Alike S S' g
+alike-below S S' k h (Xor a b c) t = (
+  h a (ltb→lt a k (both (ltb a k) (ltb b k) t).0),
+  h b
+      (ltb→lt b k (both (ltb a k) (ltb b k) t).1),
+)
+alike-below S S' k h (And a b c) t = (
+  h a (ltb→lt a k (both (ltb a k) (ltb b k) t).0),
+  h b
+      (ltb→lt b k (both (ltb a k) (ltb b k) t).1),
+)
 alike-below S S' k h (Inv a c) t = h a (ltb→lt a k t)
 alike-below S S' k h (Eqw a c) t = h a (ltb→lt a k t)
 alike-below S S' k h (Eq v c) t = tt
@@ -73,7 +83,8 @@ pub advance-pad : (m : ℕ) (S : State) (g : Gate) → result g < length S.twins
 advance-pad m S g l =
     let t = twin-alike (pad m S) S refl g (pad-alike m S g) in
     ap (λ (u : Twin). record { next = u.wire + 1; twins = set (pad m S).twins (result g) u }) t
-    ∙ ap (λ (us : List Twin). record { next = (result_twin S g).wire + 1; twins = us }) (set-append_left S.twins (replicate m no_twin) (result g) (result_twin S g) l)
+    ∙ ap (λ (us : List Twin). record { next = (result_twin S g).wire + 1; twins = us })
+    (set-append_left S.twins (replicate m no_twin) (result g) (result_twin S g) l)
 
 pub length-advance : (S : State) (g : Gate) → length (advance S g).twins ≡ length S.twins
 length-advance S g = length-set S.twins (result g) (result_twin S g)
@@ -83,13 +94,15 @@ length-advance_all S [] = refl
 length-advance_all S (g ∷ gs) = length-advance_all (advance S g) gs ∙ length-advance S g
 
 -- gates that give the wires from w on, in a state that has entries for them
-pub advance_all-pad : (m w : ℕ) (S : State) (gs : List Gate) → Rising w gs → w + length gs ≤ length S.twins → advance_all (pad m S) gs ≡ pad m (advance_all S gs)
+pub advance_all-pad : (m w : ℕ) (S : State) (gs : List Gate) → Rising w gs → w + length gs ≤ length S.twins
+    → advance_all (pad m S) gs ≡ pad m (advance_all S gs)
 advance_all-pad m w S [] r l = refl
 advance_all-pad m w S (g ∷ gs) r l =
     ap (λ (U : State). advance_all U gs) (advance-pad m S g (omega (arith, r.0)))
     ∙ advance_all-pad m (w + 1) (advance S g) gs r.1 (omega (arith, length-advance S g))
 
-pub emit_all-pad : (n m w : ℕ) (S : State) (gs : List Gate) → Rising w gs → w + length gs ≤ length S.twins → emit_all n (pad m S) gs ≡ emit_all n S gs
+pub emit_all-pad : (n m w : ℕ) (S : State) (gs : List Gate) → Rising w gs → w + length gs ≤ length S.twins
+    → emit_all n (pad m S) gs ≡ emit_all n S gs
 emit_all-pad n m w S [] r l = refl
 emit_all-pad n m w S (g ∷ gs) r l =
     ap₂ (λ (x y : List Gate). x ++ y) (emit-alike (pad m S) S refl n g (pad-alike m S g))

@@ -1,4 +1,5 @@
--- After any row of steps from an opening the lists hold the present source gates, and the masked gates of masking them afresh.
+-- After any row of steps from an opening the lists hold the present source gates, and the masked gates of masking them
+-- afresh.
 use Prim.Native.Nat.{ℕ, suc, ◌-◌}
 use mathlib.Core.Path.{◌≡◌, refl, ap, ap₂, ◌∙◌}
 use mathlib.Core.Bool.{Bool}
@@ -10,11 +11,11 @@ use lib.Seq.{length-sets, take_at}
 use Rattle.netlist.specs.declared.Gate.{Gate}
 use Rattle.netlist.specs.declared.Sizes.{Sizes}
 use Rattle.netlist.specs.Outcome.{Outcome, refused, done, ask, and_then}
-use Rattle.netlist.specs.Mask.{result_twin}
+use Rattle.masking.specs.Mask.{result_twin}
 use Rattle.netlist.proofs.Tests.{is_true}
-use Rattle.gate_records.specs.declared.GateRecord.{GateRecord}
-use Rattle.gate_records.specs.declared.SourceRecord.{SourceRecord}
-use Rattle.gate_records.specs.Records.{record_of, source_record}
+use Rattle.gates.specs.declared.records.GateRecord.{GateRecord}
+use Rattle.gates.specs.declared.records.SourceRecord.{SourceRecord}
+use Rattle.gates.specs.Records.{record_of, source_record}
 use Rattle.session.specs.Afresh.{afresh, open_gates}
 use Rattle.session.specs.Asked.{opening, adding, taking_off}
 use Rattle.session.specs.Lists.{Lists, left, present, steps, asked, off_asked, added, opened_lists}
@@ -38,11 +39,13 @@ module _ (z : Sizes) (codes : List ℕ) where
   add_kept gs L r h = rw (adding-is h r) (go (asked z codes L r) (λ g e. admitted-holds h r g e))
     where
       go : (o : Outcome Gate) → ((g : Gate) → o ≡ done g → Holds z codes (gs ++ (g ∷ [])) (added codes L g))
-          → Kept z codes (left gs (and_then o λ g. done (gs ++ (g ∷ [])))) L (left L (and_then o λ g. done (added codes L g)))
+          → Kept z codes (left gs (and_then o λ g. done (gs ++ (g ∷ [])))) L
+          (left L (and_then o λ g. done (added codes L g)))
       go (refused q) f = stays L h
       go (done g) f = record {
         holds = f g refl;
-        sources = length-set L.source L.session.gates (source_record (record_of g) (result_twin (present codes L) g) L.session.masked);
+        sources = length-set L.source L.session.gates (source_record (record_of g) (result_twin (present codes L) g)
+            L.session.masked);
         maskeds = length-sets L.masked L.session.masked (map record_of (steps codes L g));
       }
 
@@ -50,10 +53,12 @@ module _ (z : Sizes) (codes : List ℕ) where
   unfolding taking_off
   off-is hs g =
       let m : length (hs ++ (g ∷ [])) ≡ suc (length hs) = omega (arith, length_more hs g) in
-      ap₂ (λ (b : Bool) (gs : List Gate). ask 23 b (done gs)) (is_true (leb 1 (length (hs ++ (g ∷ [])))) (le→leb 1 (length (hs ++ (g ∷ []))) (omega arith)))
+      ap₂ (λ (b : Bool) (gs : List Gate). ask 23 b (done gs))
+      (is_true (leb 1 (length (hs ++ (g ∷ [])))) (le→leb 1 (length (hs ++ (g ∷ []))) (omega arith)))
       (take_at hs (g ∷ []) (length (hs ++ (g ∷ [])) - 1) (omega arith))
 
-  off-kept : {gs : List Gate} (L : Lists) → Last gs → Holds z codes gs L → Kept z codes (left gs (taking_off gs)) L (stepped z codes L take_off)
+  off-kept : {gs : List Gate} (L : Lists) → Last gs → Holds z codes gs L → Kept z codes (left gs (taking_off gs)) L
+      (stepped z codes L take_off)
   unfolding taking_off off_asked
   off-kept L nothing h = rw (ap (leb 1) h.gates) (stays L h)
   off-kept L (last hs g) h =
@@ -71,22 +76,23 @@ module _ (z : Sizes) (codes : List ℕ) where
   row-holds [] gs L h = h
   row-holds (m ∷ ms) gs L h =
       let k = step_kept gs L m h in
-      rw (k.sources, k.maskeds) at (row-holds ms (presents z codes (length L.source) (length L.masked) gs m) (stepped z codes L m) k.holds)
+      rw (k.sources, k.maskeds) at (row-holds ms (presents z codes (length L.source) (length L.masked) gs m)
+      (stepped z codes L m) k.holds)
 
--- the theorem: behind any row of steps from an opening
+-- the theorem: after any row of steps from an opening
 module _ (z : Sizes) (widths codes : List ℕ) (source : List SourceRecord) (masked : List GateRecord) {none : List Gate}
     (opens : opening z widths codes (length masked) ≡ done none) (ms : List Move) where
   abbrev gates : List Gate
   gates = presents_all z codes (length source) (length masked) [] ms
 
-  abbrev behind_all : Lists
-  behind_all = stepped_all z codes (opened_lists codes source masked) ms
+  abbrev after_all : Lists
+  after_all = stepped_all z codes (opened_lists codes source masked) ms
 
-  pub row-from-opening : Holds z codes gates behind_all
+  pub row-from-opening : Holds z codes gates after_all
   row-from-opening =
       rw (length-sets masked 0 (map record_of (open_gates codes))) at
       (row-holds z codes ms [] (opened_lists codes source masked) (opened-holds z widths codes source masked opens).1)
 
   -- the masked gates are those of masking the present list afresh
-  pub masked-afresh : take behind_all.session.masked behind_all.masked ≡ map record_of (afresh codes gates)
-  masked-afresh = ap (λ (k : ℕ). take k behind_all.masked) row-from-opening.masked ∙ row-from-opening.maskeds
+  pub masked-afresh : take after_all.session.masked after_all.masked ≡ map record_of (afresh codes gates)
+  masked-afresh = ap (λ (k : ℕ). take k after_all.masked) row-from-opening.masked ∙ row-from-opening.maskeds

@@ -1,15 +1,15 @@
--- What opening, adding and taking off answer (document 02, No. 13). The result is the present list of source gates.
+-- What opening, adding and taking off answer (docs/RULES.md, Sessions). The result is the present list of source gates.
 use Rattle.std.specs.Prelude.{ℕ, ◌+◌, ◌-◌, Bool, ◌&&◌, List, [], ◌∷◌, ◌++◌, eqb, leb, ltb, length, take}
 use Rattle.netlist.specs.declared.Gate.{Gate}
 use Rattle.netlist.specs.declared.Sizes.{Sizes}
 use Rattle.netlist.specs.Lists.{every, sum}
-use Rattle.netlist.specs.Netlist.{small, result}
+use Rattle.netlist.specs.Netlist.{source_limits, result}
 use Rattle.netlist.specs.Outcome.{Outcome, done, ask, given, and_then}
 use Rattle.netlist.specs.Read.{operands_given}
 use Rattle.netlist.specs.Services.{list_good}
-use Rattle.netlist.specs.Mask.{is_input_code}
-use Rattle.gate_records.specs.declared.GateRecord.{GateRecord}
-use Rattle.gate_records.specs.Records.{gate_of}
+use Rattle.masking.specs.Mask.{is_input_code}
+use Rattle.gates.specs.declared.records.GateRecord.{GateRecord}
+use Rattle.gates.specs.Records.{gate_of}
 use Rattle.session.specs.Afresh.{open_gates, afresh}
 
 -- question 4 of the widths of values: one or more, each 1 or more
@@ -20,7 +20,7 @@ widths_good widths = leb 1 (length widths) && every (leb 1) widths
 unfoldable pub opening : Sizes → List ℕ → List ℕ → ℕ → Outcome (List Gate)
 opening z widths codes room =
     ask 4 (widths_good widths)
-    (ask 5 (leb (length widths) (small z).inputs && leb (sum widths) (small z).wires)
+    (ask 5 (leb (length widths) (source_limits z).inputs && leb (sum widths) (source_limits z).wires)
     (ask 11 (list_good is_input_code (sum widths) codes)
     (ask 14 (leb (length (open_gates codes)) room)
     (done []))))
@@ -39,7 +39,7 @@ gate_asked next roomy r = and_then (gate_good next r) λ g. ask 14 (roomy g) (do
 
 -- question 24, with how many gates and wires there are, and the length of the list of records
 abbrev pub place_left : Sizes → ℕ → ℕ → ℕ → Bool
-place_left z gates next places = ltb gates places && ltb next (small z).wires
+place_left z gates next places = ltb gates places && ltb next (source_limits z).wires
 
 -- adding a record to the gates gs, with the lengths of the list of records and of the list of masked gates
 unfoldable pub adding : Sizes → List ℕ → ℕ → ℕ → List Gate → GateRecord → Outcome (List Gate)

@@ -1,5 +1,10 @@
--- What a session keeps: the gates masked afresh, the questions, the lists and their steps
 pub mod Afresh
 pub mod Asked
+pub mod Counted
 pub mod Lists
+pub mod Parts
+pub mod Plan
 pub mod Rows
+pub mod SessionStepsPromise
+pub mod SessionTextPromise
+pub mod Shown

@@ -4,10 +4,10 @@ use Rattle.std.proofs.lemmas.List.Edits.{sets}
 use Rattle.netlist.specs.declared.Gate.{Gate}
 use Rattle.netlist.specs.declared.Sizes.{Sizes}
 use Rattle.netlist.specs.Outcome.{Outcome, refused, done, ask, and_then}
-use Rattle.netlist.specs.Mask.{State, input_twins, emit, result_twin}
-use Rattle.gate_records.specs.declared.GateRecord.{GateRecord}
-use Rattle.gate_records.specs.declared.SourceRecord.{SourceRecord}
-use Rattle.gate_records.specs.Records.{record_of, source_record, blank_source, twin_in}
+use Rattle.masking.specs.Mask.{State, input_twins, emit, result_twin}
+use Rattle.gates.specs.declared.records.GateRecord.{GateRecord}
+use Rattle.gates.specs.declared.records.SourceRecord.{SourceRecord}
+use Rattle.gates.specs.Records.{record_of, source_record, blank_source, twin_in}
 use Rattle.session.specs.declared.Session.{Session}
 use Rattle.session.specs.declared.Step.{Step}
 use Rattle.session.specs.Afresh.{open_gates}
@@ -28,7 +28,7 @@ session_of gates masked = record { gates = gates; masked = masked }
 abbrev pub step_of : Session → ℕ → Step
 step_of s q = record { session = s; refused = q }
 
--- what an outcome says: the session behind the step and 0, or the session as it was and the question
+-- what an outcome says: the session after the step and 0, or the session as it was and the question
 abbrev pub said : Session → Outcome Session → Step
 said s (refused q) = step_of s q
 said s (done t) = step_of t 0
@@ -73,13 +73,14 @@ added codes L g =
 abbrev pub shorter : Session → List SourceRecord → Session
 shorter s source = session_of (s.gates - 1) (get_or source (s.gates - 1) blank_source).from
 
--- the questions of taking off, and the session behind
+-- the questions of taking off, and the session after
 unfoldable pub off_asked : Session → List SourceRecord → Outcome Session
 off_asked s source = ask 23 (leb 1 s.gates) (done (shorter s source))
 
 -- a session that opens, with a code for each input bit: the opening's masked gates
 abbrev pub opened_lists : List ℕ → List SourceRecord → List GateRecord → Lists
-opened_lists codes source masked = lists_of (session_of 0 (length (open_gates codes))) source (sets masked 0 (map record_of (open_gates codes)))
+opened_lists codes source masked = lists_of (session_of 0 (length (open_gates codes))) source
+    (sets masked 0 (map record_of (open_gates codes)))
 
 -- what is left by an outcome: a refusal leaves all as it was
 abbrev pub left : {A : Type 0} → A → Outcome A → A
@@ -96,7 +97,8 @@ off_outcome L = and_then (off_asked L.session L.source) λ s. done (lists_of s L
 
 -- opening
 abbrev pub open_outcome : Sizes → List ℕ → List ℕ → List SourceRecord → List GateRecord → Outcome Lists
-open_outcome z widths codes source masked = and_then (opening z widths codes (length masked)) λ gs. done (opened_lists codes source masked)
+open_outcome z widths codes source masked = and_then (opening z widths codes (length masked)) λ gs. done
+    (opened_lists codes source masked)
 
 -- the session of an outcome
 abbrev pub session_in : Outcome Lists → Outcome Session

@@ -1,11 +1,12 @@
--- Rows of steps from an opening, each given the session and lists just as the one before left them, and what the lists hold.
+-- Rows of steps from an opening, each given the session and lists just as the one before left them, and what the lists
+-- hold.
 use Rattle.std.specs.Prelude.{ℕ, ◌+◌, ◌≤◌, ◌<◌, ◌≡◌, List, [], ◌∷◌, map, length, get_or, take}
 use Rattle.netlist.specs.declared.Gate.{Gate}
 use Rattle.netlist.specs.declared.Sizes.{Sizes}
-use Rattle.netlist.specs.Netlist.{small, result}
-use Rattle.gate_records.specs.declared.GateRecord.{GateRecord}
-use Rattle.gate_records.specs.Records.{record_of, blank_source, gate_in}
-use Rattle.session.specs.Afresh.{afresh, behind}
+use Rattle.netlist.specs.Netlist.{source_limits, result}
+use Rattle.gates.specs.declared.records.GateRecord.{GateRecord}
+use Rattle.gates.specs.Records.{record_of, blank_source, gate_in}
+use Rattle.session.specs.Afresh.{afresh, following}
 use Rattle.session.specs.Asked.{adding, taking_off}
 use Rattle.session.specs.Lists.{Lists, present, add_outcome, off_outcome, left}
 
@@ -22,7 +23,7 @@ abbrev pub stepped_all : Sizes → List ℕ → Lists → List Move → Lists
 stepped_all z codes L [] = L
 stepped_all z codes L (m ∷ ms) = stepped_all z codes (stepped z codes L m) ms
 
--- the present list of source gates behind a step and behind a row, with the lengths of the two lists
+-- the present list of source gates after a step and after a row, with the lengths of the two lists
 abbrev pub presents : Sizes → List ℕ → ℕ → ℕ → List Gate → Move → List Gate
 presents z codes places room gs (add r) = left gs (adding z codes places room gs r)
 presents z codes places room gs take_off = left gs (taking_off gs)
@@ -44,8 +45,8 @@ pub record Holds (z : Sizes) (codes : List ℕ) (gs : List Gate) (L : Lists) : T
   -- the masked gates are those of masking the gates afresh
   pub maskeds : take (length (afresh codes gs)) L.masked ≡ map record_of (afresh codes gs)
   -- each source wire's twin is the one of the masking steps
-  pub twins : take (length codes + length gs) (present codes L).twins ≡ (behind codes gs).twins
+  pub twins : take (length codes + length gs) (present codes L).twins ≡ (following codes gs).twins
   -- each record knows how many masked gates stand before its own
   pub froms : (i : ℕ) → i < length gs → (get_or L.source i blank_source).from ≡ length (afresh codes (take i gs))
   pub rising : Rising (length codes) gs
-  pub within : length codes + length gs ≤ (small z).wires
+  pub within : length codes + length gs ≤ (source_limits z).wires

@@ -1,7 +1,7 @@
-// Words and wires in lists of bytes: eight bytes and four bytes each, the lowest first.
+//! Words and wires in lists of bytes: eight bytes and four bytes each, the lowest first.
 use crate::scan;
 
-// The word at a place; bytes behind the end are 0.
+// The word at a place; bytes after the end are 0.
 fn word(bytes: &[u8], at: usize) -> u64 {
     let mut word = [0u8; 8];
     for (i, b) in word.iter_mut().enumerate() {
@@ -17,12 +17,11 @@ pub(crate) fn take(list: &mut [u64], bytes: &[u8]) {
     }
 }
 
-// The bytes of all words of a table. It and the next are two, since one would be handed what gives an entry's bytes, and the check does
-// not cover a function parameter whose array has its length by a const parameter (tried).
+// The bytes of all words of a table.
 pub(crate) fn put(out: &mut [u8], words: &[u64]) {
     let mut at = 0;
     for word in words {
-        at = write_buffer::bytes(out, at, &word.to_le_bytes());
+        at = writer::bytes(out, at, &word.to_le_bytes());
     }
 }
 
@@ -30,6 +29,6 @@ pub(crate) fn put(out: &mut [u8], words: &[u64]) {
 pub(crate) fn put_wires(out: &mut [u8], wires: &[u32]) {
     let mut at = 0;
     for wire in wires {
-        at = write_buffer::bytes(out, at, &wire.to_le_bytes());
+        at = writer::bytes(out, at, &wire.to_le_bytes());
     }
 }

@@ -1,7 +1,5 @@
-// Buffers and tables. An array that a function answers is lent at no cost to the proofs; one that is made in place has its length computed
-// each time that it is lent.
-// A function for each length, and none generic in it: its callers would then name a type, as `let mut text: Text = zeros();`, and each function
-// here would be an alias.
+//! Buffers and tables. An array that a function answers is lent at no cost to the proofs; one that is made in place has
+//! its length computed each time that it is lent.
 use crate::second::Gate;
 
 // As long as the list of the circuits' names may be.

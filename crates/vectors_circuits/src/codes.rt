@@ -1,14 +1,14 @@
-// Mask codes, and bits that travel under them. The mask setting m is m0 and twice m1.
+//! Mask codes, and bits that travel under them. The mask setting m is m0 and twice m1.
 use crate::words;
 
 // Check judges a netlist of at most so many input bits besides the mask pair, by question 12.
 pub(crate) const MOST_BITS: usize = 12;
 
-fn mask(code: u8, m: u8) -> u8 {
+fn mask(code: u8, masks: u8) -> u8 {
     match code {
-        1 => m % 2,
-        2 => m / 2,
-        3 => (m % 2) ^ (m / 2),
+        1 => masks % 2,
+        2 => masks / 2,
+        3 => (masks % 2) ^ (masks / 2),
         _ => 0,
     }
 }
@@ -33,33 +33,34 @@ pub(crate) fn cycle(list: &mut [u8], range: Range) {
     }
 }
 
-// A bit under the mask of its code. A bit is the lowest of its byte, so that a digit serves; without codes no mask is put on.
-fn under(bit: u8, code: u8, m: u8) -> u8 {
-    (bit & 1) ^ mask(code, m)
+// A bit under the mask of its code. A bit is the lowest of its byte, so that a digit serves; without codes no mask is
+// put on.
+fn under(bit: u8, code: u8, masks: u8) -> u8 {
+    (bit & 1) ^ mask(code, masks)
 }
 
-// The mask pair, behind n input bits.
-fn pair(wires: &mut [u8], n: usize, m: u8) {
-    words::put(wires, n, m % 2);
-    words::put(wires, n.wrapping_add(1), m / 2);
+// The mask pair, after n input bits.
+fn pair(wires: &mut [u8], count: usize, masks: u8) {
+    words::put(wires, count, masks % 2);
+    words::put(wires, count.wrapping_add(1), masks / 2);
 }
 
-// The input wires: each bit under the mask of its code, and the mask pair behind them, which the first gates of an unmasked
-// netlist write over.
-pub(crate) fn settle(wires: &mut [u8], bits: &[u8], codes: &[u8], m: u8) {
+// The input wires: each bit under the mask of its code, and the mask pair after them, which the first gates of an
+// unmasked netlist write over.
+pub(crate) fn settle(wires: &mut [u8], bits: &[u8], codes: &[u8], masks: u8) {
     for (i, bit) in bits.iter().enumerate() {
-        words::put(wires, i, under(*bit, words::byte(codes, i), m));
+        words::put(wires, i, under(*bit, words::byte(codes, i), masks));
     }
-    pair(wires, bits.len(), m);
+    pair(wires, bits.len(), masks);
 }
 
 // Whether bits are those of a vector's word, once the masks of their codes are off.
-pub(crate) fn agrees(bits: &[u8], codes: &[u8], m: u8, word: &[u8]) -> bool {
+pub(crate) fn agrees(bits: &[u8], codes: &[u8], masks: u8, word: &[u8]) -> bool {
     bits.len() == word.len()
         && bits.iter().zip(word).enumerate().all(|(i, (bit, wanted))| under(
             *bit,
             words::byte(codes, i),
-            m,
+            masks,
         ) == *wanted & 1)
 }
 

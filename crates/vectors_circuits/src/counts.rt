@@ -1,8 +1,8 @@
-// What a leak is, by the second evaluator: the count of every wire in every input setting.
+//! What a leak is, by the second evaluator: the count of every wire in every input setting.
 use crate::codes::MOST_BITS;
 use crate::second::Circuit;
 use crate::{buffers, codes, second, words};
-use check_leak::difference::Leak;
+use leak_search::difference::Leak;
 
 // A netlist, and the codes of its input bits.
 #[derive(Clone, Copy)]
@@ -21,17 +21,17 @@ fn spread(bits: &mut [u8], setting: usize) {
 }
 
 // A count with the bit of one more mask setting; setting 0 begins it.
-fn more(count: u8, bit: u8, m: u8) -> u8 {
-    if m == 0 {
+fn more(count: u8, bit: u8, masks: u8) -> u8 {
+    if masks == 0 {
         return bit;
     }
     count.wrapping_add(bit)
 }
 
 // The first n wires under one more mask setting to the counts.
-fn add(counts: &mut [u8], wires: &[u8], n: usize, m: u8) {
-    for (count, bit) in counts.iter_mut().zip(wires).take(n) {
-        *count = more(*count, *bit, m);
+fn add(counts: &mut [u8], wires: &[u8], many: usize, masks: u8) {
+    for (count, bit) in counts.iter_mut().zip(wires).take(many) {
+        *count = more(*count, *bit, masks);
     }
 }
 
@@ -45,10 +45,10 @@ fn differ(base: &[u8], counts: &[u8], end: usize) -> Option<usize> {
 
 impl Coded<'_, '_> {
     // One mask setting.
-    fn masks(self, counts: &mut [u8], bits: &[u8], m: u8, wires: &mut [u8]) {
-        codes::settle(wires, bits, self.codes, m);
+    fn masks(self, counts: &mut [u8], bits: &[u8], masks: u8, wires: &mut [u8]) {
+        codes::settle(wires, bits, self.codes, masks);
         self.circuit.run(wires);
-        add(counts, wires, self.circuit.shape.wires, m);
+        add(counts, wires, self.circuit.shape.wires, masks);
     }
 
     // The count of each wire in one input setting.

@@ -1,6 +1,6 @@
-// Rewrite: a text in the written form comes back as it is, and so does one that has more spaces and blank lines.
+//! Rewrite: a text in the written form comes back as it is, and so does one that has more spaces and blank lines.
 use crate::{buffers, services, words};
-use test_report::Score;
+use program::report::Score;
 
 // Whether a text is rewritten as this form of it.
 fn becomes(text: &[u8], form: &[u8]) -> bool {
@@ -8,12 +8,12 @@ fn becomes(text: &[u8], form: &[u8]) -> bool {
     services::rewrite(text, &mut out).is_ok_and(|n| words::part(&out, 0, n) == form)
 }
 
-// A byte, and one more of its kind behind a space or a line's end; answers the place behind them.
-fn twice(out: &mut [u8], at: usize, b: u8) -> usize {
-    words::put(out, at, b);
+// A byte, and one more of its kind after a space or a line's end; answers the place after them.
+fn twice(out: &mut [u8], at: usize, byte: u8) -> usize {
+    words::put(out, at, byte);
     let next = at.wrapping_add(1);
-    if b <= 32 {
-        words::put(out, next, b);
+    if byte <= 32 {
+        words::put(out, next, byte);
         return next.wrapping_add(1);
     }
     next

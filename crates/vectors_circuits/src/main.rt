@@ -1,8 +1,9 @@
 #![tactic(auto)]
 
-// Circuits with vectors, through Run, Rewrite, Mask and Check, against a second evaluator. The file `files` has a line for each circuit: the
-// name of its netlist, NAME.txt, which is in the written form, and that of its vectors, whose lines are input bits, output bits and a label.
-// A line is printed for each group of cases: how many agreed, of how many.
+// Circuits with vectors, through Run, Rewrite, Mask and Check, against a second evaluator. The file `files` has a line
+// for each circuit: the name of its netlist, NAME.txt, which is in the written form, and that of its vectors, whose
+// lines are input bits, output bits and a label. A line is printed for each group of cases: how many agreed, of how
+// many.
 mod buffers;
 mod codes;
 mod counts;
@@ -18,21 +19,21 @@ use crate::codes::Range;
 use crate::masked::Masked;
 use crate::vectors::{Masking, Vectors};
 use crate::words::Cursor;
+use program::report::Score;
 use std::io;
 use std::io::Write;
 use std::rt::Files;
-use test_report::Score;
 
 // The most circuits that the file of names has.
 const CIRCUITS: usize = 100;
 
-// Prints a group's line, as far as 256 bytes hold it behind the circuit's name.
-fn print(rt: &impl Print, circuit: &[u8], group: &[u8], s: Score) -> io::Result<()> {
+// Prints a group's line, as far as 256 bytes hold it after the circuit's name.
+fn print(rt: &impl Print, circuit: &[u8], group: &[u8], score: Score) -> io::Result<()> {
     let mut out = [0u8; 256];
-    let n = test_report::line(&mut out, group, s);
+    let n = program::report::line(&mut out, group, score);
     io::writer(rt).write_all(circuit)?;
     io::writer(rt).write_all(b", ")?;
-    io::writer(rt).write_all(program_text::first(&out, n))
+    io::writer(rt).write_all(program::lines::first(&out, n))
 }
 
 // A circuit on all of its vectors, and its masked netlists under three lists of codes on some eight of them each.
@@ -69,15 +70,15 @@ fn circuit(rt: &impl Print, name: &[u8], text: &[u8], file: &[u8]) -> io::Result
     report(rt, name, forms::score(text), a.join(b.join(c)))
 }
 
-fn report(rt: &impl Print, name: &[u8], forms: Score, m: Masked) -> io::Result<()> {
-    print(rt, name, b"rewrite", forms.join(m.rewrite))?;
-    if m.check.cases == 0 {
-        return print(rt, name, b"refused by Mask", m.mask);
+fn report(rt: &impl Print, name: &[u8], forms: Score, masked: Masked) -> io::Result<()> {
+    print(rt, name, b"rewrite", forms.join(masked.rewrite))?;
+    if masked.check.cases == 0 {
+        return print(rt, name, b"refused by Mask", masked.mask);
     }
-    print(rt, name, b"mask", m.mask)?;
-    print(rt, name, b"check", m.check)?;
-    if 0 < m.leaks.cases {
-        print(rt, name, b"edits that leak", m.leaks)?;
+    print(rt, name, b"mask", masked.mask)?;
+    print(rt, name, b"check", masked.check)?;
+    if 0 < masked.leaks.cases {
+        print(rt, name, b"edits that leak", masked.leaks)?;
     }
     Ok(())
 }
@@ -89,8 +90,8 @@ fn named(rt: &(impl Files + Print), netlist: &[u8], vectors: &[u8]) -> io::Resul
     }
     let mut text = buffers::text();
     let mut file = buffers::text();
-    let n = program_files::read(rt, netlist, &mut text);
-    let m = program_files::read(rt, vectors, &mut file);
+    let n = program::files::read(rt, netlist, &mut text);
+    let m = program::files::read(rt, vectors, &mut file);
     circuit(
         rt,
         words::part(netlist, 0, netlist.len() - 4),
@@ -101,12 +102,12 @@ fn named(rt: &(impl Files + Print), netlist: &[u8], vectors: &[u8]) -> io::Resul
 
 fn main(rt: HostRuntime) -> io::Result<()> {
     let mut list = buffers::names();
-    program_files::read(&rt, b"files", &mut list);
+    program::files::read(&rt, b"files", &mut list);
     let mut netlist = Cursor::start(&list);
     for _ in 0..CIRCUITS {
-        let vectors = netlist.behind();
+        let vectors = netlist.following();
         named(&rt, netlist.word(), vectors.word())?;
-        netlist = vectors.behind();
+        netlist = vectors.following();
     }
     Ok(())
 }

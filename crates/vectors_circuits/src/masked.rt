@@ -1,10 +1,10 @@
-// A source through Mask, and its masked netlist through Run, Rewrite and Check.
+//! A source through Mask, and its masked netlist through Run, Rewrite and Check.
 use crate::codes::{MOST_BITS, Range};
 use crate::second::Shape;
 use crate::vectors::{Masking, Vectors};
 use crate::{buffers, codes, forms, second, services, vectors, verdicts, words};
-use netlist::Question;
-use test_report::Score;
+use netlist::Refusal;
+use program::report::Score;
 
 // The scores of a masked netlist.
 #[derive(Clone, Copy, Default)]
@@ -27,7 +27,8 @@ impl Masked {
     }
 }
 
-// A source for Mask, with the codes of its input bits and those that are wanted of its outputs, and the vectors of both netlists.
+// A source for Mask, with the codes of its input bits and those that are wanted of its outputs, and the vectors of both
+// netlists.
 #[derive(Clone, Copy)]
 struct Source<'t, 'i, 'w, 'v> {
     text: &'t [u8],
@@ -41,8 +42,8 @@ const MOST_BYTES: usize = 60000;
 
 const MOST_WIRES: usize = 2048;
 
-// Question 12 refuses more than 12 input bits. With fewer the netlist is clean under the codes handed to Mask, and both judges
-// agree on it, and on it under other codes.
+// Question 12 refuses more than 12 input bits. With fewer the netlist is clean under the codes handed to Mask, and both
+// judges agree on it, and on it under other codes.
 fn judged(text: &[u8], ins: &[u8]) -> Score {
     if MOST_BITS < ins.len() {
         return Score::of(verdicts::refuses_settings(text, ins));
@@ -54,13 +55,14 @@ fn judged(text: &[u8], ins: &[u8]) -> Score {
         .case(verdicts::alike(text, words::part(&others, 0, ins.len())))
 }
 
-// The question by which Mask refuses a source: that of its bytes, or else of its wires. None refuses one within its limits.
-fn question(text: &[u8], shape: Shape) -> Option<Question> {
+// The question by which Mask refuses a source: that of its bytes, or else of its wires. None refuses one within its
+// limits.
+fn question(text: &[u8], shape: Shape) -> Option<Refusal> {
     if MOST_BYTES < text.len() {
-        return Some(Question::Length);
+        return Some(Refusal::Length);
     }
     if MOST_WIRES < shape.wires {
-        return Some(Question::Limits);
+        return Some(Refusal::Limits);
     }
     None
 }
@@ -94,10 +96,10 @@ impl Source<'_, '_, '_, '_> {
     }
 
     // Mask's answer to a source that it refuses by a question, or by none, and the scores of its result.
-    fn delivered(self, question: Option<Question>, out: &mut [u8], out_codes: &mut [u8]) -> Masked {
+    fn delivered(self, question: Option<Refusal>, out: &mut [u8], out_codes: &mut [u8]) -> Masked {
         match services::mask(self.text, self.ins, self.wanted, out, out_codes) {
             Ok(n) => {
-                let n = program_text::front(out, n);
+                let n = program::lines::front(out, n);
                 self.scores(&mut out[..n], words::part(out_codes, 0, self.wanted.len()))
             }
             Err(q) => Masked {

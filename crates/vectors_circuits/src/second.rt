@@ -1,5 +1,5 @@
-// The second evaluator: a reader that takes a netlist's text word by word and trusts it, and one byte a wire. It shares nothing
-// with the tool's reader, tables and evaluator: document 01 has the cases that are not proved run against a second evaluator.
+//! The second evaluator: a reader that takes a netlist's text word by word and trusts it, and one byte a wire. It
+//! shares nothing with the tool's reader, tables and evaluator: cases that are not proved are run against it.
 use crate::words;
 use crate::words::Cursor;
 
@@ -46,11 +46,11 @@ pub(crate) struct Gate {
     result: usize,
 }
 
-// A digit behind a number of at most six digits.
-fn digit(n: usize, b: u8) -> usize {
-    if n < 1000000 {
-        if b'0' <= b {
-            return n * 10 + (b - b'0') as usize;
+// A digit after a number of at most six digits.
+fn digit(count: usize, byte: u8) -> usize {
+    if count < 1000000 {
+        if b'0' <= byte {
+            return count * 10 + (byte - b'0') as usize;
         }
     }
     0
@@ -64,9 +64,9 @@ fn number(word: &[u8]) -> usize {
     n
 }
 
-// The next word as a number, and the place behind it.
+// The next word as a number, and the place after it.
 fn next(at: Cursor) -> (usize, Cursor) {
-    (number(at.word()), at.behind())
+    (number(at.word()), at.following())
 }
 
 // A header line of values: the sum of the widths.
@@ -74,9 +74,9 @@ fn bits(at: Cursor) -> (usize, Cursor) {
     let (values, mut place) = next(at);
     let mut sum: usize = 0;
     for _ in 0..values {
-        let (width, behind) = next(place);
+        let (width, following) = next(place);
         sum = sum.wrapping_add(width);
-        place = behind;
+        place = following;
     }
     (sum, place)
 }
@@ -96,7 +96,7 @@ pub(crate) fn header(text: &[u8]) -> (Shape, Cursor) {
     (shape, at)
 }
 
-// The gate of a line, which begins with how many operands there are, and the place behind the line.
+// The gate of a line, which begins with how many operands there are, and the place after the line.
 fn line(at: Cursor) -> (Gate, Cursor) {
     let (operands, at) = next(at);
     let (_, at) = next(at);
@@ -109,7 +109,7 @@ fn line(at: Cursor) -> (Gate, Cursor) {
         right,
         result,
     };
-    (gate, at.behind())
+    (gate, at.following())
 }
 
 // The netlist of a text, whose gates go to the front of a table.

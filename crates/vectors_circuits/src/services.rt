@@ -1,19 +1,19 @@
-// The four services, each with tables of its own, as long as question 1 asks.
+//! The four services, each with tables of its own, as long as question 1 asks.
 use crate::buffers;
-use check_netlist::Checked;
+use checker::judge::Checked;
 use netlist::{Answer, Sizes};
 
 pub(crate) fn rewrite(text: &[u8], out: &mut [u8]) -> Answer {
     let mut operands = buffers::words();
     let mut results = buffers::words();
     let mut marks = buffers::bytes();
-    rewrite::rewrite(
+    convert::rewrite::rewrite(
         text,
         out,
         &mut operands,
         &mut results,
         &mut marks,
-        Sizes::Old,
+        Sizes::Standard,
     )
 }
 
@@ -30,7 +30,7 @@ pub(crate) fn run(text: &[u8], list: &[u8], out: &mut [u8]) -> Answer {
         &mut results,
         &mut marks,
         &mut words,
-        Sizes::Old,
+        Sizes::Standard,
     )
 }
 
@@ -55,7 +55,7 @@ pub(crate) fn mask(
         &mut results,
         &mut wires,
         &mut marks,
-        Sizes::Old,
+        Sizes::Standard,
     )
 }
 
@@ -73,6 +73,6 @@ pub(crate) fn check(text: &[u8], codes: &[u8]) -> Checked {
         &mut marks,
         &mut words,
         &mut base,
-        Sizes::Old,
+        Sizes::Standard,
     )
 }

@@ -1,18 +1,18 @@
-// A netlist on its vectors: the service Run and the second evaluator, each against the vector's outputs.
+//! A netlist on its vectors: the service Run and the second evaluator, each against the vector's outputs.
 use crate::second::{Circuit, Shape};
 use crate::words::Cursor;
 use crate::{buffers, codes, second, services, words};
-use test_report::Score;
+use program::report::Score;
 
-// The vectors of a file: the first of it, and one of each `step` lines behind.
+// The vectors of a file: the first of it, and one of each `step` lines after.
 #[derive(Clone, Copy)]
 pub(crate) struct Vectors<'v> {
     pub(crate) file: &'v [u8],
     pub(crate) step: usize,
 }
 
-// The codes of a netlist's input and output bits, and under how many mask settings a vector is tried: one for a netlist without masks,
-// which has no codes either, and four for a masked one.
+// The codes of a netlist's input and output bits, and under how many mask settings a vector is tried: one for a netlist
+// without masks, which has no codes either, and four for a masked one.
 #[derive(Clone, Copy)]
 pub(crate) struct Masking<'i, 'o> {
     pub(crate) ins: &'i [u8],
@@ -40,34 +40,34 @@ const LINES: usize = 4096;
 
 impl Netlist<'_, '_, '_, '_> {
     // Whether Run gives the output bits of a vector from the input wires.
-    fn run_agrees(self, list: &[u8], m: u8, outputs: &[u8]) -> bool {
+    fn run_agrees(self, list: &[u8], masks: u8, outputs: &[u8]) -> bool {
         let mut bits = buffers::list();
         services::run(self.text, list, &mut bits).is_ok_and(|n| codes::agrees(
             words::part(&bits, 0, n),
             self.masking.outs,
-            m,
+            masks,
             outputs,
         ))
     }
 
     // Whether the last wires are the output bits of a vector.
-    fn end_agrees(self, wires: &[u8], m: u8, outputs: &[u8]) -> bool {
+    fn end_agrees(self, wires: &[u8], masks: u8, outputs: &[u8]) -> bool {
         let Shape {
             wires: all,
             outs,
             ..
         } = self.circuit.shape;
         let bits = words::part(wires, all.wrapping_sub(outs), all);
-        codes::agrees(bits, self.masking.outs, m, outputs)
+        codes::agrees(bits, self.masking.outs, masks, outputs)
     }
 
     // Whether Run and the second evaluator give the output bits of a vector under one mask setting.
-    fn both_agree(self, vector: Vector, m: u8, wires: &mut [u8]) -> bool {
-        codes::settle(wires, vector.inputs, self.masking.ins, m);
+    fn both_agree(self, vector: Vector, masks: u8, wires: &mut [u8]) -> bool {
+        codes::settle(wires, vector.inputs, self.masking.ins, masks);
         let list = words::part(wires, 0, self.circuit.shape.ins);
-        let served = self.run_agrees(list, m, vector.outputs);
+        let served = self.run_agrees(list, masks, vector.outputs);
         self.circuit.run(wires);
-        served && self.end_agrees(wires, m, vector.outputs)
+        served && self.end_agrees(wires, masks, vector.outputs)
     }
 
     // One vector under the first mask settings.
@@ -83,7 +83,7 @@ impl Netlist<'_, '_, '_, '_> {
         let mut s = Score::default();
         let mut line = Cursor::start(vectors.file);
         for i in 0..LINES {
-            let middle = line.behind();
+            let middle = line.following();
             let vector = Vector {
                 inputs: line.word(),
                 outputs: middle.word(),
@@ -91,7 +91,7 @@ impl Netlist<'_, '_, '_, '_> {
             let settings = vectors.settings(vector, i, self.masking.settings);
             s = s.join(self.vector(vector, settings, wires));
             // a label ends the line
-            line = middle.behind().behind();
+            line = middle.following().following();
         }
         s
     }
@@ -99,8 +99,8 @@ impl Netlist<'_, '_, '_, '_> {
 
 impl Vectors<'_> {
     // Under how many mask settings the i-th vector is tried: none unless it is there and one of each `step`.
-    fn settings(self, vector: Vector, i: usize, settings: u8) -> u8 {
-        if vector.inputs.is_empty() || self.step == 0 || i % self.step != 0 {
+    fn settings(self, vector: Vector, index: usize, settings: u8) -> u8 {
+        if vector.inputs.is_empty() || self.step == 0 || index % self.step != 0 {
             return 0;
         }
         settings

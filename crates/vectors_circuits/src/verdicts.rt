@@ -1,8 +1,8 @@
-// Check, against the counts of the second evaluator.
+//! Check, against the counts of the second evaluator.
 use crate::codes::MOST_BITS;
 use crate::{counts, services, words};
-use netlist::Question;
-use test_report::Score;
+use netlist::Refusal;
+use program::report::Score;
 
 // The edited netlists: how many of them both judge alike, and how many leak.
 #[derive(Clone, Copy, Default)]
@@ -28,7 +28,7 @@ fn leaks(text: &[u8], codes: &[u8]) -> bool {
 
 // Whether Check refuses a netlist for its input bits.
 pub(crate) fn refuses_settings(text: &[u8], codes: &[u8]) -> bool {
-    services::check(text, codes) == Err(Question::Settings)
+    services::check(text, codes) == Err(Refusal::Settings)
 }
 
 // A name of three letters to a place.
@@ -39,10 +39,10 @@ fn name(text: &mut [u8], at: usize, name: &[u8]) {
 }
 
 // One edited netlist more.
-fn tried(text: &[u8], codes: &[u8], e: Edited) -> Edited {
+fn tried(text: &[u8], codes: &[u8], edited: Edited) -> Edited {
     Edited {
-        alike: e.alike.case(alike(text, codes)),
-        leaks: e.leaks.case(leaks(text, codes)),
+        alike: edited.alike.case(alike(text, codes)),
+        leaks: edited.leaks.case(leaks(text, codes)),
     }
 }
 

@@ -1,6 +1,6 @@
 -- The text of a netlist in its tables.
 use Rattle.std.specs.Prelude.{List, ℕ}
-use Rattle.gate_table.specs.Gates.{tables_of}
+use Rattle.gates.specs.Gates.{tables_of}
 use Rattle.write_netlist.specs.declared.form.Form.{Form}
 use Rattle.write_netlist.specs.Form.{form_text_in}
 

@@ -39,7 +39,7 @@ impl Service {
 
     /// The old limits.
     pub fn limits(self) -> &'static Limits {
-        self.limits_of(Sizes::Old)
+        self.limits_of(Sizes::Standard)
     }
 
     pub fn limits_of(self, sizes: Sizes) -> &'static Limits {
@@ -88,12 +88,12 @@ impl Call {
     /// A call under the old limits, with tables of the least length and ample room for what its service
     /// gives.
     pub fn new(service: Service, text: &[u8], list: &[u8], wanted: &[u8]) -> Call {
-        Call::of(Sizes::Old, service, text, list, wanted)
+        Call::of(Sizes::Standard, service, text, list, wanted)
     }
 
     /// The same under these limits.
     pub fn of(sizes: Sizes, service: Service, text: &[u8], list: &[u8], wanted: &[u8]) -> Call {
-        let ample = if sizes == Sizes::Old { ROOM } else { WHOLE_ROOM };
+        let ample = if sizes == Sizes::Standard { ROOM } else { WHOLE_ROOM };
         let limits = service.limits_of(sizes);
         Call {
             service,

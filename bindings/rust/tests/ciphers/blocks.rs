@@ -60,13 +60,13 @@ pub fn aes(bits: usize) -> Netlist {
         state.iter().zip(key).map(|(a, k)| xor(net, &[a, k])).collect()
     };
     state = with_key(net, &state, &keys[0]);
-    for round in 1..=rounds {
+    for (round, key) in keys.iter().enumerate().skip(1) {
         // SubBytes and ShiftRows.
         state = (0..16).map(|i| net.place(&sbox, &state[5 * i % 16])).collect();
         if round < rounds {
             state = state.chunks(4).flat_map(|column| mix_column(net, column)).collect();
         }
-        state = with_key(net, &state, &keys[round]);
+        state = with_key(net, &state, key);
     }
     whole.finish(&[join_from_highest(&state)])
 }

@@ -6,7 +6,7 @@ mod margins;
 use crate::calls::random::Random;
 use crate::calls::{Call, Given, Service};
 use crate::reference::netlist::Sizes;
-use fidrovelj::{lent, Refused};
+use fidrovelj::{lent, Refusal};
 use margins::Lent;
 
 /// All that calls of the library are lent.
@@ -40,9 +40,9 @@ impl Library {
     }
 
     /// The library's answer to a call; whether there is a leak counts as 0 or 1.
-    fn answer(&mut self, call: &Call, seed: u64) -> Result<usize, Refused> {
+    fn answer(&mut self, call: &Call, seed: u64) -> Result<usize, Refusal> {
         let sizes = match call.sizes {
-            Sizes::Old => fidrovelj::Sizes::Old,
+            Sizes::Standard => fidrovelj::Sizes::Standard,
             Sizes::Whole => fidrovelj::Sizes::Whole,
         };
         let random = &mut Random::new(seed);
@@ -104,7 +104,7 @@ impl Library {
         let seed = call.text.len() as u64 ^ (call.text_room as u64) << 32;
         let answer = self.answer(call, seed);
         let wanted =
-            expected.as_ref().map_err(|&question| Refused(question)).map(|given| match call.service {
+            expected.as_ref().map_err(|&question| Refusal::from_number(question).unwrap()).map(|given| match call.service {
                 Service::Rewrite | Service::Mask => given.text.len(),
                 Service::Run => given.list.len(),
                 Service::Run64 => given.words.len(),

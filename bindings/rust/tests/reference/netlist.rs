@@ -83,7 +83,7 @@ pub struct Limits {
 /// Which limits a call takes: the old ones, or those for whole ciphers.
 #[derive(Clone, Copy, Debug, PartialEq, Eq)]
 pub enum Sizes {
-    Old,
+    Standard,
     Whole,
 }
 
@@ -91,7 +91,7 @@ impl Sizes {
     /// Mask's limits.
     pub fn small(self) -> &'static Limits {
         match self {
-            Sizes::Old => &SMALL,
+            Sizes::Standard => &SMALL,
             Sizes::Whole => &WHOLE_SMALL,
         }
     }
@@ -99,7 +99,7 @@ impl Sizes {
     /// The limits of Check, Run and Rewrite.
     pub fn large(self) -> &'static Limits {
         match self {
-            Sizes::Old => &LARGE,
+            Sizes::Standard => &LARGE,
             Sizes::Whole => &WHOLE_LARGE,
         }
     }

@@ -178,7 +178,7 @@ pub fn check_wide(
     ask(10, netlist.inputs.len() >= 2 && netlist.inputs.last() == Some(&2))?;
     let bits = netlist.input_bits() - 2;
     ask(11, codes.len() == bits && codes.iter().all(|&code| code <= 3))?;
-    ask(21, pairs.len() % 2 == 0 && pairs.iter().all(|&wire| (wire as usize) < netlist.wires))?;
+    ask(21, pairs.len().is_multiple_of(2) && pairs.iter().all(|&wire| (wire as usize) < netlist.wires))?;
     let pairs: Vec<_> = pairs.chunks(2).map(|pair| (pair[0] as usize, pair[1] as usize)).collect();
     let sets = reach(&netlist);
     ask(12, sets.iter().all(|set| set.len() <= 12))?;

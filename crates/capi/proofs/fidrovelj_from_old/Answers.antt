@@ -10,4 +10,9 @@ number-requires c =
     (omega (arith, c.well_formed))
 
 pub returns : goal.returns
-returns c = record { answer = c.from_old.result; promise = rw c.sizes.ensures at c.from_old.ensures; told = search rules }
+returns c = record {
+  answer = c.from_old.result;
+  promise = rw c.sizes.ensures at c.from_old.ensures;
+  told
+      = search rules;
+}

@@ -37,4 +37,9 @@ pub shape_of-wires : goal.shape_of-wires
 shape_of-wires c = c.from_verilog.auto.wires
 
 pub returns : goal.returns
-returns c = record { answer = c.from_verilog.result; promise = rw c.sizes.ensures at c.from_verilog.ensures; told = search rules }
+returns c = record {
+  answer = c.from_verilog.result;
+  promise = rw c.sizes.ensures at c.from_verilog.ensures;
+  told
+      = search rules;
+}

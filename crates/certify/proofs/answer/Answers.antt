@@ -7,13 +7,15 @@ pub returns-in_err-netlist : goal.returns-in_err-netlist
 returns-in_err-netlist c =
     let s = c.args in
     let p = err_from_is_err_and c.from_residual.result c.from_residual.ensures.1 in
-    let k = rw c.large.ensures at c.in_err-netlist.ensures in
+    let k = rw c.masked_limits.ensures at c.in_err-netlist.ensures in
     rw (p.1, p.2)
-    (answer-not s.sizes s.text.now s.codes.now s.operands.now s.results.now s.marks.now s.words.now s.base.now s.records.now
+    (answer-not s.sizes s.text.now s.codes.now s.operands.now s.results.now s.marks.now s.words.now s.base.now
+    s.records.now
     s.leak.now s.ones.now k)
 
 pub returns : goal.returns
 returns c =
     let s = c.args in
-    let k = rw c.large.ensures at c.in_ok-netlist.ensures in
-    answer-read s.sizes s.text.now s.codes.now s.operands.now s.results.now s.marks.now s.words.now s.base.now s.records.now k c.judge.ensures
+    let k = rw c.masked_limits.ensures at c.in_ok-netlist.ensures in
+    answer-read s.sizes s.text.now s.codes.now s.operands.now s.results.now s.marks.now s.words.now s.base.now
+    s.records.now k c.judge.ensures

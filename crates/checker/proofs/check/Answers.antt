@@ -9,7 +9,8 @@ returns c =
     let a = c.answer-r in
     record {
       outcome = a.ensures;
-      judged = call-judged s.sizes s.text.now s.codes.now s.operands.now s.results.now s.marks.now s.words.now s.base.now
+      judged = call-judged s.sizes s.text.now s.codes.now s.operands.now s.results.now s.marks.now s.words.now
+          s.base.now
           a.result a.ensures;
       operands = search rules;
       results = search rules;

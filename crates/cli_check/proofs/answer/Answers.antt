@@ -6,5 +6,12 @@ use Rattle.cli_check.proofs.answer.Goals as goal
 pub returns : goal.returns
 returns c =
     asked-short c.args.netlist.now c.args.inputs.now _
-    (record { operands = omega arith; results = omega arith; marks = omega arith; words = omega arith; base = omega arith }) (omega arith)
+    (record {
+      operands = omega arith;
+      results = omega arith;
+      marks = omega arith;
+      words = omega arith;
+      base
+          = omega arith;
+    }) (omega arith)
     c.list.ensures c.check.ensures.outcome

@@ -1,6 +1,6 @@
 -- A refusal's line.
 use Rattle.std.specs.Prelude.{Err}
-use Rattle.program_text.proofs.Reporting.{refused-first}
+use Rattle.program.proofs.Reporting.{refused-first}
 use Rattle.cli_rewrite.proofs.Reports.{prints-as}
 use Rattle.cli_rewrite.proofs.print.Goals as goal
 

@@ -6,5 +6,12 @@ use Rattle.cli_run.proofs.answer.Goals as goal
 pub returns : goal.returns
 returns c =
     answer-short c.args.netlist.now c.args.inputs.now _
-    (record { bits = omega arith; operands = omega arith; results = omega arith; marks = omega arith; words = omega arith }) (omega arith)
+    (record {
+      bits = omega arith;
+      operands = omega arith;
+      results = omega arith;
+      marks = omega arith;
+      words
+          = omega arith;
+    }) (omega arith)
     c.list.ensures c.run.ensures.answers

@@ -1,7 +1,7 @@
 -- The bits as digits, or a refusal's line.
 use Rattle.std.specs.Prelude.{Err, Ok}
 use Rattle.std.proofs.Common.{arith, length-take}
-use Rattle.program_text.proofs.Reporting.{few-first, refused-first}
+use Rattle.program.proofs.Reporting.{few-first, refused-first}
 use Rattle.cli_run.proofs.Reports.{prints-as}
 use Rattle.cli_run.proofs.print.Goals as goal
 

@@ -2,7 +2,7 @@
 use Prim.Native.Nat.{◌+◌, ◌-◌}
 use mathlib.Core.Path.{◌≡◌}
 use native.Mathlib.Omega.{arith}
-use Rattle.gate_table.specs.Gates.{tables_of}
+use Rattle.gates.specs.Gates.{tables_of}
 use Rattle.evaluate.proofs.Steps.{ran-none, ran-all, ahead_step}
 use Rattle.evaluate.proofs.run.Goals as goal
 
@@ -14,9 +14,9 @@ loop-i-preserved c =
     let step = c.step in
     let i = c.loop-i.i in
     let here : i + 1 - 1 ≡ i = omega arith in
-    let behind : i - 1 + 1 ≡ i = omega arith in
+    let following : i - 1 + 1 ≡ i = omega arith in
     rw here record {
-      ran = rw behind at (ahead_step c.loop-i.invariant step.new.words step.auto.words step.ensures);
+      ran = rw following at (ahead_step c.loop-i.invariant step.new.words step.auto.words step.ensures);
       inside = c.loop-i-test.true;
       parts = c.at-next-in-loop-i.ensures;
     }

@@ -1,6 +1,6 @@
 -- `evaluate::run` meets its contract.
 use Prim.Native.Nat.{◌-◌}
-use Rattle.gate_table.specs.Gates.{tables_of}
+use Rattle.gates.specs.Gates.{tables_of}
 use Rattle.evaluate.proofs.Steps.{Ahead}
 use Rattle.evaluate.proofs.run.Given as goal
 

@@ -1,5 +1,5 @@
 -- `evaluate::wires` meets its contract.
-use Rattle.gate_table.specs.Gates.{tables_of}
+use Rattle.gates.specs.Gates.{tables_of}
 use Rattle.evaluate.proofs.Runs.{wires-law}
 use Rattle.evaluate.proofs.wires.Goals as goal
 

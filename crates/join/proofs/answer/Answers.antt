@@ -7,7 +7,8 @@ pub returns-in_err-a : goal.returns-in_err-a
 returns-in_err-a c =
     let s = c.args in
     let p = err_from_is_err_and c.from_residual.result c.from_residual.ensures.1 in
-    rw (p.1, p.2) (call-not s.sizes s.first.now s.second.now s.codes.now s.out_codes.now s.inner.now s.out.now s.operands.now s.results.now
+    rw (p.1, p.2) (call-not s.sizes s.first.now s.second.now s.codes.now s.out_codes.now s.inner.now s.out.now
+    s.operands.now s.results.now
     s.marks.now s.words.now s.base.now _ c.in_err-a.ensures)
 
 pub read_second-requires-clause-first : goal.read_second-requires-clause-first
@@ -17,5 +18,6 @@ pub returns : goal.returns
 returns c =
     let s = c.args in
     let k = c.in_ok-a.ensures in
-    call-read s.sizes s.first.now s.second.now s.codes.now s.out_codes.now s.inner.now s.out.now s.operands.now s.results.now s.marks.now s.words.now
+    call-read s.sizes s.first.now s.second.now s.codes.now s.out_codes.now s.inner.now s.out.now s.operands.now
+    s.results.now s.marks.now s.words.now
     s.base.now k.0 (block_read k.1) (c.read_second.ensures k.1.at.is (block-first k.1))

@@ -10,7 +10,8 @@ returns c =
     let a = c.answer-r in
     record {
       answers = a.ensures;
-      delivered = call-delivered s.sizes s.first.now s.second.now s.codes.now s.out_codes.now s.inner.now s.out.now s.operands.now s.results.now s.marks.now
+      delivered = call-delivered s.sizes s.first.now s.second.now s.codes.now s.out_codes.now s.inner.now s.out.now
+          s.operands.now s.results.now s.marks.now
           s.words.now s.base.now a.ensures;
       operands = grind (arith, common_steps);
       results = grind (arith, common_steps);

@@ -9,5 +9,6 @@ returns c =
     let s = c.args in
     let t = c.read in
     let ls = length s.operands.now ∷ length s.results.now ∷ length s.marks.now ∷ s.others.now in
-    block-is c.large-l.result ls s.text.now s.codes.now t.new.inputs t.new.outputs (tables t.new.operands t.new.results) c.in_ok-h.ensures c.large-l.ensures
+    block-is c.masked_limits-l.result ls s.text.now s.codes.now t.new.inputs t.new.outputs
+    (tables t.new.operands t.new.results) c.in_ok-h.ensures c.masked_limits-l.ensures
     c.in_ok-ask_codes.ensures.asked

@@ -9,4 +9,5 @@ returns c =
     let wanted = c.args.source.wanted.now in
     let p = sym c.valid_codes.ensures ∙ c.if-not-valid_codes.false in
     let q = sym c.valid_wanted.ensures ∙ c.if-not-valid_wanted.false in
-    λ N a. mask-14 a codes wanted p q (c.deliver.ensures N (source_of a codes wanted p q) (masked-formed a codes wanted p q))
+    λ N a. mask-14 a codes wanted p q (c.deliver.ensures N (source_of a codes wanted p q)
+    (masked-formed a codes wanted p q))

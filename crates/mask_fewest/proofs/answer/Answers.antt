@@ -3,7 +3,7 @@ use mathlib.Core.List.{[], ◌∷◌}
 use lib.Dec.{lit<}
 use lib.ListN.{length, length-take}
 use Rattle.std.proofs.lemmas.Result.{err_from_is_err_and}
-use Rattle.netlist.specs.Netlist.{small}
+use Rattle.netlist.specs.Netlist.{source_limits}
 use Rattle.netlist.proofs.Answering.{table_at}
 use Rattle.netlist.proofs.Size.{small-fits}
 use Rattle.mask.proofs.Promised.{read_of}
@@ -14,9 +14,10 @@ use Rattle.mask_fewest.proofs.answer.Goals as goal
 pub deliver-requires : goal.deliver-requires
 deliver-requires c =
     let s = c.args in
-    let k = rw c.small-l.ensures at c.in_ok-h.ensures in
+    let k = rw c.source_limits-l.ensures at c.in_ok-h.ensures in
     let a = k.1 in
-    let long = table_at (small s.sizes) (length s.operands.now ∷ length s.results.now ∷ length s.marks.now ∷ length s.wires.now
+    let long = table_at (source_limits s.sizes) (length s.operands.now ∷ length s.results.now ∷ length s.marks.now ∷
+    length s.wires.now
     ∷ length s.ways.now ∷ length s.best.now ∷ length s.spans.now ∷ []) in
     record {
       fronts = record {
@@ -39,14 +40,16 @@ pub returns-in_err-h : goal.returns-in_err-h
 returns-in_err-h c =
     let s = c.args in
     let p = err_from_is_err_and c.from_residual.result c.from_residual.ensures.1 in
-    let k = rw c.small-l.ensures at c.in_err-h.ensures in
+    let k = rw c.source_limits-l.ensures at c.in_err-h.ensures in
     rw (p.1, p.2)
-    (call-not s.sizes s.text.now s.codes.now s.wanted.now s.budget s.out.now s.in_codes.now s.out_codes.now s.tally.now s.operands.now
+    (call-not s.sizes s.text.now s.codes.now s.wanted.now s.budget s.out.now s.in_codes.now s.out_codes.now s.tally.now
+    s.operands.now
     s.results.now s.wires.now s.marks.now s.ways.now s.best.now s.spans.now k)
 
 pub returns : goal.returns
 returns c =
     let s = c.args in
-    let k = rw c.small-l.ensures at c.in_ok-h.ensures in
-    call-read s.sizes s.text.now s.codes.now s.wanted.now s.budget s.out.now s.in_codes.now s.out_codes.now s.tally.now s.operands.now
+    let k = rw c.source_limits-l.ensures at c.in_ok-h.ensures in
+    call-read s.sizes s.text.now s.codes.now s.wanted.now s.budget s.out.now s.in_codes.now s.out_codes.now s.tally.now
+    s.operands.now
     s.results.now s.wires.now s.marks.now s.ways.now s.best.now s.spans.now k c.deliver.ensures

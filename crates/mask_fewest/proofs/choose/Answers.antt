@@ -4,14 +4,16 @@ use Prim.Native.Nat.{◌-◌}
 use mathlib.Core.List.{◌++◌}
 use lib.ListN.{length, take, drop, length-drop}
 use lib.Seq.{take_all, length-take-le, length_front}
-use Rattle.fewest_apply.proofs.Applying.{swapped-cut, wired-chosen}
+use Rattle.fewest.proofs.Applying.{swapped-cut, wired-chosen}
 use Rattle.mask_fewest.proofs.Giving.{places, fits-fronts, chose}
 use native.Mathlib.Omega.{arith}
 use Rattle.mask_fewest.proofs.choose.Goals as goal
 
 pub search-r-requires : goal.search-r-requires
 search-r-requires c =
-    let a = c.args in let p = c.requires.0 in let W = a.h.wires in let m = length-take-le W a.marks.now p.fronts.marks in (
+    let a = c.args in let p = c.requires.0 in let W = a.header.wires in let m = length-take-le W a.marks.now
+    p.fronts.marks
+    in (
       record {
         fits = fits-fronts (take W a.ways.now) (take W a.best.now) (take W a.marks.now) (take W a.wires.now) p.source
             p.fronts.wired p.fronts.few (length-take-le W a.ways.now p.ways) (length-take-le W a.best.now p.best) m
@@ -28,22 +30,23 @@ pub swap-requires : goal.swap-requires
 swap-requires c =
     let p = c.requires.0 in
     let R = c.search-r in
-    let f = length_front c.args.best.now R.new.best c.args.h.wires R.auto.best in
+    let f = length_front c.args.best.now R.new.best c.args.header.wires R.auto.best in
     let pl = places p.source in
-    let l = length-take-le c.args.h.gates c.args.results.now p.fronts.wired.results in (
+    let l = length-take-le c.args.header.gates c.args.results.now p.fronts.wired.results in (
       omega (arith, l, p.fronts.wired.operands),
       omega (arith, l, p.best),
     )
 
 pub returns : goal.returns
 returns c =
-    let a = c.args in let p = c.requires.0 in let W = a.h.wires in
+    let a = c.args in let p = c.requires.0 in let W = a.header.wires in
     let R = c.search-r in let m = length-take-le W a.marks.now p.fronts.marks in
     let g = length_front a.ways.now R.new.way W R.auto.way in let pl = places p.source in
     let n = length a.codes.now in
     let best = R.new.best ++ drop W a.best.now in
     let l = length-drop n best in
-    let S = rw (take_all (length best - n) (drop n best) (omega arith)) at (swapped-cut a.h.gates p.fronts.wired.results c.swap.ensures) in (
+    let S = rw (take_all (length best - n) (drop n best) (omega arith)) at
+    (swapped-cut a.header.gates p.fronts.wired.results c.swap.ensures) in (
       wired-chosen S p.fronts.wired,
       λ N Q. chose N
           R.new.best a.best.now Q c.requires.1 (R.auto.best ∙ length-take-le W a.best.now p.best)

@@ -12,7 +12,8 @@ returns-in_err-size c =
     let a = c.args in
     let p = err_from_is_err_and c.from_residual.result c.from_residual.ensures.1 in
     λ N S f. rw (p.1, p.2)
-    (give-refused N a.source.codes.now a.source.wanted.now a.r a.in_codes.now a.tally.now c.requires.inputs c.requires.tally
+    (give-refused N a.source.codes.now a.source.wanted.now a.found a.in_codes.now a.tally.now c.requires.inputs
+    c.requires.tally
     (c.deliver.ensures N S f) c.in_err-size.was)
 
 pub returns : goal.returns
@@ -20,7 +21,9 @@ returns c =
     let a = c.args in
     let n = length a.source.codes.now in
     let e = c.copy_from_slice.ensures.after in
-    λ N S f. give-done N a.source.codes.now a.source.wanted.now a.r a.in_codes.now a.tally.now c.requires.inputs c.requires.tally
+    λ N S f. give-done N a.source.codes.now a.source.wanted.now a.found a.in_codes.now a.tally.now c.requires.inputs
+    c.requires.tally
     (c.deliver.ensures N S f) c.in_ok-size.was
-    (ap (λ (x : List ℕ). x ++ drop n a.in_codes.now) e ∙ laid-front n a.source.codes.now a.in_codes.now refl c.requires.inputs)
+    (ap (λ (x : List ℕ). x ++ drop n a.in_codes.now) e ∙ laid-front n a.source.codes.now a.in_codes.now refl
+    c.requires.inputs)
     (two-set a.tally.now _ _ c.requires.tally)

@@ -10,7 +10,8 @@ returns c =
     record {
       answers = A.ensures;
       gives = call-gives s.sizes s.text.now s.codes.now s.wanted.now
-          s.budget s.out.now s.in_codes.now s.out_codes.now s.tally.now s.operands.now s.results.now s.wires.now s.marks.now s.ways.now
+          s.budget s.out.now s.in_codes.now s.out_codes.now s.tally.now s.operands.now s.results.now s.wires.now
+          s.marks.now s.ways.now
           s.best.now s.spans.now A.ensures;
       operands = search rules;
       results = search rules;

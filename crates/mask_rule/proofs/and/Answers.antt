@@ -6,6 +6,6 @@ use Rattle.mask_rule.proofs.and.Goals as goal
 pub returns : goal.returns
 returns c =
     let a = c.args in
-    and_at _ _ a.a a.b _ c.extra-from.ensures c.changed-second.ensures
+    and_at _ _ a.left a.right _ c.extra-from.ensures c.changed-second.ensures
     c.past-next.ensures
-    c.wire-p.ensures c.wire-q.ensures (omega (arith, c.if-k-from.false)) (λ l. c.step.ensures)
+    c.wire-p.ensures c.wire-q.ensures (omega (arith, c.if-index-from.false)) (λ l. c.step.ensures)

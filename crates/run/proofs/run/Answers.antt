@@ -5,4 +5,5 @@ use Rattle.run.proofs.run.Goals as goal
 pub returns : goal.returns
 returns c =
     let s = c.args in
-    promise s.sizes s.text.now s.list.now s.out.now s.operands.now s.results.now s.marks.now s.words.now c.run.ensures.answers c.run.ensures.cleared
+    promise s.sizes s.text.now s.list.now s.out.now s.operands.now s.results.now s.marks.now s.words.now
+    c.run.ensures.answers c.run.ensures.cleared

@@ -1,7 +1,7 @@
 -- `answer`: question 14, and then the text.
 use mathlib.Core.Path.{sym, ◌∙◌}
 use native.Mathlib.Omega.{arith}
-use Rattle.write_gates.proofs.Delivering.{deliver-done}
+use Rattle.writer.proofs.Delivering.{deliver-done}
 use Rattle.write_netlist.proofs.answer.Goals as goal
 
 pub returns-then-holds : goal.returns-then-holds

@@ -9,7 +9,8 @@ pub loop-o-preserved : goal.loop-o-preserved
 loop-o-preserved c =
     let s = c.in-Some.ensures.steps in
     zipped-as (sym (length-append c.loop-o.yielded _))
-    (zipped-more c.requires.count_in_bounds.0 c.requires.count_in_bounds.1 (rw (s.0, s.1) at c.loop-o.invariant) c.entry-next.ensures)
+    (zipped-more c.requires.count_in_bounds.0 c.requires.count_in_bounds.1 (rw (s.0, s.1) at c.loop-o.invariant)
+    c.entry-next.ensures)
 
 pub returns : goal.returns
 returns c =

@@ -1,5 +1,5 @@
--- `write`: the header, and behind it the gate lines.
-use Rattle.write_buffer.proofs.Writing.{wrote_then}
+-- `write`: the header, and after it the gate lines.
+use Rattle.writer.proofs.Writing.{wrote_then}
 use Rattle.write_netlist.proofs.write.Goals as goal
 
 pub returns : goal.returns

@@ -13,4 +13,9 @@ number-requires c =
     ))
 
 pub returns : goal.returns
-returns c = record { answer = c.mask_fewest.result; promise = rw c.sizes.ensures at c.mask_fewest.ensures; told = search rules }
+returns c = record {
+  answer = c.mask_fewest.result;
+  promise = rw c.sizes.ensures at c.mask_fewest.ensures;
+  told
+      = search rules;
+}

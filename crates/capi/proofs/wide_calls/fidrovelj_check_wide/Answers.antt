@@ -1,4 +1,5 @@
--- `fidrovelj_check_wide`: what the check promises, its number, the numbers of a leak, its ones and the number of a bad pair.
+-- `fidrovelj_check_wide`: what the check promises, its number, the numbers of a leak, its ones and the number of a bad
+-- pair.
 use borrow.Author.Rules.{rules}
 use Rattle.capi.proofs.wide_calls.fidrovelj_check_wide.Goals as goal
 
@@ -9,5 +10,11 @@ returns c =
     record {
       answer = check.result;
       promise = rw c.sizes.ensures at check.ensures;
-      shows = record { told = search rules; leak_list = told.leak_list; ones_list = told.ones_list; bad_list = told.bad_list };
+      shows = record {
+        told = search rules;
+        leak_list = told.leak_list;
+        ones_list = told.ones_list;
+        bad_list
+            = told.bad_list;
+      };
     }

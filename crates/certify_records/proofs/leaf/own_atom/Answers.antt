@@ -5,4 +5,4 @@ use Rattle.evaluate.proofs.Lanes.{bit-low}
 use Rattle.certify_records.proofs.leaf.own_atom.Goals as goal
 
 pub returns : goal.returns
-returns c = ap (λ (b : ℕ). 8 * c.args.wire + (2 * c.args.m + b)) (bit-low c.args.m c.args.t)
+returns c = ap (λ (b : ℕ). 8 * c.args.wire + (2 * c.args.setting + b)) (bit-low c.args.setting c.args.table)

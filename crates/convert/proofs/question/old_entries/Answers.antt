@@ -6,5 +6,6 @@ use Rattle.convert.proofs.question.old_entries.Goals as goal
 
 pub returns : goal.returns
 returns c =
-    let h : IsTrue c.all.result ↔ EachIndex c.args.results.now (λ k. old_entry (get_or c.args.results.now k 0) ≡ true) = search rules in
+    let h : IsTrue c.all.result ↔ EachIndex c.args.results.now (λ k. old_entry (get_or c.args.results.now k 0) ≡ true)
+    = search rules in
     every-from_iff _ _ h.0 h.1

@@ -4,5 +4,5 @@ use Rattle.evaluate.proofs.gate.made.Goals as goal
 
 pub returns : goal.returns
 returns c j l =
-    made-law c.args.kind c.args.a c.args.b j c.chosen.result c.chosen-2.result c.requires (c.chosen.ensures j l)
+    made-law c.args.kind c.args.left c.args.right j c.chosen.result c.chosen-2.result c.requires (c.chosen.ensures j l)
     (c.chosen-2.ensures j l)

@@ -3,4 +3,4 @@ use Rattle.evaluate.proofs.Made.{spread-law}
 use Rattle.evaluate.proofs.gate.spread.Goals as goal
 
 pub returns : goal.returns
-returns c j l = spread-law c.args.bits c.args.i j l
+returns c j l = spread-law c.args.bits c.args.index j l

@@ -3,4 +3,4 @@ use Rattle.evaluate.proofs.Lanes.{bit-first}
 use Rattle.evaluate.proofs.lay.low_bit.Goals as goal
 
 pub returns : goal.returns
-returns c = bit-first c.args.w
+returns c = bit-first c.args.word

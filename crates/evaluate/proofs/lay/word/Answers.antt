@@ -5,4 +5,4 @@ use Rattle.evaluate.proofs.Lanes.{bool-bit}
 use Rattle.evaluate.proofs.lay.word.Goals as goal
 
 pub returns : goal.returns
-returns c = c.from.ensures ∙ bool-bit (is_one c.args.b)
+returns c = c.from.ensures ∙ bool-bit (is_one c.args.byte)

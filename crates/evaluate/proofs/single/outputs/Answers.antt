@@ -5,7 +5,7 @@ use native.Mathlib.Omega.{arith}
 use lib.Dec.{lit<}
 use lib.ListN.{length}
 use lib.Seq.{length-sets}
-use Rattle.netlist.specs.Leak.{bit}
+use Rattle.netlist.specs.Eval.{bit}
 use Rattle.netlist.specs.Services.{is_one, bools}
 use Rattle.evaluate.proofs.Fronts.{copied-front, bits-long}
 use Rattle.evaluate.proofs.Runs.{single-law}

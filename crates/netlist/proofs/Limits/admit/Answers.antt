@@ -8,5 +8,6 @@ use Rattle.netlist.proofs.Limits.admit.Goals as goal
 
 pub returns : goal.returns
 returns c =
-    all_from_yields_List (leb c.args.self.table) _ _ _ c.all.ensures.ran (YieldsList-from_slice c.args.lengths.now (cc)) (λ x b q k. search (rules, tests))
+    all_from_yields_List (leb c.args.self.table) _ _ _ c.all.ensures.ran (YieldsList-from_slice c.args.lengths.now (cc))
+    (λ x b q k. search (rules, tests))
     ∙ sym (every-list_all (leb c.args.self.table) c.args.lengths.now)

@@ -1,3 +1,0 @@
--- What the answers on lines that give variables mean.
-pub mod StepAnswers
-pub mod AndAnswers

@@ -1,3 +1,0 @@
--- Laws of variables and gates.
-pub mod Placing
-pub mod Adding

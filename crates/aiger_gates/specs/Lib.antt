@@ -1,2 +1,0 @@
--- What the contracts of variables and gates cite.
-pub mod Places

@@ -1,4 +1,0 @@
--- Laws of lines.
-pub mod Strays
-pub mod NumberLines
-pub mod Places

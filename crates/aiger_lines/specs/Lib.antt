@@ -1,3 +1,0 @@
--- What the answers on lines mean.
-pub mod Stray
-pub mod LineAnswers

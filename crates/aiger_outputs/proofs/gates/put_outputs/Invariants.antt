@@ -1,6 +1,0 @@
--- The gates of the first i literals were put.
-use Rattle.aiger_outputs.proofs.OutGates.{Putting}
-use Rattle.aiger_outputs.proofs.gates.put_outputs.Given as goal
-
-abbrev pub invariant-loop-i : goal.invariant-loop-i
-invariant-loop-i l = Putting l.table l.fn.operands l.fn.results l.room l.n l.count l.operands l.results l.i

@@ -1,2 +1,0 @@
--- What the answers on output lines mean.
-pub mod OutAnswers

@@ -1,0 +1,2 @@
+-- Lemmas on covers and the cells made of them.
+pub mod Wiring

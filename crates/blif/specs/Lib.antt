@@ -1,0 +1,3 @@
+-- What statements of BLIF mean.
+pub mod Meaning
+pub mod Judged

@@ -1,0 +1,11 @@
+-- `explain_calls::fidrovelj_cone`: what the service promises, and its number.
+use Rattle.capi.proofs.Counts.{countable}
+use native.Mathlib.Omega.{arith}
+use borrow.Author.Rules.{rules}
+use Rattle.capi.proofs.explain_calls.fidrovelj_cone.Goals as goal
+
+pub number-requires : goal.number-requires
+number-requires c = countable c.cone.ensures.answers (omega (arith, c.well_formed))
+
+pub returns : goal.returns
+returns c = record { answer = c.cone.result; promise = rw c.sizes.ensures at c.cone.ensures; told = search rules }

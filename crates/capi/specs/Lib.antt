@@ -1,0 +1,10 @@
+pub mod About
+pub mod Certified
+pub mod Number
+pub mod Pairs
+pub mod Reading
+pub mod RefusedPlaces
+pub mod Shapes
+pub mod TableKinds
+pub mod Wide
+pub mod Workspace

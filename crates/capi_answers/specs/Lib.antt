@@ -1,4 +1,0 @@
-pub mod Number
-pub mod Pairs
-pub mod Wide
-pub mod Certified

@@ -1,0 +1,5 @@
+pub mod Admitting
+pub mod Beginnings
+pub mod Judging
+pub mod Marking
+pub mod Testing

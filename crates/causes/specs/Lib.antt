@@ -1,0 +1,5 @@
+pub mod Asked
+pub mod Causes
+pub mod Judged
+pub mod Marked
+pub mod Promise

@@ -1,3 +1,0 @@
--- Laws that several proofs cite.
-pub mod Counting
-pub mod Telling

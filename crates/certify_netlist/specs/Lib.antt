@@ -1,3 +1,0 @@
--- What the contracts of the certifier's verdict cite.
-pub mod Ones
-pub mod Judge

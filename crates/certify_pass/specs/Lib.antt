@@ -1,2 +1,0 @@
--- What the contracts of the certifier's pass cite.
-pub mod Pass

@@ -1,6 +1,0 @@
--- `certify_search::load::input` meets its contract.
-use Rattle.certify_search.proofs.Rounds.{secret-word}
-use Rattle.certify_search.proofs.load.input.Goals as goal
-
-pub returns : goal.returns
-returns c = secret-word c.args.noise c.args.code c.mask.result c.if-code-eq0.false c.mask.ensures

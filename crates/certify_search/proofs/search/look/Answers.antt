@@ -1,9 +1,0 @@
--- `certify_search::search::look` meets its contract.
-use Rattle.certify_search.proofs.Rounds.{witness}
-use Rattle.certify_search.proofs.search.look.Goals as goal
-
-pub returns : goal.returns
-returns c = record {
-  inside = λ p e. (c.scan.ensures.differs p e).inside;
-  witness = λ N codes R. witness R c.first.new.base c.scan.result c.first.ensures c.scan.ensures;
-}

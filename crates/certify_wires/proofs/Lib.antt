@@ -1,4 +1,0 @@
--- Laws that several proofs cite.
-pub mod Stores
-pub mod Marking
-pub mod Hinting

@@ -1,3 +1,0 @@
--- What the contracts of the certifier's tables cite.
-pub mod Known
-pub mod Store

@@ -1,9 +1,0 @@
--- `leak::block::tally` meets its contract.
-use Rattle.check_counts.proofs.Tallies.{tallied-all, ones-past}
-use native.Mathlib.Omega.{arith}
-use Rattle.check_counts.proofs.block.tally.Goals as goal
-
-pub returns : goal.returns
-returns c =
-    let words = c.args.words.now in
-    tallied-all c.loop-word.invariant (omega arith) (ones-past words)

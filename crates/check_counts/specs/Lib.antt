@@ -1,4 +1,0 @@
--- What the contracts of the counts cite.
-pub mod Paint
-pub mod Base
-pub mod Block

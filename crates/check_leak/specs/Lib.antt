@@ -1,3 +1,0 @@
--- What the contracts of Check's core cite.
-pub mod Difference
-pub mod Search

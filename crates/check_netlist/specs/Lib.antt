@@ -1,2 +1,0 @@
--- What the contracts of Check's verdict cite.
-pub mod Judge

@@ -1,0 +1,2 @@
+pub mod Cone
+pub mod Promise

@@ -1,0 +1,35 @@
+-- From a conversion to Rewrite's promise.
+use Rattle.std.specs.Prelude.{Result}
+use Prim.Native.Nat.{ℕ}
+use mathlib.Core.Path.{◌≡◌, refl, ap, ◌∙◌}
+use mathlib.Core.List.{List, [], ◌∷◌}
+use lib.ListN.{length}
+use Rattle.netlist.specs.declared.Refusal.{Refusal}
+use Rattle.netlist.specs.declared.Sizes.{Sizes}
+use Rattle.netlist.specs.Netlist.{masked_limits}
+use Rattle.netlist.specs.Read.{read_netlist}
+use Rattle.netlist.specs.Services.{rewrite_call}
+use Rattle.netlist.proofs.Size.{roomy-large, rewritten}
+use Rattle.netlist.proofs.Answering.{answers-as}
+use Rattle.dialect.specs.declared.Dialect.TheVariants.{Fashion}
+use Rattle.convert.specs.Convert.{convert_call, Converts}
+use Rattle.convert.proofs.Converting.{call-text}
+use Rattle.convert.specs.RewritePromise.{Promise}
+
+same-call : (s : Sizes) (tables text : List ℕ) (room : ℕ) → convert_call Fashion Fashion (masked_limits s) tables text
+    room ≡ rewrite_call (masked_limits s) tables text room
+unfolding rewrite_call
+same-call s tables text room = refl
+
+pub promised : {s : Sizes} {text out out' o o' r r' g g' : List ℕ} {a : Result ℕ Refusal} → Converts Fashion Fashion s
+    text out out' o o' r r' g g' a
+    → Promise s text out out' o o' r r' g g' a
+promised {s} {text} {out} {out'} {o} {o'} {r} {r'} {g} {g'} {a} c =
+    let wrote = call-text Fashion Fashion s text out o r g c.answers in
+    record {
+      answers = answers-as (same-call s (length o ∷ length r ∷ length g ∷ []) text (length out)) c.answers;
+      same = λ n N p e. ap (read_netlist (masked_limits s)) (wrote n N p e).1 ∙ rewritten (roomy-large s) N text e;
+      operands = c.operands;
+      results = c.results;
+      marks = c.marks;
+    }

@@ -1,0 +1,30 @@
+//! Rewrite: the same netlist in the written form. Questions 1 to 9 with the large limits, and 14.
+ghost use Rattle.convert.specs.RewritePromise.{Promise};
+
+use dialect::Dialect;
+use netlist::{Answer, Sizes};
+
+/// The written form of the netlist in `text` at the front of `out`. The tables, of any content, are zero on return. A
+/// call of `convert`, as `from_old` and `to_old` are: a service each, with a name and a promise of its own.
+pub fn rewrite(
+    text: &[u8],
+    out: &mut [u8],
+    operands: &mut [u64],
+    results: &mut [u64],
+    marks: &mut [u8],
+    sizes: Sizes,
+) -> Answer
+    ensures { Promise sizes text.now out.old out.new
+        operands.old operands.new results.old results.new marks.old marks.new result }
+{
+    crate::convert(
+        text,
+        out,
+        operands,
+        results,
+        marks,
+        sizes,
+        Dialect::Fashion,
+        Dialect::Fashion,
+    )
+}

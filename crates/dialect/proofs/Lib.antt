@@ -1,0 +1,4 @@
+pub mod GateNames
+pub mod OldAccepted
+pub mod OldRoundTrip
+pub mod ThereAndBack

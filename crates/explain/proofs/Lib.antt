@@ -1,0 +1,9 @@
+pub mod Adding
+pub mod Calls
+pub mod Counting
+pub mod Laying
+pub mod Lightest
+pub mod Polynomials
+pub mod Promised
+pub mod Sums
+pub mod Values

@@ -1,2 +1,0 @@
--- Laws of a choice put to use.
-pub mod Applying

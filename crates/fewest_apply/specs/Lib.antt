@@ -1,2 +1,0 @@
--- What putting a choice to use cites.
-pub mod Apply

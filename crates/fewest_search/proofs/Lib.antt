@@ -1,4 +1,0 @@
--- Laws of the search.
-pub mod Trying
-pub mod Searching
-pub mod Standing

@@ -1,7 +1,0 @@
--- `gates::walk_gates`: the gates from one on up to gate i are done.
-use Rattle.fewest_walk.proofs.Walking.{Walking}
-use Rattle.gate_table.specs.Gates.{tables_of}
-use Rattle.fewest_walk.proofs.gates.walk_gates.Given as goal
-
-abbrev pub invariant-loop-i : goal.invariant-loop-i
-invariant-loop-i l = Walking (tables_of l.gates) l.gates.count l.ways l.from l.initial.wire_codes l.initial.least_before l.wire_codes l.least_before l.i l.low

@@ -1,9 +1,0 @@
--- `next::next`: the places from p on took their last way.
-use Prim.Native.Nat.{◌+◌}
-use lib.ListN.{length}
-use Rattle.fewest_walk.specs.Advance.{ways_at}
-use Rattle.fewest_walk.proofs.Advancing.{Advancing}
-use Rattle.fewest_walk.proofs.next.next.Given as goal
-
-abbrev pub invariant-loop-p : goal.invariant-loop-p
-invariant-loop-p l = Advancing (ways_at l.codes l.results) (length l.codes + length l.results) l.initial.way l.way l.p

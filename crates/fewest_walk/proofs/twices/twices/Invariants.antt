@@ -1,7 +1,0 @@
--- `twices::twices`: the first i gates are counted.
-use Rattle.fewest_walk.proofs.Counting.{Counting}
-use Rattle.gate_table.specs.Gates.{tables_of}
-use Rattle.fewest_walk.proofs.twices.twices.Given as goal
-
-abbrev pub invariant-loop-i : goal.invariant-loop-i
-invariant-loop-i l = Counting (tables_of l.gates) l.i l.sum

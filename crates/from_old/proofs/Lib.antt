@@ -1,2 +1,0 @@
--- The laws of the service.
-pub mod Promised

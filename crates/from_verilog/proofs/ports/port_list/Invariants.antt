@@ -1,0 +1,15 @@
+-- One port after another.
+use Rattle.std.proofs.Common.{length}
+use Rattle.from_verilog.specs.Kind.{number_of}
+use Rattle.from_verilog.proofs.Joins.{left}
+use Rattle.from_verilog.proofs.Seating.{Seating}
+use Rattle.from_verilog.proofs.ports.port_list.Given as goal
+
+abbrev pub invariant-loop-text : goal.invariant-loop-text
+invariant-loop-text l =
+    Seating l.names.text.now l.names.words.now (length l.names.words.now) l.at l.initial.states l.initial.wires l.states
+    l.wires
+    (number_of l.token.kind) l.token.from l.token.to l.ports.inputs l.ports.outputs
+
+abbrev pub decreases-loop-text : goal.decreases-loop-text
+decreases-loop-text l = left l.names.text.now (number_of l.token.kind) l.token.to

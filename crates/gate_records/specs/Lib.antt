@@ -1,2 +1,0 @@
--- What the contracts of `gate_records` cite.
-pub mod Records

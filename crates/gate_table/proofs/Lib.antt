@@ -1,2 +1,0 @@
--- Laws of gates as numbers and of their entries.
-pub mod Entries

@@ -1,0 +1,11 @@
+pub mod Answers
+pub mod Bases
+pub mod BlockRuns
+pub mod Differences
+pub mod Folds
+pub mod Inputs
+pub mod Loads
+pub mod Nibbles
+pub mod Numbers
+pub mod Paints
+pub mod Tallies

@@ -1,0 +1,5 @@
+pub mod Base
+pub mod Block
+pub mod Difference
+pub mod Paint
+pub mod Search

@@ -1,2 +1,0 @@
--- What a masking costs.
-pub mod Counted

@@ -1,3 +1,0 @@
--- What a masking costs.
-pub mod Changes
-pub mod GateCount

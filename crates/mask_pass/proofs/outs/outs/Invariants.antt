@@ -1,6 +1,0 @@
--- `mask_pass::outs::outs` meets its contract.
-use Rattle.mask_pass.proofs.Outputs.{Outed}
-use Rattle.mask_pass.proofs.outs.outs.Given as goal
-
-abbrev pub invariant-loop-i : goal.invariant-loop-i
-invariant-loop-i l = Outed l.initial.out l.at l.masks.first l.c l.twin_wires l.twin_codes l.wanted l.out l.place l.i

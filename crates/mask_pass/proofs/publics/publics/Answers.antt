@@ -1,8 +1,0 @@
--- `publics::publics`: the gates of the first i inputs were written.
-use Rattle.mask_pass.proofs.PublicBits.{opened-more}
-use Rattle.mask_pass.proofs.publics.publics.Goals as goal
-
-pub loop-i-preserved : goal.loop-i-preserved
-loop-i-preserved c =
-    opened-more c.loop-i.invariant
-    c.loop-i-test.true c.one-place.ensures c.past-next.ensures

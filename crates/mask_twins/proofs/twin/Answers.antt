@@ -1,6 +1,0 @@
--- `twin` meets its contract.
-use Rattle.mask_twins.proofs.States.{twins-at}
-use Rattle.mask_twins.proofs.twin.Goals as goal
-
-pub returns : goal.returns
-returns c = let a = c.args in twins-at a.twin_wires.now a.twin_codes.now a.w c.requires.0 c.requires.1

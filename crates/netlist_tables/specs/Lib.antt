@@ -1,2 +1,0 @@
--- What contracts say of a netlist that was read.
-pub mod Tables

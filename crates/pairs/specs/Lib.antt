@@ -1,3 +1,0 @@
--- What the check of pairs cites.
-pub mod Pairs
-pub mod Call

@@ -1,2 +1,0 @@
--- What the contracts of the verdict on wires and pairs cite.
-pub mod Judge

@@ -1,7 +1,0 @@
--- `repeat`: the first setting's lanes, wire by wire.
-use mathlib.Core.Path.{◌∙◌}
-use Rattle.pairs_search.proofs.Lanes.{repeated-all}
-use Rattle.pairs_search.proofs.base.repeat.Goals as goal
-
-pub returns : goal.returns
-returns c = repeated-all c.args.words.now c.each.new.dst (c.each.auto.dst ∙ c.requires) (c.each.ensures 0 0)

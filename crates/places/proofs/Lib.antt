@@ -1,0 +1,4 @@
+pub mod Asking
+pub mod HeaderForms
+pub mod Scanning
+pub mod Walking

@@ -1,0 +1,8 @@
+-- `word_start`: so many words of the line are passed.
+use Rattle.std.proofs.Common.{◌≡◌}
+use lib.ListN.{drop}
+use Rattle.places.specs.Positions.{from_word}
+use Rattle.places.proofs.position.word_start.Given as goal
+
+abbrev pub invariant-loop : goal.invariant-loop
+invariant-loop l = (drop l.here.at l.fn.text ≡ from_word l.fn.line l.counter l.fn.text) × (l.here.text.now ≡ l.fn.text)

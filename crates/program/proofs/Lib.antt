@@ -1,0 +1,3 @@
+pub mod FilesLaws
+pub mod Printing
+pub mod Reporting

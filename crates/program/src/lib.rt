@@ -1,0 +1,5 @@
+#![tactic(auto)]
+
+pub mod files;
+pub mod lines;
+pub mod report;

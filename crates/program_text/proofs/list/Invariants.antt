@@ -1,6 +1,0 @@
--- The first bytes are entries, the others as they were.
-use Rattle.program_text.proofs.Files.{Listing}
-use Rattle.program_text.proofs.list.Given as goal
-
-abbrev pub invariant-loop-b : goal.invariant-loop-b
-invariant-loop-b l = Listing l.initial.b-items l.b-items l.b-index

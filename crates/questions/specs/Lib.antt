@@ -1,0 +1,3 @@
+pub mod Asked
+pub mod Codes
+pub mod Range

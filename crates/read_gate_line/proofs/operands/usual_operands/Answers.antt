@@ -1,6 +1,0 @@
--- Two digits, of which the second is 1.
-use Rattle.read_gate_line.proofs.OperandCounts.{one-result}
-use Rattle.read_gate_line.proofs.operands.usual_operands.Goals as goal
-
-pub returns-then-results-eq1 : goal.returns-then-results-eq1
-returns-then-results-eq1 c = one-result _ _ _ c.in_ok-operands.ensures.1 _ _ c.in_ok-results.ensures.1 c.if-results-eq1.true

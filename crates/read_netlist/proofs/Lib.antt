@@ -1,4 +1,0 @@
--- Laws of reading a whole text.
-pub mod Marking
-pub mod Reading
-pub mod Wholes

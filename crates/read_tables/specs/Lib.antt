@@ -1,2 +1,0 @@
--- What contracts say of a text that is read as one value.
-pub mod Taken

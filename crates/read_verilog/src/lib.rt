@@ -1,5 +1,0 @@
-// Equations in Verilog into lent tables.
-#![tactic(auto)]
-
-pub mod read;
-pub mod rules;

@@ -1,0 +1,14 @@
+pub mod Calling
+pub mod GateForms
+pub mod GateWords
+pub mod Headers
+pub mod Heads
+pub mod Marking
+pub mod OldHeaders
+pub mod Openings
+pub mod OperandCounts
+pub mod Reading
+pub mod Stepping
+pub mod Takings
+pub mod Wholes
+pub mod WidthLines

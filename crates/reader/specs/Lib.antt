@@ -1,0 +1,13 @@
+pub mod Calls
+pub mod GateAnswers
+pub mod GateForm
+pub mod GateLines
+pub mod HeadAnswers
+pub mod HeaderAnswers
+pub mod Marks
+pub mod Opens
+pub mod OperandAnswers
+pub mod Steps
+pub mod Tables
+pub mod Taken
+pub mod Whole

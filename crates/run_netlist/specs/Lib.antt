@@ -1,3 +1,0 @@
--- What the contracts cite.
-pub mod Entries
-pub mod Laws

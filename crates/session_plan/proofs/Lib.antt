@@ -1,4 +1,0 @@
--- Laws that belong to no one function.
-pub mod Plans
-pub mod Openings
-pub mod Adds

@@ -1,2 +1,0 @@
--- What the contracts of `session_plan` cite.
-pub mod Plan

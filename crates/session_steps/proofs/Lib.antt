@@ -1,2 +1,0 @@
--- Laws of lists written record by record.
-pub mod Writes

@@ -1,2 +1,0 @@
--- What the steps of a session promise.
-pub mod Promise

@@ -1,0 +1,9 @@
+pub mod CodeTables
+pub mod Joins
+pub mod KnownResults
+pub mod Masked
+pub mod Orders
+pub mod ReadAlike
+pub mod Secrets
+pub mod Sessions
+pub mod Wide

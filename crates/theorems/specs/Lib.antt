@@ -1,0 +1,10 @@
+pub mod CodeTables
+pub mod Codes
+pub mod Joins
+pub mod Known
+pub mod Masked
+pub mod Orders
+pub mod Secrets
+pub mod Sessions
+pub mod Texts
+pub mod Wide

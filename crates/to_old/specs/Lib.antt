@@ -1,2 +1,0 @@
--- What the contract of the service cites.
-pub mod Promise

@@ -1,2 +1,0 @@
--- What the contracts of the twins cite.
-pub mod Promise

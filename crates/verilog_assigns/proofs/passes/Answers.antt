@@ -1,8 +1,0 @@
--- A name, by its state.
-use Rattle.std.proofs.Common.{ap}
-use Rattle.verilog_tokens.specs.Kind.{number_of}
-use Rattle.verilog_assigns.proofs.Passing.{passes-name}
-use Rattle.verilog_assigns.proofs.passes.Goals as goal
-
-pub returns-in-Name : goal.returns-in-Name
-returns-in-Name c = rw c.number.ensures (passes-name _ _ _ _ _ _ _ (ap number_of c.in-Name.is) c.wire_of-state.ensures)

@@ -1,3 +1,0 @@
--- What the contracts cite.
-pub mod Parts
-pub mod Settled

@@ -1,3 +1,0 @@
--- Laws of the recogniser in numbers.
-pub mod Machine
-pub mod Walks

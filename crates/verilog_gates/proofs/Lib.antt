@@ -1,3 +1,0 @@
--- Laws of the readers of expressions.
-pub mod Joins
-pub mod Assigning

@@ -1,9 +1,0 @@
--- Both entries.
-use mathlib.Core.Path.{ap₂}
-use Rattle.netlist.specs.Table.{tables}
-use Rattle.verilog_gates.proofs.gates.put.Goals as goal
-
-pub returns : goal.returns
-returns c =
-    let e = c.pack-e.ensures in
-    ap₂ tables (rw e at c.put.ensures) (rw e at c.put-2.ensures)

@@ -1,0 +1,2 @@
+-- What a module of assignments says.
+pub mod Assigns

@@ -1,4 +1,0 @@
--- Laws of question 17.
-pub mod Moves
-pub mod Declaring
-pub mod Seating

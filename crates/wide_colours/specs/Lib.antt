@@ -1,2 +1,0 @@
--- What the contracts of the colours cite.
-pub mod Colours

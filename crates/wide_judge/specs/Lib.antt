@@ -1,2 +1,0 @@
--- What the contracts of the verdicts cite.
-pub mod Judge

@@ -1,9 +1,0 @@
--- `members::start`: wire by wire.
-use Rattle.wide_sets.proofs.Starts.{started-all, started-count}
-use native.Mathlib.Omega.{arith}
-use Rattle.wide_sets.proofs.members.start.Goals as goal
-
-pub returns : goal.returns
-returns c =
-    let h = c.loop-w.invariant in
-    (started-all h (omega (arith, h.long)) c.requires, started-count h (omega (arith, h.long)) c.requires)

@@ -1,8 +1,0 @@
--- `reach::line`: by the kind.
-use Rattle.wide_sets.proofs.Reaching.{told}
-use Rattle.wide_sets.proofs.reach.line.Goals as goal
-
-pub returns-in-Eq : goal.returns-in-Eq
-returns-in-Eq c =
-    let g = c.args.gate in
-    rw (← c.in-Eq.ensures g.left g.right g.result) (told (c.none.ensures _ _ _))

@@ -1,6 +1,0 @@
--- `put`: a byte past the end only moves the place.
-use native.Mathlib.Omega.{arith}
-use Rattle.write_buffer.proofs.put.Goals as goal
-
-pub returns : goal.returns
-returns c = record { room = omega arith; list = c.put.ensures; next = c.moved.ensures }

@@ -1,6 +1,0 @@
--- `spaced`: a space, and then the number.
-use Rattle.write_buffer.proofs.Writing.{wrote_then}
-use Rattle.write_buffer.proofs.spaced.Goals as goal
-
-pub returns : goal.returns
-returns c = wrote_then c.put-next.ensures c.number.ensures

@@ -1,6 +1,0 @@
--- `counts`: two numbers.
-use Rattle.write_buffer.proofs.Writing.{wrote_then}
-use Rattle.write_header.proofs.counts.Goals as goal
-
-pub returns : goal.returns
-returns c = wrote_then c.number-space.ensures (wrote_then c.spaced-end.ensures c.put.ensures)

@@ -1,6 +1,0 @@
--- `widths`: the first widths are written.
-use Rattle.write_header.proofs.Headers.{Spaced}
-use Rattle.write_header.proofs.widths.Given as goal
-
-abbrev pub invariant-loop-w : goal.invariant-loop-w
-invariant-loop-w l = Spaced l.initial.out l.at l.ws l.out l.next l.w-index

@@ -1,2 +1,0 @@
--- What the contracts of `write_header` cite.
-pub mod Header

@@ -1,0 +1,11 @@
+-- `spell`: the head and the first operands are stored.
+use Prim.Native.Nat.{◌+◌, ◌*◌, ◌≤◌}
+use mathlib.Core.List.{◌++◌}
+use lib.ListN.{take}
+use Rattle.writer.specs.Wrote.{Wrote}
+use Rattle.writer.specs.Parts.{head_of, spaced}
+use Rattle.writer.proofs.parts.spell.Given as goal
+
+abbrev pub invariant-loop-a : goal.invariant-loop-a
+invariant-loop-a g l = Wrote l.fn.out l.at (head_of g.row.N ++ spaced (take l.a-index l.fn.operands)) l.out l.next
+    × (l.next ≤ l.at + 4 + 3 * l.a-index)
