@@ -510,7 +510,7 @@ int64_t fidrovelj_counts(const uint8_t *text, size_t text_len,
 
 uint32_t fidrovelj_version(void);
 
-/* The words of a refusal, by the number of its question, 1 to 25: how many bytes they have, at most
+/* The words of a refusal, by the number of its question, 1 to 27: how many bytes they have, at most
  * FIDROVELJ_REFUSAL_BYTES; 0 where no question has the number. They go to the front of buffer, without a NUL, if it can
  * hold them; otherwise it stays as it was. */
 #define FIDROVELJ_REFUSAL_BYTES 128

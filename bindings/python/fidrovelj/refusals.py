@@ -30,6 +30,8 @@ WORDS: Dict[int, str] = {
     23: "there is no gate to take off",
     24: "there is no place for another gate",
     25: "the blocks do not fit at the seam",
+    26: "the state is none of this netlist's search for fewer changes",
+    27: "no wire is given to judge, or one that is not there",
 }
 """What each refusal says, by its number."""
 

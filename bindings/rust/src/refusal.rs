@@ -66,10 +66,14 @@ pub enum Refusal {
     Place = 24,
     /// 25: do the blocks fit at the seam?
     Seam = 25,
+    /// 26: is the state one of the search for fewer changes in this netlist?
+    State = 26,
+    /// 27: are wires given to judge, each of the netlist?
+    Judged = 27,
 }
 
 /// All refusals, each at the place of its number less 1.
-const ALL: [Refusal; 25] = [
+const ALL: [Refusal; 27] = [
     Refusal::Tables,
     Refusal::Length,
     Refusal::Bytes,
@@ -95,10 +99,12 @@ const ALL: [Refusal; 25] = [
     Refusal::Gate,
     Refusal::Place,
     Refusal::Seam,
+    Refusal::State,
+    Refusal::Judged,
 ];
 
 impl Refusal {
-    /// Its number, 1 to 25.
+    /// Its number, 1 to 27.
     ///
     /// ```
     /// assert_eq!(fidrovelj::Refusal::Seam.number(), 25);
@@ -114,7 +120,7 @@ impl Refusal {
     ///
     /// assert_eq!(Refusal::from_number(9), Some(Refusal::Wire));
     /// assert_eq!(Refusal::from_number(0), None);
-    /// assert_eq!(Refusal::from_number(26), None);
+    /// assert_eq!(Refusal::from_number(28), None);
     /// ```
     pub fn from_number(number: u8) -> Option<Refusal> {
         ALL.get(usize::from(number).wrapping_sub(1)).copied()
@@ -154,6 +160,8 @@ impl Refusal {
             Refusal::Gate => "there is no gate to take off",
             Refusal::Place => "there is no place for another gate",
             Refusal::Seam => "the blocks do not fit at the seam",
+            Refusal::State => "the state is none of this netlist's search for fewer changes",
+            Refusal::Judged => "no wire is given to judge, or one that is not there",
         }
     }
 }

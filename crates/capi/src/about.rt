@@ -42,6 +42,8 @@ fn named(number: u8) -> Option<Refusal>
         23 => Some(Refusal::Gate),
         24 => Some(Refusal::Place),
         25 => Some(Refusal::Seam),
+        26 => Some(Refusal::State),
+        27 => Some(Refusal::Judged),
         _ => None,
     }
 }

@@ -108,6 +108,8 @@ sixteen Q.Budget e = absurd (omega arith)
 sixteen Q.Gate e = absurd (omega arith)
 sixteen Q.Place e = absurd (omega arith)
 sixteen Q.Seam e = absurd (omega arith)
+sixteen Q.State e = absurd (omega arith)
+sixteen Q.Judged e = absurd (omega arith)
 
 -- an answer that stands for a refusal by 16
 refused-16 : (out : List ℕ) (a : Result ℕ Refusal) → outcome_of out a ≡ refused 16 → a ≡ Err Q.Grammar

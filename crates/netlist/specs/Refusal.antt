@@ -29,6 +29,8 @@ number_of Q.Budget = 22
 number_of Q.Gate = 23
 number_of Q.Place = 24
 number_of Q.Seam = 25
+number_of Q.State = 26
+number_of Q.Judged = 27
 
 -- what each says in words
 abbrev pub words_of : Refusal → List ℕ
@@ -57,3 +59,5 @@ words_of Q.Budget = codes "the budget is 0"
 words_of Q.Gate = codes "there is no gate to take off"
 words_of Q.Place = codes "there is no place for another gate"
 words_of Q.Seam = codes "the blocks do not fit at the seam"
+words_of Q.State = codes "the state is none of this netlist's search for fewer changes"
+words_of Q.Judged = codes "no wire is given to judge, or one that is not there"
