@@ -33,7 +33,8 @@ pub fn refresh(blocks: Blocks, block: u64, words: &[u64], bases: &mut [u64], bas
     requires lengths { (length blocks.paints.now + 2 ≤ length words.now) × (length bases.old ≡ length words.now)
         × (length base.old ≡ length words.now) }
     requires held { let N = bare_of blocks.gates (length words.now) in
-        Evaluated N true blocks.paints.now words.now block × HeldOn blocks.publics N blocks.paints.now bases.old base.old block }
+        Evaluated N true blocks.paints.now words.now block
+        × HeldOn blocks.publics N blocks.paints.now bases.old base.old block }
     ensures { let N = bare_of blocks.entry.gates (length words.now) in
         Based N blocks.entry.paints.now bases.new base.new block
         × HeldOn blocks.entry.publics N blocks.entry.paints.now bases.new base.new (block + 1) }

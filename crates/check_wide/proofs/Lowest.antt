@@ -81,7 +81,8 @@ module _ (N : Netlist) (ps : List ℕ) (w : ℕ) (fits : length (codes_of ps) + 
           let e = length-codes_of ps in
           let k = rank-at ks 0 i m in
           let z : 0 + i ≡ i = omega arith in
-          let c : colour_of (get_or ps i 0) ≡ suc (rank ks i) = ap (λ (j : ℕ). colour_of (get_or ps j 0)) (sym (k.1 ∙ z))
+          let c : colour_of (get_or ps i 0) ≡ suc (rank ks i) = ap (λ (j : ℕ). colour_of (get_or ps j 0))
+          (sym (k.1 ∙ z))
           ∙ ranked (rank ks i) k.0 ∙ omega arith in
           paint-at ps t i (omega arith) ∙ ap (λ (d : ℕ). shade d t) c ∙ sym (spread_at ks t i m)
           ∙ ap (λ (m : ℕ). get_or (setting m (spread ks t)) i false) long;

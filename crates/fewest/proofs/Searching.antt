@@ -371,7 +371,8 @@ module _ {t : Tables} {m : ℕ} {codes wanted : List ℕ} {W : ℕ} {N : Netlist
                   (λ e. let b = ltb-false j from e in
                   let y : j ≡ from + (j - from) = omega arith in
                   ap (λ (x : ℕ). get_or lows' x 0) y ∙ W.done.lows (j - from) (omega arith)
-                  ∙ ap₂ (λ (x b : ℕ). x + added_to t (drop b way) from E.table (j - from)) (A.up_to from (omega arith)) l
+                  ∙ ap₂ (λ (x b : ℕ). x + added_to t (drop b way) from E.table (j - from))
+                  (A.up_to from (omega arith)) l
                   ∙ sym (R (j - from) (omega arith)).1
                   ∙ ap (least_before N codes (choice_of way)) (sym y)),
             )
@@ -419,7 +420,8 @@ module _ {t : Tables} {m : ℕ} {codes wanted : List ℕ} {W : ℕ} {N : Netlist
             (before_same F codes l (choice_of way) (choice N codes k) stop (omega arith)
             (λ q a. A.same q (omega arith))).1 in
             let bh = following-stop in
-            let r = cut F codes l wanted B.first A.below (P - 1) (omega arith) (λ q a v. rest_at A q (omega arith) v) stop
+            let r = cut F codes l wanted B.first A.below (P - 1) (omega arith)
+            (λ q a v. rest_at A q (omega arith) v) stop
             (omega arith) (omega arith)
             (omega arith) in
             record { number = B.number; first = rw y at r; early = B.early; kept = B.kept; count = B.count }
@@ -439,7 +441,8 @@ module _ {t : Tables} {m : ℕ} {codes wanted : List ℕ} {W : ℕ} {N : Netlist
               (let x = ap twices (drop-length N.gates) in omega arith) in
               let R : Ready N codes (choice_of way) (length N.gates) code'
               = (let y : stop ≡ length N.gates = omega arith in rw y at W.0) in
-              let ta : take (output_bits N) (drop (N.wires - output_bits N) code') ≡ drop (N.wires - output_bits N) code'
+              let ta : take (output_bits N) (drop (N.wires - output_bits N) code')
+              ≡ drop (N.wires - output_bits N) code'
               =
               take_all (output_bits N) (drop (N.wires - output_bits N) code')
               (let x = length-drop (N.wires - output_bits N) code' in omega arith) in

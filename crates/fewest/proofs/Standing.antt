@@ -186,7 +186,8 @@ module _ {t : Tables} {m : ℕ} {codes wanted : List ℕ} {W budget : ℕ} {s₀
             step = at_next Q (I.at Q) p M (omega arith)
 
             -- a place moved, and none are left
-            pub found-spent : (r : Tally) → left - get_or s (length codes + stop - 1) 0 ≡ 0 → r.changes ≡ least → r.floor
+            pub found-spent : (r : Tally) → left - get_or s (length codes + stop - 1) 0 ≡ 0 → r.changes ≡ least
+                → r.floor
                 ≡ get_or lows 0 0
                 → Found N codes wanted budget best r
             found-spent r z c fl =

@@ -77,7 +77,8 @@ module _ (H : Head) (ls : List (List (List ℕ))) {left rest end₁ : List (List
     {marks : List ℕ} (B : MarksAt left H.outputs H.most marks rest) {after : List ℕ} {tabs : Tables} {k : ℕ}
     (D : AndsAt rest H.ands H.most H.inputs (giving [] A.are) (input_wires H.most H.inputs A.are) after tabs k end₁)
   where
-    pub marks-no-outs : ((given wires : List ℕ) (are : List Literal) → Places after given wires → PutOut H.most marks are
+    pub marks-no-outs : ((given wires : List ℕ) (are : List Literal) → Places after given wires
+        → PutOut H.most marks are
         → false ≡ every (readable given) are)
         → (F : File) → file H ls ≡ some F → rules_kept F ≡ true → ⊥
     marks-no-outs h = lines-no-outs H ls A B.literals D (h _ _ B.are D.standing.places B.out)

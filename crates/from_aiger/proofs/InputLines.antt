@@ -96,7 +96,8 @@ module _ {ls left : List (List (List ℕ))} {M size : ℕ} {table : List ℕ} {i
     entering-more after rest m I =
         let v = I.is in
         let w = enter (replicate (M + 1) 0) E.are (up_from 0 i) in
-        let l : length w ≡ M + 1 = length-enter (replicate (M + 1) 0) E.are (up_from 0 i) ∙ length-replicate (M + 1) 0 in
+        let l : length w ≡ M + 1 = length-enter (replicate (M + 1) 0) E.are (up_from 0 i)
+        ∙ length-replicate (M + 1) 0 in
         let p : Places (set table v (i + 1)) (v ∷ giving [] E.are) (set w v i) =
         places-more v i (omega (arith, I.low, E.long)) (omega (arith, I.low)) E.places in
         let g : giving [] (E.are ++ (v ∷ [])) ≡ v ∷ giving [] E.are = giving-snoc [] E.are v in
@@ -117,7 +118,8 @@ module _ {ls left : List (List (List ℕ))} {M size : ℕ} {table : List ℕ} {i
         }
 
     -- a line that is none
-    pub entering-no : (count : ℕ) → i < count → ((v : ℕ) → at_front input_line left ≡ some v → fresh M (giving [] E.are) v
+    pub entering-no : (count : ℕ) → i < count → ((v : ℕ) → at_front input_line left ≡ some v
+        → fresh M (giving [] E.are) v
         ≡ true → ⊥)
         → (vs : List ℕ) → formed input_line count ls ≡ some vs → fresh_all M [] vs ≡ true → ⊥
     entering-no count h bad vs e f =

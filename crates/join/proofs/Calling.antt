@@ -154,7 +154,8 @@ module _ {a b : Header} {ins outs : List ℕ} {t v : Tables} {A B : Netlist} (F 
     wires-same = rw (F.holds.wires, S.holds.wires, S.holds.ins) refl
 
     module _ (L : Limits) (out_codes codes out : List ℕ) where
-      pub join-25 : seam_holds a out_codes b codes ≡ false → Answers (join_outcome L out_codes codes (length out) A B) out
+      pub join-25 : seam_holds a out_codes b codes ≡ false
+          → Answers (join_outcome L out_codes codes (length out) A B) out
           out (Err Q.Seam)
       join-25 e = answers-refused out (rw (seam-same out_codes codes ∙ e))
 
@@ -165,7 +166,8 @@ module _ {a b : Header} {ins outs : List ℕ} {t v : Tables} {A B : Netlist} (F 
 
       pub join-14 : {x : List ℕ} {r : Result ℕ Refusal} → seam_holds a out_codes b codes ≡ true
           → joined_wires a.wires b.wires b.input_bits ≤ L.wires
-          → Delivers (write_netlist (join A B)) out x r → Answers (join_outcome L out_codes codes (length out) A B) out x
+          → Delivers (write_netlist (join A B)) out x r
+          → Answers (join_outcome L out_codes codes (length out) A B) out x
           r
       join-14 e h d = answers-as
           (sym (rw (seam-same out_codes codes ∙ e, le-leb (join A B).wires L.wires (rw wires-same h)))) d.answers
@@ -174,13 +176,15 @@ module _ {a b : Header} {ins outs : List ℕ} {t v : Tables} {A B : Netlist} (F 
     pub joined-form : {u : Tables} (s : SeamNumbers) → (s.wires ≡ a.wires) × (s.outs ≡ a.output_bits)
         × (s.ins ≡ a.input_bits) × (s.inner ≡ b.input_bits)
         → Appended s t a.gates v b.gates u
-        → form_text (a.gates + b.gates) (joined_wires a.wires b.wires b.input_bits) ins outs u ≡ write_netlist (join A B)
+        → form_text (a.gates + b.gates) (joined_wires a.wires b.wires b.input_bits) ins outs u
+        ≡ write_netlist (join A B)
     joined-form {u} s (e, f, g, h) P =
         let J = join A B in
         let moved : joined_wire A B ≡ goes_to s = rw (F.holds.wires, F.holds.outs, F.holds.ins, S.holds.ins, e, f, g, h)
         refl in
         let gates : J.gates ≡ gates_of u (a.gates + b.gates)
-        = ap₂ (λ (gs hs : List Gate). gs ++ hs) F.holds.gates (ap₂ (λ (k : ℕ → ℕ) (hs : List Gate). map (renumbered k) hs)
+        = ap₂ (λ (gs hs : List Gate). gs ++ hs) F.holds.gates
+        (ap₂ (λ (k : ℕ → ℕ) (hs : List Gate). map (renumbered k) hs)
         moved S.holds.gates)
         ∙ sym P.gates in
         let n : length J.gates ≡ a.gates + b.gates = ap length gates ∙ length-gates u (a.gates + b.gates) in

@@ -80,7 +80,8 @@ impl<'a> Blocks<'a> {
         requires wired { WiredGates self.gates (length words.now) }
         requires lengths { (length self.paints.now + 2 ≤ length words.now) × (length base.old ≡ length words.now) }
         requires held { let N = bare_of self.gates (length words.now) in
-            Counted N true self.paints.now (ones_of words.now) block × Ready self.publics N self.paints.now base.old block }
+            Counted N true self.paints.now (ones_of words.now) block
+            × Ready self.publics N self.paints.now base.old block }
         ensures { let N = bare_of self.entry.gates (length words.now) in
             Counted N false self.entry.paints.now (nibbles_of base.new) block
             × Ready self.entry.publics N self.entry.paints.now base.new (block + 1) }

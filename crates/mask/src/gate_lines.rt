@@ -70,7 +70,8 @@ fn and(
     crate::and_lines::steps(words, out, from, left.wire, second.wire, p, q, or, next)
 }
 
-/// A source gate of a kind whose operands have the twins a and b, at the wires from `next`: the next place, and the twin of its result.
+/// A source gate of a kind whose operands have the twins a and b, at the wires from `next`: the next place, and the
+/// twin of its result.
 pub fn emit(
     words: Words,
     out: &mut [u8],

@@ -31,7 +31,8 @@ pub fn step(
 ) -> GateRecord
     requires { (wire ≤ 2 ^ 31) × (index < 7) }
     ensures { result ≡ get_or
-        (map record_of (row_gates rows (first ∷ second ∷ first_mask ∷ second_mask ∷ either_mask ∷ []) wire)) index blank }
+        (map record_of (row_gates rows (first ∷ second ∷ first_mask ∷ second_mask ∷ either_mask ∷ []) wire)) index
+        blank }
 {
     let rows = ROWS;
     let row = rows[index];

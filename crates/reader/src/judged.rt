@@ -19,7 +19,8 @@ pub fn read<'a>(
     limits: Limits,
 ) -> Result<NetlistTables<'a>, Refusal>
     requires { Readable limits }
-    ensures { TakenIs limits (length operands.old ∷ length results.old ∷ length marks.old ∷ others.now) text.now result }
+    ensures { TakenIs limits (length operands.old ∷ length results.old ∷ length marks.old ∷ others.now) text.now
+        result }
 {
     let mut outputs = [0u32; 16];
     let h = whole::read(

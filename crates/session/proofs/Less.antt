@@ -66,7 +66,8 @@ module _ (z : Sizes) (codes : List ℕ) (hs : List Gate) (g : Gate) (L : Lists) 
           let e = afresh-more codes hs g r.0 in
           let s = emit n (following codes hs) g in
           ap (λ (k : ℕ). take k L.masked) (sym (length-map (afresh codes hs) record_of))
-          ∙ front_of (length (afresh codes (hs ++ (g ∷ [])))) L.masked (map record_of (afresh codes hs)) (map record_of s)
+          ∙ front_of (length (afresh codes (hs ++ (g ∷ [])))) L.masked (map record_of (afresh codes hs))
+          (map record_of s)
           (omega (arith, length-map (afresh codes hs) record_of, ap length e, length-append (afresh codes hs) s))
           (h.maskeds ∙ ap (map record_of) e ∙ map_more record_of (afresh codes hs) s);
       twins =

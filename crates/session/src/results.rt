@@ -83,7 +83,8 @@ fn masked_in(
 ) -> Answer
     ensures { MaskAnswers (masked_outcome sizes given.entry.widths.now given.entry.outputs.now given.entry.session
         given.entry.source.now codes.now wanted.now
-        out.old out_codes.old operands.old results.old wires.old marks.old) out.old out.new out_codes.old out_codes.new result }
+        out.old out_codes.old operands.old results.old wires.old marks.old) out.old out.new out_codes.old
+        out_codes.new result }
 {
     let lengths = [operands.len(), results.len(), marks.len(), wires.len()];
     let count = given.session.gates;
@@ -123,7 +124,8 @@ pub fn masked(
     ensures { MaskedPromise sizes given.entry.widths.now given.entry.outputs.now given.entry.session
         given.entry.source.now codes.now
         wanted.now out.old
-        out.new out_codes.old out_codes.new operands.old operands.new results.old results.new wires.old wires.new marks.old marks.new result }
+        out.new out_codes.old out_codes.new operands.old operands.new results.old results.new wires.old wires.new
+        marks.old marks.new result }
 {
     let answer = masked_in(
         given, codes, wanted, out, out_codes, operands, results, wires, marks, sizes,

@@ -33,7 +33,8 @@ pub record FirstSeamFirst (s : Sizes) (tables : List ℕ) (one two three : Coded
     pub first : joining s tables one two room ≡ done middle
     pub second : joining s tables (joined one two middle) three last ≡ done text
 
-pub record SecondSeamFirst (s : Sizes) (tables : List ℕ) (one two three : Coded) (room last : ℕ) (text : List ℕ) : Type 0
+pub record SecondSeamFirst (s : Sizes) (tables : List ℕ) (one two three : Coded) (room last : ℕ) (text : List ℕ)
+    : Type 0
   where
     pub middle : List ℕ
     pub first : joining s tables two three room ≡ done middle

@@ -55,7 +55,8 @@ fn values(out: &mut [u8], at: usize, ws: &[u32]) -> usize
 
 /// The three lines and the blank line after them.
 pub fn header(out: &mut [u8], at: usize, shape: Shape) -> usize
-    ensures { let h = shape.entry in Wrote out.old at (header_text h.gates h.wires h.ins.now h.outs.now) out.new result }
+    ensures { let h = shape.entry in Wrote out.old at (header_text h.gates h.wires h.ins.now h.outs.now) out.new
+        result }
 {
     let second = counts(out, at, shape.gates, shape.wires);
     let third = values(out, second, shape.ins);

@@ -19,5 +19,6 @@ returns c N h =
     let k = bits-long is_one bits in
     let laid = copied-front (map bit (bools bits)) words c.bits.ensures (sym k) (omega (arith, k, fits.0)) in
     let wires = c.wires in
-    single-law words bits _ wires.new.words _ h laid fits.0 (wires.auto.words ∙ ap length laid ∙ length-sets words 0 (map bit (bools bits))) fits.1
+    single-law words bits _ wires.new.words _ h laid fits.0
+    (wires.auto.words ∙ ap length laid ∙ length-sets words 0 (map bit (bools bits))) fits.1
     (wires.ensures 0 (lit< tt)) c.low_bits.ensures

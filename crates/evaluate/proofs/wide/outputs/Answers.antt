@@ -14,5 +14,6 @@ returns c N h =
     let fits = c.requires.list_in_bounds in
     let laid = copied-front list words c.copy_from_slice.ensures.after refl fits.0 in
     let wires = c.wires in
-    wide-law words list _ wires.new.words h laid fits.0 (wires.auto.words ∙ ap length laid ∙ length-sets words 0 list) fits.1
+    wide-law words list _ wires.new.words h laid fits.0
+    (wires.auto.words ∙ ap length laid ∙ length-sets words 0 list) fits.1
     _ (λ i. search rules) wires.ensures c.copy_from_slice-2.ensures.after

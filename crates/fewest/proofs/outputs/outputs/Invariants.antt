@@ -5,4 +5,5 @@ use Rattle.fewest.specs.Codes.{end_changes}
 use Rattle.fewest.proofs.outputs.outputs.Given as goal
 
 abbrev pub invariant-loop-e : goal.invariant-loop-e
-invariant-loop-e l = l.sum + end_changes l.e-iterator.a.rest.now l.e-iterator.b.rest.now ≡ end_changes l.out_codes l.wanted
+invariant-loop-e l = l.sum + end_changes l.e-iterator.a.rest.now l.e-iterator.b.rest.now
+    ≡ end_changes l.out_codes l.wanted

@@ -13,8 +13,10 @@ overflow_sub-w c = omega (arith, (c.entry-w.ensures 0 (λ x p. p)), c.requires.1
 
 pub returns-then-literal-eq0 : goal.returns-then-literal-eq0
 returns-then-literal-eq0 c =
-    out-plain _ _ _ _ _ _ _ refl _ c.if-literal-lt2.false (ap (λ (z : ℕ). z - 1) (c.entry-w.ensures 0 (λ x p. p))) c.if-literal-eq0.true c.keep-then-literal-eq0.ensures
+    out-plain _ _ _ _ _ _ _ refl _ c.if-literal-lt2.false (ap (λ (z : ℕ). z - 1) (c.entry-w.ensures 0 (λ x p. p)))
+    c.if-literal-eq0.true c.keep-then-literal-eq0.ensures
 
 pub returns-else-literal-eq0 : goal.returns-else-literal-eq0
 returns-else-literal-eq0 c =
-    out-inverse _ _ _ _ _ _ _ refl _ c.if-literal-lt2.false (ap (λ (z : ℕ). z - 1) (c.entry-w.ensures 0 (λ x p. p))) c.if-literal-eq0.false c.keep-else-literal-eq0.ensures
+    out-inverse _ _ _ _ _ _ _ refl _ c.if-literal-lt2.false (ap (λ (z : ℕ). z - 1) (c.entry-w.ensures 0 (λ x p. p)))
+    c.if-literal-eq0.false c.keep-else-literal-eq0.ensures

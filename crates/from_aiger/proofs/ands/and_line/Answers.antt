@@ -6,7 +6,9 @@ use Rattle.from_aiger.proofs.AndLines.{and_none, and_no, and-on}
 use Rattle.from_aiger.proofs.ands.and_line.Goals as goal
 use Rattle.from_aiger.proofs.ands.and_line.Goals.{then-not-is_readable-via-then-not-is_readable}
 use Rattle.from_aiger.proofs.ands.and_line.Goals.{then-not-is_readable-via-else-not-is_readable+then-not-is_readable-2}
-use Rattle.from_aiger.proofs.ands.and_line.Goals.{then-not-is_readable-via-else-not-is_readable+else-not-is_readable-2+then-not-can_give}
+use Rattle.from_aiger.proofs.ands.and_line.Goals.{
+  then-not-is_readable-via-else-not-is_readable+else-not-is_readable-2+then-not-can_give,
+}
 
 pub returns-in_err-left-clause-line : goal.returns-in_err-left-clause-line
 returns-in_err-left-clause-line c = rw c.from_residual.ensures

@@ -8,7 +8,11 @@ pub returns-then-count-room : goal.returns-then-count-room
 returns-then-count-room c =
     let a = c.args in
     let read = read-end a.table.now a.results.now a.room _ true c.if-not-are_readable.false c.are_readable.ensures.0 in
-    record { read = read; keeps = λ e. outputs-put a.results.now a.room a.inputs a.count c.requires.0 c.if-count-room.true c.put_outputs.ensures read }
+    record {
+      read = read;
+      keeps = λ e. outputs-put a.results.now a.room a.inputs a.count c.requires.0
+          c.if-count-room.true c.put_outputs.ensures read;
+    }
 
 pub returns-else-count-room : goal.returns-else-count-room
 returns-else-count-room c =

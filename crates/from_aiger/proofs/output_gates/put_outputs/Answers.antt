@@ -19,7 +19,8 @@ out_gate-requires c =
     )
 
 pub loop-i-preserved : goal.loop-i-preserved
-loop-i-preserved c = putting-more c.loop-i.invariant (omega arith) c.requires.0 refl c.out_gate.auto.results c.out_gate.ensures
+loop-i-preserved c = putting-more c.loop-i.invariant (omega arith) c.requires.0 refl c.out_gate.auto.results
+    c.out_gate.ensures
 
 pub returns : goal.returns
 returns c = let d = length-drop c.args.room c.args.results.now in putting-all c.loop-i.invariant (omega arith)
