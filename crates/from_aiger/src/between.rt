@@ -39,8 +39,12 @@ impl Lines<'_> {
     pub fn to_word(self) -> usize
         ensures { ToWord self.entry.text.now self.entry.at result }
     {
-        (self.at..self.text.len())
-            .find(|i| !is_between(self.text, *i))
-            .unwrap_or(self.text.len())
+        let text = self.text;
+        for i in self.at..text.len() {
+            if !is_between(text, i) {
+                return i;
+            }
+        }
+        text.len()
     }
 }
