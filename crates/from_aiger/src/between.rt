@@ -29,7 +29,16 @@ fn is_between(text: &[u8], index: usize) -> bool
 pub fn past_spaces(at: Cursor) -> Cursor
     ensures { Scanned is_plain at.entry result }
 {
-    at.pass(|b| b == b' ')
+    let text = at.text;
+    for i in at.at..text.len() {
+        if text[i] != b' ' {
+            return Cursor { text, at: i };
+        }
+    }
+    Cursor {
+        text,
+        at: text.len(),
+    }
 }
 
 impl Lines<'_> {
