@@ -630,15 +630,24 @@ typedef struct {
  * first table has all of them, and the others have no entry. */
 fidrovelj_span fidrovelj_workspace_span(uint8_t service, size_t table, size_t words, uint8_t sizes);
 
+/* (C before C99 has no word inline.) */
+#if defined(__cplusplus) || (defined(__STDC_VERSION__) && __STDC_VERSION__ >= 199901L)
+#define FIDROVELJ_INLINE static inline
+#elif defined(__GNUC__)
+#define FIDROVELJ_INLINE static __inline__
+#else
+#define FIDROVELJ_INLINE static
+#endif
+
 /* The service, the block, its words and the sizes of the call in which it stands. */
 #define FIDROVELJ_TABLE(type, service, table)                                                         \
     (type *)(workspace + fidrovelj_workspace_span(service, table, workspace_words, sizes).at),        \
         fidrovelj_workspace_span(service, table, workspace_words, sizes).entries
 
-static inline int64_t fidrovelj_rewrite_in(const uint8_t *text, size_t text_len,
-                                           uint8_t *out, size_t out_len,
-                                           uint64_t *workspace, size_t workspace_words,
-                                           uint8_t sizes)
+FIDROVELJ_INLINE int64_t fidrovelj_rewrite_in(const uint8_t *text, size_t text_len,
+                                              uint8_t *out, size_t out_len,
+                                              uint64_t *workspace, size_t workspace_words,
+                                              uint8_t sizes)
 {
     return fidrovelj_rewrite(text, text_len,
                              out, out_len,
@@ -648,10 +657,10 @@ static inline int64_t fidrovelj_rewrite_in(const uint8_t *text, size_t text_len,
                              sizes);
 }
 
-static inline int64_t fidrovelj_from_old_in(const uint8_t *text, size_t text_len,
-                                            uint8_t *out, size_t out_len,
-                                            uint64_t *workspace, size_t workspace_words,
-                                            uint8_t sizes)
+FIDROVELJ_INLINE int64_t fidrovelj_from_old_in(const uint8_t *text, size_t text_len,
+                                               uint8_t *out, size_t out_len,
+                                               uint64_t *workspace, size_t workspace_words,
+                                               uint8_t sizes)
 {
     return fidrovelj_from_old(text, text_len,
                               out, out_len,
@@ -661,10 +670,10 @@ static inline int64_t fidrovelj_from_old_in(const uint8_t *text, size_t text_len
                               sizes);
 }
 
-static inline int64_t fidrovelj_to_old_in(const uint8_t *text, size_t text_len,
-                                          uint8_t *out, size_t out_len,
-                                          uint64_t *workspace, size_t workspace_words,
-                                          uint8_t sizes)
+FIDROVELJ_INLINE int64_t fidrovelj_to_old_in(const uint8_t *text, size_t text_len,
+                                             uint8_t *out, size_t out_len,
+                                             uint64_t *workspace, size_t workspace_words,
+                                             uint8_t sizes)
 {
     return fidrovelj_to_old(text, text_len,
                             out, out_len,
@@ -674,11 +683,11 @@ static inline int64_t fidrovelj_to_old_in(const uint8_t *text, size_t text_len,
                             sizes);
 }
 
-static inline int64_t fidrovelj_run_in(const uint8_t *text, size_t text_len,
-                                       const uint8_t *list, size_t list_len,
-                                       uint8_t *out, size_t out_len,
-                                       uint64_t *workspace, size_t workspace_words,
-                                       uint8_t sizes)
+FIDROVELJ_INLINE int64_t fidrovelj_run_in(const uint8_t *text, size_t text_len,
+                                          const uint8_t *list, size_t list_len,
+                                          uint8_t *out, size_t out_len,
+                                          uint64_t *workspace, size_t workspace_words,
+                                          uint8_t sizes)
 {
     return fidrovelj_run(text, text_len,
                          list, list_len,
@@ -690,11 +699,11 @@ static inline int64_t fidrovelj_run_in(const uint8_t *text, size_t text_len,
                          sizes);
 }
 
-static inline int64_t fidrovelj_run64_in(const uint8_t *text, size_t text_len,
-                                         const uint64_t *list, size_t list_len,
-                                         uint64_t *out, size_t out_len,
-                                         uint64_t *workspace, size_t workspace_words,
-                                         uint8_t sizes)
+FIDROVELJ_INLINE int64_t fidrovelj_run64_in(const uint8_t *text, size_t text_len,
+                                            const uint64_t *list, size_t list_len,
+                                            uint64_t *out, size_t out_len,
+                                            uint64_t *workspace, size_t workspace_words,
+                                            uint8_t sizes)
 {
     return fidrovelj_run64(text, text_len,
                            list, list_len,
@@ -706,13 +715,13 @@ static inline int64_t fidrovelj_run64_in(const uint8_t *text, size_t text_len,
                            sizes);
 }
 
-static inline int64_t fidrovelj_mask_in(const uint8_t *text, size_t text_len,
-                                        const uint8_t *codes, size_t codes_len,
-                                        const uint8_t *wanted, size_t wanted_len,
-                                        uint8_t *out, size_t out_len,
-                                        uint8_t *out_codes, size_t out_codes_len,
-                                        uint64_t *workspace, size_t workspace_words,
-                                        uint8_t sizes)
+FIDROVELJ_INLINE int64_t fidrovelj_mask_in(const uint8_t *text, size_t text_len,
+                                           const uint8_t *codes, size_t codes_len,
+                                           const uint8_t *wanted, size_t wanted_len,
+                                           uint8_t *out, size_t out_len,
+                                           uint8_t *out_codes, size_t out_codes_len,
+                                           uint64_t *workspace, size_t workspace_words,
+                                           uint8_t sizes)
 {
     return fidrovelj_mask(text, text_len,
                           codes, codes_len,
@@ -726,16 +735,16 @@ static inline int64_t fidrovelj_mask_in(const uint8_t *text, size_t text_len,
                           sizes);
 }
 
-static inline int64_t fidrovelj_mask_fewest_in(const uint8_t *text, size_t text_len,
-                                               const uint8_t *codes, size_t codes_len,
-                                               const uint8_t *wanted, size_t wanted_len,
-                                               uint64_t budget,
-                                               uint8_t *out, size_t out_len,
-                                               uint8_t *in_codes, size_t in_codes_len,
-                                               uint8_t *out_codes, size_t out_codes_len,
-                                               uint64_t *tally, size_t tally_len,
-                                               uint64_t *workspace, size_t workspace_words,
-                                               uint8_t sizes)
+FIDROVELJ_INLINE int64_t fidrovelj_mask_fewest_in(const uint8_t *text, size_t text_len,
+                                                  const uint8_t *codes, size_t codes_len,
+                                                  const uint8_t *wanted, size_t wanted_len,
+                                                  uint64_t budget,
+                                                  uint8_t *out, size_t out_len,
+                                                  uint8_t *in_codes, size_t in_codes_len,
+                                                  uint8_t *out_codes, size_t out_codes_len,
+                                                  uint64_t *tally, size_t tally_len,
+                                                  uint64_t *workspace, size_t workspace_words,
+                                                  uint8_t sizes)
 {
     return fidrovelj_mask_fewest(text, text_len,
                                  codes, codes_len,
@@ -755,12 +764,12 @@ static inline int64_t fidrovelj_mask_fewest_in(const uint8_t *text, size_t text_
                                  sizes);
 }
 
-static inline int64_t fidrovelj_twins_in(const uint8_t *text, size_t text_len,
-                                         const uint8_t *codes, size_t codes_len,
-                                         uint32_t *out_wires, size_t out_wires_len,
-                                         uint8_t *out_codes, size_t out_codes_len,
-                                         uint64_t *workspace, size_t workspace_words,
-                                         uint8_t sizes)
+FIDROVELJ_INLINE int64_t fidrovelj_twins_in(const uint8_t *text, size_t text_len,
+                                            const uint8_t *codes, size_t codes_len,
+                                            uint32_t *out_wires, size_t out_wires_len,
+                                            uint8_t *out_codes, size_t out_codes_len,
+                                            uint64_t *workspace, size_t workspace_words,
+                                            uint8_t sizes)
 {
     return fidrovelj_twins(text, text_len,
                            codes, codes_len,
@@ -772,11 +781,11 @@ static inline int64_t fidrovelj_twins_in(const uint8_t *text, size_t text_len,
                            sizes);
 }
 
-static inline int64_t fidrovelj_check_in(const uint8_t *text, size_t text_len,
-                                         const uint8_t *codes, size_t codes_len,
-                                         uint64_t *leak, size_t leak_len,
-                                         uint64_t *workspace, size_t workspace_words,
-                                         uint8_t sizes)
+FIDROVELJ_INLINE int64_t fidrovelj_check_in(const uint8_t *text, size_t text_len,
+                                            const uint8_t *codes, size_t codes_len,
+                                            uint64_t *leak, size_t leak_len,
+                                            uint64_t *workspace, size_t workspace_words,
+                                            uint8_t sizes)
 {
     return fidrovelj_check(text, text_len,
                            codes, codes_len,
@@ -789,13 +798,13 @@ static inline int64_t fidrovelj_check_in(const uint8_t *text, size_t text_len,
                            sizes);
 }
 
-static inline int64_t fidrovelj_check_pairs_in(const uint8_t *text, size_t text_len,
-                                               const uint8_t *codes, size_t codes_len,
-                                               const uint32_t *pairs, size_t pairs_len,
-                                               uint64_t *leak, size_t leak_len,
-                                               uint64_t *bad, size_t bad_len,
-                                               uint64_t *workspace, size_t workspace_words,
-                                               uint8_t sizes)
+FIDROVELJ_INLINE int64_t fidrovelj_check_pairs_in(const uint8_t *text, size_t text_len,
+                                                  const uint8_t *codes, size_t codes_len,
+                                                  const uint32_t *pairs, size_t pairs_len,
+                                                  uint64_t *leak, size_t leak_len,
+                                                  uint64_t *bad, size_t bad_len,
+                                                  uint64_t *workspace, size_t workspace_words,
+                                                  uint8_t sizes)
 {
     return fidrovelj_check_pairs(text, text_len,
                                  codes, codes_len,
@@ -811,14 +820,14 @@ static inline int64_t fidrovelj_check_pairs_in(const uint8_t *text, size_t text_
                                  sizes);
 }
 
-static inline int64_t fidrovelj_check_wide_in(const uint8_t *text, size_t text_len,
-                                              const uint8_t *codes, size_t codes_len,
-                                              const uint32_t *pairs, size_t pairs_len,
-                                              uint64_t *leak, size_t leak_len,
-                                              uint64_t *ones, size_t ones_len,
-                                              uint64_t *bad, size_t bad_len,
-                                              uint64_t *workspace, size_t workspace_words,
-                                              uint8_t sizes)
+FIDROVELJ_INLINE int64_t fidrovelj_check_wide_in(const uint8_t *text, size_t text_len,
+                                                 const uint8_t *codes, size_t codes_len,
+                                                 const uint32_t *pairs, size_t pairs_len,
+                                                 uint64_t *leak, size_t leak_len,
+                                                 uint64_t *ones, size_t ones_len,
+                                                 uint64_t *bad, size_t bad_len,
+                                                 uint64_t *workspace, size_t workspace_words,
+                                                 uint8_t sizes)
 {
     return fidrovelj_check_wide(text, text_len,
                                 codes, codes_len,
@@ -840,12 +849,12 @@ static inline int64_t fidrovelj_check_wide_in(const uint8_t *text, size_t text_l
                                 sizes);
 }
 
-static inline int64_t fidrovelj_certify_in(const uint8_t *text, size_t text_len,
-                                           const uint8_t *codes, size_t codes_len,
-                                           uint64_t *leak, size_t leak_len,
-                                           uint64_t *ones, size_t ones_len,
-                                           uint64_t *workspace, size_t workspace_words,
-                                           uint8_t sizes)
+FIDROVELJ_INLINE int64_t fidrovelj_certify_in(const uint8_t *text, size_t text_len,
+                                              const uint8_t *codes, size_t codes_len,
+                                              uint64_t *leak, size_t leak_len,
+                                              uint64_t *ones, size_t ones_len,
+                                              uint64_t *workspace, size_t workspace_words,
+                                              uint8_t sizes)
 {
     return fidrovelj_certify(text, text_len,
                              codes, codes_len,
@@ -860,10 +869,10 @@ static inline int64_t fidrovelj_certify_in(const uint8_t *text, size_t text_len,
                              sizes);
 }
 
-static inline int64_t fidrovelj_from_aiger_in(const uint8_t *text, size_t text_len,
-                                              uint8_t *out, size_t out_len,
-                                              uint64_t *workspace, size_t workspace_words,
-                                              uint8_t sizes)
+FIDROVELJ_INLINE int64_t fidrovelj_from_aiger_in(const uint8_t *text, size_t text_len,
+                                                 uint8_t *out, size_t out_len,
+                                                 uint64_t *workspace, size_t workspace_words,
+                                                 uint8_t sizes)
 {
     return fidrovelj_from_aiger(text, text_len,
                                 out, out_len,
@@ -873,14 +882,14 @@ static inline int64_t fidrovelj_from_aiger_in(const uint8_t *text, size_t text_l
                                 sizes);
 }
 
-static inline int64_t fidrovelj_join_in(const uint8_t *first, size_t first_len,
-                                        const uint8_t *second, size_t second_len,
-                                        const uint8_t *first_codes, size_t first_codes_len,
-                                        const uint8_t *first_out_codes, size_t first_out_codes_len,
-                                        const uint8_t *second_codes, size_t second_codes_len,
-                                        uint8_t *out, size_t out_len,
-                                        uint64_t *workspace, size_t workspace_words,
-                                        uint8_t sizes)
+FIDROVELJ_INLINE int64_t fidrovelj_join_in(const uint8_t *first, size_t first_len,
+                                           const uint8_t *second, size_t second_len,
+                                           const uint8_t *first_codes, size_t first_codes_len,
+                                           const uint8_t *first_out_codes, size_t first_out_codes_len,
+                                           const uint8_t *second_codes, size_t second_codes_len,
+                                           uint8_t *out, size_t out_len,
+                                           uint64_t *workspace, size_t workspace_words,
+                                           uint8_t sizes)
 {
     return fidrovelj_join(first, first_len,
                           second, second_len,
@@ -896,10 +905,10 @@ static inline int64_t fidrovelj_join_in(const uint8_t *first, size_t first_len,
                           sizes);
 }
 
-static inline int64_t fidrovelj_from_verilog_in(const uint8_t *text, size_t text_len,
-                                                uint8_t *out, size_t out_len,
-                                                uint64_t *workspace, size_t workspace_words,
-                                                uint8_t sizes)
+FIDROVELJ_INLINE int64_t fidrovelj_from_verilog_in(const uint8_t *text, size_t text_len,
+                                                   uint8_t *out, size_t out_len,
+                                                   uint64_t *workspace, size_t workspace_words,
+                                                   uint8_t sizes)
 {
     return fidrovelj_from_verilog(text, text_len,
                                   out, out_len,
@@ -913,13 +922,13 @@ static inline int64_t fidrovelj_from_verilog_in(const uint8_t *text, size_t text
                                   sizes);
 }
 
-static inline int64_t fidrovelj_session_text_in(fidrovelj_session session,
-                                                const uint32_t *inputs, size_t inputs_len,
-                                                const uint32_t *outputs, size_t outputs_len,
-                                                const fidrovelj_source_gate *source, size_t source_len,
-                                                uint8_t *out, size_t out_len,
-                                                uint64_t *workspace, size_t workspace_words,
-                                                uint8_t sizes)
+FIDROVELJ_INLINE int64_t fidrovelj_session_text_in(fidrovelj_session session,
+                                                   const uint32_t *inputs, size_t inputs_len,
+                                                   const uint32_t *outputs, size_t outputs_len,
+                                                   const fidrovelj_source_gate *source, size_t source_len,
+                                                   uint8_t *out, size_t out_len,
+                                                   uint64_t *workspace, size_t workspace_words,
+                                                   uint8_t sizes)
 {
     return fidrovelj_session_text(session,
                                   inputs, inputs_len,
@@ -931,16 +940,16 @@ static inline int64_t fidrovelj_session_text_in(fidrovelj_session session,
                                   sizes);
 }
 
-static inline int64_t fidrovelj_session_masked_in(fidrovelj_session session,
-                                                  const uint32_t *inputs, size_t inputs_len,
-                                                  const uint32_t *outputs, size_t outputs_len,
-                                                  const fidrovelj_source_gate *source, size_t source_len,
-                                                  const uint8_t *codes, size_t codes_len,
-                                                  const uint8_t *wanted, size_t wanted_len,
-                                                  uint8_t *out, size_t out_len,
-                                                  uint8_t *out_codes, size_t out_codes_len,
-                                                  uint64_t *workspace, size_t workspace_words,
-                                                  uint8_t sizes)
+FIDROVELJ_INLINE int64_t fidrovelj_session_masked_in(fidrovelj_session session,
+                                                     const uint32_t *inputs, size_t inputs_len,
+                                                     const uint32_t *outputs, size_t outputs_len,
+                                                     const fidrovelj_source_gate *source, size_t source_len,
+                                                     const uint8_t *codes, size_t codes_len,
+                                                     const uint8_t *wanted, size_t wanted_len,
+                                                     uint8_t *out, size_t out_len,
+                                                     uint8_t *out_codes, size_t out_codes_len,
+                                                     uint64_t *workspace, size_t workspace_words,
+                                                     uint8_t sizes)
 {
     return fidrovelj_session_masked(session,
                                     inputs, inputs_len,
@@ -957,9 +966,9 @@ static inline int64_t fidrovelj_session_masked_in(fidrovelj_session session,
                                     sizes);
 }
 
-static inline fidrovelj_shape_answer fidrovelj_shape_in(const uint8_t *text, size_t text_len,
-                                                        uint64_t *workspace, size_t workspace_words,
-                                                        uint8_t sizes)
+FIDROVELJ_INLINE fidrovelj_shape_answer fidrovelj_shape_in(const uint8_t *text, size_t text_len,
+                                                           uint64_t *workspace, size_t workspace_words,
+                                                           uint8_t sizes)
 {
     return fidrovelj_shape(text, text_len,
                            FIDROVELJ_TABLE(uint64_t, FIDROVELJ_SERVICE_SHAPE, 0),
@@ -968,20 +977,20 @@ static inline fidrovelj_shape_answer fidrovelj_shape_in(const uint8_t *text, siz
                            sizes);
 }
 
-static inline fidrovelj_place_answer fidrovelj_place_in(const uint8_t *text, size_t text_len,
-                                                        uint64_t *workspace, size_t workspace_words,
-                                                        uint8_t masked, uint8_t sizes)
+FIDROVELJ_INLINE fidrovelj_place_answer fidrovelj_place_in(const uint8_t *text, size_t text_len,
+                                                           uint64_t *workspace, size_t workspace_words,
+                                                           uint8_t masked, uint8_t sizes)
 {
     return fidrovelj_place(text, text_len,
                            FIDROVELJ_TABLE(uint8_t, FIDROVELJ_SERVICE_PLACE, 0),
                            masked, sizes);
 }
 
-static inline int64_t fidrovelj_explain_wires_in(const uint8_t *text, size_t text_len,
-                                                 const uint8_t *codes, size_t codes_len,
-                                                 uint8_t *out, size_t out_len,
-                                                 uint64_t *workspace, size_t workspace_words,
-                                                 uint8_t sizes)
+FIDROVELJ_INLINE int64_t fidrovelj_explain_wires_in(const uint8_t *text, size_t text_len,
+                                                    const uint8_t *codes, size_t codes_len,
+                                                    uint8_t *out, size_t out_len,
+                                                    uint64_t *workspace, size_t workspace_words,
+                                                    uint8_t sizes)
 {
     return fidrovelj_explain_wires(text, text_len,
                                    codes, codes_len,
@@ -994,12 +1003,12 @@ static inline int64_t fidrovelj_explain_wires_in(const uint8_t *text, size_t tex
                                    sizes);
 }
 
-static inline int64_t fidrovelj_polynomial_in(const uint8_t *text, size_t text_len,
-                                              const uint8_t *codes, size_t codes_len,
-                                              size_t wire,
-                                              uint8_t *out, size_t out_len,
-                                              uint64_t *workspace, size_t workspace_words,
-                                              uint8_t sizes)
+FIDROVELJ_INLINE int64_t fidrovelj_polynomial_in(const uint8_t *text, size_t text_len,
+                                                 const uint8_t *codes, size_t codes_len,
+                                                 size_t wire,
+                                                 uint8_t *out, size_t out_len,
+                                                 uint64_t *workspace, size_t workspace_words,
+                                                 uint8_t sizes)
 {
     return fidrovelj_polynomial(text, text_len,
                                 codes, codes_len,
@@ -1012,12 +1021,12 @@ static inline int64_t fidrovelj_polynomial_in(const uint8_t *text, size_t text_l
                                 sizes);
 }
 
-static inline int64_t fidrovelj_counts_in(const uint8_t *text, size_t text_len,
-                                          const uint8_t *codes, size_t codes_len,
-                                          size_t wire,
-                                          uint64_t *out, size_t out_len,
-                                          uint64_t *workspace, size_t workspace_words,
-                                          uint8_t sizes)
+FIDROVELJ_INLINE int64_t fidrovelj_counts_in(const uint8_t *text, size_t text_len,
+                                             const uint8_t *codes, size_t codes_len,
+                                             size_t wire,
+                                             uint64_t *out, size_t out_len,
+                                             uint64_t *workspace, size_t workspace_words,
+                                             uint8_t sizes)
 {
     return fidrovelj_counts(text, text_len,
                             codes, codes_len,

@@ -54,7 +54,7 @@ fn lay(words: &[u8], buffer: &mut [u8]) -> i64
 {
     let count = words.len();
     if count <= buffer.len() {
-        buffer[..count].copy_from_slice(words);
+        gates::entries::copy(words, &mut buffer[..count]);
         return count as i64;
     }
     count as i64

@@ -118,7 +118,7 @@ pub fn lay(codes: &[u8], paints: &mut [u8])
     requires { length codes.now ≡ length paints.old }
     ensures { paints.new ≡ codes.now }
 {
-    paints.copy_from_slice(codes);
+    gates::entries::copy(codes, paints);
 }
 
 /// The highest colour.

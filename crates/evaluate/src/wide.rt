@@ -5,6 +5,7 @@ ghost use Rattle.gates.specs.Gates.{WiredGates, HoldsGates};
 ghost use Rattle.evaluate.specs.Lane.{output_words};
 
 use gates::Gates;
+use gates::entries::copy;
 
 /// The output words of the gates' netlist, for which `out` has a place each. The words, one for each wire, are working
 /// store.
@@ -14,8 +15,8 @@ pub fn outputs(gates: Gates, list: &[u64], words: &mut [u64], out: &mut [u64])
     ensures { (N : Netlist) → HoldsGates gates.entry (length words.old)
         (length list.now) (length out.old) N → out.new ≡ output_words N list.now }
 {
-    words[..list.len()].copy_from_slice(list);
+    copy(list, &mut words[..list.len()]);
     crate::wires(gates, list.len(), words);
     let from = words.len() - out.len();
-    out.copy_from_slice(&words[from..]);
+    copy(&words[from..], out);
 }

@@ -109,6 +109,6 @@ pub fn try_choice(
     if least <= c {
         return Tried { stop, least };
     }
-    best.copy_from_slice(way);
+    gates::entries::copy(way, best);
     Tried { stop, least: c }
 }

@@ -39,7 +39,7 @@ fn start(
     );
     least_before[0] = crate::twices::twices(source.gates);
     walk_from(source, way, wire_codes, least_before, 0, MANY);
-    best.copy_from_slice(way);
+    gates::entries::copy(way, best);
     count_changes(source, wire_codes, least_before)
 }
 

@@ -29,7 +29,16 @@ fn is_between(text: &[u8], index: usize) -> bool
 pub fn past_spaces(at: Cursor) -> Cursor
     ensures { Scanned is_plain at.entry result }
 {
-    at.pass(|b| b == b' ')
+    let text = at.text;
+    for i in at.at..text.len() {
+        if text[i] != b' ' {
+            return Cursor { text, at: i };
+        }
+    }
+    Cursor {
+        text,
+        at: text.len(),
+    }
 }
 
 impl Lines<'_> {
@@ -39,8 +48,12 @@ impl Lines<'_> {
     pub fn to_word(self) -> usize
         ensures { ToWord self.entry.text.now self.entry.at result }
     {
-        (self.at..self.text.len())
-            .find(|i| !is_between(self.text, *i))
-            .unwrap_or(self.text.len())
+        let text = self.text;
+        for i in self.at..text.len() {
+            if !is_between(text, i) {
+                return i;
+            }
+        }
+        text.len()
     }
 }

@@ -47,7 +47,9 @@ impl Lines<'_> {
         lines.numbers()
     }
 
-    /// The number of the next line that is not blank, if it holds one, and the lines after it.
+    /// The number of the next line that is not blank, if it holds one, and the lines after it. Inlined, so that the
+    /// answer needs no memory.
+    #[inline(always)]
     pub fn one_number(self) -> Option<(u32, Self)>
         ensures line { OneIs (lines_left self.entry) result }
         ensures following { OneBehind self.entry result }

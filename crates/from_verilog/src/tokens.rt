@@ -71,9 +71,12 @@ fn skip_white(text: &[u8], at: usize) -> usize
     requires { at ≤ length text.now }
     ensures { White text.now at result }
 {
-    (at..text.len())
-        .find(|i| !is_white(text, *i))
-        .unwrap_or(text.len())
+    for i in at..text.len() {
+        if !is_white(text, i) {
+            return i;
+        }
+    }
+    text.len()
 }
 
 // Past the bytes of a word.

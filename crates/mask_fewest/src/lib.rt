@@ -99,7 +99,7 @@ fn give(
         in_codes.new out_codes.old out_codes.new tally.old tally.new result }
 {
     let size = mask::deliver(out, out_codes, head, source, wires, marks)?;
-    in_codes[..source.codes.len()].copy_from_slice(source.codes);
+    gates::entries::copy(source.codes, &mut in_codes[..source.codes.len()]);
     tally[0] = found.changes as u64;
     tally[1] = found.floor as u64;
     Ok(size)

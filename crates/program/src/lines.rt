@@ -53,14 +53,22 @@ fn counted(file: &[u8]) -> usize
     without_end(first(file, FILE_LIMIT)).len()
 }
 
-/// The list in a file, in place of its bytes.
-pub fn list(file: &mut [u8]) -> &[u8]
-    ensures { result.now ≡ list_file file.old }
+/// The list in a file, in place of its bytes: how many entries it has.
+pub fn lay_list(file: &mut [u8]) -> usize
+    ensures { Front file.new result (list_file file.old) }
 {
     let n = counted(file);
     for b in &mut file[..n] {
         *b = entry(*b);
     }
+    n
+}
+
+/// The list in a file, in place of its bytes.
+pub fn list(file: &mut [u8]) -> &[u8]
+    ensures { result.now ≡ list_file file.old }
+{
+    let n = lay_list(file);
     &file[..n]
 }
 

@@ -57,6 +57,7 @@ fn gate2(name: &[u8], first: u32, second: u32, wire: u32) -> Option<GateNumbers>
 }
 
 // The line of a gate whose name ends at a place, with the start of the next line: no other word may follow.
+#[inline(always)]
 fn last_word(at: Cursor, named: Option<GateNumbers>) -> Option<(GateNumbers, Cursor)>
     requires { NamedExact named }
     ensures { LineIs at.entry (alone (gate_named named) (line_words (left at.entry))) result }
@@ -67,6 +68,7 @@ fn last_word(at: Cursor, named: Option<GateNumbers>) -> Option<(GateNumbers, Cur
 }
 
 // The operand, the result and the name of a gate of one operand.
+#[inline(always)]
 fn one_operand(at: Cursor) -> Option<(GateNumbers, Cursor)>
     ensures { LineIs at.entry (one (line_words (left at.entry))) result }
 {
@@ -81,6 +83,7 @@ fn one_operand(at: Cursor) -> Option<(GateNumbers, Cursor)>
 }
 
 // The operands, the result and the name of a gate of two operands.
+#[inline(always)]
 fn two_operands(at: Cursor) -> Option<(GateNumbers, Cursor)>
     ensures { LineIs at.entry (two (line_words (left at.entry))) result }
 {
@@ -97,7 +100,9 @@ fn two_operands(at: Cursor) -> Option<(GateNumbers, Cursor)>
     last_word(end, gate2(name, a, b, c))
 }
 
-/// The first line of the text from a place, as a gate, with the start of the next line.
+/// The first line of the text from a place, as a gate, with the start of the next line. Inlined, since a call of its own
+/// for each line takes two fifths more instructions.
+#[inline(always)]
 pub fn gate_line(at: Cursor) -> Option<(GateNumbers, Cursor)>
     ensures { LineIs at.entry (gate_line (line_words (left at.entry))) result }
 {

@@ -36,6 +36,7 @@ fn any_operands(at: Cursor) -> Option<(u32, Cursor)>
 }
 
 /// The counts of the line from a place, first as most lines have them.
+#[inline(always)]
 pub fn read_operands(at: Cursor) -> Option<(u32, Cursor)>
     ensures { OperandsIs at.entry result }
 {

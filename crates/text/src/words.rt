@@ -73,6 +73,7 @@ impl<'t> Cursor<'t> {
     }
 
     /// The next word of the line, empty where there is none, and the cursor after it.
+    #[inline(always)]
     pub fn next_word(self) -> (&'t [u8], Self)
         ensures { WordIs self.entry result.0.now result.1 }
     {

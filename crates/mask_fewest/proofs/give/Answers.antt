@@ -20,7 +20,7 @@ pub returns : goal.returns
 returns c =
     let a = c.args in
     let n = length a.source.codes.now in
-    let e = c.copy_from_slice.ensures.after in
+    let e = c.copy.ensures in
     λ N S f. give-done N a.source.codes.now a.source.wanted.now a.found a.in_codes.now a.tally.now c.requires.inputs
     c.requires.tally
     (c.deliver.ensures N S f) c.in_ok-size.was

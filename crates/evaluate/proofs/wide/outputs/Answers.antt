@@ -12,8 +12,8 @@ returns c N h =
     let words = c.args.words.now in
     let list = c.args.list.now in
     let fits = c.requires.list_in_bounds in
-    let laid = copied-front list words c.copy_from_slice.ensures.after refl fits.0 in
+    let laid = copied-front list words c.copy.ensures refl fits.0 in
     let wires = c.wires in
     wide-law words list _ wires.new.words h laid fits.0
     (wires.auto.words ∙ ap length laid ∙ length-sets words 0 list) fits.1
-    _ (λ i. search rules) wires.ensures c.copy_from_slice-2.ensures.after
+    _ (λ i. search rules) wires.ensures c.copy-2.ensures

@@ -57,4 +57,4 @@ returns c =
     (spanned-cut c.args.source.codes.now c.args.source.gates.results.now c.args.source.gates.count p.wired.results
     c.spans.ensures)
     c.twices.ensures e
-    E.ensures c.copy_from_slice.ensures.after c.count_changes.ensures
+    E.ensures c.copy.ensures c.count_changes.ensures

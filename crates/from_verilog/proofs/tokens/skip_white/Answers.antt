@@ -1,15 +1,15 @@
--- The first place whose byte is not white.
-use Rattle.std.proofs.Common.{rules, tests, ◌≡◌, ◌+◌, true, false, drop, get_or}
-use Rattle.std.proofs.lemmas.Iterator.{first_from_Range}
-use Rattle.verilog.specs.Tokens.{is_white}
+-- The first place whose byte is not white, or the text's end.
+use Rattle.std.proofs.Common.{rules}
+use Rattle.std.specs.Prelude as P
+use mathlib.Core.Path.{sym, ◌∙◌}
+use native.Mathlib.Omega.{arith}
 use Rattle.from_verilog.proofs.Nexts.{skipped}
 use Rattle.from_verilog.proofs.tokens.skip_white.Goals as goal
 
+pub returns-then-not-is_white : goal.returns-then-not-is_white
+returns-then-not-is_white c = skipped _ _ c.requires (P.Some c.loop-i.i)
+    (search rules, c.loop-i-test.true, sym c.is_white.ensures ∙ c.if-not-is_white.true, c.loop-i.invariant)
+
 pub returns : goal.returns
-returns c =
-    let t = c.args.text.now in
-    rw c.unwrap_or.ensures (skipped t c.args.at c.requires c.find.result
-    (first_from_Range _ _ _ _ (λ i. is_white (get_or t i 0) (drop (i + 1) t) ≡ false)
-    (λ i. is_white (get_or t i 0) (drop (i + 1) t) ≡ true) c.find.ensures.ran
-    (λ x q k. search (rules, tests))
-    (λ x q k. search (rules, tests))))
+returns c = skipped _ _ c.requires P.None
+    (λ k a b. c.loop-i.invariant k a (omega (arith, b, c.loop-i-test.false, c.loop-i.auto.i-end)))
