@@ -23,6 +23,7 @@ fn input<'t>(lines: Lines<'t>, wire: u32, table: &mut [u32]) -> Option<Lines<'t>
 }
 
 /// So many input lines, with a table up to M that gives nothing yet; answers the lines after them.
+#[inline(never)]
 pub fn inputs<'t>(lines: Lines<'t>, count: u32, table: &mut [u32]) -> Option<Lines<'t>>
     requires { table.old ≡ replicate (length table.old) 0 }
     ensures inputs { (most : ℕ) → length table.old ≡ most + 1 → InputsIs (lines_left lines.entry) count most table.new

@@ -11,6 +11,7 @@ use crate::lines::Lines;
 use crate::variables::is_readable;
 
 /// As many output lines as the table has entries; answers the lines after them.
+#[inline(never)]
 pub fn keep_literals<'t>(lines: Lines<'t>, kept: &mut [u64]) -> Option<Lines<'t>>
     ensures kept { KeptIs (lines_left lines.entry) kept.new result }
     ensures following { BehindIs lines.entry result }

@@ -8,7 +8,10 @@ use text::cursor::Cursor;
 impl Lines<'_> {
     ghost use Rattle.from_aiger.specs.LineAnswers.{lines_left, OneBehind, FileLineIs, LineIs, OneIs};
 
-    /// The numbers of the first line, if it holds N and nothing else, and the lines after it.
+    /// The numbers of the first line, if it holds N and nothing else, and the lines after it. Inlined, like its callers
+    /// here, so that a line's numbers need not be stored and read again; the loops over lines of one number are
+    /// functions of their own, so that their values stay in registers.
+    #[inline(always)]
     pub fn numbers<const N: usize>(self) -> Option<([u32; N], Self)>
         ensures line { FileLineIs (drop self.entry.at self.entry.text.now) N result }
         ensures following { OneBehind self.entry result }
@@ -35,6 +38,7 @@ impl Lines<'_> {
     }
 
     /// The numbers of the next line that is not blank, if it holds N and nothing else, and the lines after it.
+    #[inline(always)]
     pub fn next_numbers<const N: usize>(self) -> Option<([u32; N], Self)>
         requires { 1 ≤ N }
         ensures line { LineIs (lines_left self.entry) N result }
@@ -47,8 +51,7 @@ impl Lines<'_> {
         lines.numbers()
     }
 
-    /// The number of the next line that is not blank, if it holds one, and the lines after it. Inlined, so that the
-    /// answer needs no memory.
+    /// The number of the next line that is not blank, if it holds one, and the lines after it.
     #[inline(always)]
     pub fn one_number(self) -> Option<(u32, Self)>
         ensures line { OneIs (lines_left self.entry) result }

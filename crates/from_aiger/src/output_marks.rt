@@ -21,6 +21,7 @@ fn mark(marks: &mut [u64], variable: u32)
 }
 
 /// So many output lines, with a table up to M that has no mark yet; answers the lines after them.
+#[inline(never)]
 pub fn mark_literals<'t>(lines: Lines<'t>, many: u32, marks: &mut [u64]) -> Option<Lines<'t>>
     requires { marks.old ≡ replicate (length marks.old) 0 }
     ensures marks { (most : ℕ) → length marks.old ≡ most + 1 → MarksIs (lines_left lines.entry) many most marks.new
