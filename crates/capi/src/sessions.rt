@@ -57,10 +57,10 @@ pub extern "C" fn fidrovelj_session_gate(
 ) -> SourceRecord
     ensures { result ≡ gate_shown session index source.now }
 {
-    if session.gates <= index {
+    if session.gates <= index || source.len() <= index as usize {
         return SourceRecord::default();
     }
-    gates::entries::entry(source, index as usize)
+    source[index as usize]
 }
 
 /// The session's netlist as text: how many bytes the written form has at the front of `out`.

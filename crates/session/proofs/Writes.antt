@@ -16,6 +16,7 @@ use Rattle.mask_rule.specs.Rule.{At}
 use Rattle.session.specs.Afresh.{open_gates}
 use Rattle.session.proofs.Keeps.{map_more}
 use Rattle.session.proofs.Openings.{open-count}
+use Rattle.std.proofs.lemmas.List.{append-nil, nil_from_length}
 use Rattle.std.proofs.lemmas.List.Sums.{count_by-le-length}
 
 sets_more : (l vs : List GateRecord) (i : ℕ) (a : GateRecord) → set (sets l i vs) (i + length vs) a
@@ -70,6 +71,13 @@ module _ {codes : List ℕ} {ys zs : List GateRecord} {w next : ℕ} (o : Openin
 
   pub next-most : next ≤ length (open_gates codes)
   next-most = omega (arith, all-count)
+
+  -- where as many gates are written as the opening has, the list is complete: no bit that is left is public
+  pub opening-all : next ≡ length (open_gates codes) → zs ≡ sets ys 0 (map record_of (open_gates codes))
+  opening-all e =
+      let none : rest ≡ [] = nil_from_length rest (omega (arith, all-count, e)) in
+      o.list ∙ ap (λ (gs : List Gate). sets ys 0 (map record_of gs))
+      (sym (o.left ∙ ap (λ (gs : List Gate). o.gates ++ gs) none ∙ append-nil o.gates))
 
   pub length-same : length zs ≡ length ys
   length-same = ap length o.list ∙ length-sets ys 0 (map record_of o.gates)

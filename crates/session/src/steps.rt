@@ -26,10 +26,10 @@ fn write(list: &mut [GateRecord], at: usize, mask_pair: u32, steps: Steps)
     }
 }
 
-// An opening's masked gates, at the front of the list. `next` is counted: a loop over `filter` gives no place in the
-// list that it writes to but by a second count.
-fn write_opening(list: &mut [GateRecord], codes: &[u8])
-    requires { (length codes.now ≤ most_bits) × (length (open_gates codes.now) ≤ length list.old) }
+// An opening's masked gates, `count` of them, at the front of the list. `next` is counted: a loop over `filter` gives no
+// place in the list that it writes to but by a second count. The codes after the last public bit are not looked at.
+fn write_opening(list: &mut [GateRecord], codes: &[u8], count: usize)
+    requires { (length codes.now ≤ most_bits) × (count ≡ length (open_gates codes.now)) × (count ≤ length list.old) }
     ensures { list.new ≡ sets list.old 0 (map record_of (open_gates codes.now)) }
 {
     let n = codes.len() as u32;
@@ -38,6 +38,9 @@ fn write_opening(list: &mut [GateRecord], codes: &[u8])
     list[2] = GateRecord::from(Gate::Xor(n + 2, n + 3, n + 4));
     let mut next = 3;
     for (w, e) in codes.iter().enumerate() {
+        if next == count {
+            return;
+        }
         if *e == 0 {
             list[next] = GateRecord::from(Gate::Xor(w as u32, n, n + 2 + next as u32));
             next += 1;
@@ -56,7 +59,7 @@ fn try_open(
         [] masked.new result }
 {
     let count = plan(widths, codes, masked.len(), sizes)?;
-    write_opening(masked, codes);
+    write_opening(masked, codes, count);
     Ok(Session {
         gates: 0,
         masked: count as u32,
