@@ -37,7 +37,7 @@ use Rattle.check_pairs.specs.Judge.{both_of, outcome_of, WiresJudged, Judged}
 use Rattle.check_pairs.specs.Promise.{call}
 
 -- the shorter of two tables stands for both
-shorter-long : (t a b : ℕ) → leb t (min a b) ≡ leb t a && leb t b
+pub shorter-long : (t a b : ℕ) → leb t (min a b) ≡ leb t a && leb t b
 shorter-long t a b = go (leb t a) (leb t b) refl refl
   where
     go : (x y : Bool) → leb t a ≡ x → leb t b ≡ y → leb t (min a b) ≡ x && y

@@ -25,7 +25,7 @@ setting-zero [] = refl
 setting-zero (e ∷ es) = ap (λ (y : List Bool). false ∷ y) (setting-zero es)
 
 module _ (N : Netlist) (codes : List ℕ) (secret : Secret codes) where
-  all-equal : (w : ℕ) → EqualCounts N codes w → AllEqual N codes w
+  pub all-equal : (w : ℕ) → EqualCounts N codes w → AllEqual N codes w
   all-equal w h x y a b = h x y (record {
     first = a;
     second = b;
@@ -33,7 +33,7 @@ module _ (N : Netlist) (codes : List ℕ) (secret : Secret codes) where
         ∙ sym (all-zero codes secret y);
   })
 
-  equal-all : (w : ℕ) → AllEqual N codes w → EqualCounts N codes w
+  pub equal-all : (w : ℕ) → AllEqual N codes w → EqualCounts N codes w
   equal-all w h x y same = h x y same.first same.second
 
   all-clean : Clean N codes → (w : ℕ) → w < N.wires → AllEqual N codes w
